@@ -1,0 +1,4 @@
+pub mod Around
+pub mod LogLaws
+pub mod RangeLaws
+pub mod WindowLaws

@@ -1,0 +1,4 @@
+pub mod Log
+pub mod Logged
+pub mod Window
+pub mod Slots

@@ -1,0 +1,11 @@
+//! A mailbox's changes, what an event logs, and the last changes of a log, each under its number.
+//! No message, no text and no client stands here.
+#![tactic(auto)]
+
+pub use change::{Change, Flags};
+pub use flag_op::FlagOp;
+pub use ring::{ChangeRing, Lapped, Spent};
+
+mod change;
+mod flag_op;
+mod ring;

@@ -1,0 +1,285 @@
+//! A ring of the last changes of a log: it overwrites the oldest, or grows up to its most where
+//! they are still wanted. Who wants them is not told here.
+
+ghost use Rattle.std.specs.Prelude.{◌≡◌, ℕ, ◌+◌, ◌-◌, ◌*◌, ◌^◌, ◌<◌, ◌≤◌, ◌↔◌, List, [], ◌∷◌, ◌++◌, length, IsOk, IfOk, OnOk, OnErr, IfSome, OnSome, IsSome, is_some, IsErr, option_to_list, min, ◌==◌, ◌⊎◌, vec_len};
+ghost use Rattle.change_ring.specs.Window.{total, changes_from, capacity_after};
+ghost use Rattle.change_ring.specs.Slots.{around};
+
+use crate::change::Change;
+use std::alloc::{AllocError, Global};
+use std::marker::Model;
+
+/// The log has as many changes as can be numbered: 2^62.
+#[derive(Clone, Copy, Debug, PartialEq, Eq)]
+pub struct Spent;
+
+/// Some of the changes asked for were overwritten.
+#[derive(Clone, Copy, Debug, PartialEq, Eq)]
+pub struct Lapped;
+
+// The changes of these numbers in more slots.
+fn moved(
+    alloc: Global,
+    slots: &[Change],
+    base: u64,
+    total: u64,
+    capacity: usize,
+) -> Result<Vec<Change>, AllocError>
+    requires order { base ≤ total }
+    requires within { total - base ≤ length slots.now }
+    requires more { length slots.now ≤ capacity }
+    requires some { 0 < length slots.now }
+    ensures same { IfOk result (λ v. around v.items base (total - base) ≡ around slots.now base (total - base)) }
+    ensures len { IfOk result (λ v. vec_len v ≡ capacity) }
+{
+    let mut more = vec![in alloc; Change::Gone(0); capacity]?;
+    for i in base..total {
+        more[(i % (capacity as u64)) as usize] = slots[(i % (slots.len() as u64)) as usize];
+    }
+    Ok(more)
+}
+
+// So many changes can be numbered.
+const LAST: u64 = 1 << 62;
+
+/// The last changes of a log, each under its number, which counts from 0.
+#[derive(Drop)]
+pub struct ChangeRing {
+    slots: Vec<Change>,
+    base: u64,
+    total: u64,
+    max: usize,
+}
+
+impl Model for ChangeRing {
+    ghost use Rattle.std.specs.Prelude.{◌-◌, ◌+◌, ◌<◌, ◌≤◌, ◌^◌, vec_len};
+    ghost use Rattle.change_ring.specs.Window.{Window};
+
+    ghost Value = { Window };
+
+    ghost use Rattle.change_ring.specs.Slots.{around};
+
+    ghost view = { λ r. record { base = r.base; changes = around r.slots.items r.base (r.total - r.base); capacity = vec_len r.slots; max = r.max } };
+
+    ghost invariant = { λ r. (r.base ≤ r.total) × (r.total ≤ 2 ^ 62) × (r.total - r.base ≤ vec_len r.slots) × (0 < vec_len r.slots) × (vec_len r.slots ≤ r.max) };
+}
+
+impl ChangeRing {
+    /// An empty ring at the start of a log: it has room for `capacity` changes, and may grow to
+    /// `max`. An error where memory is refused.
+    pub fn new(alloc: Global, capacity: usize, max: usize) -> Result<Self, AllocError>
+        requires nonempty { 0 < capacity }
+        requires within { capacity ≤ max }
+        ensures { IfOk result (λ r. r ≡ record { base = 0; changes = []; capacity = capacity; max = max }) }
+    {
+        ChangeRing::starting_at(alloc, 0, capacity, max)
+    }
+
+    /// The same after `base` changes, of which it has none.
+    pub fn starting_at(
+        alloc: Global,
+        base: u64,
+        capacity: usize,
+        max: usize,
+    ) -> Result<Self, AllocError>
+        requires nonempty { 0 < capacity }
+        requires within { capacity ≤ max }
+        requires small { base ≤ 2 ^ 62 }
+        ensures { IfOk result (λ r. r ≡ record { base = base; changes = []; capacity = capacity; max = max }) }
+    {
+        let slots = vec![in alloc; Change::Gone(0); capacity]?;
+        Ok(ChangeRing {
+            slots,
+            base,
+            total: base,
+            max,
+        })
+    }
+
+    /// The number of the oldest change that is kept.
+    pub fn base(&self) -> u64
+        ensures { result ≡ self.now.base }
+    {
+        self.base
+    }
+
+    /// How many changes were logged.
+    pub fn total(&self) -> u64
+        ensures total { result ≡ total self.now }
+        ensures small { result ≤ 2 ^ 62 }
+    {
+        self.total
+    }
+
+    /// How many changes fit now.
+    pub fn capacity(&self) -> usize
+        ensures capacity { result ≡ self.now.capacity }
+        ensures within { length self.now.changes ≤ self.now.capacity }
+    {
+        self.slots.len()
+    }
+
+    /// Logs a change. A full ring overwrites its oldest change and hands it back, unless that is
+    /// wanted, since `keep_from` is at most its number, and the ring can grow: then it has twice the
+    /// room, up to its most. It hands the change back too where memory for that is refused. Spent
+    /// where 2^62 changes were logged; the ring is then unchanged.
+    pub fn push(&mut self, change: Change, keep_from: u64) -> Result<Option<Change>, Spent>
+        ensures spent { IsErr result ↔ (total self.old ≡ 2 ^ 62) }
+        ensures err { OnErr result (self.new ≡ self.old) }
+
+        // What is handed back comes first, and the change goes last.
+        ensures window { IfOk result (λ lost. option_to_list lost ++ self.new.changes ≡ self.old.changes ++ change ∷ []) }
+        ensures base { IfOk result (λ lost. self.new.base ≡ self.old.base + length (option_to_list lost)) }
+        ensures capacity { IfOk result (λ lost. self.new.capacity ≡ capacity_after self.old lost) }
+        ensures max { self.new.max ≡ self.old.max }
+
+        // Only a full ring hands a change back, and it grows only to keep what is wanted.
+        ensures full { IfOk result (λ lost. IsSome lost → length self.old.changes ≡ self.old.capacity) }
+        ensures wanted { OnOk result (self.old.capacity < self.new.capacity → keep_from ≤ self.old.base) }
+        ensures within { OnOk result (length self.new.changes ≤ self.new.capacity) }
+    {
+        if self.total() >= LAST {
+            return Err(Spent);
+        }
+        self.make_room(keep_from);
+        Ok(self.put(change))
+    }
+
+    // Grows a full ring that is to keep all that it has.
+    fn make_room(&mut self, keep_from: u64)
+        ensures same { self.new ≡ record self.old { capacity = self.new.capacity } }
+        ensures capacity { (self.new.capacity ≡ self.old.capacity)
+            ⊎ ((length self.old.changes ≡ self.old.capacity) × (keep_from ≤ self.old.base) × (self.old.capacity < self.new.capacity) × (self.new.capacity ≡ min (2 * self.old.capacity) self.old.max)) }
+    {
+        let held = (self.total - self.base) as usize;
+        let capacity = self.slots.len();
+        if held == capacity && keep_from <= self.base && capacity < self.max {
+            self.grow();
+        }
+    }
+
+    // Logs a change with no growth.
+    fn put(&mut self, change: Change) -> Option<Change>
+        requires { total self.old < 2 ^ 62 }
+        ensures window { option_to_list result ++ self.new.changes ≡ self.old.changes ++ change ∷ [] }
+        ensures base { self.new.base ≡ self.old.base + length (option_to_list result) }
+        ensures capacity { self.new.capacity ≡ self.old.capacity }
+        ensures max { self.new.max ≡ self.old.max }
+        ensures full { is_some result ≡ (length self.old.changes == self.old.capacity) }
+        ensures within { length self.new.changes ≤ self.new.capacity }
+    {
+        let capacity = self.slots.len();
+        let held = (self.total - self.base) as usize;
+        let at = (self.total % (capacity as u64)) as usize;
+        if held < capacity {
+            self.slots[at] = change;
+            self.total += 1;
+            return None;
+        }
+        let oldest = self.slots[at];
+        self.slots[at] = change;
+        self.total += 1;
+        self.base += 1;
+        Some(oldest)
+    }
+
+    // Doubles the capacity, up to the most, or leaves it where memory is refused.
+    fn grow(&mut self)
+        requires { self.old.capacity < self.old.max }
+        ensures same { self.new ≡ record self.old { capacity = self.new.capacity } }
+        ensures capacity { (self.new.capacity ≡ self.old.capacity) ⊎ ((self.old.capacity < self.new.capacity) × (self.new.capacity ≡ min (2 * self.old.capacity) self.old.max)) }
+    {
+        let held = self.slots.len();
+        let capacity = if held <= self.max - held {
+            2 * held
+        } else {
+            self.max
+        };
+        let alloc = *self.slots.allocator();
+        if let Ok(slots) = moved(alloc, &self.slots, self.base, self.total, capacity) {
+            self.slots = slots;
+        }
+    }
+
+    /// The changes from number `from` on, in two slices that follow one another. Lapped where the
+    /// change of that number was overwritten.
+    pub fn lend(&self, from: u64) -> Result<(&[Change], &[Change]), Lapped>
+        requires { from ≤ total self.now }
+        ensures lapped { IsErr result ↔ (from < self.now.base) }
+        ensures lent { IfOk result (λ s. s.0.now ++ s.1.now ≡ changes_from from self.now) }
+    {
+        if from < self.base {
+            return Err(Lapped);
+        }
+        let capacity = self.slots.len();
+        let count = (self.total - from) as usize;
+        let start = (from % (capacity as u64)) as usize;
+        if count <= capacity - start {
+            Ok((&self.slots[start..start + count], &[]))
+        } else {
+            Ok((
+                &self.slots[start..],
+                &self.slots[..count - (capacity - start)],
+            ))
+        }
+    }
+}
+
+#[cfg(test)]
+mod tests {
+    use super::{ChangeRing, Lapped, Spent};
+    use crate::change::Change;
+    use std::alloc::{AllocError, Global};
+
+    // Adds the messages of UIDs 0 to `count - 1`.
+    fn add(ring: &mut ChangeRing, count: u32) {
+        for uid in 0..count {
+            let _ = ring.push(Change::Add(uid), 0);
+        }
+    }
+
+    #[test]
+    fn a_full_ring_grows_where_all_is_wanted(rt: HostRuntime) -> Result<(), AllocError> {
+        let mut ring = ChangeRing::new(rt.alloc(), 4, 8)?;
+        add(&mut ring, 4);
+        assert_eq!(rt; ring.push(Change::Add(4), 0), Ok(None));
+        assert_eq!(rt; ring.capacity(), 8);
+        assert_eq!(rt; ring.base(), 0);
+        let lent = ring.lend(0).map(|lent| (lent.0.len(), lent.1.len()));
+        assert_eq!(rt; lent, Ok((5, 0)));
+        Ok(())
+    }
+
+    #[test]
+    fn a_full_ring_drops_what_is_not_wanted(rt: HostRuntime) -> Result<(), AllocError> {
+        let mut ring = ChangeRing::new(rt.alloc(), 4, 8)?;
+        add(&mut ring, 4);
+        assert_eq!(rt; ring.push(Change::Add(4), 1), Ok(Some(Change::Add(0))));
+        assert_eq!(rt; ring.capacity(), 4);
+        assert_eq!(rt; ring.base(), 1);
+        Ok(())
+    }
+
+    #[test]
+    fn no_change_follows_the_last_number(rt: HostRuntime) -> Result<(), AllocError> {
+        let mut ring = ChangeRing::starting_at(rt.alloc(), 4_611_686_018_427_387_903, 16, 16)?;
+        assert_eq!(rt; ring.push(Change::Add(1), 0), Ok(None));
+        assert_eq!(rt; ring.push(Change::Add(2), 0), Err(Spent));
+        Ok(())
+    }
+
+    #[test]
+    fn a_ring_that_cannot_grow_overwrites(rt: HostRuntime) -> Result<(), AllocError> {
+        let mut ring = ChangeRing::new(rt.alloc(), 4, 4)?;
+        add(&mut ring, 4);
+        assert_eq!(rt; ring.push(Change::Add(4), 0), Ok(Some(Change::Add(0))));
+        let lent = ring.lend(0).map(|lent| (lent.0.len(), lent.1.len()));
+        assert_eq!(rt; lent, Err(Lapped));
+        assert_eq!(rt; ring.total(), 5);
+        if ring.total() >= 1 {
+            let lent = ring.lend(1).map(|lent| (lent.0.len(), lent.1.len()));
+            assert_eq!(rt; lent, Ok((3, 1)));
+        }
+        Ok(())
+    }
+}

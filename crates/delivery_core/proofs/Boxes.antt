@@ -1,0 +1,129 @@
+-- A mailbox's delivery is the world's.
+use Rattle.std.proofs.Common.{◌≡◌, ℕ, suc, ◌-◌, ◌<◌, ◌≤◌, ◌⊎◌, inl, inr, Bool, true, false, ◌||◌, nat_le, [], ◌∷◌, ◌++◌, length, map, refl, sym, ap, ◌∙◌, arith, subst, Result, Ok, Err, OnOk, OnErr, IfOk, ◌≢◌, get_or, set, get_or-set_same, get_or-set_other, List}
+use Rattle.std.specs.Prelude.{◌↔◌}
+use Rattle.std.proofs.lemmas.Bool.{cases_lt, cases_eq, leb-true, leb-false}
+use Rattle.delivery_core.proofs.Follow.{get_or-any}
+use Rattle.std.proofs.lemmas.List.{length-map, map-append}
+use Rattle.delivery_token.specs.declared.Job.{Job}
+use Rattle.delivery_token.specs.declared.Verdict.TheVariants.{Stored}
+use Rattle.delivery_token.specs.declared.Refusal.{Refusal}
+use Rattle.delivery_token.specs.declared.Refusal.TheVariants.{Full, MailboxFull, NoMemory, UidSpent}
+use Rattle.change_ring.specs.declared.change.Change.TheVariants.{Add}
+use Rattle.change_ring.specs.Log.{rows_of, no_flags}
+use Rattle.change_ring.specs.Window.{total, MayDrop}
+use Rattle.mailbox.specs.Mail.{Mail, SameMailbox, next_uid as mail_uid, is_spent, is_full as mail_full, row_of}
+use Rattle.mailbox.specs.Events.{Logs as MailLogs}
+use Rattle.mailbox.specs.declared.mailbox.Receipt.{Receipt}
+use Rattle.world.specs.World.{Config, Box, HasUid, IsSpent, is_full, next_uid}
+use Rattle.world.specs.Law.{IsPart, pair_of, pairs}
+use Rattle.world.proofs.Base.{part_append}
+use Rattle.delivery_core.specs.Stands.{StandsForBox, text_of, accepted_text}
+use Rattle.delivery_core.specs.Boxes.{verdict_of, BoxDelivers, stores, has_no_uid, has_no_place, has_no_memory}
+
+same_uid : (k : Config) (b : Mail) (w : Box) → StandsForBox k b w → mail_uid b ≡ next_uid k w
+same_uid k b w S = omega (arith, S.first_uid, ap length S.accepted, length-map w.accepted pair_of)
+
+same_rows : (k : Config) (b : Mail) (w : Box) → StandsForBox k b w → length b.messages ≡ length (rows_of w.log)
+same_rows k b w S = sym (length-map b.messages row_of) ∙ ap length S.log.messages
+
+or_false : (a b : Bool) → (a || b) ≡ false → (a ≡ false) × (b ≡ false)
+or_false true b e = cc
+or_false false b e = (refl, e)
+
+or_true : (a b : Bool) → (a || b) ≡ true → (a ≡ true) ⊎ (b ≡ true)
+or_true true b e = inl refl
+or_true false b e = inr e
+
+-- the tests of a mailbox, as the facts of its box
+has_uid : (k : Config) (b : Mail) (w : Box) → StandsForBox k b w → is_spent b ≡ false → HasUid k w
+has_uid k b w S e =
+    let both : (nat_le 4294967295 (mail_uid b) ≡ false) × (nat_le 4611686018427387904 (total b.window) ≡ false) = or_false _ _ e in
+    (omega (arith, leb-false _ _ both.0, same_uid k b w S), omega (arith, leb-false _ _ both.1, S.log.window.long))
+
+spent : (k : Config) (b : Mail) (w : Box) → StandsForBox k b w → is_spent b ≡ true → IsSpent k w
+spent k b w S e = go (or_true _ _ e)
+  where
+    go : (nat_le 4294967295 (mail_uid b) ≡ true) ⊎ (nat_le 4611686018427387904 (total b.window) ≡ true) → IsSpent k w
+    go (inl t) = inl (omega (arith, leb-true _ _ t, same_uid k b w S))
+    go (inr t) = inr (omega (arith, leb-true _ _ t, S.log.window.long))
+
+full : (k : Config) (b : Mail) (w : Box) → StandsForBox k b w → mail_full b ≡ true → is_full k w
+full k b w S e = omega (arith, leb-true _ _ e, same_rows k b w S, S.messages)
+
+has_place : (k : Config) (b : Mail) (w : Box) → StandsForBox k b w → mail_full b ≡ false → length (rows_of w.log) < k.messages
+has_place k b w S e = omega (arith, leb-false _ _ e, same_rows k b w S, S.messages)
+
+base_after : (k : Config) (b new : Mail) (w : Box) → StandsForBox k b w → MayDrop b.window new.window → (new.window.base ≡ w.base) ⊎ ((k.ring ≤ length w.log - w.base) × (new.window.base ≡ suc w.base))
+base_after k b new w S d = go (cases_lt b.window.base new.window.base)
+  where
+    go : (b.window.base < new.window.base) ⊎ (new.window.base ≤ b.window.base) → (new.window.base ≡ w.base) ⊎ ((k.ring ≤ length w.log - w.base) × (new.window.base ≡ suc w.base))
+    go (inl up) = inr (omega (arith, S.log.window.long, S.base, S.ring, d.full up), omega (arith, d.one, S.base))
+    go (inr same) = inl (omega (arith, d.kept, S.base))
+
+-- where a mailbox neither said that it has no UID nor that it has no place, it has both
+open_of : (old : Mail) (A B : Type 0) → (A → ⊥) → (B → ⊥) → A ↔ (is_spent old ≡ true) → B ↔ ((is_spent old ≡ false) × (mail_full old ≡ true)) → (is_spent old ≡ false) × (mail_full old ≡ false)
+open_of old A B na nb spends fills = go (is_spent old) (mail_full old) spends fills
+  where
+    go : (s f : Bool) → A ↔ (s ≡ true) → B ↔ ((s ≡ false) × (f ≡ true)) → (s ≡ false) × (f ≡ false)
+    go true f a b = absurd (na (a.1 refl))
+    go false true a b = absurd (nb (b.1 (refl, refl)))
+    go false false a b = (refl, refl)
+
+-- a copy that was stored
+stored : (k : Config) (old new : Mail) (w : Box) (c : Job) (uid : ℕ) → StandsForBox k old w → (is_spent old ≡ false) × (mail_full old ≡ false)
+    → MailLogs old new (Add (mail_uid old) ∷ []) → new.accepted ≡ old.accepted ++ (c.key, mail_uid old) ∷ []
+    → new.messages ≡ old.messages ++ record { uid = mail_uid old; flags = no_flags; text = c.text } ∷ []
+    → MayDrop old.window new.window → SameMailbox old new → uid ≡ mail_uid old → BoxDelivers k w c (Stored uid) new
+stored k old new w c uid S room logs accepts messages drops stays is =
+    let n : mail_uid old ≡ next_uid k w = same_uid k old w S in
+    let has : HasUid k w = has_uid k old w S room.0 in
+    stores
+    (record { log = w.log ++ Add (next_uid k w) ∷ []; base = new.window.base; accepted = w.accepted ++ (c, next_uid k w) ∷ [] })
+    has (has_place k old w S room.1)
+    (record { room = omega (arith, has.1); log = refl; base = base_after k old new w S drops; accepted = refl })
+    (ap Stored (is ∙ n))
+    (record {
+      log = rw n at (logs w.log S.log);
+      base = refl;
+      accepted = accepts ∙ (ap (λ xs. xs ++ (c.key, mail_uid old) ∷ []) S.accepted ∙ (ap (λ u. pairs w.accepted ++ (c.key, u) ∷ []) n ∙ sym (map-append pair_of w.accepted ((c, next_uid k w) ∷ []))));
+      texts = subst (λ xs. IsPart xs (map accepted_text (w.accepted ++ (c, next_uid k w) ∷ [])))
+          (sym (ap (map text_of) messages ∙ (map-append text_of old.messages (_ ∷ []) ∙ ap (λ u. map text_of old.messages ++ (u, c.text) ∷ []) n)))
+          (subst (λ ys. IsPart (map text_of old.messages ++ (next_uid k w, c.text) ∷ []) ys) (sym (map-append accepted_text w.accepted ((c, next_uid k w) ∷ [])))
+          (part_append ((next_uid k w, c.text) ∷ []) S.texts));
+      first_uid = stays.first_uid ∙ S.first_uid;
+      messages = stays.limit ∙ S.messages;
+      ring = omega (arith, S.ring, drops.grows);
+    })
+
+pub box_delivers : (k : Config) (old new : Mail) (w : Box) (c : Job) (r : Result Receipt Refusal) → StandsForBox k old w
+    → (r ≡ Err UidSpent) ↔ (is_spent old ≡ true) → (r ≡ Err MailboxFull) ↔ ((is_spent old ≡ false) × (mail_full old ≡ true)) → (r ≡ Err Full → ⊥)
+    → OnErr r (new ≡ old) → OnOk r (MailLogs old new (Add (mail_uid old) ∷ [])) → OnOk r (new.accepted ≡ old.accepted ++ (c.key, mail_uid old) ∷ [])
+    → OnOk r (new.messages ≡ old.messages ++ record { uid = mail_uid old; flags = no_flags; text = c.text } ∷ [])
+    → OnOk r (MayDrop old.window new.window) → OnOk r (SameMailbox old new) → IfOk r (λ x. x ≡ record { mailbox = old.number; key = c.key; uid = mail_uid old; place = length old.accepted })
+    → BoxDelivers k w c (verdict_of r) new
+box_delivers k old new w c (Ok x) S spends fills queued same logs accepts messages drops stays uid = stored k old new w c x.uid S (open_of old _ _ (λ e. cc) (λ e. cc) spends fills) logs accepts messages drops stays (ap (λ y. y.uid) uid)
+box_delivers k old new w c (Err UidSpent) S spends fills queued same logs accepts messages drops stays uid = has_no_uid (spent k old w S (spends.0 refl)) refl (rw same S)
+box_delivers k old new w c (Err MailboxFull) S spends fills queued same logs accepts messages drops stays uid = has_no_place (has_uid k old w S (fills.0 refl).0) (full k old w S (fills.0 refl).1) refl (rw same S)
+box_delivers k old new w c (Err NoMemory) S spends fills queued same logs accepts messages drops stays uid =
+    let room : (is_spent old ≡ false) × (mail_full old ≡ false) = open_of old _ _ (λ e. cc) (λ e. cc) spends fills in
+    has_no_memory (has_uid k old w S room.0) (has_place k old w S room.1) refl (rw same S)
+box_delivers k old new w c (Err Full) S spends fills queued same logs accepts messages drops stays uid = absurd (queued refl)
+
+pub same_mailbox : (r : Result Receipt Refusal) (old new : Mail) → OnOk r (SameMailbox old new) → OnErr r (new ≡ old) → SameMailbox old new
+same_mailbox (Ok x) old new same err = same
+same_mailbox (Err x) old new same err = rw err (record { number = refl; uidvalidity = refl; first_uid = refl; limit = refl })
+
+-- one mailbox of a list took a copy
+pub same_boxes : (boxes : List Mail) (i : ℕ) (old new : Mail) → i < length boxes → old ≡ get_or boxes i old → SameMailbox old new
+    → (m : ℕ) (d : Mail) → SameMailbox (get_or boxes m d) (get_or (set boxes i new) m d)
+same_boxes boxes i old new l there same m d = go (cases_eq m i)
+  where
+    same_self : (b : Mail) → SameMailbox b b
+    same_self b = record { number = refl; uidvalidity = refl; first_uid = refl; limit = refl }
+
+    was : get_or boxes i d ≡ old
+    was = get_or-any boxes i d old l ∙ sym there
+
+    go : (m ≡ i) ⊎ (m ≢ i) → SameMailbox (get_or boxes m d) (get_or (set boxes i new) m d)
+    go (inl e) = rw (e, get_or-set_same boxes i new d l, was) same
+    go (inr e) = rw (get_or-set_other boxes i m new d e) (same_self (get_or boxes m d))

@@ -1,0 +1,101 @@
+-- What is changed at one place, the world changes at the same place.
+use Rattle.std.proofs.Common.{◌≡◌, ◌≢◌, ◌⊎◌, inl, inr, true, false, ℕ, zero, suc, ◌<◌, List, [], ◌∷◌, ◌++◌, length, get_or, set, refl, sym, ap, subst, arith, eqb, get_or-set_same, get_or-set_other, length-set, Result, Ok, Err, OnOk, OnErr}
+use Rattle.std.proofs.lemmas.Bool.Decides.{eqb_tells}
+use Rattle.shard_queue.specs.At.{set_at}
+use Rattle.shard_queue.proofs.AtLaws.{at_cases}
+use Rattle.world.specs.World.{Config, World, Event, Step, Steps, IsWorld, empty_world}
+use Rattle.world.proofs.Always.{steps_join, always}
+use Rattle.delivery_core.specs.Held.{Held}
+use Rattle.delivery_core.specs.Stands.{EachAt, StandsFor, IsNext, Reached, Follows, Runs, Lives}
+use Rattle.delivery_token.specs.declared.CopyKey.{CopyKey}
+
+-- an element is changed, and what is said of its place holds of it
+pub each_here : {A : Type 0} (P : ℕ → A → Type 0) (xs : List A) (i : ℕ) (x : A) → EachAt P xs → P i x → EachAt P (set xs i x)
+each_here P xs i x all here j d l = go (eqb_tells j i)
+  where
+    lt : j < length xs
+    lt = omega (arith, length-set xs i x)
+
+    go : ((eqb j i ≡ true) × (j ≡ i)) ⊎ ((eqb j i ≡ false) × (j ≢ i)) → P j (get_or (set xs i x) j d)
+    go (inl (t, same)) = let lt2 : i < length xs = omega (arith, length-set xs i x) in rw (same, get_or-set_same xs i x d lt2) here
+    go (inr (t, other)) = rw (get_or-set_other xs i j x d other) (all j d lt)
+
+-- element and place are changed together
+pub each_set : {A B : Type 0} (R : A → B → Type 0) (xs : List A) (f : ℕ → B) (i : ℕ) (x : A) (y : B) → EachAt (λ j a. R a (f j)) xs → R x y → EachAt (λ j a. R a (set_at f i y j)) (set xs i x)
+each_set R xs f i x y all here j d l = at_cases (R (get_or (set xs i x) j d)) f i y j
+    (λ same. let lt : i < length xs = omega (arith, length-set xs i x) in rw (same, get_or-set_same xs i x d lt) here)
+    (λ other. rw (get_or-set_other xs i j x d other) (all j d (omega (arith, length-set xs i x))))
+
+-- an element is changed, and what is said of the places changes, at the others by this
+pub each_but : {A : Type 0} (P Q : ℕ → A → Type 0) (xs : List A) (i : ℕ) (x : A) → EachAt P xs → ((j : ℕ) (a : A) → j ≢ i → P j a → Q j a) → Q i x → EachAt Q (set xs i x)
+each_but P Q xs i x all more here j d l = go (eqb_tells j i)
+  where
+    lt : j < length xs
+    lt = omega (arith, length-set xs i x)
+
+    go : ((eqb j i ≡ true) × (j ≡ i)) ⊎ ((eqb j i ≡ false) × (j ≢ i)) → Q j (get_or (set xs i x) j d)
+    go (inl (t, same)) = let lt2 : i < length xs = omega (arith, length-set xs i x) in rw (same, get_or-set_same xs i x d lt2) here
+    go (inr (t, other)) = rw (get_or-set_other xs i j x d other) (more j (get_or xs j d) other (all j d lt))
+
+-- at a place of the list the default is of no account
+pub get_or-any : {A : Type 0} (xs : List A) (i : ℕ) (c d : A) → i < length xs → get_or xs i c ≡ get_or xs i d
+get_or-any [] i c d l = absurd (omega arith)
+get_or-any (x ∷ xs) zero c d l = refl
+get_or-any (x ∷ xs) (suc i) c d l = get_or-any xs i c d (omega arith)
+
+-- writing back what was there changes nothing
+pub set_back : {A : Type 0} (xs : List A) (i : ℕ) (x : A) → i < length xs → x ≡ get_or xs i x → set xs i x ≡ xs
+set_back [] i x l e = absurd (omega arith)
+set_back (y ∷ ys) zero x l e = ap (λ z. z ∷ ys) e
+set_back (y ∷ ys) (suc i) x l e = ap (λ zs. y ∷ zs) (set_back ys i x (omega arith) e)
+
+pub reached_step : (k : Config) (w : World) (e : Event) (v : World) → Reached k w → Step k w e v → Reached k v
+reached_step k w e v r step = (r.0 ++ e ∷ [], steps_join k empty_world r.0 w (e ∷ []) v r.1 (v, step, refl))
+
+-- where neither what was sent nor what was heard changed
+pub next_same : (w v : World) (ys : List CopyKey) → ((t p : ℕ) → (v.lane t).sent p ≡ (w.lane t).sent p) → ((p : ℕ) → v.heard p ≡ w.heard p) → EachAt (λ p y. IsNext w p y) ys → EachAt (λ p y. IsNext v p y) ys
+next_same w v ys sent heard all p d l =
+    let n : IsNext w p (get_or ys p d) = all p d l in
+    record { own = n.own; sent = λ t. rw (sent t p) (n.sent t); heard = rw (heard p) n.heard }
+
+pub follows_none : (k : Config) (h : Held) → Follows k h [] h
+follows_none k h w S = (w, refl, S)
+
+pub follows_join : (k : Config) (a b c : Held) (es fs : List Event) → Follows k a es b → Follows k b fs c → Follows k a (es ++ fs) c
+follows_join k a b c es fs f g w S =
+    let first : (v : World) × Steps k w es v × StandsFor k b v = f w S in
+    let next : (v : World) × Steps k first.0 fs v × StandsFor k c v = g first.0 first.2 in
+    (next.0, steps_join k w es first.0 fs next.0 first.1 next.1, next.2)
+
+-- a call that follows some events lives on under the law
+pub lives : (k : Config) (a b : Held) (es : List Event) → Follows k a es b → Lives k a b
+lives k a b es f events w world S =
+    let more : (v : World) × Steps k w es v × StandsFor k b v = f w S in
+    let whole : IsWorld k (events ++ es) more.0 = steps_join k empty_world events w es more.0 world more.1 in
+    (es, more.0, whole, more.2, always k (events ++ es) more.0 whole)
+
+pub each_push : {A : Type 0} (P : ℕ → A → Type 0) (xs : List A) (x : A) → EachAt P xs → P (length xs) x → EachAt P (xs ++ x ∷ [])
+each_push P [] x all here zero d l = here
+each_push P [] x all here (suc j) d l = absurd (omega arith)
+each_push P (y ∷ ys) x all here zero d l = all zero d (omega arith)
+each_push P (y ∷ ys) x all here (suc j) d l = each_push (λ i. P (suc i)) ys x (λ i e h. all (suc i) e (omega arith)) here j d (omega arith)
+
+pub each_none : {A : Type 0} (P : ℕ → A → Type 0) (xs : List A) → xs ≡ [] → EachAt P xs
+each_none P xs e i d l = absurd (omega (arith, ap length e))
+
+pub runs_none : (k : Config) (h : Held) → Runs k h h
+runs_none k h w S = ([], w, refl, S)
+
+-- an event that was made or refused
+pub runs_step : {T E : Type 0} (r : Result T E) (k : Config) (a b c : Held) (e : Event) → OnOk r ((x : Config) → Follows x b (e ∷ []) c) → OnErr r (c ≡ b) → Runs k a b → Runs k a c
+runs_step (Ok x) k a b c e ok err runs w S =
+    let first : (events : List Event) × (v : World) × Steps k w events v × StandsFor k b v = runs w S in
+    let next : (v : World) × Steps k first.1 (e ∷ []) v × StandsFor k c v = ok k first.1 first.3 in
+    (first.0 ++ e ∷ [], next.0, steps_join k w first.0 first.1 (e ∷ []) next.0 first.2 next.1, next.2)
+runs_step (Err x) k a b c e ok err runs w S = subst (λ (h : Held). Runs k a h) (sym err) runs w S
+
+pub lives_of_runs : (k : Config) (a b : Held) → Runs k a b → Lives k a b
+lives_of_runs k a b r events w world S =
+    let more : (events : List Event) × (v : World) × Steps k w events v × StandsFor k b v = r w S in
+    let whole : IsWorld k (events ++ more.0) more.1 = steps_join k empty_world events w more.0 more.1 world more.2 in
+    (more.0, more.1, whole, more.3, always k (events ++ more.0) more.1 whole)

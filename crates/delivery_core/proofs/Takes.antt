@@ -1,0 +1,196 @@
+-- A take, an answer and a hearing are those of the world.
+use Rattle.std.proofs.Common.{◌≡◌, inl, inr, Bool, true, false, not, ℕ, ◌<◌, List, [], ◌∷◌, ◌++◌, length, get_or, set, filter_map, refl, sym, ap, subst, ◌∙◌, arith, length-set, Some, None, All}
+use Rattle.std.specs.Prelude.{option_map, slice_index_or}
+use Rattle.std.proofs.lemmas.List.Elements.{All-head, All-tail, All-push}
+use Rattle.shard_queue.specs.Lane.{Lane, took, put, has_end}
+use Rattle.shard_queue.specs.At.{set_at}
+use Rattle.delivery_token.specs.Keys.{Below}
+use Rattle.shard_queue.proofs.AtLaws.{at_cases}
+use Rattle.delivery_token.specs.declared.CopyKey.{CopyKey}
+use Rattle.delivery_token.specs.declared.Job.{Job}
+use Rattle.delivery_token.specs.declared.log.Noted.{Noted}
+use Rattle.delivery_token.specs.Book.{Book}
+use Rattle.shard_queue.specs.Waits.{Waits}
+use Rattle.shard_queue.specs.Plain.{before_taking, taken_entry}
+use Rattle.shard_queue.specs.declared.lane.Taken.{Taken}
+use Rattle.shard_queue.specs.declared.lane.Taken.TheVariants as took_one
+use Rattle.shard_queue.specs.declared.lane.Entry.{Entry}
+use Rattle.shard_queue.specs.declared.lane.Entry.TheVariants.{Item, End}
+use Rattle.world.specs.declared.hand.Hand.{Hand}
+use Rattle.world.specs.declared.hand.Hand.TheVariants.{Empty, Done}
+use Rattle.world.specs.World.{Config, World, Steps, Take, TakeStep, takes, Answer, AnswerStep, answers, Hear, HearStep, hears_one, in_hand, EntryBelow, reply_room}
+use Rattle.world.proofs.Mails.{IsIn}
+use Rattle.world.specs.Known.{key_in}
+use Rattle.world.proofs.Known.{HandKnown, ReplyKnown, known_always}
+use Rattle.world.proofs.Always.{kept_always}
+use Rattle.delivery_core.specs.Held.{Held}
+use Rattle.delivery_core.specs.Stands.{EachAt, StandsFor, StandsForLane, IsNext}
+use Rattle.delivery_core.proofs.Follow.{each_here, each_set, next_same, reached_step}
+
+-- Take
+
+from_taken : (t : Taken Job) (hand : Hand) (ws : List (Entry Job)) → Some hand ≡ option_map in_hand (taken_entry t) → (e : Entry Job) × (before_taking t ws ≡ e ∷ ws) × (hand ≡ in_hand e)
+from_taken (took_one.Item p x) hand ws h = (Item p x, refl, cc)
+from_taken (took_one.End p) hand ws h = (End p, refl, cc)
+from_taken took_one.Empty hand ws h = absurd (cc)
+
+pub take_none : (t : Taken Job) (l l2 : Waits Job) → None ≡ option_map in_hand (taken_entry t) → l ≡ record { capacity = l2.capacity; live = l2.live; waiting = before_taking t l2.waiting } → l ≡ l2
+take_none (took_one.Item p x) l l2 h e = absurd (cc)
+take_none (took_one.End p) l l2 h e = absurd (cc)
+take_none took_one.Empty l l2 h e = e
+
+took_sent : (w : World) (s : ℕ) (e : Entry Job) (others : List (Entry Job)) (t p : ℕ) → (set_at w.lane s (took (w.lane s) e others) t).sent p ≡ (w.lane t).sent p
+took_sent w s e others t p = at_cases (λ l. l.sent p ≡ (w.lane t).sent p) w.lane s (took (w.lane s) e others) t (λ same. ap (λ i. (w.lane i).sent p) (sym same)) (λ _. refl)
+
+pub take_follows : (k : Config) (w : World) (old new : Held) (s : ℕ) (l l2 : Waits Job) (t : Taken Job) (hand : Hand) → StandsFor k old w
+    → s < length old.lanes → s < length old.hands → Empty ≡ get_or old.hands s Empty → l ≡ get_or old.lanes s l
+    → l ≡ record { capacity = l2.capacity; live = l2.live; waiting = before_taking t l2.waiting } → Some hand ≡ option_map in_hand (taken_entry t)
+    → new.lanes ≡ set old.lanes s l2 → new.hands ≡ set old.hands s hand
+    → new.replies ≡ old.replies → new.heard ≡ old.heard → new.boxes ≡ old.boxes → new.next ≡ old.next
+    → (v : World) × Steps k w (Take s ∷ []) v × StandsFor k new v
+take_follows k w old new s l l2 t hand S ins inh is there front held lanes hands replies heard boxes next =
+    let got : (e : Entry Job) × (before_taking t l2.waiting ≡ e ∷ l2.waiting) × (hand ≡ in_hand e) = from_taken t hand l2.waiting held in
+    let e : Entry Job = got.0 in
+    let was : StandsForLane k.seats k.depth l (w.lane s) = rw there (S.lanes s l ins) in
+    let waits : (w.lane s).waiting ≡ e ∷ l2.waiting = sym was.waiting ∙ (ap (λ x. x.waiting) front ∙ got.1) in
+    let v : World = record w { lane = set_at w.lane s (took (w.lane s) e l2.waiting); hand = set_at w.hand s (in_hand e) } in
+    let step : TakeStep w s v = takes e l2.waiting (sym (S.hands s Empty inh) ∙ sym is) waits refl in (
+      v,
+      (v, step, refl),
+      record {
+        reached = reached_step k w (Take s) v S.reached step;
+        shards = ap length lanes ∙ (length-set old.lanes s l2 ∙ S.shards);
+        in_hands = ap length hands ∙ (length-set old.hands s hand ∙ S.in_hands);
+        seats = ap length replies ∙ S.seats;
+        hearing = ap length heard ∙ S.hearing;
+        nexts = ap length next ∙ S.nexts;
+        mailboxes = ap length boxes ∙ S.mailboxes;
+        lanes = rw lanes (each_set (λ a b. StandsForLane k.seats k.depth a b) old.lanes w.lane s l2 (took (w.lane s) e l2.waiting) S.lanes
+            (record { capacity = sym (ap (λ x. x.capacity) front) ∙ was.capacity; producers = sym (ap (λ x. length x.live) front) ∙ was.producers; waiting = refl; live = subst (λ xs. EachAt (λ p live. has_end ((w.lane s).sent p) ≡ not live) xs) (ap (λ x. x.live) front) was.live }));
+        hands = rw hands (each_set (λ a b. a ≡ b) old.hands w.hand s hand (in_hand e) S.hands got.2);
+        replies = rw replies S.replies;
+        heard = rw heard S.heard;
+        boxes = rw boxes S.boxes;
+        next = rw next (next_same w v old.next (took_sent w s e l2.waiting) (λ p. refl) S.next);
+      },
+    )
+
+-- Answer
+
+live_more : {A : Type 0} (es : List (Entry A)) (s : ℕ) (x : A) → has_end (es ++ Item s x ∷ []) ≡ has_end es
+live_more [] s x = refl
+live_more (Item p y ∷ es) s x = live_more es s x
+live_more (End p ∷ es) s x = refl
+
+-- a lane that took an item
+pub lane_put : {A : Type 0} (n room s : ℕ) (x : A) (l l2 : Waits A) (w : Lane A) → StandsForLane n room l w → l2 ≡ record { capacity = l.capacity; live = l.live; waiting = l.waiting ++ Item s x ∷ [] } → StandsForLane n room l2 (put w (Item s x))
+lane_put n room s x l l2 w S e = rw e (record {
+  capacity = S.capacity;
+  producers = S.producers;
+  waiting = ap (λ es. es ++ Item s x ∷ []) S.waiting;
+  live = λ q d h. at_cases (λ es. has_end es ≡ not (slice_index_or l.live q d)) w.sent s (w.sent s ++ Item s x ∷ []) q
+      (λ same. live_more (w.sent s) s x ∙ (ap (λ i. has_end (w.sent i)) (sym same) ∙ S.live q d h)) (λ _. S.live q d h);
+})
+
+-- the verdict in a hand is for a seat that is there, and its reply lane is live
+pub reply_place : (k : Config) (w : World) (old : Held) (s : ℕ) (r : Noted) → StandsFor k old w → s < length old.hands → Done r ≡ get_or old.hands s (Done r) → r.key.seat < length old.replies
+reply_place k w old s r S inh is =
+    let known : HandKnown k w (w.hand s) = (known_always k S.reached.0 w S.reached.1).hands s in
+    let here : HandKnown k w (Done r) = subst (HandKnown k w) (sym (is ∙ S.hands s (Done r) inh)) known in
+    omega (arith, here.seat, S.seats)
+
+not_true : (b : Bool) → false ≡ not b → b ≡ true
+not_true true e = refl
+not_true false e = cc
+
+pub reply_live : (k : Config) (w : World) (old : Held) (s p : ℕ) (l : Waits Noted) → StandsFor k old w → s < length old.lanes → p < length old.replies → l ≡ get_or old.replies p l → get_or l.live s false ≡ true
+reply_live k w old s p l S ins inp there =
+    let was : StandsForLane k.shards reply_room l (w.replies p) = rw there (S.replies p l inp) in
+    not_true (get_or l.live s false) (sym ((kept_always k S.reached.0 w S.reached.1).live p s) ∙ was.live s false (omega (arith, was.producers, S.shards)))
+
+pub answer_follows : (k : Config) (w : World) (old new : Held) (s : ℕ) (r : Noted) (l l2 : Waits Noted) → StandsFor k old w
+    → s < length old.hands → Done r ≡ get_or old.hands s (Done r) → r.key.seat < length old.replies → l ≡ get_or old.replies r.key.seat l
+    → length l.waiting < l.capacity → l2 ≡ record { capacity = l.capacity; live = l.live; waiting = l.waiting ++ Item s r ∷ [] }
+    → new.hands ≡ set old.hands s Empty → new.replies ≡ set old.replies r.key.seat l2
+    → new.lanes ≡ old.lanes → new.heard ≡ old.heard → new.boxes ≡ old.boxes → new.next ≡ old.next
+    → (v : World) × Steps k w (Answer s ∷ []) v × StandsFor k new v
+answer_follows k w old new s r l l2 S inh is inp there room puts hands replies lanes heard boxes next =
+    let p : ℕ = r.key.seat in
+    let was : StandsForLane k.shards reply_room l (w.replies p) = rw there (S.replies p l inp) in
+    let v : World = record w { hand = set_at w.hand s Empty; replies = set_at w.replies p (put (w.replies p) (Item s r)) } in
+    let step : AnswerStep w s v = answers r (sym (is ∙ S.hands s (Done r) inh)) (omega (arith, room, was.capacity, ap length was.waiting)) refl in (
+      v,
+      (v, step, refl),
+      record {
+        reached = reached_step k w (Answer s) v S.reached step;
+        shards = ap length lanes ∙ S.shards;
+        in_hands = ap length hands ∙ (length-set old.hands s Empty ∙ S.in_hands);
+        seats = ap length replies ∙ (length-set old.replies p l2 ∙ S.seats);
+        hearing = ap length heard ∙ S.hearing;
+        nexts = ap length next ∙ S.nexts;
+        mailboxes = ap length boxes ∙ S.mailboxes;
+        lanes = rw lanes S.lanes;
+        hands = rw hands (each_set (λ a b. a ≡ b) old.hands w.hand s Empty Empty S.hands refl);
+        replies = rw replies (each_set (λ a b. StandsForLane k.shards reply_room a b) old.replies w.replies p l2 (put (w.replies p) (Item s r)) S.replies (lane_put k.shards reply_room s r l l2 (w.replies p) was puts));
+        heard = rw heard S.heard;
+        boxes = rw boxes S.boxes;
+        next = rw next (next_same w v old.next (λ t q. refl) (λ q. refl) S.next);
+      },
+    )
+
+-- Hear
+
+below_sent : (y key : CopyKey) (es : List (Entry Job)) → All (EntryBelow y) es → IsIn key (filter_map key_in es) → Below key y
+below_sent y key [] h i = absurd i
+below_sent y key (Item p c ∷ es) h (inl e) = rw e (All-head (EntryBelow y) (Item p c) es h)
+below_sent y key (Item p c ∷ es) h (inr i) = below_sent y key es (All-tail (EntryBelow y) (Item p c) es h) i
+below_sent y key (End p ∷ es) h i = below_sent y key es (All-tail (EntryBelow y) (End p) es h) i
+
+-- a reply lane has no ends
+pub no_reply_end : (k : Config) (w : World) (old : Held) (p s : ℕ) (l : Waits Noted) (others : List (Entry Noted)) → StandsFor k old w → p < length old.replies → l ≡ get_or old.replies p l → l.waiting ≡ End s ∷ others → ⊥
+no_reply_end k w old p s l others S inp there front =
+    let was : StandsForLane k.shards reply_room l (w.replies p) = rw there (S.replies p l inp) in
+    (rw (sym was.waiting ∙ front) at ((known_always k S.reached.0 w S.reached.1).replies p)).0
+
+pub hear_follows : (k : Config) (w : World) (old new : Held) (p s : ℕ) (r : Noted) (l l2 : Waits Noted) (book0 book1 book2 book3 : Book) → StandsFor k old w
+    → p < length old.replies → p < length old.heard → l ≡ get_or old.replies p l → l ≡ record { capacity = l2.capacity; live = l2.live; waiting = Item s r ∷ l2.waiting }
+    → book0 ≡ get_or old.heard p book0 → book1.notes ≡ book0.notes → book2 ≡ get_or (set old.heard p book1) p book2 → book3.notes ≡ book2.notes ++ r ∷ []
+    → new.replies ≡ set old.replies p l2 → new.heard ≡ set (set old.heard p book1) p book3
+    → new.lanes ≡ old.lanes → new.hands ≡ old.hands → new.boxes ≡ old.boxes → new.next ≡ old.next
+    → (v : World) × Steps k w (Hear p ∷ []) v × StandsFor k new v
+hear_follows k w old new p s r l l2 book0 book1 book2 book3 S inp inh there front first kept second noted replies heard lanes hands boxes next =
+    let was : StandsForLane k.shards reply_room l (w.replies p) = rw there (S.replies p l inp) in
+    let waits : (w.replies p).waiting ≡ Item s r ∷ l2.waiting = sym was.waiting ∙ ap (λ x. x.waiting) front in
+    let v : World = record w { replies = set_at w.replies p (took (w.replies p) (Item s r) l2.waiting); heard = set_at w.heard p (w.heard p ++ r ∷ []) } in
+    let step : HearStep w p v = hears_one s r l2.waiting waits refl in
+    let reserved : EachAt (λ q b. b.notes ≡ w.heard q) (set old.heard p book1) = each_here (λ q b. b.notes ≡ w.heard q) old.heard p book1 S.heard (kept ∙ rw first (S.heard p book0 inh)) in
+    let inh2 : p < length (set old.heard p book1) = omega (arith, length-set old.heard p book1) in
+    let known : ReplyKnown k w p (Item s r) = (rw waits at ((known_always k S.reached.0 w S.reached.1).replies p)).0 in (
+      v,
+      (v, step, refl),
+      record {
+        reached = reached_step k w (Hear p) v S.reached step;
+        shards = ap length lanes ∙ S.shards;
+        in_hands = ap length hands ∙ S.in_hands;
+        seats = ap length replies ∙ (length-set old.replies p l2 ∙ S.seats);
+        hearing = ap length heard ∙ (length-set (set old.heard p book1) p book3 ∙ (length-set old.heard p book1 ∙ S.hearing));
+        nexts = ap length next ∙ S.nexts;
+        mailboxes = ap length boxes ∙ S.mailboxes;
+        lanes = rw lanes S.lanes;
+        hands = rw hands S.hands;
+        replies = rw replies (each_set (λ a b. StandsForLane k.shards reply_room a b) old.replies w.replies p l2 (took (w.replies p) (Item s r) l2.waiting) S.replies
+            (record { capacity = sym (ap (λ x. x.capacity) front) ∙ was.capacity; producers = sym (ap (λ x. length x.live) front) ∙ was.producers; waiting = refl; live = subst (λ xs. EachAt (λ q live. has_end ((w.replies p).sent q) ≡ not live) xs) (ap (λ x. x.live) front) was.live }));
+        heard = rw heard (each_set (λ b h. b.notes ≡ h) (set old.heard p book1) w.heard p book3 (w.heard p ++ r ∷ []) reserved (noted ∙ ap (λ rs. rs ++ r ∷ []) (rw second (reserved p book2 inh2))));
+        boxes = rw boxes S.boxes;
+        next = rw next (λ q d h.
+            let n : IsNext w q (get_or old.next q d) = S.next q d h in
+            record {
+              own = n.own;
+              sent = n.sent;
+              heard = at_cases (λ rs. All (λ x. Below x.key (get_or old.next q d)) rs) w.heard p (w.heard p ++ r ∷ []) q
+                  (λ same. All-push (λ x. Below x.key (get_or old.next q d)) (w.heard p) r (subst (λ (i : ℕ). All (λ x. Below x.key (get_or old.next q d)) (w.heard i)) same n.heard)
+                  (below_sent (get_or old.next q d) r.key ((w.lane known.1.shard).sent r.key.seat) (rw (known.0 ∙ sym same) (n.sent known.1.shard)) known.1.sent))
+                  (λ _. n.heard);
+            });
+      },
+    )

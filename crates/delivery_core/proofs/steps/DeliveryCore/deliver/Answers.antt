@@ -1,0 +1,22 @@
+use Rattle.std.proofs.Common.{sym, refl, ap, subst, arith, set}
+use Rattle.delivery_core.specs.Held.{Held}
+use Rattle.delivery_core.specs.Stands.{StandsFor}
+use Rattle.delivery_core.proofs.Boxes.{same_boxes}
+use Rattle.delivery_core.proofs.Delivers.{job_place, deliver_follows}
+use Rattle.delivery_core.proofs.steps.DeliveryCore.deliver.Goals as goal
+
+pub returns-then-place-len-clause-idle : goal.returns-then-place-len-clause-idle
+returns-then-place-len-clause-idle c e k w v S step =
+    let there = job_place k w _ c.from-at.result c.in-Taken.job (subst (λ (h : Held). StandsFor k h w) (sym c.self.view_is) S) (omega (arith, c.len.ensures, c.if-at-len.false, c.self.invariant.0)) (rw c.in-Taken.is at c.index.ensures) in
+    absurd (omega (arith, there, c.len-2.ensures, c.if-place-len.true, c.from-place.ensures))
+
+pub returns-clause-follows : goal.returns-clause-follows
+returns-clause-follows c k w S =
+    rw (← c.from-at.ensures) (deliver_follows k w _ _ c.from-at.result c.in-Taken.job c.deliver_to-verdict.result c.index_mut.result.now c.deliver_to-verdict.new.mailbox
+    (subst (λ (h : Held). StandsFor k h w) (sym c.self.view_is) S) (omega (arith, c.len.ensures, c.if-at-len.false, c.self.invariant.0))
+    (rw c.in-Taken.is at c.index.ensures) (rw c.from-place.ensures at c.index_mut.ensures.value)
+    (c.deliver_to-verdict.ensures.delivers k) refl (ap (λ i. set c.self.inside.boxes.items i c.deliver_to-verdict.new.mailbox) c.from-place.ensures) refl refl refl refl)
+
+pub returns-clause-same : goal.returns-clause-same
+returns-clause-same c =
+    rw (← c.self.view_is) (same_boxes c.self.inside.boxes.items c.from-place.result c.index_mut.result.now c.deliver_to-verdict.new.mailbox (omega (arith, c.len-2.ensures, c.if-place-len.false)) c.index_mut.ensures.value c.deliver_to-verdict.ensures.same)

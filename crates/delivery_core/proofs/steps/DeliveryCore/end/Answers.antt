@@ -1,0 +1,18 @@
+use Rattle.std.proofs.Common.{◌≡◌, ◌∙◌, sym, refl, subst, arith, get_or, true, false, ◌<◌, length}
+use Rattle.shard_queue.specs.Waits.{Waits}
+use Rattle.delivery_token.specs.declared.Job.{Job}
+use Rattle.delivery_core.specs.Held.{Held}
+use Rattle.delivery_core.specs.Stands.{StandsFor}
+use Rattle.delivery_core.proofs.Follow.{get_or-any}
+use Rattle.delivery_core.proofs.Ends.{end_follows}
+use Rattle.delivery_core.proofs.steps.DeliveryCore.end.Goals as goal
+
+pub returns-clause-follows : goal.returns-clause-follows
+returns-clause-follows c k w S =
+    let i = c.self.inside in
+    let ins : c.from-at.result < length i.lanes.items = omega (arith, c.len.ensures, c.if-at-len.false) in
+    let same : c.index.result.now ≡ c.index_mut-lane.result.now = c.index.ensures ∙ (get_or-any i.lanes.items _ _ _ ins ∙ sym c.index_mut-lane.ensures.value) in
+    rw (← c.from-at.ensures) (end_follows k w _ _ c.args.seat c.from-at.result c.index_mut-lane.result.now c.end.new.self
+    (subst (λ (h : Held). StandsFor k h w) (sym c.self.view_is) S) ins (omega (arith, c.len-else-at-len.ensures, c.if-from-len.false, c.from.ensures)) c.index_mut-lane.ensures.value
+    (subst (λ (x : Waits Job). get_or x.live c.args.seat false ≡ true) same (c.is_live.ensures.0 c.if-not-is_live.false))
+    c.in-Ok.ensures.put.0 c.in-Ok.ensures.put.1 refl refl refl refl refl refl)

@@ -1,0 +1,31 @@
+-- How much is left to do: each take, delivery, answer and hearing makes it less, so that they come to an end.
+use Rattle.std.specs.Prelude.{ℕ, ◌+◌, length, sum_by}
+use Rattle.delivery_token.specs.declared.Job.{Job}
+use Rattle.delivery_token.specs.declared.log.Noted.{Noted}
+use Rattle.shard_queue.specs.Waits.{Waits}
+use Rattle.shard_queue.specs.declared.lane.Entry.{Entry}
+use Rattle.shard_queue.specs.declared.lane.Entry.TheVariants.{Item, End}
+use Rattle.world.specs.declared.hand.Hand.{Hand}
+use Rattle.world.specs.declared.hand.Hand.TheVariants.{Empty, Taken, Done}
+use Rattle.delivery_core.specs.Held.{Held}
+
+-- a copy that waits is to be taken, delivered, answered and heard; an end is to be taken
+abbrev pub entry_load : Entry Job → ℕ
+entry_load (Item p c) = 4
+entry_load (End p) = 1
+
+-- a copy in a hand is to be delivered, answered and heard; a verdict to be answered and heard
+abbrev pub hand_load : Hand → ℕ
+hand_load Empty = 0
+hand_load (Taken c) = 3
+hand_load (Done r) = 2
+
+abbrev pub lane_load : Waits Job → ℕ
+lane_load l = sum_by entry_load l.waiting
+
+-- a verdict that waits is to be heard
+abbrev pub reply_load : Waits Noted → ℕ
+reply_load l = length l.waiting
+
+abbrev pub load : Held → ℕ
+load h = sum_by lane_load h.lanes + (sum_by hand_load h.hands + sum_by reply_load h.replies)

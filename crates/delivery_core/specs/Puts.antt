@@ -1,0 +1,24 @@
+-- What putting a copy does to a lane.
+use Rattle.std.specs.Prelude.{◌≡◌, ℕ, ◌+◌, ◌<◌, ◌≤◌, ◌⊎◌, [], ◌∷◌, ◌++◌, length, Option, Some, None}
+use Rattle.delivery_token.specs.Keys.{Below}
+use Rattle.delivery_token.specs.declared.CopyKey.{CopyKey}
+use Rattle.delivery_token.specs.declared.Job.{Job}
+use Rattle.delivery_token.specs.declared.Refusal.{Refusal}
+use Rattle.delivery_token.specs.declared.Refusal.TheVariants.{Full, NoMemory}
+use Rattle.shard_queue.specs.Waits.{Waits}
+use Rattle.shard_queue.specs.declared.lane.Entry.TheVariants.{Item}
+
+-- The copy joined the lane, or was refused and the lane is as it was.
+pub data LanePuts (old : Waits Job) (p : ℕ) (c : Job) (new : Waits Job) (why : Option Refusal) : Type 0 where
+  joins : length old.waiting < old.capacity → why ≡ None → new ≡ record { capacity = old.capacity; live = old.live; waiting = old.waiting ++ Item p c ∷ [] } → LanePuts old p c new why
+  has_no_room : old.capacity ≤ length old.waiting → why ≡ Some Full → new ≡ old → LanePuts old p c new why
+  -- a growth was refused
+  has_no_memory : why ≡ Some NoMemory → new ≡ old → LanePuts old p c new why
+
+-- y or a key after it
+abbrev pub AtLeast : CopyKey → CopyKey → Type 0
+AtLeast y key = (y ≡ key) ⊎ Below y key
+
+-- the key of the next recipient
+abbrev pub past : CopyKey → CopyKey
+past key = record { seat = key.seat; serial = key.serial; message = key.message; recipient = key.recipient + 1 }

@@ -1,0 +1,86 @@
+-- When the delivery side stands for a world: what it holds is that world's. The rest of the world, all that was ever sent, taken and
+-- logged, it need not hold.
+use Rattle.std.specs.Prelude.{◌≡◌, ℕ, ◌<◌, ◌≤◌, ◌++◌, not, List, length, map, slice_index_or, All}
+use Rattle.shard_queue.specs.Lane.{Lane, has_end}
+use Rattle.delivery_token.specs.Keys.{Below}
+use Rattle.delivery_token.specs.declared.CopyKey.{CopyKey}
+use Rattle.delivery_token.specs.declared.Job.{Job}
+use Rattle.shard_queue.specs.Waits.{Waits}
+use Rattle.mailbox.specs.Mail.{Mail, Message}
+use Rattle.mailbox.specs.Stands.{Stands}
+use Rattle.world.specs.World.{Config, World, Box, Event, Step, Steps, IsWorld, EntryBelow, reply_room}
+use Rattle.world.specs.Law.{Headline, IsPart, pairs}
+use Rattle.delivery_core.specs.Held.{Held}
+
+-- P holds of each place and the element there
+abbrev pub EachAt : {A : Type 0} → (ℕ → A → Type 0) → List A → Type 0
+EachAt {A} P xs = (i : ℕ) (d : A) → i < length xs → P i (slice_index_or xs i d)
+
+-- what waits in the lane, and which producers may still put
+pub record StandsForLane {A : Type 0} (count room : ℕ) (l : Waits A) (w : Lane A) : Type 0 where
+  pub capacity : l.capacity ≡ room
+  pub producers : length l.live ≡ count
+  pub waiting : l.waiting ≡ w.waiting
+  pub live : EachAt (λ p live. has_end (w.sent p) ≡ not live) l.live
+
+-- a message by its UID and text
+abbrev pub text_of : Message → ℕ × List ℕ
+text_of m = (m.uid, m.text)
+
+-- an accepted copy by its UID and text
+abbrev pub accepted_text : Job × ℕ → ℕ × List ℕ
+accepted_text a = (a.1, a.0.text)
+
+-- the mailbox is as the log leaves it, with its window's base and its history
+pub record StandsForBox (k : Config) (b : Mail) (w : Box) : Type 0 where
+  pub log : Stands b w.log
+  pub base : b.window.base ≡ w.base
+  pub accepted : b.accepted ≡ pairs w.accepted
+  -- each message has the text of the copy that was accepted under its UID
+  pub texts : IsPart (map text_of b.messages) (map accepted_text w.accepted)
+  pub first_uid : b.first_uid ≡ k.first_uid
+  pub messages : b.limit ≡ k.messages
+  pub ring : k.ring ≤ b.window.capacity
+
+-- each key that seat p has sent or heard of is below y
+pub record IsNext (w : World) (p : ℕ) (y : CopyKey) : Type 0 where
+  pub own : y.seat ≡ p
+  pub sent : (t : ℕ) → All (EntryBelow y) ((w.lane t).sent p)
+  pub heard : All (λ r. Below r.key y) (w.heard p)
+
+-- some events led to this world
+abbrev pub Reached : Config → World → Type 0
+Reached k w = (events : List Event) × IsWorld k events w
+
+pub record StandsFor (k : Config) (h : Held) (w : World) : Type 0 where
+  pub reached : Reached k w
+  -- as many of each as there are
+  pub shards : length h.lanes ≡ k.shards
+  pub in_hands : length h.hands ≡ k.shards
+  pub seats : length h.replies ≡ k.seats
+  pub hearing : length h.heard ≡ k.seats
+  pub nexts : length h.next ≡ k.seats
+  pub mailboxes : length h.boxes ≡ k.mailboxes
+  -- and each is as the world has it
+  pub lanes : EachAt (λ s l. StandsForLane k.seats k.depth l (w.lane s)) h.lanes
+  pub hands : EachAt (λ s hand. hand ≡ w.hand s) h.hands
+  pub replies : EachAt (λ p l. StandsForLane k.shards reply_room l (w.replies p)) h.replies
+  pub heard : EachAt (λ p book. book.notes ≡ w.heard p) h.heard
+  pub boxes : EachAt (λ m b. StandsForBox k b (w.box m)) h.boxes
+  pub next : EachAt (λ p y. IsNext w p y) h.next
+
+-- From each world that the old one stood for, these events lead to one that the new one stands for.
+abbrev pub Follows : Config → Held → List Event → Held → Type 0
+Follows k old events new = (w : World) → StandsFor k old w → (v : World) × Steps k w events v × StandsFor k new v
+
+-- From each world that the old one stood for, some events lead to one that the new one stands for.
+abbrev pub Runs : Config → Held → Held → Type 0
+Runs k old new = (w : World) → StandsFor k old w → (events : List Event) × (v : World) × Steps k w events v × StandsFor k new v
+
+-- In no world that it stood for does this event change anything.
+abbrev pub Idle : Config → Held → Event → Type 0
+Idle k old event = (w v : World) → StandsFor k old w → Step k w event v → v ≡ w
+
+-- Whatever events led to a world that the old one stood for, some more lead to one that the new one stands for, and the headline holds of it.
+abbrev pub Lives : Config → Held → Held → Type 0
+Lives k old new = (events : List Event) (w : World) → IsWorld k events w → StandsFor k old w → (more : List Event) × (v : World) × IsWorld k (events ++ more) v × StandsFor k new v × Headline k v

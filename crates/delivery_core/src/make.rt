@@ -1,0 +1,85 @@
+//! The parts of a new delivery side, each made of as many as the settings say. What they do later is
+//! told in `steps`.
+
+ghost use Rattle.std.specs.Prelude.{◌≡◌, ◌<◌, [], length, replicate, true, IfOk};
+ghost use Rattle.mailbox.specs.Stands.{Stands};
+ghost use Rattle.delivery_core.specs.Stands.{EachAt};
+ghost use Rattle.delivery_core.specs.New.{first_key, new_lane, IsNewBox};
+
+use delivery_token::{CopyKey, WorkerLog};
+use mailbox::{Limits, Mailbox};
+use shard_queue::PlainLane;
+use std::alloc::{AllocError, Global};
+use world::hand::Hand;
+
+pub fn new_lanes<T: Drop>(
+    alloc: Global,
+    count: u8,
+    capacity: usize,
+    producers: u8,
+) -> Result<Vec<PlainLane<T>>, AllocError>
+    ensures count { IfOk result (λ v. length v.items ≡ count) }
+    ensures each { IfOk result (λ v. EachAt (λ i l. l ≡ new_lane capacity producers) v.items) }
+{
+    let mut lanes = Vec::new(alloc);
+    for _i in 0..count {
+        lanes.push(PlainLane::new(alloc, capacity, producers)?)?;
+    }
+    Ok(lanes)
+}
+
+pub fn empty_hands(alloc: Global, count: u8) -> Result<Vec<Hand>, AllocError>
+    ensures count { IfOk result (λ v. length v.items ≡ count) }
+    ensures each { IfOk result (λ v. EachAt (λ i h. h ≡ Hand.Empty) v.items) }
+{
+    let mut hands = Vec::new(alloc);
+    for _i in 0..count {
+        hands.push(Hand::Empty)?;
+    }
+    Ok(hands)
+}
+
+pub fn new_logs(alloc: Global, count: u8) -> Result<Vec<WorkerLog>, AllocError>
+    ensures count { IfOk result (λ v. length v.items ≡ count) }
+    ensures each { IfOk result (λ v. EachAt (λ i b. b.notes ≡ []) v.items) }
+{
+    let mut logs = Vec::new(alloc);
+    for i in 0..count {
+        logs.push(WorkerLog::new(alloc, i))?;
+    }
+    Ok(logs)
+}
+
+pub fn first_keys(alloc: Global, count: u8) -> Result<Vec<CopyKey>, AllocError>
+    ensures count { IfOk result (λ v. length v.items ≡ count) }
+    ensures each { IfOk result (λ v. EachAt (λ p y. y ≡ first_key p) v.items) }
+{
+    let mut keys = Vec::new(alloc);
+    for seat in 0..count {
+        keys.push(CopyKey {
+            seat,
+            serial: 0,
+            message: 0,
+            recipient: 0,
+        })?;
+    }
+    Ok(keys)
+}
+
+pub fn new_boxes(
+    alloc: Global,
+    count: u8,
+    uidvalidity: u32,
+    first_uid: u32,
+    limits: Limits,
+) -> Result<Vec<Mailbox>, AllocError>
+    requires { 0 < limits.ring }
+    ensures count { IfOk result (λ v. length v.items ≡ count) }
+    ensures each { IfOk result (λ v. EachAt (λ m b. IsNewBox m uidvalidity first_uid limits.messages limits.ring b) v.items) }
+{
+    let mut boxes = Vec::new(alloc);
+    for number in 0..count {
+        boxes.push(Mailbox::new(alloc, number, uidvalidity, first_uid, limits)?)?;
+    }
+    Ok(boxes)
+}

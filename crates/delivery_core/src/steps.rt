@@ -1,0 +1,455 @@
+//! Lanes, hands, reply lanes, heard verdicts and mailboxes, on one thread. Each call is one event of
+//! the world. No connection, no session and no output stands here.
+
+ghost use Rattle.std.specs.Prelude.{◌≡◌, ℕ, ◌⊎◌, ◌%◌, ◌+◌, ◌++◌, ◌<◌, ◌≤◌, ◌↔◌, [], ◌∷◌, length, OnOk, OnErr, Err, IfOk, IfSome, IsSome, option_map, slice_index_or, slice_set};
+ghost use Rattle.world.specs.World.{Answer, Box, Config, Deliver, Hear, Put, PutEnd, Take, empty_world, in_hand};
+ghost use Rattle.shard_queue.specs.Plain.{MayPutMore, taken_entry};
+ghost use Rattle.delivery_core.specs.Changes.{Hears, SameCounts, heard_at_once};
+ghost use Rattle.delivery_core.specs.Load.{load};
+ghost use Rattle.delivery_core.specs.Puts.{AtLeast, LanePuts, past};
+ghost use Rattle.delivery_core.specs.Stands.{EachAt, Follows, Idle, Lives, StandsFor, StandsForBox};
+ghost use Rattle.delivery_core.specs.Boxes.{verdict_of, BoxDelivers};
+ghost use Rattle.delivery_core.specs.Settled.{IsFor};
+ghost use Rattle.delivery_core.specs.New.{IsNewBox, first_key};
+ghost use Rattle.delivery_token.specs.Book.{Book};
+ghost use Rattle.delivery_token.specs.declared.CopyKey.{CopyKey};
+ghost use Rattle.mailbox.specs.Mail.{Mail, SameMailbox};
+
+use crate::make::{empty_hands, first_keys, new_boxes, new_lanes, new_logs};
+use change_ring::Change;
+use delivery_token::{CopyKey, Job, Noted, Refusal, Text, Verdict, WorkerLog};
+use mailbox::{Limits, Mailbox, Receipt};
+use shard_queue::{PlainLane, Taken};
+use std::alloc::{AllocError, Global};
+use std::marker::Model;
+use world::hand::Hand;
+
+/// Why an event was not made. Nothing is changed by a call that answers so.
+#[derive(Clone, Copy, Debug, PartialEq, Eq)]
+pub enum Fault {
+    /// There is no such shard or seat.
+    Nobody,
+    /// The event would change nothing, or is not one of those that may happen now.
+    Nothing,
+    /// Memory was refused.
+    NoMemory,
+}
+
+/// What lies between the seats that put copies and the mailboxes that take them: for each shard a
+/// lane and what its consumer has in its hand, for each seat a reply lane, the verdicts that it has
+/// heard and the least key that it may use next, and the mailboxes. The copies for a mailbox pass
+/// through the shard of its number modulo the number of shards.
+#[derive(Drop)]
+pub struct DeliveryCore {
+    lanes: Vec<PlainLane<Job>>,
+    hands: Vec<Hand>,
+    replies: Vec<PlainLane<Noted>>,
+    heard: Vec<WorkerLog>,
+    boxes: Vec<Mailbox>,
+    next: Vec<CopyKey>,
+}
+
+impl Model for DeliveryCore {
+    ghost use Rattle.std.specs.Prelude.{◌≡◌, length};
+    ghost use Rattle.delivery_core.specs.Held.{Held};
+
+    ghost Value = { Held };
+
+    ghost view = { λ p. record { lanes = p.lanes.items; hands = p.hands.items; replies = p.replies.items; heard = p.heard.items; boxes = p.boxes.items; next = p.next.items } };
+
+    ghost invariant = { λ p. (length p.hands.items ≡ length p.lanes.items) × (length p.heard.items ≡ length p.replies.items) × (length p.next.items ≡ length p.replies.items) };
+}
+
+// What a mailbox's answer comes to.
+fn verdict_of(answer: Result<Receipt, Refusal>) -> Verdict
+    ensures { result ≡ verdict_of answer }
+{
+    match answer {
+        Ok(receipt) => Verdict::Stored { uid: receipt.uid() },
+        Err(refusal) => Verdict::Refused(refusal),
+    }
+}
+
+// Delivers a copy to a mailbox.
+fn deliver_to(mailbox: &mut Mailbox, job: &Job) -> Verdict
+    ensures delivers { (k : Config) (w : Box) → StandsForBox k mailbox.old w → BoxDelivers k w job.now result mailbox.new }
+    ensures same { SameMailbox mailbox.old mailbox.new }
+{
+    verdict_of(mailbox.deliver(job))
+}
+
+// What a consumer has in its hand after it took an entry.
+fn hand_of(taken: Taken<Job>) -> Option<Hand>
+    ensures { result ≡ option_map in_hand (taken_entry taken) }
+{
+    match taken {
+        Taken::Item(_, job) => Some(Hand::Taken(job)),
+        Taken::End(_) => Some(Hand::Empty),
+        Taken::Empty => None,
+    }
+}
+
+// Puts a copy of its own into a lane.
+fn put_in(lane: &mut PlainLane<Job>, key: CopyKey, mailbox: u8, text: &Text) -> Option<Refusal>
+    requires { MayPutMore lane.old.live key.seat }
+    ensures { LanePuts lane.old key.seat (record { key = key; mailbox = mailbox; text = text.now }) lane.new result }
+{
+    let Ok(text) = text.copy() else {
+        return Some(Refusal::NoMemory);
+    };
+    match lane.put(key.seat, Job { key, mailbox, text }) {
+        Ok(()) => None,
+        Err(_) => Some(Refusal::Full),
+    }
+}
+
+/// How much there is of each.
+#[derive(Clone, Copy, Debug, PartialEq, Eq)]
+pub struct Settings {
+    /// So many connections may stand at a time, each at a seat of its own.
+    pub seats: u8,
+    /// So many consumers deliver, each to the mailboxes of its shard.
+    pub shards: u8,
+    pub mailboxes: u8,
+    /// So many entries have room in a shard's lane.
+    pub depth: usize,
+    /// What each mailbox tells as its UIDVALIDITY (RFC 9051, 2.3.1.1).
+    pub uidvalidity: u32,
+    /// The UID of a mailbox's first message.
+    pub first_uid: u32,
+    /// How much each mailbox keeps.
+    pub limits: Limits,
+}
+
+// So many verdicts have room in a reply lane.
+const REPLY_ROOM: usize = 128;
+
+impl DeliveryCore {
+    /// At the start of all: nothing was put, and the mailboxes are empty. An error where memory is
+    /// refused.
+    pub fn new(alloc: Global, settings: Settings) -> Result<DeliveryCore, AllocError>
+        requires { 0 < settings.limits.ring }
+        ensures stands { IfOk result (λ h. (k : Config) → IsFor k settings → StandsFor k h empty_world) }
+        ensures seats { IfOk result (λ h. length h.replies ≡ settings.seats) }
+        ensures shards { IfOk result (λ h. length h.lanes ≡ settings.shards) }
+        ensures mailboxes { IfOk result (λ h. length h.boxes ≡ settings.mailboxes) }
+        ensures boxes { IfOk result (λ h. EachAt (λ m b. IsNewBox m settings.uidvalidity settings.first_uid settings.limits.messages settings.limits.ring b) h.boxes) }
+        ensures next { IfOk result (λ h. (p : ℕ) (d : CopyKey) → p < settings.seats → slice_index_or h.next p d ≡ first_key p) }
+    {
+        Ok(DeliveryCore {
+            lanes: new_lanes(alloc, settings.shards, settings.depth, settings.seats)?,
+            hands: empty_hands(alloc, settings.shards)?,
+            replies: new_lanes(alloc, settings.seats, REPLY_ROOM, settings.shards)?,
+            heard: new_logs(alloc, settings.seats)?,
+            boxes: new_boxes(
+                alloc,
+                settings.mailboxes,
+                settings.uidvalidity,
+                settings.first_uid,
+                settings.limits,
+            )?,
+            next: first_keys(alloc, settings.seats)?,
+        })
+    }
+
+    /// A seat puts a copy, with a text of its own, into the lane of its mailbox's shard: None where
+    /// it joined. Where it was refused, as Full or for want of memory, the seat has heard so, and it
+    /// is told why. Either way the key is used up.
+    ///
+    /// Nothing where the seat has put its end into that lane, and NoMemory where its log has no room
+    /// for the note of a refusal and gets none.
+    pub fn put(&mut self, key: CopyKey, mailbox: u8, text: &Text) -> Result<Option<Refusal>, Fault>
+        requires seat { key.seat < length self.old.replies }
+        requires next { AtLeast (slice_index_or self.old.next key.seat key) key }
+        requires last { key.recipient < 255 }
+        requires mailbox { mailbox < length self.old.boxes }
+        requires shards { 0 < length self.old.lanes }
+        ensures follows { OnOk result ((k : Config) → Follows k self.old (Put key.seat (mailbox % length self.old.lanes) (record { key = key; mailbox = mailbox; text = text.now }) ∷ []) self.new) }
+        ensures next { OnOk result (self.new.next ≡ slice_set self.old.next key.seat (past key)) }
+        ensures somebody { result ≡ Err Fault.Nobody → ⊥ }
+        ensures memory { result ≡ Err Fault.NoMemory → (d : Book) → (slice_index_or self.old.heard key.seat d).spare ≡ 0 }
+        ensures idle { result ≡ Err Fault.Nothing → (k : Config) → Idle k self.old (Put key.seat (mailbox % length self.old.lanes) (record { key = key; mailbox = mailbox; text = text.now })) }
+        ensures heard { IfOk result (λ why. Hears self.old self.new key.seat (heard_at_once key mailbox why)) }
+        ensures boxes { self.new.boxes ≡ self.old.boxes }
+        ensures counts { SameCounts self.old self.new }
+        ensures load { OnOk result (load self.new ≤ load self.old + 4) }
+        ensures refused { OnErr result (self.new ≡ self.old) }
+    {
+        let seat = usize::from(key.seat);
+        let shard = usize::from(mailbox) % self.lanes.len();
+        if !self.lanes[shard].is_live(key.seat) {
+            return Err(Fault::Nothing);
+        }
+        if self.heard[seat].reserve(1).is_err() {
+            return Err(Fault::NoMemory);
+        }
+        self.next[seat] = CopyKey {
+            seat: key.seat,
+            serial: key.serial,
+            message: key.message,
+            recipient: key.recipient + 1,
+        };
+        let lane = &mut self.lanes[shard];
+        let Some(why) = put_in(lane, key, mailbox, text) else {
+            return Ok(None);
+        };
+        let book = &mut self.heard[seat];
+        book.note(key, mailbox, Verdict::Refused(why));
+        Ok(Some(why))
+    }
+
+    /// A seat puts its end into a shard's lane, after which it puts nothing more there. Nobody where
+    /// shard or seat is not there, and Nothing where it has ended there already or the lane is full.
+    pub fn end(&mut self, seat: u8, shard: u8) -> Result<(), Fault>
+        ensures follows { OnOk result ((k : Config) → Follows k self.old (PutEnd seat shard ∷ []) self.new) }
+        ensures nobody { (result ≡ Err Fault.Nobody) ↔ ((length self.old.lanes ≤ shard) ⊎ (length self.old.replies ≤ seat)) }
+        ensures no_memory { result ≡ Err Fault.NoMemory → ⊥ }
+        ensures idle { result ≡ Err Fault.Nothing → (k : Config) → Idle k self.old (PutEnd seat shard) }
+        ensures heard { self.new.heard ≡ self.old.heard }
+        ensures next { self.new.next ≡ self.old.next }
+        ensures boxes { self.new.boxes ≡ self.old.boxes }
+        ensures counts { SameCounts self.old self.new }
+        ensures load { OnOk result (load self.new ≡ load self.old + 1) }
+        ensures refused { OnErr result (self.new ≡ self.old) }
+    {
+        let at = usize::from(shard);
+        if at >= self.lanes.len() || usize::from(seat) >= self.replies.len() {
+            return Err(Fault::Nobody);
+        }
+        if !self.lanes[at].is_live(seat) {
+            return Err(Fault::Nothing);
+        }
+        let lane = &mut self.lanes[at];
+        let Ok(()) = lane.end(seat) else {
+            return Err(Fault::Nothing);
+        };
+        Ok(())
+    }
+
+    /// The consumer of a shard takes what waits at the front of its lane. Nobody where the shard is
+    /// not there, and Nothing where its hand is not empty or nothing waits.
+    pub fn take(&mut self, shard: u8) -> Result<(), Fault>
+        ensures follows { OnOk result ((k : Config) → Follows k self.old (Take shard ∷ []) self.new) }
+        ensures nobody { (result ≡ Err Fault.Nobody) ↔ (length self.old.lanes ≤ shard) }
+        ensures no_memory { result ≡ Err Fault.NoMemory → ⊥ }
+        ensures idle { result ≡ Err Fault.Nothing → (k : Config) → Idle k self.old (Take shard) }
+        ensures heard { self.new.heard ≡ self.old.heard }
+        ensures next { self.new.next ≡ self.old.next }
+        ensures boxes { self.new.boxes ≡ self.old.boxes }
+        ensures counts { SameCounts self.old self.new }
+        ensures load { OnOk result (load self.new < load self.old) }
+        ensures refused { OnErr result (self.new ≡ self.old) }
+    {
+        let at = usize::from(shard);
+        if at >= self.lanes.len() {
+            return Err(Fault::Nobody);
+        }
+        let Hand::Empty = &self.hands[at] else {
+            return Err(Fault::Nothing);
+        };
+        let lane = &mut self.lanes[at];
+        match hand_of(lane.take()) {
+            Some(hand) => {
+                self.hands[at] = hand;
+                Ok(())
+            }
+            None => Err(Fault::Nothing),
+        }
+    }
+
+    /// The copy in a shard's hand is delivered to its mailbox, or refused by it, and the hand holds
+    /// the verdict. Nobody where the shard is not there, and Nothing where it has no copy in hand.
+    pub fn deliver(&mut self, shard: u8) -> Result<(), Fault>
+        ensures follows { OnOk result ((k : Config) → Follows k self.old (Deliver shard ∷ []) self.new) }
+        ensures nobody { (result ≡ Err Fault.Nobody) ↔ (length self.old.lanes ≤ shard) }
+        ensures no_memory { result ≡ Err Fault.NoMemory → ⊥ }
+        ensures idle { result ≡ Err Fault.Nothing → (k : Config) → Idle k self.old (Deliver shard) }
+        ensures heard { self.new.heard ≡ self.old.heard }
+        ensures next { self.new.next ≡ self.old.next }
+        ensures same { OnOk result ((m : ℕ) (d : Mail) → SameMailbox (slice_index_or self.old.boxes m d) (slice_index_or self.new.boxes m d)) }
+        ensures counts { SameCounts self.old self.new }
+        ensures load { OnOk result (load self.new < load self.old) }
+        ensures refused { OnErr result (self.new ≡ self.old) }
+    {
+        let at = usize::from(shard);
+        if at >= self.lanes.len() {
+            return Err(Fault::Nobody);
+        }
+        let Hand::Taken(job) = &self.hands[at] else {
+            return Err(Fault::Nothing);
+        };
+        let place = usize::from(job.mailbox);
+        if place >= self.boxes.len() {
+            return Err(Fault::Nothing);
+        }
+        let key = job.key;
+        let mailbox = job.mailbox;
+        let verdict = deliver_to(&mut self.boxes[place], job);
+        self.hands[at] = Hand::Done(Noted {
+            key,
+            mailbox,
+            verdict,
+        });
+        Ok(())
+    }
+
+    /// The verdict in a shard's hand goes into the reply lane of the copy's seat. Nobody where the
+    /// shard is not there, and Nothing where it has no verdict in hand or the reply lane is full.
+    pub fn answer(&mut self, shard: u8) -> Result<(), Fault>
+        ensures follows { OnOk result ((k : Config) → Follows k self.old (Answer shard ∷ []) self.new) }
+        ensures nobody { (result ≡ Err Fault.Nobody) ↔ (length self.old.lanes ≤ shard) }
+        ensures no_memory { result ≡ Err Fault.NoMemory → ⊥ }
+        ensures idle { result ≡ Err Fault.Nothing → (k : Config) → Idle k self.old (Answer shard) }
+        ensures heard { self.new.heard ≡ self.old.heard }
+        ensures next { self.new.next ≡ self.old.next }
+        ensures boxes { self.new.boxes ≡ self.old.boxes }
+        ensures counts { SameCounts self.old self.new }
+        ensures load { OnOk result (load self.new < load self.old) }
+        ensures refused { OnErr result (self.new ≡ self.old) }
+    {
+        let at = usize::from(shard);
+        if at >= self.lanes.len() {
+            return Err(Fault::Nobody);
+        }
+        let Hand::Done(noted) = self.hands[at] else {
+            return Err(Fault::Nothing);
+        };
+        let seat = usize::from(noted.key.seat);
+        if seat >= self.replies.len() || !self.replies[seat].is_live(shard) {
+            return Err(Fault::Nothing);
+        }
+        let lane = &mut self.replies[seat];
+        match lane.put(shard, noted) {
+            Ok(()) => {
+                self.hands[at] = Hand::Empty;
+                Ok(())
+            }
+            Err(_) => Err(Fault::Nothing),
+        }
+    }
+
+    /// A seat hears the verdict at the front of its reply lane, and notes it. Nobody where the seat
+    /// is not there, Nothing where no verdict waits, and NoMemory where its log has no room for the
+    /// note and gets none.
+    pub fn hear(&mut self, seat: u8) -> Result<Noted, Fault>
+        ensures follows { OnOk result ((k : Config) → Follows k self.old (Hear seat ∷ []) self.new) }
+        ensures nobody { (result ≡ Err Fault.Nobody) ↔ (length self.old.replies ≤ seat) }
+        ensures memory { result ≡ Err Fault.NoMemory → (d : Book) → (slice_index_or self.old.heard seat d).spare ≡ 0 }
+        ensures idle { result ≡ Err Fault.Nothing → (k : Config) → Idle k self.old (Hear seat) }
+        ensures heard { IfOk result (λ noted. Hears self.old self.new seat (noted ∷ [])) }
+        ensures next { self.new.next ≡ self.old.next }
+        ensures boxes { self.new.boxes ≡ self.old.boxes }
+        ensures counts { SameCounts self.old self.new }
+        ensures load { OnOk result (load self.new < load self.old) }
+        ensures refused { OnErr result (self.new ≡ self.old) }
+    {
+        let at = usize::from(seat);
+        if at >= self.replies.len() {
+            return Err(Fault::Nobody);
+        }
+        if !self.replies[at].has_item() {
+            return Err(Fault::Nothing);
+        }
+        if self.heard[at].reserve(1).is_err() {
+            return Err(Fault::NoMemory);
+        }
+        let lane = &mut self.replies[at];
+        let Taken::Item(_, noted) = lane.take() else {
+            return Err(Fault::Nothing);
+        };
+        let book = &mut self.heard[at];
+        book.note(noted.key, noted.mailbox, noted.verdict);
+        Ok(noted)
+    }
+
+    /// The last changes of a mailbox, as the mailbox tells them. None where it is not there.
+    pub fn tail(&self, mailbox: u8) -> Option<(u64, &[Change], &[Change])>
+        ensures there { IsSome result ↔ (mailbox < length self.now.boxes) }
+        ensures base { IfSome result (λ t. (d : Mail) → t.0 ≡ (slice_index_or self.now.boxes mailbox d).window.base) }
+        ensures changes { IfSome result (λ t. (d : Mail) → t.1.now ++ t.2.now ≡ (slice_index_or self.now.boxes mailbox d).window.changes) }
+    {
+        let at = usize::from(mailbox);
+        if at >= self.boxes.len() {
+            return None;
+        }
+        Some(self.boxes[at].tail())
+    }
+
+    /// The copies that a mailbox accepted, each with its UID, in the order of the deliveries. None
+    /// where it is not there.
+    pub fn accepted(&self, mailbox: u8) -> Option<&[(CopyKey, u32)]>
+        ensures there { IsSome result ↔ (mailbox < length self.now.boxes) }
+        ensures accepted { IfSome result (λ a. (d : Mail) → a.now ≡ (slice_index_or self.now.boxes mailbox d).accepted) }
+    {
+        let at = usize::from(mailbox);
+        if at >= self.boxes.len() {
+            return None;
+        }
+        Some(self.boxes[at].accepted())
+    }
+}
+
+#[cfg(test)]
+mod tests {
+    use super::*;
+
+    const SMALL: Settings = Settings {
+        seats: 2,
+        shards: 1,
+        mailboxes: 2,
+        depth: 2,
+        uidvalidity: 7,
+        first_uid: 1,
+        limits: Limits {
+            messages: 8,
+            ring: 16,
+        },
+    };
+
+    const KEY: CopyKey = CopyKey {
+        seat: 0,
+        serial: 0,
+        message: 0,
+        recipient: 0,
+    };
+
+    #[test]
+    fn one_copy_is_delivered(rt: HostRuntime) -> Result<(), AllocError> {
+        let alloc = rt.alloc();
+        let mut core = DeliveryCore::new(alloc, SMALL)?;
+        let text = Text::new(Vec::from_slice(alloc, b"hi\r\n")?);
+        assert_eq!(rt; core.put(KEY, 1, &text), Ok(None));
+        assert_eq!(rt; core.hear(0), Err(Fault::Nothing));
+        assert_eq!(rt; core.deliver(0), Err(Fault::Nothing));
+        assert_eq!(rt; core.take(0), Ok(()));
+        assert_eq!(rt; core.deliver(0), Ok(()));
+        assert_eq!(rt; core.answer(0), Ok(()));
+        let noted = Noted {
+            key: KEY,
+            mailbox: 1,
+            verdict: Verdict::Stored { uid: 1 },
+        };
+        assert_eq!(rt; core.hear(0), Ok(noted));
+        assert!(rt; core.accepted(1) == Some(&[(KEY, 1)][..]));
+        assert!(rt; core.accepted(2).is_none());
+        let tail = core
+            .tail(1)
+            .map(|tail| (tail.0, tail.1.len(), tail.2.len()));
+        assert_eq!(rt; tail, Some((0, 1, 0)));
+        Ok(())
+    }
+
+    #[test]
+    fn a_seat_that_ended_puts_nothing_more(rt: HostRuntime) -> Result<(), AllocError> {
+        let alloc = rt.alloc();
+        let mut core = DeliveryCore::new(alloc, SMALL)?;
+        let text = Text::new(Vec::from_slice(alloc, b"hi\r\n")?);
+        assert_eq!(rt; core.take(0), Err(Fault::Nothing));
+        assert_eq!(rt; core.take(1), Err(Fault::Nobody));
+        assert_eq!(rt; core.end(0, 0), Ok(()));
+        assert_eq!(rt; core.end(0, 0), Err(Fault::Nothing));
+        assert_eq!(rt; core.put(KEY, 1, &text), Err(Fault::Nothing));
+        assert_eq!(rt; core.take(0), Ok(()));
+        Ok(())
+    }
+}

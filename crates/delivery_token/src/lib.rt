@@ -1,0 +1,147 @@
+//! What passes between the connections and the mailboxes: a copy with its key, the verdict on it,
+//! and the log in which a worker notes the verdicts that it heard. Plain data alone: no lane, no
+//! mailbox and no connection.
+#![tactic(auto)]
+
+mod log;
+
+ghost use Rattle.std.specs.Prelude.{◌≡◌, ◌↔◌, IfOk, IsTrue};
+ghost use Rattle.delivery_token.specs.Keys.{Precedes};
+
+pub use log::{Noted, WorkerLog};
+use std::alloc::AllocError;
+use std::marker::Model;
+
+/// Which copy it is: the connection's seat and serial, its message, and the place of the recipient
+/// among those accepted. Keys of one seat stand in the order of the fields.
+#[derive(Clone, Copy, Debug, PartialEq, Eq, PartialOrd, Ord)]
+pub struct CopyKey {
+    pub seat: u8,
+    pub serial: u64,
+    pub message: u32,
+    pub recipient: u8,
+}
+
+/// Whether the keys are of one seat, and `a` comes before `b` by the derived order.
+pub fn precedes(a: &CopyKey, b: &CopyKey) -> bool
+    ensures { IsTrue result ↔ Precedes a.now b.now }
+{
+    a.seat == b.seat && a < b
+}
+
+/// The bytes of a message.
+#[derive(Drop)]
+pub struct Text {
+    bytes: Vec<u8>,
+}
+
+impl Model for Text {
+    ghost use Rattle.std.specs.Prelude.{List, ℕ};
+
+    ghost Value = { List ℕ };
+
+    ghost view = { λ t. t.bytes.items };
+}
+
+impl Text {
+    /// The text that has these bytes.
+    pub fn new(bytes: Vec<u8>) -> Text
+        ensures { result ≡ bytes.items }
+    {
+        Text { bytes }
+    }
+
+    /// Its bytes.
+    pub fn as_slice(&self) -> &[u8]
+        ensures { result.now ≡ self.now }
+    {
+        self.bytes.as_slice()
+    }
+
+    /// An equal text of its own, or an error where memory is refused.
+    pub fn copy(&self) -> Result<Text, AllocError>
+        ensures { IfOk result (λ t. t ≡ self.now) }
+    {
+        Ok(Text {
+            bytes: Vec::from_slice(*self.bytes.allocator(), self.bytes.as_slice())?,
+        })
+    }
+}
+
+/// One recipient's copy of a message, on its way to a mailbox.
+#[derive(Drop)]
+pub struct Job {
+    pub key: CopyKey,
+    pub mailbox: u8,
+    pub text: Text,
+}
+
+/// Why a copy is not stored.
+#[derive(Clone, Copy, Debug, PartialEq, Eq)]
+pub enum Refusal {
+    /// The shard's queue has no place.
+    Full,
+    /// The mailbox holds as many messages as it may.
+    MailboxFull,
+    /// Memory was refused.
+    NoMemory,
+    /// The mailbox has no UID left.
+    UidSpent,
+}
+
+/// What became of a copy.
+#[derive(Clone, Copy, Debug, PartialEq, Eq)]
+pub enum Verdict {
+    /// It stands in its mailbox under this UID.
+    Stored { uid: u32 },
+    /// It was not stored.
+    Refused(Refusal),
+}
+
+#[cfg(test)]
+mod tests {
+    use super::*;
+    use std::alloc::Global;
+
+    fn key(seat: u8, serial: u64, message: u32, recipient: u8) -> CopyKey {
+        CopyKey {
+            seat,
+            serial,
+            message,
+            recipient,
+        }
+    }
+
+    #[test]
+    fn keys_of_a_seat_stand_in_order(rt: HostRuntime) {
+        assert!(rt; precedes(&key(1, 4, 9, 9), &key(1, 5, 0, 0)));
+        assert!(rt; precedes(&key(1, 5, 0, 9), &key(1, 5, 1, 0)));
+        assert!(rt; precedes(&key(1, 5, 1, 0), &key(1, 5, 1, 1)));
+        assert!(rt; !precedes(&key(1, 5, 1, 1), &key(1, 5, 1, 1)));
+        assert!(rt; !precedes(&key(0, 4, 0, 0), &key(1, 5, 0, 0)));
+    }
+
+    #[test]
+    fn a_copied_text_is_equal(rt: HostRuntime) -> Result<(), AllocError> {
+        let text = Text::new(Vec::from_slice(rt.alloc(), b"hi\r\n")?);
+        assert!(rt; text.copy()?.as_slice() == b"hi\r\n".as_slice());
+        Ok(())
+    }
+
+    fn log_of_three(alloc: Global) -> Result<WorkerLog, AllocError> {
+        let mut log = WorkerLog::new(alloc, 1);
+        log.reserve(3)?;
+        log.note(key(1, 0, 0, 0), 4, Verdict::Stored { uid: 7 });
+        log.note(key(1, 0, 0, 1), 4, Verdict::Refused(Refusal::Full));
+        log.note(key(1, 0, 0, 2), 5, Verdict::Stored { uid: 7 });
+        Ok(log)
+    }
+
+    #[test]
+    fn a_log_tells_what_was_stored_in_a_mailbox(rt: HostRuntime) -> Result<(), AllocError> {
+        let log = log_of_three(rt.alloc())?;
+        let stored = log.stored_in(rt.alloc(), 4)?;
+        assert!(rt; stored.as_slice() == &[(key(1, 0, 0, 0), 7)][..]);
+        Ok(())
+    }
+}

@@ -1,0 +1,96 @@
+-- What an `Unstuffer` is seen as, and what its answers say of the whole data.
+use Rattle.std.specs.Prelude.{◌≡◌, ◌≢◌, ℕ, ◌<◌, ◌≤◌, List, [], ◌∷◌, ◌++◌, length, map, Contains, Bool, true, false, Option, None, Some, ◌==◌, if◌then◌else◌}
+use Rattle.line_io.specs.Wire.{EndsInCr, joined, wire_lines, wire_rest}
+use Rattle.dot_stuffing.specs.Data.{undotted, IsOpen, Plain}
+use Rattle.dot_stuffing.specs.declared.place.Place.{Place}
+use Rattle.dot_stuffing.specs.declared.place.Place.TheVariants.{Start, Dot, DotCr, Inside, Cr}
+use Rattle.dot_stuffing.specs.declared.place.Next.{Next}
+use Rattle.dot_stuffing.specs.declared.place.Next.TheVariants.{Silent, Adds, AddsBoth, Ends}
+use Rattle.dot_stuffing.specs.declared.Outcome.{Outcome}
+use Rattle.dot_stuffing.specs.declared.Outcome.TheVariants.{Nul, TooBig, NoMemory, Ok}
+use Rattle.dot_stuffing.specs.declared.Progress.{Progress}
+use Rattle.dot_stuffing.specs.declared.Progress.TheVariants.{More, Done}
+
+-- where in its line the wire stands
+abbrev pub IsAt : Place → List ℕ → Type 0
+IsAt Start rest = rest ≡ []
+IsAt Dot rest = rest ≡ 46 ∷ []
+IsAt DotCr rest = rest ≡ 46 ∷ 13 ∷ []
+IsAt Inside rest = (rest ≢ []) × (rest ≢ 46 ∷ []) × (EndsInCr rest → ⊥)
+IsAt Cr rest = (rest ≢ 46 ∷ 13 ∷ []) × EndsInCr rest
+
+-- the place after a byte of the text
+abbrev pub after : ℕ → Place
+after byte = (if byte == 13 then Cr else Inside)
+
+-- of the line that has not ended, what is known to be text: after a dot and a CR the line may be the end
+abbrev pub known : Place → List ℕ → List ℕ
+known DotCr rest = []
+known place rest = undotted rest
+
+-- the text that the wire has brought
+abbrev pub text_so_far : Place → List ℕ → List ℕ
+text_so_far place wire = joined (map undotted (wire_lines wire)) ++ known place (wire_rest wire)
+
+-- the wire is open, and stands at this place in its line
+pub record IsOpenAt (place : Place) (wire : List ℕ) : Type 0 where
+  pub is_open : IsOpen wire
+  pub at : IsAt place (wire_rest wire)
+
+-- what a byte more does to the text
+abbrev pub Leads : Place → ℕ → Next → List ℕ → Type 0
+Leads place byte (Silent next) wire = IsOpenAt next (wire ++ byte ∷ []) × (text_so_far next (wire ++ byte ∷ []) ≡ text_so_far place wire)
+Leads place byte (Adds next) wire = IsOpenAt next (wire ++ byte ∷ []) × (text_so_far next (wire ++ byte ∷ []) ≡ text_so_far place wire ++ byte ∷ [])
+Leads place byte (AddsBoth next) wire =
+    IsOpenAt next (wire ++ byte ∷ []) × (text_so_far next (wire ++ byte ∷ []) ≡ (text_so_far place wire ++ 13 ∷ []) ++ byte ∷ [])
+Leads place byte Ends wire = Plain (wire ++ byte ∷ []) (text_so_far place wire)
+
+-- what a `Collector` knows
+pub record Collected : Type 0 where
+  -- the most bytes that a text may have
+  pub max : ℕ
+  pub bytes : List ℕ
+  -- how many bytes came, while they are at most max
+  pub count : ℕ
+  pub has_nul : Bool
+  pub is_big : Bool
+  -- whether a growth was refused
+  pub no_memory : Bool
+
+-- this text came
+pub record Collects (c : Collected) (text : List ℕ) : Type 0 where
+  pub nul : c.has_nul ≡ true → Contains text 0
+  pub no_nul : c.has_nul ≡ false → Contains text 0 → ⊥
+  pub big : c.is_big ≡ true → c.max < length text
+  pub not_big : c.is_big ≡ false → (c.count ≡ length text) × (length text ≤ c.max)
+  pub bytes : c.is_big ≡ false → c.no_memory ≡ false → c.bytes ≡ text
+
+-- what comes of a text that may have max bytes
+abbrev pub IsOutcome : Outcome → (max : ℕ) → (text : List ℕ) → Type 0
+IsOutcome Nul max text = Contains text 0
+IsOutcome TooBig max text = (Contains text 0 → ⊥) × (max < length text)
+IsOutcome NoMemory max text = (Contains text 0 → ⊥) × (length text ≤ max)
+IsOutcome Ok max text = (Contains text 0 → ⊥) × (length text ≤ max)
+
+-- what an `Unstuffer` knows
+pub record Unstuffing : Type 0 where
+  pub place : Place
+  pub collected : Collected
+  -- what came of the data, once it has ended
+  pub outcome : Option Outcome
+
+-- the unstuffer has taken this wire, and the data has not ended
+pub record StandsFor (u : Unstuffing) (wire : List ℕ) : Type 0 where
+  pub wire_at : IsOpenAt u.place wire
+  pub collects : Collects u.collected (text_so_far u.place wire)
+
+abbrev pub outcome_of : Progress → Option Outcome
+outcome_of More = None
+outcome_of (Done outcome) = Some outcome
+
+-- What an answer says of the wire and the bytes that the call used after it; u is the unstuffer as the call left it.
+-- More: the data has not ended. Done: it ended, with the last byte used.
+abbrev pub Tells : Progress → Unstuffing → (wire used : List ℕ) → Type 0
+Tells More u wire used = StandsFor u (wire ++ used)
+Tells (Done outcome) u wire used =
+    (text : List ℕ) × Plain (wire ++ used) text × IsOutcome outcome u.collected.max text × (outcome ≡ Ok → u.collected.bytes ≡ text)

@@ -1,0 +1,94 @@
+//! The text of data as it comes: its bytes while they fit, and what is wrong with it. Nothing here
+//! knows lines or dots.
+
+ghost use Rattle.std.specs.Prelude.{◌≡◌, ℕ, List, [], ◌∷◌, ◌++◌};
+ghost use Rattle.dot_stuffing.specs.Unstuffing.{Collects, IsOutcome};
+
+use crate::Outcome;
+use std::alloc::Global;
+use std::marker::Model;
+
+/// A text that comes byte by byte. Nothing is answered before its end.
+#[derive(Drop)]
+pub(crate) struct Collector {
+    max: usize,
+    bytes: Vec<u8>,
+    count: usize,
+    has_nul: bool,
+    is_big: bool,
+    no_memory: bool,
+}
+
+impl Model for Collector {
+    ghost use Rattle.std.specs.Prelude.{◌≡◌, ◌≤◌, false};
+    ghost use Rattle.dot_stuffing.specs.Unstuffing.{Collected};
+
+    ghost Value = { Collected };
+
+    ghost view = { λ a. record {
+      max = a.max;
+      bytes = a.bytes.items;
+      count = a.count;
+      has_nul = a.has_nul;
+      is_big = a.is_big;
+      no_memory = a.no_memory;
+    } };
+
+    ghost invariant = { λ a. a.count ≤ a.max };
+}
+
+impl Collector {
+    /// No text yet, of at most `max` bytes. Takes no memory.
+    pub(crate) fn new(alloc: Global, max: usize) -> Collector
+        ensures max { result.max ≡ max }
+        ensures collects { Collects result [] }
+    {
+        Collector {
+            max,
+            bytes: Vec::new(alloc),
+            count: 0,
+            has_nul: false,
+            is_big: false,
+            no_memory: false,
+        }
+    }
+
+    /// Adds a byte, or notes why it can't.
+    pub(crate) fn add(&mut self, byte: u8)
+        ensures max { self.new.max ≡ self.old.max }
+        ensures collects { (text : List ℕ) → Collects self.old text → Collects self.new (text ++ byte ∷ []) }
+    {
+        self.has_nul |= byte == 0;
+        if self.count == self.max {
+            self.is_big = true;
+            return;
+        }
+        self.count += 1;
+        if !self.no_memory {
+            self.no_memory = self.bytes.push(byte).is_err();
+        }
+    }
+
+    /// What comes of the text, if this is all of it.
+    pub(crate) fn outcome(&self) -> Outcome
+        ensures cases { (text : List ℕ) → Collects self.now text → IsOutcome result self.now.max text }
+        ensures whole { result ≡ Outcome.Ok → (text : List ℕ) → Collects self.now text → self.now.bytes ≡ text }
+    {
+        if self.has_nul {
+            Outcome::Nul
+        } else if self.is_big {
+            Outcome::TooBig
+        } else if self.no_memory {
+            Outcome::NoMemory
+        } else {
+            Outcome::Ok
+        }
+    }
+
+    /// The bytes, which are the text where the outcome is `Ok`.
+    pub(crate) fn into_bytes(self) -> Vec<u8>
+        ensures { result.items ≡ self.bytes }
+    {
+        self.bytes
+    }
+}

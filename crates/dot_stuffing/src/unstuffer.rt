@@ -1,0 +1,185 @@
+//! The unstuffer: it takes data from the wire in pieces of any sizes, and gives its text at the end.
+//! It reads from nowhere, and decides nothing before the end of the data.
+
+ghost use Rattle.std.specs.Prelude.{◌≡◌, ℕ, ◌≤◌, List, [], ◌∷◌, ◌++◌, length, take, Some, None};
+ghost use Rattle.dot_stuffing.specs.Unstuffing.{StandsFor, outcome_of, Tells};
+
+use crate::collector::Collector;
+use crate::place::{Next, Place, step_from};
+use crate::{CR, Outcome, Progress, Taken};
+use std::alloc::Global;
+use std::marker::Model;
+
+/// Takes mail data from the wire, in pieces, and gives its text (RFC 5321, section 4.5.2).
+#[derive(Drop)]
+pub struct Unstuffer {
+    place: Place,
+    collector: Collector,
+    outcome: Option<Outcome>,
+}
+
+impl Model for Unstuffer {
+    ghost use Rattle.dot_stuffing.specs.Unstuffing.{Unstuffing};
+
+    ghost Value = { Unstuffing };
+
+    ghost view = { λ a. record { place = a.place; collected = a.collector; outcome = a.outcome } };
+}
+
+impl Unstuffer {
+    /// An unstuffer at the start of data, for a text of at most `max` bytes. Takes no memory.
+    pub fn new(alloc: Global, max: usize) -> Unstuffer
+        ensures max { result.collected.max ≡ max }
+        ensures live { result.outcome ≡ None }
+        ensures stands { StandsFor result [] }
+    {
+        Unstuffer {
+            place: Place::Start,
+            collector: Collector::new(alloc, max),
+            outcome: None,
+        }
+    }
+
+    /// Takes bytes of the piece up to the end of the data, or else all. What is wrong with the text
+    /// is told only then, with the outcome; none may be taken afterwards.
+    pub fn take(&mut self, piece: &[u8]) -> Taken
+        requires { self.old.outcome ≡ None }
+        ensures used { result.used ≤ length piece.now }
+        ensures all_used { result.what ≡ Progress.More → result.used ≡ length piece.now }
+        ensures max { self.new.collected.max ≡ self.old.collected.max }
+        ensures outcome { self.new.outcome ≡ outcome_of result.what }
+        // Whatever came before the call, in whatever pieces.
+        ensures data { (wire : List ℕ) → StandsFor self.old wire →
+            Tells result.what self.new wire (take result.used piece.now) }
+    {
+        for (i, byte) in piece.iter().enumerate() {
+            match self.step(*byte) {
+                Progress::More => {}
+                what => {
+                    return Taken { used: i + 1, what };
+                }
+            }
+        }
+        Taken {
+            used: piece.len(),
+            what: Progress::More,
+        }
+    }
+
+    /// The text, each line without the dot that was put before it, once the outcome is `Ok`.
+    pub fn text(self) -> Vec<u8>
+        requires { self.outcome ≡ Some Outcome.Ok }
+        ensures { result.items ≡ self.collected.bytes }
+    {
+        self.collector.into_bytes()
+    }
+
+    /// Takes one byte.
+    fn step(&mut self, byte: u8) -> Progress
+        requires { self.old.outcome ≡ None }
+        ensures max { self.new.collected.max ≡ self.old.collected.max }
+        ensures outcome { self.new.outcome ≡ outcome_of result }
+        ensures data { (wire : List ℕ) → StandsFor self.old wire → Tells result self.new wire (byte ∷ []) }
+    {
+        match step_from(self.place, byte) {
+            Next::Silent(place) => {
+                self.place = place;
+                Progress::More
+            }
+            Next::Adds(place) => {
+                self.collector.add(byte);
+                self.place = place;
+                Progress::More
+            }
+            Next::AddsBoth(place) => {
+                self.collector.add(CR);
+                self.collector.add(byte);
+                self.place = place;
+                Progress::More
+            }
+            Next::Ends => {
+                let outcome = self.collector.outcome();
+                self.outcome = Some(outcome);
+                Progress::Done(outcome)
+            }
+        }
+    }
+}
+
+#[cfg(test)]
+mod tests {
+    use super::*;
+
+    // What comes of data in pieces of this size, and the text where there is one. After it stands how many bytes were used.
+    fn unstuff(
+        alloc: Global,
+        max: usize,
+        wire: &[u8],
+        size: usize,
+    ) -> (Option<Outcome>, Option<Vec<u8>>, usize) {
+        let mut unstuffer = Unstuffer::new(alloc, max);
+        let mut rest = wire;
+        for _ in 0..wire.len() {
+            let piece = &rest[..size.min(rest.len())];
+            let taken = unstuffer.take(piece);
+            rest = &rest[taken.used..];
+            let at = wire.len().saturating_sub(rest.len());
+            match taken.what {
+                Progress::More => {}
+                Progress::Done(Outcome::Ok) => {
+                    return (Some(Outcome::Ok), Some(unstuffer.text()), at);
+                }
+                Progress::Done(outcome) => return (Some(outcome), None, at),
+            }
+        }
+        (None, None, wire.len())
+    }
+
+    #[test]
+    fn dots_come_off(rt: HostRuntime) {
+        for size in [1, 2, 3, 100] {
+            let (outcome, text, used) = unstuff(
+                rt.alloc(),
+                100,
+                b"..\r\n.x\r\nx.\r\n.\r\nQUIT\r\n",
+                size,
+            );
+            assert_eq!(rt; outcome, Some(Outcome::Ok));
+            assert_eq!(rt; used, 15);
+            if let Some(text) = text {
+                assert_eq!(rt; text.as_slice(), b".\r\nx\r\nx.\r\n".as_slice());
+            }
+        }
+    }
+
+    #[test]
+    fn only_crlf_ends_a_line(rt: HostRuntime) {
+        let wire = [
+            0x61, 0x0a, 0x2e, 0x0d, 0x0a, 0x0a, 0x2e, 0x0a, 0x62, 0x0d, 0x0a, 0x2e, 0x0d, 0x0a,
+        ];
+        for size in [1, 2, 5, 100] {
+            let (outcome, text, used) = unstuff(rt.alloc(), 100, &wire, size);
+            assert_eq!(rt; outcome, Some(Outcome::Ok));
+            assert_eq!(rt; used, 14);
+            if let Some(text) = text {
+                assert_eq!(rt; text.as_slice(), &wire[..11]);
+            }
+        }
+    }
+
+    #[test]
+    fn outcomes(rt: HostRuntime) {
+        let cases = [
+            (3, b".\r\n".as_slice(), Some(Outcome::Ok)),
+            (3, b"a\r\n.\r\n".as_slice(), Some(Outcome::Ok)),
+            (3, b"hi\r\n.\r\n".as_slice(), Some(Outcome::TooBig)),
+            (3, b"\0\r\n.\r\n".as_slice(), Some(Outcome::Nul)),
+            (3, b"\0hi\r\n.\r\n".as_slice(), Some(Outcome::Nul)),
+            (3, b"hi\r\n.\r".as_slice(), None),
+        ];
+        for (max, wire, want) in cases {
+            let (outcome, _, _) = unstuff(rt.alloc(), max, wire, 2);
+            assert_eq!(rt; outcome, want);
+        }
+    }
+}

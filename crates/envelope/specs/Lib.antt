@@ -1,0 +1,9 @@
+pub mod Values
+pub mod Bytes
+pub mod Grammar
+pub mod Reading
+pub mod Directory
+pub mod Names
+pub mod LocalPart
+pub mod Word
+pub mod Rows

@@ -1,0 +1,497 @@
+//! The directory of mailboxes: which mailbox a path names, and which shard keeps it.
+//! It is made once, from words, and only read afterwards.
+
+ghost use Rattle.std.specs.Prelude.{◌≡◌, ◌<◌, ◌≤◌, ℕ, map, length, IfOk, IfErr, IfSome, IsOk, IsOkUnless, List, Ok, Err, position, slice_get};
+ghost use Rattle.std.specs.Option.{option_copied};
+ghost use Rattle.std.specs.List.{list_any, list_all};
+ghost use Rattle.std.specs.Result.{result_err};
+ghost use Rattle.std.specs.Str.{str_eq_ignore_ascii_case as is_same};
+ghost use Rattle.envelope.specs.Values.{forward_path};
+ghost use Rattle.envelope.specs.Directory.{is_home, wanted, numbered, lookup, shard_of};
+ghost use Rattle.envelope.specs.Names.{is_name, texts, home_of, is_exactly, words_read, number_of};
+ghost use Rattle.envelope.specs.LocalPart.{value_left};
+ghost use Rattle.envelope.specs.Word.{word_home};
+
+use crate::command::ForwardPath;
+use crate::local_part::LocalValue;
+use crate::names::is_name;
+use crate::word::{Word, first_fault};
+use std::alloc::{AllocError, Global};
+use std::marker::Model;
+
+/// Why a path names no mailbox.
+#[derive(Clone, Copy, Debug, PartialEq, Eq)]
+pub enum NoSuch {
+    /// The domain isn't one of this server's.
+    System,
+    /// The user or the folder isn't there.
+    User,
+}
+
+/// Why a directory can't be made. The first that holds is the fault; a lack of memory comes last.
+#[derive(Clone, Copy, Debug, PartialEq, Eq)]
+pub enum DirectoryFault {
+    /// There are more than 64 words.
+    TooMany,
+    /// A domain or a word is spelled wrong, or a folder's user has no word before it.
+    BadName,
+    /// A word names the mailbox of an earlier one, in upper or lower case.
+    Twice,
+    /// Memory was refused.
+    NoMemory,
+}
+
+impl From<AllocError> for DirectoryFault {
+    ghost use Rattle.envelope.specs.declared.directory.DirectoryFault.{DirectoryFault};
+
+    ghost from_gives = { λ _ fault. fault ≡ DirectoryFault.NoMemory };
+
+    fn from(_error: AllocError) -> DirectoryFault {
+        DirectoryFault::NoMemory
+    }
+}
+
+/// The most mailboxes that a directory may have.
+const MOST: usize = 64;
+
+/// Bytes that the directory keeps.
+#[derive(Drop)]
+struct StoredName {
+    bytes: Vec<u8>,
+}
+
+impl Model for StoredName {
+    ghost use Rattle.std.specs.Prelude.{List, ℕ};
+
+    ghost Value = { List ℕ };
+
+    ghost view = { λ n. n.bytes.items };
+}
+
+impl StoredName {
+    fn new(alloc: Global, name: &[u8]) -> Result<StoredName, AllocError>
+        ensures { IfOk result (λ n. n ≡ name.now) }
+    {
+        Ok(StoredName {
+            bytes: Vec::from_slice(alloc, name)?,
+        })
+    }
+
+    fn as_bytes(&self) -> &[u8]
+        ensures { result.now ≡ self.now }
+    {
+        self.bytes.as_slice()
+    }
+}
+
+/// A mailbox: a user's folder, or with none the user's INBOX.
+#[derive(Drop)]
+struct StoredHome {
+    user: StoredName,
+    folder: Option<StoredName>,
+}
+
+impl Model for StoredHome {
+    ghost use Rattle.envelope.specs.Directory.{Home};
+
+    ghost Value = { Home };
+
+    ghost view = { λ h. record { user = h.user; folder = h.folder } };
+}
+
+impl StoredHome {
+    fn new(alloc: Global, word: &[u8]) -> Result<StoredHome, AllocError>
+        ensures { IfOk result (λ home. home ≡ home_of word.now) }
+    {
+        let word = Word::cut(word);
+        let user = StoredName::new(alloc, word.user)?;
+        let folder = match word.folder {
+            None => None,
+            Some(folder) => Some(StoredName::new(alloc, folder)?),
+        };
+        Ok(StoredHome { user, folder })
+    }
+
+    /// Whether a path with this local part names the mailbox.
+    #[tactic(auto, using(crate::proofs::Wanted::wanted_is))]
+    fn is_wanted(&self, value: LocalValue<'_>) -> bool
+        ensures { result ≡ is_home (wanted (value_left value.entry)) self.now }
+    {
+        let Some(rest) = value.past_user(self.user.as_bytes()) else {
+            return false;
+        };
+        match rest.split_first() {
+            None => self.folder.is_none(),
+            Some((b'+', name)) if name.is_same(b"INBOX") => self.folder.is_none(),
+            Some((b'+', name)) => match &self.folder {
+                Some(folder) => name.is_same(folder.as_bytes()),
+                None => false,
+            },
+            Some(_) => false,
+        }
+    }
+
+    /// Whether the word names the mailbox, byte by byte.
+    fn is_named(&self, word: Word<'_>) -> bool
+        ensures { result ≡ is_exactly (word_home word.entry) self.now }
+    {
+        word.user == self.user.as_bytes()
+            && match (word.folder, &self.folder) {
+                (None, None) => true,
+                (Some(folder), Some(own)) => folder == own.as_bytes(),
+                _ => false,
+            }
+    }
+}
+
+fn are_names(names: &[&[u8]]) -> bool
+    ensures { result ≡ list_all (λ name. is_name name.now) names.now }
+{
+    names.iter().all(|name| is_name(name))
+}
+
+/// What is wrong with the names that a directory is to be made of.
+#[tactic(auto, using(crate::proofs::Faults::fault_is))]
+fn fault_of(domains: &[&[u8]], words: &[&[u8]]) -> Option<DirectoryFault>
+    ensures { result ≡ result_err (words_read (texts domains.now) (texts words.now)) }
+{
+    if words.len() > MOST {
+        Some(DirectoryFault::TooMany)
+    } else if !are_names(domains) {
+        Some(DirectoryFault::BadName)
+    } else {
+        first_fault(words)
+    }
+}
+
+fn stored_names(alloc: Global, names: &[&[u8]]) -> Result<Vec<StoredName>, AllocError>
+    ensures { IfOk result (λ v. v.items ≡ texts names.now) }
+{
+    let mut stored = Vec::new(alloc);
+    for name in names {
+        stored.push(StoredName::new(alloc, name)?)?;
+    }
+    Ok(stored)
+}
+
+fn stored_homes(alloc: Global, words: &[&[u8]]) -> Result<Vec<StoredHome>, AllocError>
+    ensures { IfOk result (λ v. v.items ≡ map home_of (texts words.now)) }
+{
+    let mut stored = Vec::new(alloc);
+    for word in words {
+        stored.push(StoredHome::new(alloc, word)?)?;
+    }
+    Ok(stored)
+}
+
+fn place_of_wanted(homes: &[StoredHome], value: LocalValue<'_>) -> Option<usize>
+    ensures value { result ≡ position (is_home (wanted (value_left value.entry))) homes.now }
+    ensures within { IfSome result (λ n. n < length homes.now) }
+{
+    homes.iter().position(|home| home.is_wanted(value))
+}
+
+fn place_of_word(homes: &[StoredHome], word: Word<'_>) -> Option<usize>
+    ensures value { result ≡ position (is_exactly (word_home word.entry)) homes.now }
+    ensures within { IfSome result (λ n. n < length homes.now) }
+{
+    homes.iter().position(|home| home.is_named(word))
+}
+
+/// The mailboxes of a server, by the names that mail comes to. Mailboxes are numbered from 0 in
+/// the order of their words.
+#[derive(Drop)]
+pub struct Directory {
+    domains: Vec<StoredName>,
+    homes: Vec<StoredHome>,
+    shards: u8,
+}
+
+impl Model for Directory {
+    ghost use Rattle.std.specs.Prelude.{◌<◌, ◌≤◌, vec_len};
+    ghost use Rattle.envelope.specs.Directory.{Directory};
+
+    ghost Value = { Directory };
+
+    ghost view = { λ d. record { domains = d.domains.items; homes = d.homes.items; shards = d.shards } };
+
+    ghost invariant = { λ d. (0 < d.shards) × (vec_len d.homes ≤ 64) };
+}
+
+impl Directory {
+    /// A directory for these domains and mailboxes, kept by so many shards, at least 1. A mailbox
+    /// is a word, `user` or `user/folder`, with a folder's user before it.
+    ///
+    /// Errors, in this order: `TooMany` for more than 64 words; `BadName` for a domain that is no
+    /// name; then the fault of the first word that has one, `BadName` if it is spelled wrong or
+    /// its user has no word before it, `Twice` if it names an earlier one's mailbox in upper or
+    /// lower case; `NoMemory` only where nothing else is wrong.
+    pub fn new(
+        alloc: Global,
+        domains: &[&[u8]],
+        mailboxes: &[&[u8]],
+        shards: u8,
+    ) -> Result<Directory, DirectoryFault>
+        requires { 0 < shards }
+        ensures homes { IfOk result (λ d. words_read (texts domains.now) (texts mailboxes.now) ≡ Ok d.homes) }
+        ensures domains { IfOk result (λ d. d.domains ≡ texts domains.now) }
+        ensures shards { IfOk result (λ d. d.shards ≡ shards) }
+        ensures fault { IfErr (words_read (texts domains.now) (texts mailboxes.now)) (λ fault. result ≡ Err fault) }
+        // Where nothing is wrong with the names.
+        ensures made { IsOk (words_read (texts domains.now) (texts mailboxes.now)) → IsOkUnless result DirectoryFault.NoMemory }
+    {
+        if let Some(fault) = fault_of(domains, mailboxes) {
+            return Err(fault);
+        }
+        let domains = stored_names(alloc, domains)?;
+        let homes = stored_homes(alloc, mailboxes)?;
+        Ok(Directory {
+            domains,
+            homes,
+            shards,
+        })
+    }
+
+    /// The number of the mailbox that a value names.
+    fn find(&self, value: LocalValue<'_>) -> Result<u8, NoSuch>
+        ensures value { result ≡ numbered self.now (wanted (value_left value.entry)) }
+        ensures within { IfOk result (λ n. n < length self.now.homes) }
+    {
+        match place_of_wanted(&self.homes, value) {
+            Some(place) => Ok(place as u8),
+            None => Err(NoSuch::User),
+        }
+    }
+
+    /// Whether the domain is one of this server's, in upper or lower case.
+    fn has_domain(&self, domain: &[u8]) -> bool
+        ensures { result ≡ list_any (is_same domain.now) self.now.domains }
+    {
+        self.domains
+            .iter()
+            .any(|own| domain.eq_ignore_ascii_case(own.as_bytes()))
+    }
+
+    /// The number of the mailbox that a path names: the user before the first `+` of its local
+    /// part's value, and the folder behind it, in upper or lower case; INBOX is the user's own.
+    /// `<postmaster>` is the user of that name, whatever the domain. Takes no memory.
+    ///
+    /// Errors: `System` for a domain that isn't one of this server's; else `User` where there is
+    /// no such mailbox.
+    pub fn lookup(&self, path: ForwardPath<'_>) -> Result<u8, NoSuch>
+        ensures value { result ≡ lookup self.now (forward_path path.entry) }
+        ensures within { IfOk result (λ n. n < length self.now.homes) }
+    {
+        match path {
+            ForwardPath::Postmaster => self.find(LocalValue::of(b"postmaster")),
+            ForwardPath::Recipient(mailbox) => {
+                if !self.has_domain(mailbox.domain) {
+                    return Err(NoSuch::System);
+                }
+                self.find(LocalValue::of(mailbox.local))
+            }
+        }
+    }
+
+    /// The number of the mailbox that a word names, compared byte by byte, as `alice` or `alice/Work`.
+    pub fn number_of(&self, word: &[u8]) -> Option<u8>
+        ensures value { result ≡ number_of self.now word.now }
+        ensures within { IfSome result (λ n. n < length self.now.homes) }
+    {
+        match place_of_word(&self.homes, Word::cut(word)) {
+            Some(place) => Some(place as u8),
+            None => None,
+        }
+    }
+
+    /// How many mailboxes there are, at most 64.
+    pub fn mailboxes(&self) -> usize
+        ensures value { result ≡ length self.now.homes }
+        ensures most { result ≤ 64 }
+    {
+        self.homes.len()
+    }
+
+    /// The user of a mailbox.
+    pub fn user_of(&self, mailbox: u8) -> &[u8]
+        requires { mailbox < length self.now.homes }
+        ensures { IfSome (slice_get self.now.homes mailbox) (λ home. result.now ≡ home.user) }
+    {
+        self.homes[mailbox as usize].user.as_bytes()
+    }
+
+    /// The folder of a mailbox, or nothing for a user's INBOX.
+    pub fn folder_of(&self, mailbox: u8) -> Option<&[u8]>
+        requires { mailbox < length self.now.homes }
+        ensures { IfSome (slice_get self.now.homes mailbox) (λ home. option_copied result ≡ home.folder) }
+    {
+        let home = &self.homes[mailbox as usize];
+        match &home.folder {
+            Some(folder) => Some(folder.as_bytes()),
+            None => None,
+        }
+    }
+
+    /// How many shards keep them, at least 1.
+    pub fn shards(&self) -> u8
+        ensures value { result ≡ self.now.shards }
+        ensures some { 0 < result }
+    {
+        self.shards
+    }
+
+    /// The shard that keeps a mailbox.
+    pub fn shard_of(&self, mailbox: u8) -> usize
+        ensures value { result ≡ shard_of self.now mailbox }
+        ensures within { result < self.now.shards }
+    {
+        usize::from(mailbox % self.shards)
+    }
+}
+
+#[cfg(test)]
+mod tests {
+    use super::*;
+    use crate::command::Mailbox;
+
+    fn house(alloc: Global) -> Result<Directory, DirectoryFault> {
+        Directory::new(
+            alloc,
+            &[b"example.org".as_slice()],
+            &[
+                b"alice".as_slice(),
+                b"alice/Work".as_slice(),
+                b"postmaster".as_slice(),
+            ],
+            2,
+        )
+    }
+
+    fn at<'a>(local: &'a [u8], domain: &'a [u8]) -> ForwardPath<'a> {
+        ForwardPath::Recipient(Mailbox { local, domain })
+    }
+
+    #[test]
+    fn paths_are_looked_up(rt: HostRuntime) -> Result<(), DirectoryFault> {
+        let directory = house(rt.alloc())?;
+        let cases = [
+            (b"alice".as_slice(), Ok(0)),
+            (b"Alice".as_slice(), Ok(0)),
+            (b"alice+inbox".as_slice(), Ok(0)),
+            (b"alice+work".as_slice(), Ok(1)),
+            (b"\"al\\ice\"".as_slice(), Ok(0)),
+            (b"\"alice+Wor\\k\"".as_slice(), Ok(1)),
+            (b"postmaster".as_slice(), Ok(2)),
+            (b"alice+".as_slice(), Err(NoSuch::User)),
+            (b"alice/Work".as_slice(), Err(NoSuch::User)),
+            (b"alic".as_slice(), Err(NoSuch::User)),
+            (b"alices".as_slice(), Err(NoSuch::User)),
+        ];
+        for (local, want) in cases {
+            assert_eq!(rt; directory.lookup(at(local, b"EXAMPLE.org")), want);
+            assert_eq!(rt;
+                directory.lookup(at(local, b"example.com")),
+                Err(NoSuch::System)
+            );
+        }
+        assert_eq!(rt; directory.lookup(ForwardPath::Postmaster), Ok(2));
+        Ok(())
+    }
+
+    #[test]
+    fn words_have_numbers(rt: HostRuntime) -> Result<(), DirectoryFault> {
+        let directory = house(rt.alloc())?;
+        assert_eq!(rt; directory.number_of(b"alice/Work"), Some(1));
+        assert_eq!(rt; directory.number_of(b"alice"), Some(0));
+        assert_eq!(rt; directory.number_of(b"alice/work"), None);
+        assert_eq!(rt; directory.number_of(b"alice/"), None);
+        assert_eq!(rt; directory.mailboxes(), 3);
+        if directory.mailboxes() == 3 {
+            assert_eq!(rt; directory.user_of(1), b"alice".as_slice());
+            assert_eq!(rt; directory.folder_of(1), Some(b"Work".as_slice()));
+            assert_eq!(rt; directory.folder_of(2), None);
+        }
+        assert_eq!(rt; directory.shards(), 2);
+        assert_eq!(rt; directory.shard_of(2), 0);
+        Ok(())
+    }
+
+    // The fault of a directory with these words at a good domain.
+    fn fault_of_words(alloc: Global, words: &[&[u8]]) -> Option<DirectoryFault> {
+        Directory::new(alloc, &[b"example.org".as_slice()], words, 1).err()
+    }
+
+    #[test]
+    fn faults_of_words(rt: HostRuntime) {
+        let cases = [
+            ([b"alice".as_slice(), b"bob".as_slice()], None),
+            (
+                [b"alice".as_slice(), b"alice".as_slice()],
+                Some(DirectoryFault::Twice),
+            ),
+            (
+                [b"alice".as_slice(), b"Alice".as_slice()],
+                Some(DirectoryFault::BadName),
+            ),
+            (
+                [b"alice".as_slice(), b"bob/Work".as_slice()],
+                Some(DirectoryFault::BadName),
+            ),
+            (
+                [b"alice/Work".as_slice(), b"alice".as_slice()],
+                Some(DirectoryFault::BadName),
+            ),
+            (
+                [b"alice".as_slice(), b"alice/inBox".as_slice()],
+                Some(DirectoryFault::BadName),
+            ),
+            (
+                [b"alice".as_slice(), b"alice/a/b".as_slice()],
+                Some(DirectoryFault::BadName),
+            ),
+            (
+                [b"alice".as_slice(), b"alice/".as_slice()],
+                Some(DirectoryFault::BadName),
+            ),
+            (
+                [b"alice".as_slice(), b"".as_slice()],
+                Some(DirectoryFault::BadName),
+            ),
+        ];
+        for (words, want) in cases {
+            assert_eq!(rt; fault_of_words(rt.alloc(), &words), want);
+        }
+        let folders = [
+            b"alice".as_slice(),
+            b"alice/Work".as_slice(),
+            b"alice/WORK".as_slice(),
+            b"*".as_slice(),
+        ];
+        assert_eq!(rt;
+            fault_of_words(rt.alloc(), &folders),
+            Some(DirectoryFault::Twice)
+        );
+    }
+
+    #[test]
+    fn faults_in_their_order(rt: HostRuntime) {
+        let many = [b"*".as_slice(); 65];
+        let bad = [b"example_org".as_slice()];
+        let twice = [b"alice".as_slice(); 2];
+        let made = Directory::new(rt.alloc(), &bad, &many, 1);
+        assert_eq!(rt; made.err(), Some(DirectoryFault::TooMany));
+        let made = Directory::new(rt.alloc(), &bad, &twice, 1);
+        assert_eq!(rt; made.err(), Some(DirectoryFault::BadName));
+        let made = Directory::new(rt.alloc(), &[], &twice, 1);
+        assert_eq!(rt; made.err(), Some(DirectoryFault::Twice));
+    }
+
+    #[test]
+    fn names_of_hosts(rt: HostRuntime) {
+        assert!(rt; is_name(b"mx-1.example.org"));
+        assert!(rt; !is_name(b""));
+        assert!(rt; !is_name(b"mx_1"));
+        assert!(rt; is_name(&[b'a'; 255]));
+        assert!(rt; !is_name(&[b'a'; 256]));
+    }
+}

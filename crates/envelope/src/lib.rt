@@ -1,0 +1,20 @@
+//! The envelope of a message: the commands of LMTP as a line spells them, and the directory that
+//! says which mailbox a path names. A line is told as what the written grammar of specs/Grammar.antt
+//! says of it. Connections, replies and messages are for the crates above.
+#![tactic(auto)]
+
+mod command;
+mod directory;
+mod laws;
+mod local_part;
+mod names;
+mod reading;
+mod recipients;
+mod word;
+
+pub use command::{CommandFault, ForwardPath, LmtpCommand, Mailbox, ReversePath, Verb};
+pub use directory::{Directory, DirectoryFault, NoSuch};
+pub use laws::words_have_their_places;
+pub use names::{is_folder, is_name, is_user};
+pub use reading::read_command;
+pub use recipients::{Recipients, TooMany};

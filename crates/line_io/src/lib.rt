@@ -1,0 +1,30 @@
+//! Lines of a byte stream, and bytes that are sent: a cutter for what comes in, a sink for what goes
+//! out, and the laws of wire lines. What a line says, and what is sent, is for the crates above.
+#![tactic(auto)]
+
+mod cutter;
+mod laws;
+mod sink;
+
+pub use cutter::LineCutter;
+pub use laws::{each_stream_is_cut_in_one_way, whole_lines_may_be_taken_by_others};
+pub use sink::{SendFault, Sink, Watched, send};
+
+/// What a take of a [`LineCutter`] found.
+#[derive(Clone, Copy, Debug, PartialEq, Eq)]
+pub enum What {
+    /// The piece is used up, and no line ended in it.
+    NeedMore,
+    /// A line ended, and `line` answers it.
+    Line,
+    /// A line ended that is longer than the most that a line may have. Its bytes are lost.
+    TooLong,
+}
+
+/// What a take of a [`LineCutter`] used of its piece, and found.
+#[derive(Clone, Copy, Debug, PartialEq, Eq)]
+pub struct Cut {
+    /// How many bytes at the front of the piece were used. The rest is for the next take.
+    pub used: usize,
+    pub what: What,
+}

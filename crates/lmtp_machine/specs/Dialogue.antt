@@ -1,0 +1,237 @@
+-- The server's side of an LMTP connection (RFC 2033), line by line. It knows nothing of pieces and buffers.
+use Rattle.std.specs.Prelude.{ℕ, Bool, true, false, codes, List, [], ◌∷◌, ◌++◌, ◌+◌, ◌-◌, ◌^◌, length, map, replicate, Result, Ok, Err, nat_lt, ◌==◌, if◌then◌else◌}
+use Rattle.std.specs.List.{enumerate_from}
+use Rattle.envelope.specs.Values.{Path, Null, Postmaster, To, Command}
+use Rattle.envelope.specs.Values as say
+use Rattle.envelope.specs.Reading.{read}
+use Rattle.envelope.specs.Directory.{Directory, lookup}
+use Rattle.envelope.specs.declared.command.CommandFault.{CommandFault}
+use Rattle.envelope.specs.declared.command.CommandFault.TheVariants as faults
+use Rattle.envelope.specs.declared.directory.NoSuch.{NoSuch}
+use Rattle.envelope.specs.declared.directory.NoSuch.TheVariants.{System, User}
+use Rattle.delivery_token.specs.declared.CopyKey.{CopyKey}
+use Rattle.delivery_token.specs.declared.Verdict.{Verdict}
+use Rattle.delivery_token.specs.declared.Verdict.TheVariants.{Stored, Refused}
+use Rattle.delivery_token.specs.declared.Refusal.{Refusal}
+use Rattle.delivery_token.specs.declared.Refusal.TheVariants as refusals
+use Rattle.lmtp_machine.specs.declared.reply.Reply.{Reply}
+use Rattle.lmtp_machine.specs.declared.reply.Reply.TheVariants.{Greeting, LineTooLong, CommandUnknown, NotImplemented, BadClientName, InvalidArguments, PathTooLong, ParameterUnknown, BadSequence, Extensions, SenderOk, DomainUnknown, MailboxUnknown, TooManyRecipients, RecipientOk, StartInput, Okay, CannotVerify, Bye, ShuttingDown, Delivered, ShardFull, MailboxFull, OutOfMemory, NoUidLeft, MessageTooBig, NulByte}
+use Rattle.dot_stuffing.specs.declared.Outcome.{Outcome}
+use Rattle.dot_stuffing.specs.declared.Outcome.TheVariants as outcomes
+use Rattle.lmtp_machine.specs.Message.{sender_text, stored_text, plain, outcome}
+
+-- ---- where a dialogue stands
+
+pub data Phase : Type 0 where
+  -- before LHLO
+  Start : Phase
+  -- between transactions
+  Ready : Phase
+  -- MAIL was accepted: its mailbox as spelled or nothing, and the mailboxes of the accepted recipients
+  Transaction : List ℕ → List ℕ → Phase
+  -- DATA was accepted: these lines came since
+  Data : List ℕ → List ℕ → List (List ℕ) → Phase
+  -- a message was submitted for so many recipients, and the verdicts are awaited
+  Waiting : ℕ → Phase
+  Ended : Phase
+
+-- the phase, and how many messages were submitted
+pub record Standing : Type 0 where
+  pub phase : Phase
+  pub submitted : ℕ
+
+-- whose connection it is, and its limit
+pub record Setting : Type 0 where
+  pub seat : ℕ
+  pub serial : ℕ
+  pub max_message : ℕ
+
+-- a message for its recipients: the i-th key and the i-th mailbox are those of the i-th accepted recipient
+pub record Submission : Type 0 where
+  pub keys : List CopyKey
+  pub mailboxes : List ℕ
+  pub text : List ℕ
+
+-- what happens on a connection
+pub data Event : Type 0 where
+  -- it was opened
+  Opened : Event
+  -- a whole line came
+  Line : List ℕ → Event
+  -- the line that ends the data came, but memory for the text had been refused
+  Starved : Event
+  -- the verdicts on the submitted message are known, one for each recipient
+  Answered : List Verdict → Event
+  -- the server shuts down
+  Shut : Event
+
+-- what an event leads to
+pub record Turn : Type 0 where
+  pub standing : Standing
+  pub replies : List Reply
+  pub submissions : List Submission
+
+-- ---- turns
+
+abbrev pub turn : Phase → ℕ → List Reply → Turn
+turn phase submitted replies = record {
+  standing = record { phase = phase; submitted = submitted };
+  replies = replies;
+  submissions = [];
+}
+
+-- the reply, and all stays as it is
+abbrev pub refuse : Standing → Reply → Turn
+refuse s reply = turn s.phase s.submitted (reply ∷ [])
+
+-- between commands, whatever was begun is dropped
+abbrev pub cleared : Phase → Phase
+cleared Start = Start
+cleared _ = Ready
+
+abbrev pub last_number : ℕ
+last_number = 2 ^ 32 - 1
+
+abbrev pub on_mail : Phase → ℕ → Path → Turn
+on_mail Ready n path =
+    if n == last_number then turn Ended n (ShuttingDown ∷ []) else turn (Transaction (sender_text path) []) n (SenderOk ∷ [])
+on_mail phase n path = turn phase n (BadSequence ∷ [])
+
+abbrev pub on_recipient : List ℕ → List ℕ → ℕ → Result ℕ NoSuch → Turn
+on_recipient sender recipients n (Err System) = turn (Transaction sender recipients) n (DomainUnknown ∷ [])
+on_recipient sender recipients n (Err User) = turn (Transaction sender recipients) n (MailboxUnknown ∷ [])
+on_recipient sender recipients n (Ok mailbox) =
+    if length recipients == 100
+    then turn (Transaction sender recipients) n (TooManyRecipients ∷ [])
+    else turn (Transaction sender (recipients ++ mailbox ∷ [])) n (RecipientOk ∷ [])
+
+abbrev pub on_rcpt : Directory → Phase → ℕ → Path → Turn
+on_rcpt directory (Transaction sender recipients) n path = on_recipient sender recipients n (lookup directory path)
+on_rcpt directory phase n path = turn phase n (BadSequence ∷ [])
+
+abbrev pub on_data : Phase → ℕ → Turn
+on_data (Transaction sender (mailbox ∷ more)) n = turn (Data sender (mailbox ∷ more) []) n (StartInput ∷ [])
+on_data phase n = turn phase n (BadSequence ∷ [])
+
+abbrev pub on_command : Directory → Standing → Command → Turn
+on_command directory s say.Lhlo = turn Ready s.submitted (Extensions ∷ [])
+on_command directory s (say.Mail path) = on_mail s.phase s.submitted path
+on_command directory s (say.Rcpt path) = on_rcpt directory s.phase s.submitted path
+on_command directory s say.Data = on_data s.phase s.submitted
+on_command directory s say.Rset = turn (cleared s.phase) s.submitted (Okay ∷ [])
+on_command directory s say.Noop = refuse s Okay
+on_command directory s say.Vrfy = refuse s CannotVerify
+on_command directory s say.Quit = turn Ended s.submitted (Bye ∷ [])
+on_command directory s say.Expn = refuse s NotImplemented
+on_command directory s say.Help = refuse s NotImplemented
+
+abbrev pub fault_reply : CommandFault → Reply
+fault_reply faults.Unknown = CommandUnknown
+fault_reply (faults.Syntax true) = BadClientName
+fault_reply (faults.Syntax false) = InvalidArguments
+fault_reply faults.PathTooLong = PathTooLong
+fault_reply faults.Parameter = ParameterUnknown
+
+abbrev pub on_reading : Directory → Standing → Result Command CommandFault → Turn
+on_reading directory s (Ok command) = on_command directory s command
+on_reading directory s (Err fault) = refuse s (fault_reply fault)
+
+-- a command line, of 512 bytes with its CRLF at most
+abbrev pub on_command_line : Directory → Standing → List ℕ → Turn
+on_command_line directory s line =
+    if nat_lt 510 (length line) then refuse s LineTooLong else on_reading directory s (read line)
+
+-- ---- the end of the data
+
+-- the keys of this message's copies, from this recipient on
+abbrev pub keys_from : Setting → ℕ → ℕ → List ℕ → List CopyKey
+keys_from setting message i [] = []
+keys_from setting message i (mailbox ∷ mailboxes) =
+    record { seat = setting.seat; serial = setting.serial; message = message; recipient = i } ∷ keys_from setting message (i + 1) mailboxes
+
+-- one reply for each recipient, and the transaction is over
+abbrev pub failed : ℕ → List ℕ → Reply → Turn
+failed n recipients reply = turn Ready n (replicate (length recipients) reply)
+
+abbrev pub on_outcome : Setting → ℕ → List ℕ → List ℕ → List (List ℕ) → Outcome → Turn
+on_outcome setting n sender recipients lines outcomes.TooBig = failed n recipients MessageTooBig
+on_outcome setting n sender recipients lines outcomes.Nul = failed n recipients NulByte
+on_outcome setting n sender recipients lines outcomes.NoMemory = failed n recipients OutOfMemory
+on_outcome setting n sender recipients lines outcomes.Ok = record {
+  standing = record { phase = Waiting (length recipients); submitted = n + 1 };
+  replies = [];
+  submissions = record {
+    keys = keys_from setting n 0 recipients;
+    mailboxes = recipients;
+    text = stored_text sender lines;
+  } ∷ [];
+}
+
+abbrev pub at_end : Setting → Bool → ℕ → List ℕ → List ℕ → List (List ℕ) → Turn
+at_end setting refused n sender recipients lines =
+    on_outcome setting n sender recipients lines (outcome setting.max_message refused (plain lines))
+
+abbrev pub is_dot : List ℕ → Bool
+is_dot [] = false
+is_dot (b ∷ []) = b == 46
+is_dot (b ∷ c ∷ bs) = false
+
+abbrev pub on_data_line : Setting → ℕ → List ℕ → List ℕ → List (List ℕ) → List ℕ → Turn
+on_data_line setting n sender recipients lines line =
+    if is_dot line then at_end setting false n sender recipients lines
+    else turn (Data sender recipients (lines ++ line ∷ [])) n []
+
+-- ---- verdicts
+
+abbrev pub refusal_reply : Refusal → Reply
+refusal_reply refusals.Full = ShardFull
+refusal_reply refusals.MailboxFull = MailboxFull
+refusal_reply refusals.NoMemory = OutOfMemory
+refusal_reply refusals.UidSpent = NoUidLeft
+
+abbrev pub verdict_reply : Verdict → Reply
+verdict_reply (Stored uid) = Delivered
+verdict_reply (Refused refusal) = refusal_reply refusal
+
+-- ---- events
+
+abbrev pub on_line : Setting → Directory → Phase → ℕ → List ℕ → Turn
+on_line setting directory Start n line = on_command_line directory (record { phase = Start; submitted = n }) line
+on_line setting directory Ready n line = on_command_line directory (record { phase = Ready; submitted = n }) line
+on_line setting directory (Transaction sender recipients) n line =
+    on_command_line directory (record { phase = Transaction sender recipients; submitted = n }) line
+on_line setting directory (Data sender recipients lines) n line = on_data_line setting n sender recipients lines line
+on_line setting directory (Waiting count) n line = turn (Waiting count) n []
+on_line setting directory Ended n line = turn Ended n []
+
+abbrev pub on_starved : Setting → Phase → ℕ → Turn
+on_starved setting (Data sender recipients lines) n = at_end setting true n sender recipients lines
+on_starved setting phase n = turn phase n []
+
+abbrev pub on_verdicts : Phase → ℕ → List Verdict → Turn
+on_verdicts (Waiting count) n verdicts = turn Ready n (map verdict_reply verdicts)
+on_verdicts phase n verdicts = turn phase n []
+
+abbrev pub on_event : Setting → Directory → Standing → Event → Turn
+on_event setting directory s Opened = refuse s Greeting
+on_event setting directory s (Line line) = on_line setting directory s.phase s.submitted line
+on_event setting directory s Starved = on_starved setting s.phase s.submitted
+on_event setting directory s (Answered verdicts) = on_verdicts s.phase s.submitted verdicts
+on_event setting directory s Shut = turn Ended s.submitted (ShuttingDown ∷ [])
+
+-- ---- dialogues
+
+abbrev pub fresh : Standing
+fresh = record { phase = Start; submitted = 0 }
+
+-- where events lead, with all that is said and submitted on the way
+abbrev pub dialogue : Setting → Directory → Standing → List Event → Turn
+dialogue setting directory s [] = turn s.phase s.submitted []
+dialogue setting directory s (event ∷ events) =
+    let first = on_event setting directory s event in
+    let others = dialogue setting directory first.standing events in
+    record {
+      standing = others.standing;
+      replies = first.replies ++ others.replies;
+      submissions = first.submissions ++ others.submissions;
+    }

@@ -1,0 +1,9 @@
+pub mod Replies
+pub mod Message
+pub mod Dialogue
+pub mod Standing
+pub mod Conversation
+pub mod Machine
+pub mod Calls
+pub mod Laws
+pub mod Rows

@@ -1,0 +1,5 @@
+pub mod Mail
+pub mod Stands
+pub mod Seen
+pub mod Events
+pub mod Counts

@@ -1,0 +1,341 @@
+//! The mailbox. Each call that changes it is one event on every log for which it stands; the log
+//! itself is kept nowhere.
+
+ghost use Rattle.std.specs.Prelude.{◌≡◌, ◌+◌, ◌<◌, ◌↔◌, [], ◌∷◌, ◌++◌, length, map, true, false, Err, OnOk, OnErr, IfOk};
+ghost use Rattle.change_ring.specs.Log.{no_flags};
+ghost use Rattle.change_ring.specs.Window.{MayDrop};
+ghost use Rattle.mailbox.specs.Counts.{unseen_count, deleted_count, bytes_in_all};
+ghost use Rattle.mailbox.specs.Events.{Logs};
+ghost use Rattle.mailbox.specs.Mail.{SameMailbox, next_uid, is_spent, is_full};
+ghost use Rattle.mailbox.specs.Seen.{message_of};
+ghost use Rattle.mailbox.specs.Stands.{Stands};
+
+use change_ring::{Change, ChangeRing, Flags};
+use delivery_token::{CopyKey, Job, Refusal, Text};
+use std::alloc::{AllocError, Global};
+use std::marker::Model;
+
+/// How much a mailbox keeps.
+#[derive(Clone, Copy, Debug, PartialEq, Eq)]
+pub struct Limits {
+    /// So many messages may be there.
+    pub messages: usize,
+    /// So many of the last changes are kept; not 0.
+    pub ring: usize,
+}
+
+/// That a copy was delivered: to which mailbox, under which UID.
+#[derive(Clone, Copy, Debug, PartialEq, Eq)]
+pub struct Receipt {
+    mailbox: u8,
+    key: CopyKey,
+    uid: u32,
+    place: usize,
+}
+
+/// What STATUS tells of a mailbox (RFC 9051, 6.3.11).
+#[derive(Clone, Copy, Debug, PartialEq, Eq)]
+pub struct Status {
+    /// How many messages are there.
+    pub messages: usize,
+    /// The UID of the next message.
+    pub uidnext: u32,
+    /// The mailbox's UIDVALIDITY, which no call changes.
+    pub uidvalidity: u32,
+    /// How many of them are without \Seen.
+    pub unseen: usize,
+    /// How many of them have \Deleted.
+    pub deleted: usize,
+    /// The bytes of all texts. The sum of as many lengths as a list has fits 128 bits, and not 64.
+    pub size: u128,
+}
+
+#[derive(Drop)]
+struct Message {
+    uid: u32,
+    flags: Flags,
+    text: Text,
+}
+
+/// A mailbox.
+#[derive(Drop)]
+pub struct Mailbox {
+    number: u8,
+    uidvalidity: u32,
+    first_uid: u32,
+    next: u32,
+    limit: usize,
+    messages: Vec<Message>,
+    ring: ChangeRing,
+    accepted: Vec<(CopyKey, u32)>,
+}
+
+impl Model for Mailbox {
+    ghost use Rattle.std.specs.Prelude.{◌≡◌, ◌+◌, ◌≤◌, ◌<◌, length};
+    ghost use Rattle.mailbox.specs.Mail.{Mail, next_uid};
+    ghost use Rattle.mailbox.specs.Stands.{IsSound};
+
+    ghost Value = { Mail };
+
+    ghost use Rattle.mailbox.specs.Seen.{mail_of};
+
+    ghost view = { mail_of };
+
+    ghost invariant = { λ b. (b.next ≡ next_uid (mail_of b)) × (length b.messages.items ≤ b.limit) × IsSound (mail_of b) };
+}
+
+impl Receipt {
+    /// The number of the mailbox.
+    pub fn mailbox(&self) -> u8
+        ensures { result ≡ self.now.mailbox }
+    {
+        self.mailbox
+    }
+
+    /// The copy's key.
+    pub fn key(&self) -> CopyKey
+        ensures { result ≡ self.now.key }
+    {
+        self.key
+    }
+
+    /// The message's UID.
+    pub fn uid(&self) -> u32
+        ensures { result ≡ self.now.uid }
+    {
+        self.uid
+    }
+
+    /// The place of the copy among those that were accepted, from 0.
+    pub fn place(&self) -> usize
+        ensures { result ≡ self.now.place }
+    {
+        self.place
+    }
+}
+
+impl Mailbox {
+    /// The empty mailbox of this number, at the start of its log. Its messages get the UIDs from
+    /// `first_uid` on. An error where memory is refused.
+    pub fn new(
+        alloc: Global,
+        number: u8,
+        uidvalidity: u32,
+        first_uid: u32,
+        limits: Limits,
+    ) -> Result<Mailbox, AllocError>
+        requires { 0 < limits.ring }
+        ensures stands { IfOk result (λ m. Stands m []) }
+        ensures settings { IfOk result (λ m. (m.number ≡ number) × (m.uidvalidity ≡ uidvalidity) × (m.first_uid ≡ first_uid) × (m.limit ≡ limits.messages)) }
+        ensures empty { IfOk result (λ m. (m.messages ≡ []) × (m.accepted ≡ []) × (m.window.base ≡ 0) × (m.window.capacity ≡ limits.ring)) }
+    {
+        let ring = ChangeRing::new(alloc, limits.ring, limits.ring)?;
+        Ok(Mailbox {
+            number,
+            uidvalidity,
+            first_uid,
+            next: first_uid,
+            limit: limits.messages,
+            messages: Vec::new(alloc),
+            ring,
+            accepted: Vec::new(alloc),
+        })
+    }
+
+    fn is_spent(&self) -> bool
+        ensures { result ≡ is_spent self.now }
+    {
+        self.next >= u32::MAX || self.ring.total() >= 1 << 62
+    }
+
+    /// Delivers a copy: one change, which adds a message with the copy's text and the next UID
+    /// (RFC 9051, 2.3.1.1).
+    ///
+    /// Refused, in this order, as UidSpent where the next UID would be 4,294,967,295 or the log has
+    /// 2^62 changes, as MailboxFull where as many messages are there as may be, and as NoMemory
+    /// where memory is refused. The mailbox is then unchanged.
+    pub fn deliver(&mut self, job: &Job) -> Result<Receipt, Refusal>
+        ensures spent { (result ≡ Err Refusal.UidSpent) ↔ (is_spent self.old ≡ true) }
+        ensures full { (result ≡ Err Refusal.MailboxFull) ↔ ((is_spent self.old ≡ false) × (is_full self.old ≡ true)) }
+        ensures not_queued { (result ≡ Err Refusal.Full) → ⊥ }
+        ensures err { OnErr result (self.new ≡ self.old) }
+
+        // One change more, on every log for which the mailbox stood.
+        ensures logged { OnOk result (Logs self.old self.new (Change.Add (next_uid self.old) ∷ [])) }
+        ensures accepted { OnOk result (self.new.accepted ≡ self.old.accepted ++ (job.now.key, next_uid self.old) ∷ []) }
+        ensures message { OnOk result (self.new.messages ≡ self.old.messages ++ record { uid = next_uid self.old; flags = no_flags; text = job.now.text } ∷ []) }
+        ensures window { OnOk result (MayDrop self.old.window self.new.window) }
+        ensures same { OnOk result (SameMailbox self.old self.new) }
+        ensures receipt { IfOk result (λ r. r ≡ record { mailbox = self.old.number; key = job.now.key; uid = next_uid self.old; place = length self.old.accepted }) }
+    {
+        if self.is_spent() {
+            return Err(Refusal::UidSpent);
+        }
+        if self.messages.len() >= self.limit {
+            return Err(Refusal::MailboxFull);
+        }
+        let uid = self.next;
+        let place = self.accepted.len();
+        let Ok(text) = job.text.copy() else {
+            return Err(Refusal::NoMemory);
+        };
+        let Ok(()) = self.messages.reserve(1) else {
+            return Err(Refusal::NoMemory);
+        };
+        let Ok(()) = self.accepted.reserve(1) else {
+            return Err(Refusal::NoMemory);
+        };
+        let keep_from = self.ring.total();
+        let Ok(_) = self.ring.push(Change::Add(uid), keep_from) else {
+            return Err(Refusal::UidSpent);
+        };
+        self.messages.push_reserved(Message {
+            uid,
+            flags: Flags {
+                answered: false,
+                flagged: false,
+                deleted: false,
+                seen: false,
+                draft: false,
+            },
+            text,
+        });
+        self.accepted.push_reserved((job.key, uid));
+        self.next += 1;
+        Ok(Receipt {
+            mailbox: self.number,
+            key: job.key,
+            uid,
+            place,
+        })
+    }
+
+    /// What STATUS tells of it now. It takes no memory.
+    pub fn status(&self) -> Status
+        ensures { result ≡ record {
+          messages = length self.now.messages;
+          uidnext = next_uid self.now;
+          uidvalidity = self.now.uidvalidity;
+          unseen = unseen_count self.now.messages;
+          deleted = deleted_count self.now.messages;
+          size = bytes_in_all self.now.messages;
+        } }
+    {
+        Status {
+            messages: self.messages.len(),
+            uidnext: self.next,
+            uidvalidity: self.uidvalidity,
+            unseen: unseen_in(&self.messages),
+            deleted: deleted_in(&self.messages),
+            size: bytes_of(&self.messages),
+        }
+    }
+
+    /// The copies that were accepted, each with its UID, in the order of the deliveries.
+    pub fn accepted(&self) -> &[(CopyKey, u32)]
+        ensures { result.now ≡ self.now.accepted }
+    {
+        &self.accepted
+    }
+
+    /// The last changes: the number of the first of them, and the changes from that number to the
+    /// end of the log, in two slices that follow one another.
+    pub fn tail(&self) -> (u64, &[Change], &[Change])
+        ensures base { result.0 ≡ self.now.window.base }
+        ensures changes { result.1.now ++ result.2.now ≡ self.now.window.changes }
+    {
+        let base = self.ring.base();
+        match self.ring.lend(base) {
+            Ok((first, rest)) => (base, first, rest),
+            Err(_) => (base, &[], &[]),
+        }
+    }
+}
+
+fn unseen_in(messages: &[Message]) -> usize
+    ensures { result ≡ unseen_count (map message_of messages.now) }
+{
+    messages.iter().filter(|m| !m.flags.seen).count()
+}
+
+fn deleted_in(messages: &[Message]) -> usize
+    ensures { result ≡ deleted_count (map message_of messages.now) }
+{
+    messages.iter().filter(|m| m.flags.deleted).count()
+}
+
+fn bytes_of(messages: &[Message]) -> u128
+    ensures { result ≡ bytes_in_all (map message_of messages.now) }
+{
+    let mut bytes: u128 = 0;
+    for message in messages {
+        bytes += message.text.as_slice().len() as u128;
+    }
+    bytes
+}
+
+#[cfg(test)]
+mod tests {
+    use super::*;
+
+    fn job(alloc: Global, recipient: u8, bytes: &[u8]) -> Result<Job, AllocError> {
+        Ok(Job {
+            key: CopyKey {
+                seat: 2,
+                serial: 5,
+                message: 0,
+                recipient,
+            },
+            mailbox: 3,
+            text: Text::new(Vec::from_slice(alloc, bytes)?),
+        })
+    }
+
+    #[test]
+    fn two_copies_fill_a_mailbox(rt: HostRuntime) -> Result<(), AllocError> {
+        let alloc = rt.alloc();
+        let limits = Limits {
+            messages: 2,
+            ring: 4,
+        };
+        let mut mailbox = Mailbox::new(alloc, 3, 77, 10, limits)?;
+        let first = job(alloc, 0, b"one\r\n")?;
+        let second = job(alloc, 1, b"three\r\n")?;
+        let receipt = mailbox.deliver(&first);
+        let told = receipt.map(|r| (r.mailbox(), r.key(), r.uid(), r.place()));
+        assert_eq!(rt; told, Ok((3, first.key, 10, 0)));
+        let told = mailbox.deliver(&second).map(|r| (r.uid(), r.place()));
+        assert_eq!(rt; told, Ok((11, 1)));
+        let told = mailbox.deliver(&second).map(|r| r.uid());
+        assert_eq!(rt; told, Err(Refusal::MailboxFull));
+        let status = Status {
+            messages: 2,
+            uidnext: 12,
+            uidvalidity: 77,
+            unseen: 2,
+            deleted: 0,
+            size: 12,
+        };
+        assert_eq!(rt; mailbox.status(), status);
+        assert!(rt; mailbox.accepted() == &[(first.key, 10), (second.key, 11)][..]);
+        let (base, older, newer) = mailbox.tail();
+        assert_eq!(rt; base, 0);
+        assert!(rt; older == &[Change::Add(10), Change::Add(11)][..]);
+        assert!(rt; newer.is_empty());
+        Ok(())
+    }
+
+    #[test]
+    fn a_mailbox_without_uids_refuses_first_for_that(rt: HostRuntime) -> Result<(), AllocError> {
+        let alloc = rt.alloc();
+        let limits = Limits {
+            messages: 0,
+            ring: 1,
+        };
+        let mut mailbox = Mailbox::new(alloc, 0, 1, u32::MAX, limits)?;
+        let copy = job(alloc, 0, b"hi\r\n")?;
+        let told = mailbox.deliver(&copy).map(|r| r.uid());
+        assert_eq!(rt; told, Err(Refusal::UidSpent));
+        Ok(())
+    }
+}

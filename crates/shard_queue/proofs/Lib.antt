@@ -1,0 +1,2 @@
+pub mod AtLaws
+pub mod LaneLaws

@@ -1,0 +1,4 @@
+pub mod At
+pub mod Lane
+pub mod Waits
+pub mod Plain

@@ -1,0 +1,127 @@
+//! What a lane does. No call but `new` takes memory.
+
+ghost use Rattle.std.specs.Prelude.{◌≡◌, ◌<◌, ◌++◌, ◌∷◌, [], true, false, Some, None, Ok, IfOk, MatchResult, length, replicate, slice_set, ◌↔◌};
+ghost use Rattle.shard_queue.specs.declared.lane.Entry.TheVariants as entries;
+ghost use Rattle.shard_queue.specs.Plain.{MayPutMore, before_taking, taken_entry, starts_with_item};
+
+use crate::lane::{Entry, Full, PlainLane, Taken};
+use std::alloc::{AllocError, Global};
+use std::collections::VecDeque;
+
+impl<T: Drop> PlainLane<T> {
+    /// An empty lane with room for `capacity` entries, where each of the producers 0 to
+    /// `producers - 1` may put. An error where memory is refused.
+    pub fn new(alloc: Global, capacity: usize, producers: u8) -> Result<PlainLane<T>, AllocError>
+        ensures { IfOk result (λ l. l ≡ record { capacity = capacity; live = replicate producers true; waiting = [] }) }
+    {
+        let entries = VecDeque::with_capacity(alloc, capacity)?;
+        let live = Vec::from_elem(alloc, true, usize::from(producers))?;
+        Ok(PlainLane {
+            entries,
+            capacity,
+            live,
+        })
+    }
+
+    /// Whether `p` is a producer that has not put its end.
+    pub fn is_live(&self, p: u8) -> bool
+        ensures { result ≡ true ↔ MayPutMore self.now.live p }
+    {
+        match self.live.get(usize::from(p)) {
+            Some(live) => *live,
+            None => false,
+        }
+    }
+
+    /// Whether the first entry that waits is an item.
+    pub fn has_item(&self) -> bool
+        ensures { result ≡ starts_with_item self.now.waiting }
+    {
+        match self.entries.front() {
+            Some(Entry::Item(_, _)) => true,
+            _ => false,
+        }
+    }
+
+    /// Puts an item behind all that waits. Full exactly where as many entries wait as there is
+    /// room for; the lane is then unchanged, and the item comes back.
+    pub fn put(&mut self, p: u8, item: T) -> Result<(), Full<T>>
+        requires live { MayPutMore self.old.live p }
+        ensures put { MatchResult result
+            (λ _. (length self.old.waiting < self.old.capacity) × (self.new ≡ record self.old { waiting = self.old.waiting ++ entries.Item p item ∷ [] }))
+            (λ back. (back.0 ≡ item) × (length self.old.waiting ≡ self.old.capacity) × (self.new ≡ self.old)) }
+    {
+        if self.entries.len() == self.capacity {
+            return Err(Full(item));
+        }
+        self.entries.push_back_reserved(Entry::Item(p, item));
+        Ok(())
+    }
+
+    /// Puts the producer's end behind all that waits, after which it may put nothing more. Full as
+    /// for an item; the lane is then unchanged.
+    pub fn end(&mut self, p: u8) -> Result<(), Full<()>>
+        requires live { MayPutMore self.old.live p }
+        ensures put { MatchResult result
+            (λ _. (length self.old.waiting < self.old.capacity) × (self.new ≡ record self.old { waiting = self.old.waiting ++ entries.End p ∷ []; live = slice_set self.old.live p false }))
+            (λ _. (length self.old.waiting ≡ self.old.capacity) × (self.new ≡ self.old)) }
+    {
+        if self.entries.len() == self.capacity {
+            return Err(Full(()));
+        }
+        self.entries.push_back_reserved(Entry::End(p));
+        if let Some(live) = self.live.get_mut(usize::from(p)) {
+            *live = false;
+        }
+        Ok(())
+    }
+
+    /// Takes the first entry that waits. Empty exactly where nothing waits.
+    pub fn take(&mut self) -> Taken<T>
+        ensures taken { self.old ≡ record self.new { waiting = before_taking result self.new.waiting } }
+        ensures empty { taken_entry result ≡ None → self.old.waiting ≡ [] }
+    {
+        match self.entries.pop_front() {
+            Some(Entry::Item(p, item)) => Taken::Item(p, item),
+            Some(Entry::End(p)) => Taken::End(p),
+            None => Taken::Empty,
+        }
+    }
+}
+
+#[cfg(test)]
+mod tests {
+    use super::*;
+
+    #[test]
+    fn entries_come_in_their_order_until_the_end(rt: HostRuntime) -> Result<(), AllocError> {
+        let mut lane = PlainLane::new(rt.alloc(), 2, 1)?;
+        assert!(rt; lane.is_live(0) && !lane.is_live(1) && !lane.has_item());
+        if lane.is_live(0) {
+            assert!(rt; lane.put(0, 7).is_ok());
+        }
+        if lane.is_live(0) {
+            assert!(rt; lane.end(0).is_ok());
+        }
+        assert!(rt; lane.has_item() && !lane.is_live(0));
+        assert!(rt; matches!(lane.take(), Taken::Item(0, 7)));
+        assert!(rt; matches!(lane.take(), Taken::End(0)));
+        assert!(rt; matches!(lane.take(), Taken::Empty));
+        Ok(())
+    }
+
+    #[test]
+    fn a_full_lane_hands_the_item_back(rt: HostRuntime) -> Result<(), AllocError> {
+        let mut lane = PlainLane::new(rt.alloc(), 1, 1)?;
+        if lane.is_live(0) {
+            assert!(rt; lane.put(0, 7).is_ok());
+        }
+        if lane.is_live(0) {
+            assert!(rt; matches!(lane.put(0, 8), Err(Full(8))));
+        }
+        if lane.is_live(0) {
+            assert!(rt; matches!(lane.end(0), Err(Full(()))));
+        }
+        Ok(())
+    }
+}

@@ -1,0 +1,9 @@
+pub mod Base
+pub mod Mails
+pub mod Kept
+pub mod Always
+pub mod Outcomes
+pub mod FirstRun
+pub mod Known
+pub mod Waiting
+pub mod Heard

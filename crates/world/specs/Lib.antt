@@ -1,0 +1,4 @@
+pub mod World
+pub mod Law
+pub mod Known
+pub mod First
