@@ -1,6 +1,7 @@
 -- What putting a copy does to a lane.
-use Rattle.std.specs.Prelude.{◌≡◌, ℕ, ◌+◌, ◌<◌, ◌≤◌, ◌⊎◌, [], ◌∷◌, ◌++◌, length, Option, Some, None}
-use Rattle.delivery_token.specs.Keys.{Below}
+use Rattle.std.specs.Prelude.{◌≡◌, ℕ, ◌+◌, ◌<◌, ◌≤◌, ◌⊎◌, [], ◌∷◌, ◌++◌, length, Option, Some, None, slice_index_or}
+use Rattle.delivery_core.specs.Held.{Held}
+use Rattle.delivery_token.specs.Keys.{Below, Precedes}
 use Rattle.delivery_token.specs.declared.CopyKey.{CopyKey}
 use Rattle.delivery_token.specs.declared.Job.{Job}
 use Rattle.delivery_token.specs.declared.Refusal.{Refusal}
@@ -22,3 +23,11 @@ AtLeast y key = (y ≡ key) ⊎ Below y key
 -- the key of the next recipient
 abbrev pub past : CopyKey → CopyKey
 past key = record { seat = key.seat; serial = key.serial; message = key.message; recipient = key.recipient + 1 }
+
+-- The seat may put a copy with this key: the seat, the mailbox and a shard are there, and the key is the next one or a later one of its own.
+pub record IsNextKey (h : Held) (key : CopyKey) (mailbox : ℕ) : Type 0 where
+  pub seat : key.seat < length h.replies
+  pub next : (slice_index_or h.next key.seat key ≡ key) ⊎ Precedes (slice_index_or h.next key.seat key) key
+  pub last : key.recipient < 255
+  pub mailbox_there : mailbox < length h.boxes
+  pub shard_there : 0 < length h.lanes

@@ -1,12 +1,12 @@
 //! Lanes, hands, reply lanes, heard verdicts and mailboxes, on one thread. Each call is one event of
 //! the world. No connection, no session and no output stands here.
 
-ghost use Rattle.std.specs.Prelude.{◌≡◌, ℕ, ◌⊎◌, ◌%◌, ◌+◌, ◌++◌, ◌<◌, ◌≤◌, ◌↔◌, [], ◌∷◌, length, OnOk, OnErr, Err, IfOk, IfSome, IsSome, option_map, slice_index_or, slice_set};
+ghost use Rattle.std.specs.Prelude.{◌≡◌, ℕ, ◌⊎◌, ◌%◌, ◌+◌, ◌++◌, ◌<◌, ◌≤◌, ◌↔◌, [], ◌∷◌, length, OnOk, OnErr, Err, IfOk, IfSome, IsSome, IsTrue, option_map, slice_index_or, slice_set};
 ghost use Rattle.world.specs.World.{Answer, Box, Config, Deliver, Hear, Put, PutEnd, Take, empty_world, in_hand};
 ghost use Rattle.shard_queue.specs.Plain.{MayPutMore, taken_entry};
 ghost use Rattle.delivery_core.specs.Changes.{Hears, SameCounts, heard_at_once};
 ghost use Rattle.delivery_core.specs.Load.{load};
-ghost use Rattle.delivery_core.specs.Puts.{AtLeast, LanePuts, past};
+ghost use Rattle.delivery_core.specs.Puts.{AtLeast, IsNextKey, LanePuts, past};
 ghost use Rattle.delivery_core.specs.Stands.{EachAt, Follows, Idle, Lives, StandsFor, StandsForBox};
 ghost use Rattle.delivery_core.specs.Boxes.{verdict_of, BoxDelivers};
 ghost use Rattle.delivery_core.specs.Settled.{IsFor};
@@ -17,7 +17,7 @@ ghost use Rattle.mailbox.specs.Mail.{Mail, SameMailbox};
 
 use crate::make::{empty_hands, first_keys, new_boxes, new_lanes, new_logs};
 use change_ring::Change;
-use delivery_token::{CopyKey, Job, Noted, Refusal, Text, Verdict, WorkerLog};
+use delivery_token::{CopyKey, Job, Noted, Refusal, Text, Verdict, WorkerLog, precedes};
 use mailbox::{Limits, Mailbox, Receipt};
 use shard_queue::{PlainLane, Taken};
 use std::alloc::{AllocError, Global};
@@ -150,6 +150,21 @@ impl DeliveryCore {
             )?,
             next: first_keys(alloc, settings.seats)?,
         })
+    }
+
+    /// Whether a seat may put a copy with this key: the key is the next that it may use or a later
+    /// one of its own, and its mailbox and a shard are there.
+    pub fn may_put(&self, key: CopyKey, mailbox: u8) -> bool
+        ensures { IsTrue result ↔ IsNextKey self.now key mailbox }
+    {
+        let seat = usize::from(key.seat);
+        if seat >= self.replies.len()
+            || usize::from(mailbox) >= self.boxes.len()
+            || self.lanes.is_empty()
+        {
+            return false;
+        }
+        key.recipient < 255 && (self.next[seat] == key || precedes(&self.next[seat], &key))
     }
 
     /// A seat puts a copy, with a text of its own, into the lane of its mailbox's shard: None where

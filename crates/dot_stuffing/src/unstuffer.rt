@@ -1,7 +1,7 @@
 //! The unstuffer: it takes data from the wire in pieces of any sizes, and gives its text at the end.
 //! It reads from nowhere, and decides nothing before the end of the data.
 
-ghost use Rattle.std.specs.Prelude.{◌≡◌, ℕ, ◌≤◌, List, [], ◌∷◌, ◌++◌, length, take, Some, None};
+ghost use Rattle.std.specs.Prelude.{◌≡◌, ◌≢◌, ℕ, ◌<◌, ◌≤◌, List, [], ◌∷◌, ◌++◌, length, take, Some, None};
 ghost use Rattle.dot_stuffing.specs.Unstuffing.{StandsFor, outcome_of, Tells};
 
 use crate::collector::Collector;
@@ -46,6 +46,7 @@ impl Unstuffer {
         requires { self.old.outcome ≡ None }
         ensures used { result.used ≤ length piece.now }
         ensures all_used { result.what ≡ Progress.More → result.used ≡ length piece.now }
+        ensures some_used { result.what ≢ Progress.More → 0 < result.used }
         ensures max { self.new.collected.max ≡ self.old.collected.max }
         ensures outcome { self.new.outcome ≡ outcome_of result.what }
         // Whatever came before the call, in whatever pieces.

@@ -1,19 +1,19 @@
 -- One call after others.
 use Rattle.std.proofs.Common.{◌≡◌, ℕ, zero, suc, ◌+◌, ◌-◌, ◌≤◌, List, [], ◌∷◌, ◌++◌, length, take, drop, refl, ap, sym, subst, ◌∙◌, append_assoc, arith, length-drop}
 use Rattle.std.proofs.lemmas.List.{append-nil}
-use Rattle.line_io.specs.Wire.{IsCut, IsUncut, crlf}
+use Rattle.line_io.specs.Wire.{IsUncut, crlf}
 use Rattle.envelope.specs.Directory.{Directory}
 use Rattle.lmtp_machine.specs.declared.reply.Reply.{Reply}
 use Rattle.lmtp_machine.specs.declared.connection.Fed.{Fed}
 use Rattle.lmtp_machine.specs.declared.connection.What.{What}
 use Rattle.lmtp_machine.specs.declared.connection.What.TheVariants.{More, Submit, Quit}
 use Rattle.lmtp_machine.specs.Replies.{wire, reply_text}
-use Rattle.lmtp_machine.specs.Dialogue.{Standing, Setting, Submission, Event, Turn, turn, dialogue}
-use Rattle.lmtp_machine.specs.Conversation.{Conversation, Leads, ◌⨾◌, Heard, none}
-use Rattle.lmtp_machine.specs.Calls.{Follows, Taken, Tells, Submits}
+use Rattle.lmtp_machine.specs.Dialogue.{Setting, Submission, Turn, turn}
+use Rattle.lmtp_machine.specs.Conversation.{Conversation, Leads, ◌⨾◌, none}
+use Rattle.lmtp_machine.specs.Calls.{Follows, Taken, Tells}
 use Rattle.lmtp_machine.proofs.Pieces.{any_pieces}
 
-wire-append : (host : List ℕ) (a b : List Reply) → wire host (a ++ b) ≡ wire host a ++ wire host b
+pub wire-append : (host : List ℕ) (a b : List Reply) → wire host (a ++ b) ≡ wire host a ++ wire host b
 wire-append host [] b = refl
 wire-append host (r ∷ rs) b = ap (λ (l : List ℕ). (reply_text host r ++ crlf) ++ l) (wire-append host rs b) ∙ sym (append_assoc (reply_text host r ++ crlf) (wire host rs) (wire host b))
 
@@ -39,7 +39,7 @@ the_rest u piece = take-enough (length piece - u) (drop u piece) (omega (arith, 
 
 -- before any byte
 pub nothing_taken : (S : Conversation → Type 0) (setting : Setting) (host : List ℕ) (directory : Directory) (c : Conversation) (old : List ℕ) (what : What) (pending : List Submission)
-  → IsUncut c.unfinished → S c → pending ≡ [] → Tells what (turn c.standing.phase c.standing.submitted []) → Taken S setting host directory c [] old old what pending
+    → IsUncut c.unfinished → S c → pending ≡ [] → Tells what (turn c.standing.phase c.standing.submitted []) → Taken S setting host directory c [] old old what pending
 nothing_taken S setting host directory c old what pending p s e tells = record {
   turn = turn c.standing.phase c.standing.submitted [];
   after = c;
@@ -58,10 +58,10 @@ tells_after Quit t u e h = (ap (λ (l : List Submission). l ++ u.submissions) e 
 
 -- a call more
 pub taken_more : (S T : Conversation → Type 0) (setting set : Setting) (host name : List ℕ) (directory : Directory) (c : Conversation) (piece part old mid new : List ℕ) (u : ℕ) (first : What) (fed : Fed) (before pending : List Submission)
-  → set ≡ setting → name ≡ host → before ≡ [] → part ≡ drop u piece
-  → Taken S setting host directory c (take u piece) old mid first before
-  → ((d : Conversation) → S d → Follows T set name directory d part fed mid new pending)
-  → Taken T setting host directory c (take (u + fed.used) piece) old new fed.what pending
+    → set ≡ setting → name ≡ host → before ≡ [] → part ≡ drop u piece
+    → Taken S setting host directory c (take u piece) old mid first before
+    → ((d : Conversation) → S d → Follows T set name directory d part fed mid new pending)
+    → Taken T setting host directory c (take (u + fed.used) piece) old new fed.what pending
 taken_more S T setting set host name directory c piece part old mid new u first fed before pending es eh eb ep t f =
     let k = f t.after t.stands in
     let leads : Leads setting directory t.after (take fed.used (drop u piece)) k.turn k.after = subst (λ (l : List ℕ). Leads setting directory t.after (take fed.used l) k.turn k.after) ep (subst (λ (x : Setting). Leads x directory t.after (take fed.used part) k.turn k.after) es k.leads) in
@@ -69,10 +69,10 @@ taken_more S T setting set host name directory c piece part old mid new u first 
       turn = t.turn ⨾ k.turn;
       after = k.after;
       leads = subst (λ (l : List ℕ). Leads setting directory c l (t.turn ⨾ k.turn) k.after) (take-then u fed.used piece)
-        (any_pieces setting directory c t.after k.after (take u piece) (take fed.used (drop u piece)) t.turn k.turn t.leads leads);
+          (any_pieces setting directory c t.after k.after (take u piece) (take fed.used (drop u piece)) t.turn k.turn t.leads leads);
       stands = k.stands;
       said = k.said ∙ ap (λ (h : List ℕ). mid ++ wire h k.turn.replies) eh ∙ ap (λ (l : List ℕ). l ++ wire host k.turn.replies) t.said
-        ∙ append_assoc old (wire host t.turn.replies) (wire host k.turn.replies) ∙ ap (λ (l : List ℕ). old ++ l) (sym (wire-append host t.turn.replies k.turn.replies));
+          ∙ append_assoc old (wire host t.turn.replies) (wire host k.turn.replies) ∙ ap (λ (l : List ℕ). old ++ l) (sym (wire-append host t.turn.replies k.turn.replies));
       tells = tells_after fed.what t.turn k.turn (sym t.submits ∙ eb) k.tells;
       submits = k.submits ∙ ap (λ (l : List Submission). l ++ k.turn.submissions) (sym eb ∙ t.submits);
     }

@@ -1,12 +1,12 @@
 -- What the calls of a connection answer.
-use Rattle.std.specs.Prelude.{◌≡◌, ℕ, List, [], ◌∷◌, ◌++◌, length, take, ◌<◌, ◌≤◌, ◌⊎◌}
+use Rattle.std.specs.Prelude.{◌≡◌, ℕ, List, [], ◌∷◌, ◌++◌, length, take, ◌<◌, ◌⊎◌}
 use Rattle.envelope.specs.Directory.{Directory}
 use Rattle.lmtp_machine.specs.declared.connection.What.{What}
 use Rattle.lmtp_machine.specs.declared.connection.What.TheVariants.{More, Submit, Quit}
 use Rattle.lmtp_machine.specs.declared.connection.Fed.{Fed}
 use Rattle.lmtp_machine.specs.declared.connection.Submission as code
 use Rattle.lmtp_machine.specs.Replies.{wire}
-use Rattle.lmtp_machine.specs.Dialogue.{Phase, Start, Ready, Transaction, Data, Waiting, Ended, Standing, Setting, Submission, Event, Turn, dialogue, on_event}
+use Rattle.lmtp_machine.specs.Dialogue.{Phase, Start, Ready, Transaction, Data, Waiting, Ended, Setting, Submission, Event, Turn, dialogue, on_event}
 use Rattle.lmtp_machine.specs.Conversation.{Conversation, Leads, led_by}
 
 -- a submission of the code, as one of the dialogue
@@ -56,7 +56,7 @@ IsQuiet turn = (turn.replies ≡ []) × (turn.submissions ≡ [])
 -- The bytes used lead from the conversation before the call to one for which the connection stands now,
 -- and what was written is what is said on the way.
 pub record Follows (Stands : Conversation → Type 0) (setting : Setting) (host : List ℕ) (directory : Directory) (before : Conversation) (piece : List ℕ) (fed : Fed)
-  (old new : List ℕ) (pending : List Submission) : Type 0 where
+    (old new : List ℕ) (pending : List Submission) : Type 0 where
   pub turn : Turn
   pub after : Conversation
   pub leads : Leads setting directory before (take fed.used piece) turn after

@@ -1,6 +1,5 @@
 -- The server's side of an LMTP connection (RFC 2033), line by line. It knows nothing of pieces and buffers.
-use Rattle.std.specs.Prelude.{ℕ, Bool, true, false, codes, List, [], ◌∷◌, ◌++◌, ◌+◌, ◌-◌, ◌^◌, length, map, replicate, Result, Ok, Err, nat_lt, ◌==◌, if◌then◌else◌}
-use Rattle.std.specs.List.{enumerate_from}
+use Rattle.std.specs.Prelude.{ℕ, Bool, true, false, List, [], ◌∷◌, ◌++◌, ◌+◌, ◌-◌, ◌^◌, length, map, replicate, Result, Ok, Err, nat_lt, ◌==◌, if◌then◌else◌}
 use Rattle.envelope.specs.Values.{Path, Null, Postmaster, To, Command}
 use Rattle.envelope.specs.Values as say
 use Rattle.envelope.specs.Reading.{read}

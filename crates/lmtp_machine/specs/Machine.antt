@@ -1,7 +1,14 @@
 -- What an LMTP machine is seen as, and the conversations for which it stands.
-use Rattle.std.specs.Prelude.{◌≡◌, ℕ, List, []}
-use Rattle.line_io.specs.Wire.{IsUncut}
-use Rattle.lmtp_machine.specs.Dialogue.{Setting, Submission}
+use Rattle.std.specs.Prelude.{◌≡◌, ℕ, ◌<◌, List, [], ◌∷◌, ◌++◌, length, All}
+use Rattle.line_io.specs.Wire.{IsUncut, joined}
+use Rattle.line_io.specs.Cutting.{Cutter}
+use Rattle.line_io.specs.Cutting.{StandsFor as HasTaken}
+use Rattle.dot_stuffing.specs.Unstuffing.{Unstuffing}
+use Rattle.dot_stuffing.specs.Unstuffing.{StandsFor as HasUnstuffed}
+use Rattle.lmtp_machine.specs.declared.commands.Stage.{Stage}
+use Rattle.lmtp_machine.specs.declared.commands.Stage.TheVariants as stages
+use Rattle.lmtp_machine.specs.Standing.{CommandState, standing_of}
+use Rattle.lmtp_machine.specs.Dialogue.{Data, Setting, Submission}
 use Rattle.lmtp_machine.specs.Conversation.{Conversation}
 
 pub record Machine : Type 0 where
@@ -9,7 +16,40 @@ pub record Machine : Type 0 where
   pub host : List ℕ
   -- the message whose verdicts are awaited, if there is one
   pub pending : List Submission
+  -- where it is in the dialogue, but for the lines of data
+  pub commands : CommandState
+  -- what cuts the command lines
+  pub cutter : Cutter
+  -- what takes the data
+  pub unstuffer : Unstuffing
+
+-- between commands, what has come of the next line is with the cutter, and nothing of data has come
+pub record BetweenLines (m : Machine) (c : Conversation) : Type 0 where
+  pub standing : c.standing ≡ standing_of m.commands
+  pub cutter : HasTaken m.cutter c.unfinished
+  pub unstuffer : HasUnstuffed m.unstuffer []
+
+-- within data, all that has come of it is with the unstuffer, and nothing is with the cutter
+pub record WithinData (m : Machine) (c : Conversation) : Type 0 where
+  pub lines : List (List ℕ)
+  pub each : All IsUncut lines
+  pub some : 0 < length m.commands.recipients
+  pub phase : c.standing.phase ≡ Data m.commands.sender m.commands.recipients lines
+  pub submitted : c.standing.submitted ≡ m.commands.submitted
+  pub cutter : HasTaken m.cutter []
+  pub unstuffer : HasUnstuffed m.unstuffer (joined lines ++ c.unfinished)
+
+abbrev pub IsHere : Stage → Machine → Conversation → Type 0
+IsHere stages.Data m c = WithinData m c
+IsHere stages.Ended m c = c.standing ≡ standing_of m.commands
+IsHere _ m c = BetweenLines m c
 
 -- the bytes so far may have led to this conversation
 pub record StandsFor (m : Machine) (c : Conversation) : Type 0 where
   pub open_end : IsUncut c.unfinished
+  pub here : IsHere m.commands.stage m c
+
+-- where verdicts are awaited, a message is pending, with a key for each recipient
+abbrev pub IsPending : Stage → List ℕ → List Submission → Type 0
+IsPending stages.Waiting recipients pending = (s : Submission) × (pending ≡ s ∷ []) × (length s.keys ≡ length recipients)
+IsPending _ recipients pending = pending ≡ []

@@ -1,11 +1,11 @@
 -- A message's lines, its text and what becomes of it.
-use Rattle.std.specs.Prelude.{ℕ, Bool, codes, List, [], ◌∷◌, ◌++◌, length, map, ◌==◌, nat_lt, if◌then◌else◌}
+use Rattle.std.specs.Prelude.{ℕ, Bool, codes, List, [], ◌++◌, length, map, ◌==◌, nat_lt, if◌then◌else◌}
 use Rattle.std.specs.List.{list_any}
 use Rattle.line_io.specs.Wire.{crlf, joined}
 use Rattle.dot_stuffing.specs.Data.{undotted}
 use Rattle.dot_stuffing.specs.declared.Outcome.{Outcome}
 use Rattle.dot_stuffing.specs.declared.Outcome.TheVariants as outcomes
-use Rattle.envelope.specs.Values.{Address, Path, Null, Postmaster, To}
+use Rattle.envelope.specs.Values.{Path, Null, Postmaster, To}
 
 -- the text that lines before the last dot carry
 abbrev pub plain : List (List ℕ) → List ℕ

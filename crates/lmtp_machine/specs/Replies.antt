@@ -1,10 +1,9 @@
 -- The texts of the replies (RFC 5321, 4.2; RFC 2034; RFC 3463).
-use Rattle.std.specs.Prelude.{ℕ, codes, List, [], ◌∷◌, ◌++◌}
+use Rattle.std.specs.Prelude.{ℕ, codes, List, ◌++◌}
 use Rattle.std.specs.List.{flat_map}
 use Rattle.line_io.specs.Wire.{crlf}
 use Rattle.lmtp_machine.specs.declared.reply.Reply.{Reply}
 use Rattle.lmtp_machine.specs.declared.reply.Reply.TheVariants.{Greeting, LineTooLong, CommandUnknown, NotImplemented, BadClientName, InvalidArguments, PathTooLong, ParameterUnknown, BadSequence, Extensions, SenderOk, DomainUnknown, MailboxUnknown, TooManyRecipients, RecipientOk, StartInput, Okay, CannotVerify, Bye, ShuttingDown, Delivered, ShardFull, MailboxFull, OutOfMemory, NoUidLeft, MessageTooBig, NulByte}
-
 
 -- a reply of a server of this name, without the CRLF of its last line
 abbrev pub reply_text : List ℕ → Reply → List ℕ
@@ -36,6 +35,12 @@ reply_text host OutOfMemory = codes "451 4.3.0 Out of memory"
 reply_text host NoUidLeft = codes "554 5.2.0 No UID left"
 reply_text host MessageTooBig = codes "552 5.3.4 Message too big"
 reply_text host NulByte = codes "554 5.6.0 NUL byte"
+
+-- the reply doesn't name the server
+abbrev pub IsBrief : Reply → Type 0
+IsBrief Greeting = ⊥
+IsBrief Extensions = ⊥
+IsBrief _ = Unit {0}
 
 -- replies as they stand on the wire
 abbrev pub wire : List ℕ → List Reply → List ℕ

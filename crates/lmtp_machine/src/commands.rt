@@ -1,115 +1,78 @@
-//! The commands of a connection, a whole line at a time.
+//! A connection between commands: where it stands, and its answer to each whole line. What it writes goes into room that was reserved
+//! before, so nothing here may fail. Bytes that aren't lines, message data and verdicts are for machine.rt.
 
-ghost use Rattle.std.specs.Prelude.{◌≡◌, ◌++◌, ◌<◌, ◌≤◌, ◌∷◌, [], length, OnOk, OnErr, IfOk};
-ghost use Rattle.envelope.specs.Values.{forward_path, reverse_path, said};
-ghost use Rattle.envelope.specs.Directory.{Directory, lookup};
-ghost use Rattle.line_io.specs.Wire.{crlf};
-ghost use Rattle.lmtp_machine.specs.Replies.{reply_text, wire};
-ghost use Rattle.lmtp_machine.specs.Dialogue.{on_command_line, on_command, on_mail, on_rcpt, on_data, fault_reply};
+ghost use Rattle.std.specs.Prelude.{◌≡◌, ◌+◌, ◌++◌, ◌<◌, ◌≤◌, ◌∷◌, [], length, IfOk, false, vec_len, vec_capacity};
+ghost use Rattle.envelope.specs.Values.{Path, Mail, forward_path, reverse_path, said};
+ghost use Rattle.envelope.specs.Grammar.{has_long_part};
+ghost use Rattle.lmtp_machine.specs.Replies.{IsBrief};
+ghost use Rattle.lmtp_machine.specs.Dialogue.{on_command_line, on_command, on_mail, on_rcpt, on_data, fault_reply, fresh};
 ghost use Rattle.lmtp_machine.specs.Message.{sender_text};
 ghost use Rattle.lmtp_machine.specs.Standing.{standing_of, IsOpen, Takes};
 
-use crate::reply::Reply;
-use envelope::{CommandFault, ForwardPath, LmtpCommand, NoSuch, Recipients, ReversePath, read_command};
+use crate::reply::{Reply, put, say, say_any};
+use envelope::{
+    CommandFault, Directory, ForwardPath, LmtpCommand, NoSuch, Recipients, ReversePath,
+    read_command,
+};
 use std::alloc::{AllocError, Global};
+use std::marker::Model;
 
-/// Where paths are looked up.
-pub trait Mailboxes {
-    ghost directory: { Self → Directory };
-
-    fn lookup(&self, path: ForwardPath<'_>) -> Result<u8, NoSuch>
-        ensures { result ≡ lookup (directory self.now) (forward_path path.entry) };
-}
-
+/// Where a connection is in its dialogue.
 #[derive(Clone, Copy, Debug, PartialEq, Eq)]
 pub enum Stage {
+    /// Before LHLO.
     Start,
+    /// Between transactions.
     Ready,
+    /// MAIL was accepted.
     Transaction,
+    /// DATA was accepted.
     Data,
+    /// A message was submitted, and its verdicts are awaited.
+    Waiting,
     Ended,
 }
+
+/// The most bytes of a mailbox: a local part, an at sign and a domain (RFC 5321, section 4.5.3.1).
+const SENDER_ROOM: usize = 320;
 
 /// A connection between commands.
 #[derive(Drop)]
 pub struct Commands {
-    pub stage: Stage,
-    pub submitted: u32,
+    stage: Stage,
+    submitted: u32,
     /// Of the transaction that was begun: the mailbox of MAIL as spelled, or nothing.
-    pub sender: Vec<u8>,
-    pub recipients: Recipients,
+    sender: Vec<u8>,
+    recipients: Recipients,
 }
 
-/// A reply before, at and behind the server's name.
-fn parts<'a>(reply: Reply, host: &'a [u8]) -> (&'static [u8], &'a [u8], &'static [u8])
-    ensures text { result.0.now ++ result.1.now ++ result.2.now ≡ reply_text host.now reply ++ crlf }
-    ensures before { length result.0.now < 100 }
-    ensures name { length result.1.now ≤ length host.now }
-    ensures after { length result.2.now < 100 }
-{
-    match reply {
-        Reply::Greeting => (b"220 ", host, b" LMTP ready\r\n"),
-        Reply::LineTooLong => (b"500 5.5.2 Line too long\r\n", &[], &[]),
-        Reply::CommandUnknown => (b"500 5.5.1 Command unknown\r\n", &[], &[]),
-        Reply::NotImplemented => (b"502 5.5.1 Command not implemented\r\n", &[], &[]),
-        Reply::BadClientName => (b"501 Invalid arguments\r\n", &[], &[]),
-        Reply::InvalidArguments => (b"501 5.5.4 Invalid arguments\r\n", &[], &[]),
-        Reply::PathTooLong => (b"501 5.5.2 Path too long\r\n", &[], &[]),
-        Reply::ParameterUnknown => (b"555 5.5.4 Parameter not recognised\r\n", &[], &[]),
-        Reply::BadSequence => (b"503 5.5.1 Bad sequence of commands\r\n", &[], &[]),
-        Reply::Extensions => (
-            b"250-",
-            host,
-            b"\r\n250-PIPELINING\r\n250-ENHANCEDSTATUSCODES\r\n250 8BITMIME\r\n",
-        ),
-        Reply::SenderOk => (b"250 2.1.0 Sender OK\r\n", &[], &[]),
-        Reply::DomainUnknown => (b"550 5.1.2 Domain unknown\r\n", &[], &[]),
-        Reply::MailboxUnknown => (b"550 5.1.1 Mailbox unknown\r\n", &[], &[]),
-        Reply::TooManyRecipients => (b"452 4.5.3 Too many recipients\r\n", &[], &[]),
-        Reply::RecipientOk => (b"250 2.1.5 Recipient OK\r\n", &[], &[]),
-        Reply::StartInput => (b"354 Start mail input\r\n", &[], &[]),
-        Reply::Okay => (b"250 2.0.0 OK\r\n", &[], &[]),
-        Reply::CannotVerify => (b"252 2.0.0 Cannot verify\r\n", &[], &[]),
-        Reply::Bye => (b"221 2.0.0 Bye\r\n", &[], &[]),
-        Reply::ShuttingDown => (b"421 4.3.2 Shutting down\r\n", &[], &[]),
-        Reply::Delivered => (b"250 2.1.5 Delivered\r\n", &[], &[]),
-        Reply::ShardFull => (b"452 4.3.1 Shard full\r\n", &[], &[]),
-        Reply::MailboxFull => (b"452 4.2.2 Mailbox full\r\n", &[], &[]),
-        Reply::OutOfMemory => (b"451 4.3.0 Out of memory\r\n", &[], &[]),
-        Reply::NoUidLeft => (b"554 5.2.0 No UID left\r\n", &[], &[]),
-        Reply::MessageTooBig => (b"552 5.3.4 Message too big\r\n", &[], &[]),
-        Reply::NulByte => (b"554 5.6.0 NUL byte\r\n", &[], &[]),
-    }
+impl Model for Commands {
+    ghost use Rattle.std.specs.Prelude.{◌≤◌, vec_capacity};
+    ghost use Rattle.lmtp_machine.specs.Standing.{CommandState, HasNumber};
+
+    ghost Value = { CommandState };
+
+    ghost view = { λ c. record { stage = c.stage; submitted = c.submitted; sender = c.sender.items; recipients = c.recipients } };
+
+    ghost invariant = { λ c. (320 ≤ vec_capacity c.sender) × HasNumber c.stage c.submitted };
 }
 
-/// Writes a reply.
-pub fn say(out: &mut Vec<u8>, host: &[u8], reply: Reply) -> Result<(), AllocError>
-    requires { length host.now < 256 }
-    ensures ok { OnOk result (out.new.items ≡ out.old.items ++ wire host.now (reply ∷ [])) }
-    ensures err { OnErr result (out.new.items ≡ out.old.items) }
+/// Keeps the mailbox of a reverse path, as spelled, in the room that is there.
+fn keep_sender(sender: &mut Vec<u8>, path: ReversePath<'_>)
+    requires room { 320 ≤ vec_capacity sender.old }
+    requires short { has_long_part (reverse_path path) ≡ false }
+    ensures text { sender.new.items ≡ sender_text (reverse_path path.entry) }
+    ensures room { 320 ≤ vec_capacity sender.new }
 {
-    let (before, name, after) = parts(reply, host);
-    out.reserve(before.len() + name.len() + after.len())?;
-    let _ = out.extend_from_slice(before);
-    let _ = out.extend_from_slice(name);
-    let _ = out.extend_from_slice(after);
-    Ok(())
-}
-
-fn sender_of(alloc: Global, path: ReversePath<'_>) -> Result<Vec<u8>, AllocError>
-    ensures { IfOk result (λ v. v.items ≡ sender_text (reverse_path path.entry)) }
-{
-    let mut sender = Vec::new(alloc);
+    sender.clear();
     if let ReversePath::Sender(mailbox) = path {
-        sender.extend_from_slice(mailbox.local)?;
-        sender.extend_from_slice(b"@")?;
-        sender.extend_from_slice(mailbox.domain)?;
+        put(sender, mailbox.local, b"@", mailbox.domain);
     }
-    Ok(sender)
 }
 
 fn fault_reply(fault: CommandFault) -> Reply
-    ensures { result ≡ fault_reply fault }
+    ensures value { result ≡ fault_reply fault }
+    ensures brief { IsBrief result }
 {
     match fault {
         CommandFault::Unknown => Reply::CommandUnknown,
@@ -121,44 +84,94 @@ fn fault_reply(fault: CommandFault) -> Reply
 }
 
 impl Commands {
-    fn mail(
-        &mut self,
-        alloc: Global,
-        path: ReversePath<'_>,
-        host: &[u8],
-        out: &mut Vec<u8>,
-    ) -> Result<(), AllocError>
-        requires { length host.now < 256 }
-        ensures ok { OnOk result (Takes host.now (on_mail (standing_of self.old).phase self.old.submitted (reverse_path path.entry)) self.new out.old.items out.new.items) }
-        ensures err { OnErr result ((self.new ≡ self.old) × (out.new.items ≡ out.old.items)) }
+    /// A connection on which nothing was said.
+    ///
+    /// Errors: `AllocError` where memory for a sender and for 100 recipients was refused.
+    pub fn new(alloc: Global) -> Result<Commands, AllocError>
+        ensures { IfOk result (λ c. standing_of c ≡ fresh) }
+    {
+        Ok(Commands {
+            stage: Stage::Start,
+            submitted: 0,
+            sender: Vec::with_capacity(alloc, SENDER_ROOM)?,
+            recipients: Recipients::new(alloc)?,
+        })
+    }
+
+    /// Where it is.
+    pub fn stage(&self) -> Stage
+        ensures { result ≡ self.now.stage }
+    {
+        self.stage
+    }
+
+    /// The mailbox of MAIL as spelled, or nothing.
+    pub fn sender(&self) -> &[u8]
+        ensures { result.now ≡ self.now.sender }
+    {
+        self.sender.as_slice()
+    }
+
+    /// The mailboxes of the accepted recipients.
+    pub fn recipients(&self) -> &[u8]
+        ensures value { result.now ≡ self.now.recipients }
+        ensures most { length self.now.recipients ≤ 100 }
+    {
+        self.recipients.list()
+    }
+
+    /// How many messages were submitted, which is also the number of the next.
+    pub fn submitted(&self) -> u32
+        ensures { result ≡ self.now.submitted }
+    {
+        self.submitted
+    }
+
+    /// The message of the data was submitted.
+    pub fn submit(&mut self)
+        requires { self.old.stage ≡ Stage.Data }
+        ensures { self.new ≡ record self.old { stage = Stage.Waiting; submitted = self.old.submitted + 1 } }
+    {
+        self.submitted += 1;
+        self.stage = Stage::Waiting;
+    }
+
+    /// The transaction is over, whatever came of it.
+    pub fn finish(&mut self)
+        ensures { self.new ≡ record self.old { stage = Stage.Ready } }
+    {
+        self.stage = Stage::Ready;
+    }
+
+    /// The connection has ended.
+    pub fn end(&mut self)
+        ensures { self.new ≡ record self.old { stage = Stage.Ended } }
+    {
+        self.stage = Stage::Ended;
+    }
+
+    fn mail(&mut self, path: ReversePath<'_>, host: &[u8], out: &mut Vec<u8>)
+        requires room { vec_len out.old + 40 ≤ vec_capacity out.old }
+        requires short { has_long_part (reverse_path path) ≡ false }
+        ensures { Takes host.now (on_mail (standing_of self.old).phase self.old.submitted (reverse_path path.entry)) self.new out.old.items out.new.items }
     {
         match self.stage {
             Stage::Ready => {}
             _ => return say(out, host, Reply::BadSequence),
         }
         if self.submitted == u32::MAX {
-            say(out, host, Reply::ShuttingDown)?;
             self.stage = Stage::Ended;
-            return Ok(());
+            return say(out, host, Reply::ShuttingDown);
         }
-        let sender = sender_of(alloc, path)?;
-        say(out, host, Reply::SenderOk)?;
-        self.sender = sender;
+        keep_sender(&mut self.sender, path);
         self.recipients.clear();
         self.stage = Stage::Transaction;
-        Ok(())
+        say(out, host, Reply::SenderOk);
     }
 
-    fn rcpt<D: Mailboxes>(
-        &mut self,
-        path: ForwardPath<'_>,
-        directory: &D,
-        host: &[u8],
-        out: &mut Vec<u8>,
-    ) -> Result<(), AllocError>
-        requires { length host.now < 256 }
-        ensures ok { OnOk result (Takes host.now (on_rcpt (D.directory directory.now) (standing_of self.old).phase self.old.submitted (forward_path path.entry)) self.new out.old.items out.new.items) }
-        ensures err { OnErr result ((self.new ≡ self.old) × (out.new.items ≡ out.old.items)) }
+    fn rcpt(&mut self, path: ForwardPath<'_>, directory: &Directory, host: &[u8], out: &mut Vec<u8>)
+        requires { vec_len out.old + 40 ≤ vec_capacity out.old }
+        ensures { Takes host.now (on_rcpt directory.now (standing_of self.old).phase self.old.submitted (forward_path path.entry)) self.new out.old.items out.new.items }
     {
         match self.stage {
             Stage::Transaction => {}
@@ -171,17 +184,15 @@ impl Commands {
                 if self.recipients.list().len() == 100 {
                     return say(out, host, Reply::TooManyRecipients);
                 }
-                say(out, host, Reply::RecipientOk)?;
                 let _ = self.recipients.add(mailbox);
-                Ok(())
+                say(out, host, Reply::RecipientOk);
             }
         }
     }
 
-    fn data(&mut self, host: &[u8], out: &mut Vec<u8>) -> Result<(), AllocError>
-        requires { length host.now < 256 }
-        ensures ok { OnOk result (Takes host.now (on_data (standing_of self.old).phase self.old.submitted) self.new out.old.items out.new.items) }
-        ensures err { OnErr result ((self.new ≡ self.old) × (out.new.items ≡ out.old.items)) }
+    fn data(&mut self, host: &[u8], out: &mut Vec<u8>)
+        requires { vec_len out.old + 40 ≤ vec_capacity out.old }
+        ensures { Takes host.now (on_data (standing_of self.old).phase self.old.submitted) self.new out.old.items out.new.items }
     {
         match self.stage {
             Stage::Transaction => {}
@@ -190,44 +201,39 @@ impl Commands {
         if self.recipients.list().is_empty() {
             return say(out, host, Reply::BadSequence);
         }
-        say(out, host, Reply::StartInput)?;
         self.stage = Stage::Data;
-        Ok(())
+        say(out, host, Reply::StartInput);
     }
 
-    fn command<D: Mailboxes>(
+    fn command(
         &mut self,
-        alloc: Global,
         command: LmtpCommand<'_>,
-        directory: &D,
+        directory: &Directory,
         host: &[u8],
         out: &mut Vec<u8>,
-    ) -> Result<(), AllocError>
-        requires host { length host.now < 256 }
+    )
+        requires room { vec_len out.old + length host.now + 100 ≤ vec_capacity out.old }
         requires stage { IsOpen self.old.stage }
-        ensures ok { OnOk result (Takes host.now (on_command (D.directory directory.now) (standing_of self.old) (said command.entry)) self.new out.old.items out.new.items) }
-        ensures err { OnErr result ((self.new ≡ self.old) × (out.new.items ≡ out.old.items)) }
+        requires short { (path : Path) → said command ≡ Mail path → has_long_part path ≡ false }
+        ensures { Takes host.now (on_command directory.now (standing_of self.old) (said command.entry)) self.new out.old.items out.new.items }
     {
         match command {
             LmtpCommand::Lhlo => {
-                say(out, host, Reply::Extensions)?;
                 self.stage = Stage::Ready;
-                Ok(())
+                say_any(out, host, Reply::Extensions);
             }
-            LmtpCommand::Mail(path) => self.mail(alloc, path, host, out),
+            LmtpCommand::Mail(path) => self.mail(path, host, out),
             LmtpCommand::Rcpt(path) => self.rcpt(path, directory, host, out),
             LmtpCommand::Data => self.data(host, out),
             LmtpCommand::Rset => {
-                say(out, host, Reply::Okay)?;
                 if let Stage::Transaction = self.stage {
                     self.stage = Stage::Ready;
                 }
-                Ok(())
+                say(out, host, Reply::Okay);
             }
             LmtpCommand::Quit => {
-                say(out, host, Reply::Bye)?;
                 self.stage = Stage::Ended;
-                Ok(())
+                say(out, host, Reply::Bye);
             }
             LmtpCommand::Noop => say(out, host, Reply::Okay),
             LmtpCommand::Vrfy => say(out, host, Reply::CannotVerify),
@@ -235,25 +241,17 @@ impl Commands {
         }
     }
 
-    /// Answers a command line.
-    pub fn line<D: Mailboxes>(
-        &mut self,
-        alloc: Global,
-        line: &[u8],
-        directory: &D,
-        host: &[u8],
-        out: &mut Vec<u8>,
-    ) -> Result<(), AllocError>
-        requires host { length host.now < 256 }
+    /// Answers a command line, without its CRLF, in room that was reserved.
+    pub fn line(&mut self, line: &[u8], directory: &Directory, host: &[u8], out: &mut Vec<u8>)
+        requires room { vec_len out.old + length host.now + 100 ≤ vec_capacity out.old }
         requires stage { IsOpen self.old.stage }
-        ensures ok { OnOk result (Takes host.now (on_command_line (D.directory directory.now) (standing_of self.old) line.now) self.new out.old.items out.new.items) }
-        ensures err { OnErr result ((self.new ≡ self.old) × (out.new.items ≡ out.old.items)) }
+        ensures { Takes host.now (on_command_line directory.now (standing_of self.old) line.now) self.new out.old.items out.new.items }
     {
         if line.len() > 510 {
             return say(out, host, Reply::LineTooLong);
         }
         match read_command(line) {
-            Ok(command) => self.command(alloc, command, directory, host, out),
+            Ok(command) => self.command(command, directory, host, out),
             Err(fault) => say(out, host, fault_reply(fault)),
         }
     }

@@ -1,4 +1,5 @@
-//! What passes between a connection and its server: how far a call of `feed` came, and a message that was submitted. No code.
+//! What passes between a connection and its server: how far a call of `feed` came, and a message that was submitted. Plain data, with
+//! no code.
 
 use delivery_token::{CopyKey, Text};
 

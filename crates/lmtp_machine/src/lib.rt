@@ -1,14 +1,17 @@
-//! One LMTP connection.
+//! The server's side of one LMTP connection (RFC 2033): bytes in any pieces go in, replies and submitted messages come out, as
+//! specs/Dialogue.antt says of whole lines. Sockets, queues and mailboxes are for the crates above.
 #![tactic(auto)]
 
 mod commands;
 mod connection;
 mod laws;
 mod machine;
+mod message;
 mod reply;
+#[cfg(test)]
+mod tests;
 
-pub use commands::Mailboxes;
 pub use connection::{Fed, Limits, Submission, What};
-pub use laws::any_pieces;
+pub use laws::{any_pieces, messages_are_numbered};
 pub use machine::LmtpMachine;
 pub use reply::Reply;

@@ -1,41 +1,85 @@
-//! The server's side of one LMTP connection (RFC 2033), over bytes that come in any pieces. It knows nothing of sockets, queues and
-//! mailboxes: it says what is replied and which messages are submitted.
+//! The server's side of one LMTP connection (RFC 2033), over bytes that come in any pieces: it says what is replied and which
+//! messages are submitted. Answers to command lines are in commands.rt, building a message in message.rt; it knows nothing of sockets,
+//! queues and mailboxes.
 
-ghost use Rattle.std.specs.Prelude.{◌≡◌, ◌≤◌, ◌<◌, take, List, [], ◌∷◌, length, IfOk, OnOk, OnErr, ℕ};
+ghost use Rattle.std.specs.Prelude.{All, ◌≡◌, ◌+◌, ◌*◌, ◌++◌, ◌≤◌, ◌<◌, take, codes, replicate, Some, List, [], ◌∷◌, length, IfOk, OnOk, OnErr, ℕ, vec_len, vec_capacity};
 ghost use Rattle.lmtp_machine.specs.Dialogue as dialogue;
 ghost use Rattle.lmtp_machine.specs.Conversation.{Conversation, opened};
 ghost use Rattle.envelope.specs.Directory.{Directory};
 ghost use Rattle.lmtp_machine.specs.Machine.{StandsFor};
+ghost use Rattle.lmtp_machine.specs.Standing.{IsOpen};
+ghost use Rattle.lmtp_machine.specs.Message.{plain};
+ghost use Rattle.lmtp_machine.specs.Dialogue.{keys_from, on_outcome};
+ghost use Rattle.lmtp_machine.specs.Replies.{wire, IsBrief};
+ghost use Rattle.lmtp_machine.specs.Ending.{Becomes, Does, what_of};
+ghost use Rattle.line_io.specs.Wire.{crlf};
 ghost use Rattle.lmtp_machine.specs.Calls.{Awaits, Follows, Happens, Moves, submission_of};
 
-use crate::commands::Mailboxes;
-use crate::connection::{Fed, Limits, Submission};
-use delivery_token::Verdict;
+use crate::commands::{Commands, Stage};
+use crate::connection::{Fed, Limits, Submission, What};
+use crate::message::{keys_of, say_to_each, say_verdicts, text_of};
+use crate::reply::{BRIEF_ROOM, NAMED_ROOM, Reply, say, say_any};
+use delivery_token::{Text, Verdict};
+use dot_stuffing::{Outcome, Progress, Unstuffer};
+use envelope::Directory;
+use line_io::{LineCutter, What as Found};
 use std::alloc::{AllocError, Global};
 use std::marker::Model;
+use std::mem;
+
+/// The most bytes of a command line with its CRLF (RFC 5321, section 4.5.3.1.4).
+const MAX_LINE: usize = 512;
 
 /// One LMTP connection.
 #[derive(Drop)]
 pub struct LmtpMachine {
+    alloc: Global,
     seat: u8,
     serial: u64,
     max_message: usize,
     host: Vec<u8>,
-    submission: Submission,
+    commands: Commands,
+    cutter: LineCutter,
+    unstuffer: Unstuffer,
+    submission: Option<Submission>,
 }
 
 impl Model for LmtpMachine {
-    ghost use Rattle.std.specs.Prelude.{◌∷◌, []};
-    ghost use Rattle.lmtp_machine.specs.Machine.{Machine};
+    ghost use Rattle.std.specs.Prelude.{◌≡◌, ◌<◌, ◌∷◌, [], length, None};
+    ghost use Rattle.std.specs.Option.{option_map, option_to_list};
+    ghost use Rattle.lmtp_machine.specs.Machine.{Machine, IsPending};
     ghost use Rattle.lmtp_machine.specs.Calls.{submission_of};
 
     ghost Value = { Machine };
 
-    ghost view = { λ m. record { setting = record { seat = m.seat; serial = m.serial; max_message = m.max_message }; host = m.host.items; pending = submission_of m.submission ∷ [] } };
+    ghost view = { λ m. record {
+      setting = record { seat = m.seat; serial = m.serial; max_message = m.max_message };
+      host = m.host.items;
+      pending = option_to_list (option_map submission_of m.submission);
+      commands = m.commands;
+      cutter = m.cutter;
+      unstuffer = m.unstuffer;
+    } };
+
+    ghost invariant = { λ m. (length m.host.items < 256) × (m.cutter.max ≡ 512) × (m.unstuffer.outcome ≡ None)
+        × (m.unstuffer.collected.max ≡ m.max_message)
+        × IsPending m.commands.stage m.commands.recipients (option_to_list (option_map submission_of m.submission)) };
+}
+
+/// What a command line came to.
+fn what_of(stage: Stage) -> What
+    ensures { result ≡ what_of stage }
+{
+    match stage {
+        Stage::Ended => What::Quit,
+        _ => What::More,
+    }
 }
 
 impl LmtpMachine {
-    /// A connection that was just opened.
+    /// A connection that was just opened, on a seat and with a serial number that its copies' keys have.
+    ///
+    /// Errors: `AllocError` where memory for the name, a command line, a sender or 100 recipients was refused.
     pub fn new(
         alloc: Global,
         seat: u8,
@@ -48,37 +92,62 @@ impl LmtpMachine {
         ensures host { IfOk result (λ m. m.host ≡ limits.entry.host.now) }
         ensures quiet { IfOk result (λ m. m.pending ≡ []) }
     {
-        let _ = (alloc, seat, serial, limits);
-        Err(AllocError)
+        Ok(LmtpMachine {
+            alloc,
+            seat,
+            serial,
+            max_message: limits.max_message,
+            host: Vec::from_slice(alloc, limits.host)?,
+            commands: Commands::new(alloc)?,
+            cutter: LineCutter::new(alloc, MAX_LINE)?,
+            unstuffer: Unstuffer::new(alloc, limits.max_message),
+            submission: None,
+        })
     }
 
-    /// Writes the greeting (RFC 5321, 4.3.1). After an error nothing was written and nothing changed.
+    /// Writes the greeting (RFC 5321, section 4.3.1).
+    ///
+    /// Errors: `AllocError` where `out` has no room for it and memory was refused; then nothing was written and nothing changed.
     pub fn greet(&mut self, out: &mut Vec<u8>) -> Result<(), AllocError>
         ensures ok { OnOk result ((d : Directory) (c : Conversation) → StandsFor self.old c → Happens (StandsFor self.new) self.old.setting self.old.host d c dialogue.Opened out.old.items out.new.items) }
         ensures same { OnOk result ((self.new.setting ≡ self.old.setting) × (self.new.host ≡ self.old.host) × (self.new.pending ≡ self.old.pending)) }
         ensures err { OnErr result ((self.new ≡ self.old) × (out.new.items ≡ out.old.items)) }
+        ensures full { OnErr result (vec_capacity out.old < vec_len out.old + length self.old.host + 100) }
     {
-        Err(AllocError)
+        out.reserve(self.host.len() + NAMED_ROOM)?;
+        say_any(out, self.host.as_slice(), Reply::Greeting);
+        Ok(())
     }
 
-    /// Takes bytes from the front of the piece: at most one command line or one end of data. Replies go to `out`. After an error
-    /// no byte was used and nothing changed.
-    pub fn feed<D: Mailboxes>(
+    /// Takes bytes from the front of the piece: at most one command line or one end of data. Replies go to `out`. On a connection
+    /// that has ended it uses nothing.
+    ///
+    /// Errors: `AllocError` where `out` has no room for the replies, 4000 bytes and the server's name at most, and memory was refused;
+    /// then no byte was used, nothing was written and nothing changed.
+    pub fn feed(
         &mut self,
         piece: &[u8],
-        directory: &D,
+        directory: &Directory,
         out: &mut Vec<u8>,
     ) -> Result<Fed, AllocError>
         requires { self.old.pending ≡ [] }
         ensures used { IfOk result (λ fed. fed.used ≤ length piece.now) }
         ensures moves { IfOk result (λ fed. Moves fed.used fed.what piece.now) }
         ensures awaits { IfOk result (λ fed. Awaits fed.what self.new.pending) }
-        ensures ok { IfOk result (λ fed. (c : Conversation) → StandsFor self.old c → Follows (StandsFor self.new) self.old.setting self.old.host (D.directory directory.now) c piece.now fed out.old.items out.new.items self.new.pending) }
+        ensures most { OnOk result (All (λ s. length s.keys ≤ 100) self.new.pending) }
+        ensures ok { IfOk result (λ fed. (c : Conversation) → StandsFor self.old c → Follows (StandsFor self.new) self.old.setting self.old.host directory.now c piece.now fed out.old.items out.new.items self.new.pending) }
         ensures same { OnOk result ((self.new.setting ≡ self.old.setting) × (self.new.host ≡ self.old.host)) }
         ensures err { OnErr result ((self.new ≡ self.old) × (out.new.items ≡ out.old.items)) }
+        ensures full { OnErr result (vec_capacity out.old < vec_len out.old + length self.old.host + 4000) }
     {
-        let _ = (piece, directory);
-        Err(AllocError)
+        match self.commands.stage() {
+            Stage::Ended => Ok(Fed {
+                used: 0,
+                what: What::Quit,
+            }),
+            Stage::Data => self.feed_data(piece, directory, out),
+            _ => self.feed_commands(piece, directory, out),
+        }
     }
 
     /// The message that was submitted.
@@ -86,29 +155,179 @@ impl LmtpMachine {
         requires { length self.now.pending ≡ 1 }
         ensures { self.now.pending ≡ submission_of result.now ∷ [] }
     {
-        &self.submission
+        match &self.submission {
+            Some(submission) => submission,
+            None => unreachable!(),
+        }
     }
 
-    /// Answers the message that was submitted, one verdict for each key, in their order. After an error nothing was written and
-    /// the same answer is awaited.
+    /// Answers the message that was submitted, one verdict for each key, in their order. Where none was submitted it says nothing.
+    ///
+    /// Errors: `AllocError` where `out` has no room for the replies, 40 bytes each at most, and memory was refused; then nothing was
+    /// written and the same answer is awaited.
     pub fn answer(&mut self, verdicts: &[Verdict], out: &mut Vec<u8>) -> Result<(), AllocError>
         requires { (s : dialogue.Submission) → self.old.pending ≡ s ∷ [] → length verdicts.now ≡ length s.keys }
         ensures ok { OnOk result ((d : Directory) (c : Conversation) → StandsFor self.old c → Happens (StandsFor self.new) self.old.setting self.old.host d c (dialogue.Answered verdicts.now) out.old.items out.new.items) }
         ensures same { OnOk result ((self.new.setting ≡ self.old.setting) × (self.new.host ≡ self.old.host)) }
         ensures pending { OnOk result (self.new.pending ≡ []) }
         ensures err { OnErr result ((self.new ≡ self.old) × (out.new.items ≡ out.old.items)) }
+        ensures full { OnErr result (vec_capacity out.old < vec_len out.old + 4000) }
     {
-        let _ = verdicts;
-        Err(AllocError)
+        if self.submission.is_none() {
+            return Ok(());
+        }
+        out.reserve(self.commands.recipients().len() * BRIEF_ROOM)?;
+        say_verdicts(out, self.host.as_slice(), verdicts);
+        self.submission = None;
+        self.commands.finish();
+        Ok(())
     }
 
-    /// Says that the server shuts down (RFC 5321, 3.8), and ends. After an error nothing was written and nothing changed.
+    /// Says that the server shuts down (RFC 5321, section 3.8), and ends.
+    ///
+    /// Errors: `AllocError` where `out` has no room for that and memory was refused; then nothing was written and nothing changed.
     pub fn shut(&mut self, out: &mut Vec<u8>) -> Result<(), AllocError>
         ensures ok { OnOk result ((d : Directory) (c : Conversation) → StandsFor self.old c → Happens (StandsFor self.new) self.old.setting self.old.host d c dialogue.Shut out.old.items out.new.items) }
         ensures same { OnOk result ((self.new.setting ≡ self.old.setting) × (self.new.host ≡ self.old.host)) }
         ensures pending { OnOk result (self.new.pending ≡ []) }
         ensures err { OnErr result ((self.new ≡ self.old) × (out.new.items ≡ out.old.items)) }
+        ensures full { OnErr result (vec_capacity out.old < vec_len out.old + 40) }
     {
-        Err(AllocError)
+        out.reserve(BRIEF_ROOM)?;
+        say(out, self.host.as_slice(), Reply::ShuttingDown);
+        self.submission = None;
+        self.commands.end();
+        Ok(())
+    }
+
+    /// `feed` between commands.
+    fn feed_commands(
+        &mut self,
+        piece: &[u8],
+        directory: &Directory,
+        out: &mut Vec<u8>,
+    ) -> Result<Fed, AllocError>
+        requires { IsOpen self.old.commands.stage }
+        ensures used { IfOk result (λ fed. fed.used ≤ length piece.now) }
+        ensures moves { IfOk result (λ fed. Moves fed.used fed.what piece.now) }
+        ensures awaits { IfOk result (λ fed. Awaits fed.what self.new.pending) }
+        ensures most { OnOk result (All (λ s. length s.keys ≤ 100) self.new.pending) }
+        ensures ok { IfOk result (λ fed. (c : Conversation) → StandsFor self.old c → Follows (StandsFor self.new) self.old.setting self.old.host directory.now c piece.now fed out.old.items out.new.items self.new.pending) }
+        ensures same { OnOk result ((self.new.setting ≡ self.old.setting) × (self.new.host ≡ self.old.host)) }
+        ensures err { OnErr result ((self.new ≡ self.old) × (out.new.items ≡ out.old.items)) }
+        ensures full { OnErr result (vec_capacity out.old < vec_len out.old + length self.old.host + 4000) }
+    {
+        out.reserve(self.host.len() + NAMED_ROOM)?;
+        let cut = self.cutter.take(piece);
+        match cut.what {
+            Found::NeedMore => {}
+            Found::TooLong => say(out, self.host.as_slice(), Reply::LineTooLong),
+            Found::Line => {
+                self.commands
+                    .line(self.cutter.line(), directory, self.host.as_slice(), out);
+            }
+        }
+        Ok(Fed {
+            used: cut.used,
+            what: what_of(self.commands.stage()),
+        })
+    }
+
+    /// `feed` within data.
+    fn feed_data(
+        &mut self,
+        piece: &[u8],
+        directory: &Directory,
+        out: &mut Vec<u8>,
+    ) -> Result<Fed, AllocError>
+        requires { self.old.commands.stage ≡ Stage.Data }
+        ensures used { IfOk result (λ fed. fed.used ≤ length piece.now) }
+        ensures moves { IfOk result (λ fed. Moves fed.used fed.what piece.now) }
+        ensures awaits { IfOk result (λ fed. Awaits fed.what self.new.pending) }
+        ensures most { OnOk result (All (λ s. length s.keys ≤ 100) self.new.pending) }
+        ensures ok { IfOk result (λ fed. (c : Conversation) → StandsFor self.old c → Follows (StandsFor self.new) self.old.setting self.old.host directory.now c piece.now fed out.old.items out.new.items self.new.pending) }
+        ensures same { OnOk result ((self.new.setting ≡ self.old.setting) × (self.new.host ≡ self.old.host)) }
+        ensures err { OnErr result ((self.new ≡ self.old) × (out.new.items ≡ out.old.items)) }
+        ensures full { OnErr result (vec_capacity out.old < vec_len out.old + length self.old.host + 4000) }
+    {
+        out.reserve(self.commands.recipients().len() * BRIEF_ROOM)?;
+        let taken = self.unstuffer.take(piece);
+        match taken.what {
+            Progress::More => Ok(Fed {
+                used: taken.used,
+                what: What::More,
+            }),
+            Progress::Done(outcome) => {
+                let fresh = Unstuffer::new(self.alloc, self.max_message);
+                let ended = mem::replace(&mut self.unstuffer, fresh);
+                let what = self.end_data(outcome, ended, out);
+                Ok(Fed {
+                    used: taken.used,
+                    what,
+                })
+            }
+        }
+    }
+
+    /// Submits the message, or tells each recipient why not.
+    fn end_data(&mut self, outcome: Outcome, ended: Unstuffer, out: &mut Vec<u8>) -> What
+        requires stage { self.old.commands.stage ≡ Stage.Data }
+        requires outcome { ended.outcome ≡ Some outcome }
+        requires room { vec_len out.old + length self.old.commands.recipients * 40 ≤ vec_capacity out.old }
+        ensures awaits { Awaits result self.new.pending }
+        ensures most { All (λ s. length s.keys ≤ 100) self.new.pending }
+        ensures same { (self.new.setting ≡ self.old.setting) × (self.new.host ≡ self.old.host) }
+        ensures does { (lines : List (List ℕ)) → (outcome ≡ Outcome.Ok → ended.collected.bytes ≡ plain lines) → (final : Outcome) × Becomes outcome final
+            × Does self.old (on_outcome self.old.setting self.old.commands.submitted self.old.commands.sender self.old.commands.recipients lines final) self.new result out.old.items out.new.items }
+    {
+        match outcome {
+            Outcome::Nul => self.fail(Reply::NulByte, out),
+            Outcome::TooBig => self.fail(Reply::MessageTooBig, out),
+            Outcome::NoMemory => self.fail(Reply::OutOfMemory, out),
+            Outcome::Ok => match self.build(ended.text().as_slice()) {
+                Ok(submission) => {
+                    self.submission = Some(submission);
+                    self.commands.submit();
+                    What::Submit
+                }
+                Err(AllocError) => self.fail(Reply::OutOfMemory, out),
+            },
+        }
+    }
+
+    /// Makes the message for the recipients.
+    ///
+    /// Errors: `AllocError` where memory for it was refused.
+    fn build(&self, body: &[u8]) -> Result<Submission, AllocError>
+        ensures few { length self.now.commands.recipients ≤ 100 }
+        ensures made { IfOk result (λ s. submission_of s ≡ record {
+          keys = keys_from self.now.setting self.now.commands.submitted 0 self.now.commands.recipients;
+          mailboxes = self.now.commands.recipients;
+          text = codes "Return-Path: <" ++ self.now.commands.sender ++ codes ">" ++ crlf ++ body.now;
+        }) }
+    {
+        let recipients = self.commands.recipients();
+        let message = self.commands.submitted();
+        Ok(Submission {
+            keys: keys_of(self.alloc, self.seat, self.serial, message, recipients)?,
+            mailboxes: Vec::from_slice(self.alloc, recipients)?,
+            text: Text::new(text_of(self.alloc, self.commands.sender(), body)?),
+        })
+    }
+
+    /// Gives each recipient the same reply, and the transaction is over.
+    fn fail(&mut self, reply: Reply, out: &mut Vec<u8>) -> What
+        requires stage { self.old.commands.stage ≡ Stage.Data }
+        requires brief { IsBrief reply }
+        requires room { vec_len out.old + length self.old.commands.recipients * 40 ≤ vec_capacity out.old }
+        ensures what { result ≡ What.More }
+        ensures after { self.new ≡ record self.old { commands = record self.old.commands { stage = Stage.Ready } } }
+        ensures quiet { self.new.pending ≡ [] }
+        ensures said { out.new.items ≡ out.old.items ++ wire self.old.host (replicate (length self.old.commands.recipients) reply) }
+    {
+        let recipients = self.commands.recipients().len();
+        say_to_each(out, self.host.as_slice(), reply, recipients);
+        self.commands.finish();
+        What::More
     }
 }

@@ -1,0 +1,11 @@
+pub mod Copies
+pub mod Slots
+pub mod Working
+pub mod Callers
+pub mod Seats
+pub mod Worldly
+pub mod Places
+pub mod Events
+pub mod Putting
+pub mod Turns
+pub mod Arrivals

@@ -1,0 +1,38 @@
+-- Events of the world in which nobody says a word.
+use Rattle.std.proofs.Common.{◌≡◌, ℕ, ◌++◌, List, [], ◌∷◌, refl, ap, sym, ◌∙◌, subst}
+use Rattle.std.proofs.lemmas.List.{append-nil}
+use Rattle.world.specs.World.{Config, World, Step, Steps}
+use Rattle.world.specs.World as world
+use Rattle.delivery_core.specs.Held.{Held}
+use Rattle.delivery_core.specs.Stands as core
+use Rattle.delivery_core.specs.declared.steps.Fault.{Fault}
+use Rattle.delivery_core.specs.declared.steps.Fault.TheVariants as faults
+use Rattle.house.specs.declared.event.HouseFault.{HouseFault}
+use Rattle.house.specs.declared.event.HouseFault.TheVariants as house_faults
+use Rattle.house.specs.declared.event.Event.{Event}
+use Rattle.house.specs.State.{State}
+use Rattle.house.specs.Scene.{Moves, Plays, Scene, Setup, with_world}
+use Rattle.house.specs.Stands.{StandsFor}
+use Rattle.house.specs.Steps.{Led, fault_of}
+use Rattle.house.proofs.Seats.{moved, one_step}
+
+pub is_nothing : (f : Fault) → fault_of f ≡ house_faults.Nothing → f ≡ faults.Nothing
+is_nothing faults.Nobody e = cc
+is_nothing faults.Nothing e = refl
+is_nothing faults.NoMemory e = cc
+
+pub is_nobody : (f : Fault) → fault_of f ≡ house_faults.Nobody → f ≡ faults.Nobody
+is_nobody faults.Nobody e = refl
+is_nobody faults.Nothing e = cc
+is_nobody faults.NoMemory e = cc
+
+-- the world moves as the delivery side does
+pub moves : (k : Setup) (h : State) (c : Held) (s : Scene) (e : world.Event) → StandsFor k h s → ((x : Config) → core.Follows x h.core (e ∷ []) c) → c.heard ≡ h.core.heard → c.next ≡ h.core.next
+    → (v : World) × Moves k s e (with_world s v) [] × StandsFor k (record { core = c; callers = h.callers; serials = h.serials; directory = h.directory; host = h.host; max_message = h.max_message }) (with_world s v)
+moves k h c s e st f eh en =
+    let g = f k.config s.world st.core in
+    (g.0, record { moved = g.0; step = one_step k.config s.world g.0 e g.1; after = refl; silent = refl }, moved k h c s g.0 st g.2 eh en)
+
+-- what changes nothing in any world changes nothing in any scene
+pub idles : (k : Setup) (h : State) (s : Scene) (e : world.Event) → StandsFor k h s → ((x : Config) → core.Idle x h.core e) → (t : Scene) (printed : List ℕ) → Moves k s e t printed → (t ≡ s) × (printed ≡ [])
+idles k h s e st idle t printed m = (m.after ∙ ap (with_world s) (idle k.config s.world m.moved st.core m.step), m.silent)

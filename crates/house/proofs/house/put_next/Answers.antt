@@ -1,0 +1,10 @@
+use Rattle.std.proofs.Common.{◌≡◌, inr, refl, sym, subst, ap, ◌∙◌, Err}
+use Rattle.delivery_token.specs.declared.Job.{Job}
+use Rattle.house.specs.Line.{Line}
+use Rattle.house.proofs.house.put_next.Goals as goal
+
+pub returns-in-Err-Nothing-clause-nothing : goal.returns-in-Err-Nothing-clause-nothing
+returns-in-Err-Nothing-clause-nothing c e =
+    let n = c.in-Some-next_copy in
+    let copy : Job = record { key = n.key; mailbox = n.mailbox; text = n.text.now } in
+    (c.in-Some.caller, c.in-Some.is, inr (copy, n.ensures.some.0, n.ensures.some.1, inr (c.in-Err-Nothing.ensures.idle (ap (λ x. Err x) c.in-Err-Nothing.field-0-is))))

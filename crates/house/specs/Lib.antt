@@ -1,0 +1,14 @@
+pub mod Talk
+pub mod Line
+pub mod Few
+pub mod State
+pub mod Scene
+pub mod Taking
+pub mod CallerStands
+pub mod CallerSteps
+pub mod Stands
+pub mod Steps
+pub mod Effort
+pub mod Settling
+pub mod Settled
+pub mod Script

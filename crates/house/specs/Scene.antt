@@ -1,0 +1,188 @@
+-- The house and those who talk to it, and what each event of the house does to them and prints.
+use Rattle.std.specs.Prelude.{◌≡◌, ℕ, ◌+◌, ◌-◌, ◌^◌, ◌<◌, ◌≤◌, ◌⊎◌, Bool, true, false, List, [], ◌∷◌, ◌++◌, Contains, length, Option, Some, None}
+use Rattle.delivery_token.specs.declared.CopyKey.{CopyKey}
+use Rattle.delivery_token.specs.declared.Job.{Job}
+use Rattle.delivery_token.specs.declared.Verdict.{Verdict}
+use Rattle.delivery_token.specs.declared.log.Noted.{Noted}
+use Rattle.envelope.specs.Directory.{Directory}
+use Rattle.shard_queue.specs.At.{set_at}
+use Rattle.world.specs.World as world
+use Rattle.world.specs.World.{World, Config, Step}
+use Rattle.lmtp_machine.specs.declared.connection.What.{What}
+use Rattle.lmtp_machine.specs.declared.connection.What.TheVariants.{More, Submit, Quit}
+use Rattle.lmtp_machine.specs.Replies.{wire}
+use Rattle.lmtp_machine.specs.Dialogue as dialogue
+use Rattle.lmtp_machine.specs.Dialogue.{Setting, Submission, on_event}
+use Rattle.lmtp_machine.specs.Conversation.{led_by, opened}
+use Rattle.house.specs.declared.event.Event.{Event}
+use Rattle.house.specs.declared.event.Event.TheVariants.{Bytes, Put, Take, Deliver, Answer, Hear}
+use Rattle.house.specs.Talk.{Talk, WorksOff, Prints, IsWhole}
+
+-- what is settled at the start
+pub record Setup : Type 0 where
+  pub config : Config
+  pub directory : Directory
+  pub host : List ℕ
+  pub max_message : ℕ
+
+-- a connection at a seat: its serial, its talk, and the copies of the message at hand that are still to be put
+pub record Caller : Type 0 where
+  pub serial : ℕ
+  pub talk : Talk
+  pub to_put : List Job
+
+-- the world, and who stands at each seat; of each seat, the serial of its next connection
+pub record Scene : Type 0 where
+  pub world : World
+  pub caller : ℕ → Option Caller
+  pub next : ℕ → ℕ
+
+abbrev pub empty_scene : Scene
+empty_scene = record { world = world.empty_world; caller = λ _. None; next = λ _. 0 }
+
+-- connections are numbered from 1, seats from 0
+abbrev pub seat_of : ℕ → ℕ
+seat_of connection = connection - 1
+
+abbrev pub setting_of : Setup → ℕ → ℕ → Setting
+setting_of k seat serial = record { seat = seat; serial = serial; max_message = k.max_message }
+
+-- the serials of a seat's connections are below this
+abbrev pub most_serials : ℕ
+most_serials = 2 ^ 64 - 1
+
+-- the i-th verdict is the one that was heard for the i-th key
+abbrev pub HeardFor : List Noted → List CopyKey → List Verdict → Type 0
+HeardFor heard [] [] = Unit {0}
+HeardFor heard [] (v ∷ vs) = ⊥
+HeardFor heard (key ∷ keys) [] = ⊥
+HeardFor heard (key ∷ keys) (v ∷ vs) = ((m : ℕ) × Contains heard (record { key = key; mailbox = m; verdict = v })) × HeardFor heard keys vs
+
+-- the copies of a submission, in the order of its recipients
+abbrev pub copies : List CopyKey → List ℕ → List ℕ → List Job
+copies [] mailboxes text = []
+copies (key ∷ keys) [] text = []
+copies (key ∷ keys) (mailbox ∷ mailboxes) text = record { key = key; mailbox = mailbox; text = text } ∷ copies keys mailboxes text
+
+abbrev pub copies_of : List Submission → List Job
+copies_of [] = []
+copies_of (s ∷ ss) = copies s.keys s.mailboxes s.text ++ copies_of ss
+
+abbrev pub keys_of : List Submission → List CopyKey
+keys_of [] = []
+keys_of (s ∷ ss) = s.keys ++ keys_of ss
+
+-- every copy of the message at hand was put, and for each a verdict was heard
+pub record IsAnswered (heard : List Noted) (b : Caller) (verdicts : List Verdict) : Type 0 where
+  pub put : b.to_put ≡ []
+  pub each : HeardFor heard (keys_of b.talk.pending) verdicts
+
+-- who stands at the seat after a turn: one whose dialogue ended and who has said all is gone, and what waited is dropped
+pub data Leaves (whole : Bool) (serial : ℕ) (what : What) (after : Talk) (submitted : List Submission) (o : Option Caller) : Type 0 where
+  goes : what ≡ Quit → after.unsaid ≡ [] → o ≡ None → Leaves whole serial what after submitted o
+  stays : (whole ≡ true → what ≡ Quit → ⊥) → o ≡ Some (record { serial = serial; talk = after; to_put = copies_of submitted }) → Leaves whole serial what after submitted o
+
+-- The caller works off what waits, and this is printed, with what was still to be said. `whole` says that memory wasn't wanting.
+pub record Talks (k : Setup) (whole : Bool) (seat : ℕ) (b : Caller) (o : Option Caller) (printed : List ℕ) : Type 0 where
+  pub turn : dialogue.Turn
+  pub what : What
+  pub after : Talk
+  pub works : WorksOff (setting_of k seat b.serial) k.directory b.talk turn what after
+  pub prints : Prints (seat + 1) k.host b.talk after turn printed
+  pub all : whole ≡ true → IsWhole what after
+  pub leaves : Leaves whole b.serial what after turn.submissions o
+
+-- something that isn't a line happens to the dialogue, before more is worked off
+abbrev pub meets : Setup → ℕ → Caller → dialogue.Event → Caller
+meets k seat b event =
+    let setting = setting_of k seat b.serial in
+    record {
+      serial = b.serial;
+      to_put = [];
+      talk = record {
+        at = led_by setting k.directory b.talk.at event;
+        waits = b.talk.waits;
+        unsaid = b.talk.unsaid ++ wire k.host (on_event setting k.directory b.talk.at.standing event).replies;
+        pending = [];
+      };
+    }
+
+abbrev pub more_waits : Caller → List ℕ → Caller
+more_waits b piece = record {
+  serial = b.serial;
+  to_put = b.to_put;
+  talk = record { at = b.talk.at; waits = b.talk.waits ++ piece; unsaid = b.talk.unsaid; pending = b.talk.pending };
+}
+
+-- a new connection at a seat, which is greeted
+abbrev pub greeted : Setup → ℕ → ℕ → Caller
+greeted k seat serial = meets k seat (record { serial = serial; to_put = []; talk = record { at = opened; waits = []; unsaid = []; pending = [] } }) dialogue.Opened
+
+-- The caller goes on as far as it can, by what its seat has heard: where verdicts are awaited it waits for the last one, and
+-- says them all; then it works off what waits.
+pub data GoesOn (k : Setup) (whole : Bool) (seat : ℕ) (heard : List Noted) (b : Caller) (o : Option Caller) (printed : List ℕ) : Type 0 where
+  works : b.talk.pending ≡ [] → Talks k whole seat b o printed → GoesOn k whole seat heard b o printed
+  waits : 0 < length b.talk.pending → ((vs : List Verdict) → IsAnswered heard b vs → ⊥) → o ≡ Some b → printed ≡ [] → GoesOn k whole seat heard b o printed
+  answers : (vs : List Verdict) → 0 < length b.talk.pending → IsAnswered heard b vs → Talks k whole seat (meets k seat b (dialogue.Answered vs)) o printed → GoesOn k whole seat heard b o printed
+  -- a growth was refused before anything was said
+  stalls : whole ≡ false → o ≡ Some b → printed ≡ [] → GoesOn k whole seat heard b o printed
+
+-- at this seat now stands this caller, or nobody
+abbrev pub with_caller : Scene → ℕ → Option Caller → Scene
+with_caller s seat o = record { world = s.world; caller = set_at s.caller seat o; next = s.next }
+
+abbrev pub with_world : Scene → World → Scene
+with_world s w = record { world = w; caller = s.caller; next = s.next }
+
+-- bytes came from the peer of a connection
+pub data BytesPlay (k : Setup) (whole : Bool) (s : Scene) (seat : ℕ) (piece : List ℕ) (t : Scene) (printed : List ℕ) : Type 0 where
+  -- nobody stands there: a connection is opened first, with the seat's next serial
+  opens : seat < k.config.seats → s.caller seat ≡ None → s.next seat < most_serials → (o : Option Caller)
+      → GoesOn k whole seat (s.world.heard seat) (more_waits (greeted k seat (s.next seat)) piece) o printed
+      → t ≡ record { world = s.world; caller = set_at s.caller seat o; next = set_at s.next seat (s.next seat + 1) } → BytesPlay k whole s seat piece t printed
+  goes_on : (b : Caller) → s.caller seat ≡ Some b → (o : Option Caller)
+      → GoesOn k whole seat (s.world.heard seat) (more_waits b piece) o printed → t ≡ with_caller s seat o → BytesPlay k whole s seat piece t printed
+
+-- the next copy of the message at hand is put
+pub record PutPlay (k : Setup) (whole : Bool) (s : Scene) (seat : ℕ) (t : Scene) (printed : List ℕ) : Type 0 where
+  pub caller : Caller
+  pub there : s.caller seat ≡ Some caller
+  pub copy : Job
+  pub others : List Job
+  pub front : caller.to_put ≡ copy ∷ others
+  pub moved : World
+  pub step : Step k.config s.world (world.Put seat (world.shard_of k.config copy.mailbox) copy) moved
+  pub left : Option Caller
+  pub goes : GoesOn k whole seat (moved.heard seat) (record { serial = caller.serial; talk = caller.talk; to_put = others }) left printed
+  pub after : t ≡ with_caller (with_world s moved) seat left
+
+-- the seat hears a verdict
+pub record HearPlay (k : Setup) (whole : Bool) (s : Scene) (seat : ℕ) (t : Scene) (printed : List ℕ) : Type 0 where
+  pub caller : Caller
+  pub there : s.caller seat ≡ Some caller
+  pub moved : World
+  pub step : Step k.config s.world (world.Hear seat) moved
+  pub left : Option Caller
+  pub goes : GoesOn k whole seat (moved.heard seat) caller left printed
+  pub after : t ≡ with_caller (with_world s moved) seat left
+
+-- the world moves, and nobody says a word
+pub record Moves (k : Setup) (s : Scene) (event : world.Event) (t : Scene) (printed : List ℕ) : Type 0 where
+  pub moved : World
+  pub step : Step k.config s.world event moved
+  pub after : t ≡ with_world s moved
+  pub silent : printed ≡ []
+
+-- One event of the house may lead from one scene to the other, and print this. Where memory is wanting (not `whole`) it may stop
+-- early: then bytes still wait, or words aren't printed yet.
+abbrev pub Plays : Setup → Bool → Scene → Event → Scene → List ℕ → Type 0
+Plays k whole s (Bytes connection piece) t printed = BytesPlay k whole s (seat_of connection) piece.now t printed
+Plays k whole s (Put connection) t printed = PutPlay k whole s (seat_of connection) t printed
+Plays k whole s (Take shard) t printed = Moves k s (world.Take shard) t printed
+Plays k whole s (Deliver shard) t printed = Moves k s (world.Deliver shard) t printed
+Plays k whole s (Answer shard) t printed = Moves k s (world.Answer shard) t printed
+Plays k whole s (Hear connection) t printed = HearPlay k whole s (seat_of connection) t printed
+
+-- In no way does the event change anything, or print a word.
+abbrev pub HasNothing : Setup → Scene → Event → Type 0
+HasNothing k s e = (t : Scene) (printed : List ℕ) → Plays k true s e t printed → (t ≡ s) × (printed ≡ [])

@@ -1,0 +1,49 @@
+-- How the house settles: each actor in turn does what it has to do, over and over until nobody has anything to do.
+use Rattle.std.specs.Prelude.{◌≡◌, ℕ, ◌+◌, Bool, true, false, not, List, [], ◌∷◌, ◌++◌, map, filter, replicate, flat_map, All}
+use Rattle.std.specs.List.{range_with_len}
+use Rattle.house.specs.declared.event.Event.{Event}
+use Rattle.house.specs.declared.event.Event.TheVariants.{Put, Take, Deliver, Answer, Hear}
+use Rattle.house.specs.Scene.{HasNothing, Plays, Scene, Setup}
+
+-- the event happens, or it has nothing to do
+pub data Tries (k : Setup) (s : Scene) (e : Event) (t : Scene) (printed : List ℕ) : Type 0 where
+  happens : Plays k true s e t printed → Tries k s e t printed
+  passes : HasNothing k s e → t ≡ s → printed ≡ [] → Tries k s e t printed
+
+-- some events are tried, one after another
+abbrev pub InTurn : Setup → List Event → Scene → Scene → List ℕ → Type 0
+InTurn k [] s t printed = (t ≡ s) × (printed ≡ [])
+InTurn k (e ∷ es) s t printed = (m : Scene) × (one : List ℕ) × (two : List ℕ) × Tries k s e m one × InTurn k es m t two × (printed ≡ one ++ two)
+
+-- the lists in a row
+abbrev pub in_a_row : {A : Type 0} → List (List A) → List A
+in_a_row groups = flat_map (λ g. g) groups
+
+-- the events of a visit are tried over and over, until none of them has anything to do
+pub record Visit (k : Setup) (group : List Event) (s t : Scene) (printed : List ℕ) : Type 0 where
+  pub times : ℕ
+  pub goes : InTurn k (in_a_row (replicate times group)) s t printed
+  pub done : All (HasNothing k t) group
+
+-- visits one after another
+abbrev pub Visits : Setup → List (List Event) → Scene → Scene → List ℕ → Type 0
+Visits k [] s t printed = (t ≡ s) × (printed ≡ [])
+Visits k (group ∷ groups) s t printed = (m : Scene) × (one : List ℕ) × (two : List ℕ) × Visit k group s m one × Visits k groups m t two × (printed ≡ one ++ two)
+
+-- A round: each connection from 1 puts its copies; each shard from 0 that isn't held takes, delivers and answers; each connection
+-- from 1 hears its verdicts.
+abbrev pub round : Setup → (ℕ → Bool) → List (List Event)
+round k held = map (λ n. Put n ∷ []) (range_with_len 1 k.config.seats)
+    ++ map (λ s. Take s ∷ Deliver s ∷ Answer s ∷ []) (filter (λ s. not (held s)) (range_with_len 0 k.config.shards))
+    ++ map (λ n. Hear n ∷ []) (range_with_len 1 k.config.seats)
+
+-- rounds, until nothing moves
+pub record Settles (k : Setup) (held : ℕ → Bool) (s t : Scene) (printed : List ℕ) : Type 0 where
+  pub rounds : ℕ
+  pub goes : Visits k (in_a_row (replicate rounds (round k held))) s t printed
+  pub done : All (λ group. All (HasNothing k t) group) (round k held)
+
+-- Where memory was wanting: some events happened, one after another, and some may have been cut short.
+abbrev pub Happened : Setup → List Event → Scene → Scene → List ℕ → Type 0
+Happened k [] s t printed = (t ≡ s) × (printed ≡ [])
+Happened k (e ∷ es) s t printed = (m : Scene) × (one : List ℕ) × (two : List ℕ) × Plays k false s e m one × Happened k es m t two × (printed ≡ one ++ two)

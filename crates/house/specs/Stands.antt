@@ -1,0 +1,36 @@
+-- When the house stands for a scene: what it holds is what the scene says, place by place.
+use Rattle.std.specs.Prelude.{◌≡◌, ℕ, ◌<◌, slice_index_or, List, length, Option, Some, None}
+use Rattle.delivery_token.specs.declared.CopyKey.{CopyKey}
+use Rattle.delivery_token.specs.declared.log.Noted.{Noted}
+use Rattle.delivery_core.specs.Held.{Held}
+use Rattle.delivery_core.specs.Puts.{AtLeast}
+use Rattle.delivery_core.specs.Stands as core
+use Rattle.house.specs.Line.{Line}
+use Rattle.house.specs.State.{State}
+use Rattle.house.specs.Scene.{Setup, Scene, Caller}
+use Rattle.house.specs.CallerStands.{StandsForCaller}
+
+-- who stands at a seat
+abbrev pub StandsForOne : Setup → ℕ → CopyKey → List Noted → ℕ → Option Line → Option Caller → Type 0
+StandsForOne k seat next heard serials None None = AtLeast next (record { seat = seat; serial = serials; message = 0; recipient = 0 })
+StandsForOne k seat next heard serials None (Some b) = ⊥
+StandsForOne k seat next heard serials (Some h) None = ⊥
+StandsForOne k seat next heard serials (Some h) (Some b) = StandsForCaller k seat next heard h b × (b.serial < serials)
+
+pub record StandsForSeat (k : Setup) (s : Scene) (seat : ℕ) (next : CopyKey) (serials : ℕ) (line : Option Line) : Type 0 where
+  pub counted : serials ≡ s.next seat
+  pub who : StandsForOne k seat next (s.world.heard seat) (s.next seat) line (s.caller seat)
+
+-- the house stands for a scene
+pub record StandsFor (k : Setup) (h : State) (s : Scene) : Type 0 where
+  pub core : core.StandsFor k.config h.core s.world
+  pub directory : h.directory ≡ k.directory
+  pub host : h.host ≡ k.host
+  pub max_message : h.max_message ≡ k.max_message
+  pub homes : length k.directory.homes ≡ k.config.mailboxes
+  pub some_shard : 0 < k.config.shards
+  pub seats : length h.callers ≡ k.config.seats
+  pub numbers : length h.serials ≡ k.config.seats
+  pub each : (seat : ℕ) (y : CopyKey) (n : ℕ) (d : Option Line) → seat < length h.callers
+      → StandsForSeat k s seat (slice_index_or h.core.next seat y) (slice_index_or h.serials seat n) (slice_index_or h.callers seat d)
+

@@ -1,0 +1,14 @@
+-- What the house holds, as contracts see it.
+use Rattle.std.specs.Prelude.{ℕ, List, Option}
+use Rattle.envelope.specs.Directory.{Directory}
+use Rattle.delivery_core.specs.Held.{Held}
+use Rattle.house.specs.Line.{Line}
+
+-- the delivery core; who stands at each seat, and the serial of the seat's next connection; and what is settled
+pub record State : Type 0 where
+  pub core : Held
+  pub callers : List (Option Line)
+  pub serials : List ℕ
+  pub directory : Directory
+  pub host : List ℕ
+  pub max_message : ℕ

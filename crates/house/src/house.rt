@@ -1,0 +1,400 @@
+//! The house: who stands at each seat, over the delivery core. Each call is one event, and what it appends to `out` is what the event
+//! prints. No script and no socket is known here.
+
+ghost use Rattle.std.specs.Prelude.{true, false, ◌≡◌, ◌≢◌, ◌≤◌, ◌<◌, ◌+◌, ◌⊎◌, ◌↔◌, ℕ, List, [], length, None, Some, Err, OnOk, OnErr, IfOk, IfErr, IfNone, IfSome, IsSome, IsSomeAnd, MatchOption, option_map};
+ghost use Rattle.delivery_core.specs.Puts.{AtLeast};
+ghost use Rattle.house.specs.Line.{Line};
+ghost use Rattle.house.specs.Taking.{HearsSlot, due, heard_verdict, noted_put, with_more};
+ghost use Rattle.delivery_token.specs.declared.CopyKey.{CopyKey};
+ghost use Rattle.delivery_token.specs.declared.log.Noted.{Noted};
+ghost use Rattle.house.specs.CallerStands.{IsOf, StandsForCaller};
+ghost use Rattle.house.specs.Scene as scene;
+ghost use Rattle.house.specs.Scene.{Setup, greeted, more_waits};
+ghost use Rattle.house.specs.Stands.{StandsFor};
+ghost use Rattle.std.specs.Borrow.{Bor};
+ghost use Rattle.house.specs.Steps.{Follows, FollowsInPart, IsIdle, HasSeat, IsEmptySeat, IsNoSeat, IsNobody, IsThere, IsVacant, Led, MayNotPut, PlaceWentOn, PutsNext, StandsForMaybe, fault_of};
+ghost use Rattle.house.specs.declared.event.Event.TheVariants as events;
+
+use crate::caller::Caller;
+use crate::event::{Event, HouseFault};
+use delivery_core::{DeliveryCore, Fault};
+use delivery_token::{Noted, Refusal, Verdict};
+use envelope::Directory;
+use lmtp_machine::{Limits, What};
+use std::alloc::{AllocError, Global};
+use std::marker::Model;
+
+/// A house on one thread.
+#[derive(Drop)]
+pub struct House {
+    pub(crate) core: DeliveryCore,
+    pub(crate) callers: Vec<Option<Caller>>,
+    pub(crate) serials: Vec<u64>,
+    pub(crate) directory: Directory,
+    pub(crate) host: Vec<u8>,
+    pub(crate) max_message: usize,
+}
+
+impl Model for House {
+    ghost use Rattle.std.specs.Prelude.{◌≡◌, ◌<◌, ◌≤◌, length};
+    ghost use Rattle.house.specs.State.{State};
+
+    ghost Value = { State };
+
+    ghost view = { λ h. record {
+      core = h.core;
+      callers = h.callers.items;
+      serials = h.serials.items;
+      directory = h.directory;
+      host = h.host.items;
+      max_message = h.max_message;
+    } };
+
+    ghost invariant = { λ h. (length h.serials.items ≡ length h.callers.items) × (length h.host.items < 256) × (length h.callers.items < 256) };
+}
+
+// The caller at a place goes on, and leaves it where its connection has ended.
+fn go_on_at(
+    place: &mut Option<Caller>,
+    number: u8,
+    directory: &Directory,
+    out: &mut Vec<u8>,
+) -> Result<(), AllocError>
+    ensures ok { OnOk result ((k : Setup) (seat : ℕ) (next : CopyKey) (heard : List Noted) (b : scene.Caller) → IsOf k number seat directory.now → StandsForMaybe k seat next heard place.old (Some b) →
+        PlaceWentOn k true seat next heard b place.new out.old.items out.new.items) }
+    ensures err { OnErr result ((k : Setup) (seat : ℕ) (next : CopyKey) (heard : List Noted) (b : scene.Caller) → IsOf k number seat directory.now → StandsForMaybe k seat next heard place.old (Some b) →
+        PlaceWentOn k false seat next heard b place.new out.old.items out.new.items) }
+{
+    let Some(caller) = place else {
+        return Ok(());
+    };
+    let Ok(what) = caller.go_on(number, directory, out) else {
+        return Err(AllocError);
+    };
+    if let What::Quit = what {
+        *place = None;
+    }
+    Ok(())
+}
+
+// A connection that was just opened, with the first bytes that came for it.
+fn opened(
+    alloc: Global,
+    seat: u8,
+    serial: u64,
+    limits: Limits<'_>,
+    piece: &[u8],
+) -> Result<Caller, AllocError>
+    requires { length limits.host.now < 256 }
+    ensures { IfOk result (λ h. (k : Setup) (next : CopyKey) (heard : List Noted) → k.host ≡ limits.entry.host.now → k.max_message ≡ limits.entry.max_message
+        → AtLeast next (record { seat = seat; serial = serial; message = 0; recipient = 0 }) → StandsForCaller k seat next heard h (more_waits (greeted k seat serial) piece.now)) }
+{
+    let Ok(mut caller) = Caller::open(alloc, seat, serial, limits) else {
+        return Err(AllocError);
+    };
+    let Ok(()) = caller.append(piece) else {
+        return Err(AllocError);
+    };
+    Ok(caller)
+}
+
+// Bytes more wait for the caller at a place.
+fn append_at(place: &mut Option<Caller>, piece: &[u8]) -> Result<(), AllocError>
+    ensures ok { OnOk result (place.new ≡ option_map (with_more piece.now) place.old) }
+    ensures err { OnErr result (place.new ≡ place.old) }
+{
+    match place {
+        Some(caller) => caller.append(piece),
+        None => Ok(()),
+    }
+}
+
+// Puts the next copy of the caller at a place.
+fn put_next(core: &mut DeliveryCore, place: &Option<Caller>) -> Result<Option<Refusal>, HouseFault>
+    ensures nobody { (result ≡ Err HouseFault.Nobody) ↔ (place.now ≡ None) }
+    ensures busy { result ≢ Err HouseFault.Busy }
+    ensures nothing { result ≡ Err HouseFault.Nothing → (h : Line) × (place.now ≡ Some h) × MayNotPut core.old h }
+    ensures puts { IfOk result (λ why. (h : Line) × (place.now ≡ Some h) × PutsNext core.old h core.new why) }
+    ensures refused { OnErr result (core.new ≡ core.old) }
+{
+    let Some(caller) = place else {
+        return Err(HouseFault::Nobody);
+    };
+    let Some((key, mailbox, text)) = caller.next_copy() else {
+        return Err(HouseFault::Nothing);
+    };
+    if !core.may_put(key, mailbox) {
+        return Err(HouseFault::Nothing);
+    }
+    match core.put(key, mailbox, text) {
+        Ok(why) => Ok(why),
+        Err(Fault::NoMemory) => Err(HouseFault::NoMemory),
+        Err(Fault::Nothing) => Err(HouseFault::Nothing),
+        Err(Fault::Nobody) => Err(HouseFault::Nothing),
+    }
+}
+
+// The next copy of the caller at a place was put, and this was heard of it at once.
+fn note_put_at(place: &mut Option<Caller>, why: Option<Refusal>)
+    requires { IfSome place.old (λ h. 0 < length (due h)) }
+    ensures { place.new ≡ option_map (noted_put (heard_verdict why)) place.old }
+{
+    let verdict = match why {
+        Some(why) => Some(Verdict::Refused(why)),
+        None => None,
+    };
+    if let Some(caller) = place {
+        caller.note_put(verdict);
+    }
+}
+
+// The caller at a place hears a verdict.
+fn hear_at(place: &mut Option<Caller>, noted: &Noted)
+    ensures { MatchOption place.old (place.new ≡ None) (λ h. IsSomeAnd place.new (HearsSlot h noted.now)) }
+{
+    if let Some(caller) = place {
+        caller.hear(noted);
+    }
+}
+
+impl House {
+    // Bytes came for a connection that stands at its place.
+    fn receive(
+        &mut self,
+        connection: u8,
+        piece: &[u8],
+        out: &mut Vec<u8>,
+    ) -> Result<(), HouseFault>
+        requires there { IsThere self.old connection }
+        ensures follows { OnOk result (Follows self.old (events.Bytes connection piece.entry) self.new out.old.items out.new.items) }
+        ensures only { IfErr result (λ e. e ≡ HouseFault.NoMemory) }
+        ensures no_memory { OnErr result (FollowsInPart self.old (events.Bytes connection piece.entry) self.new out.old.items out.new.items) }
+    {
+        let place = &mut self.callers[usize::from(connection - 1)];
+        let Ok(()) = append_at(place, piece) else {
+            return Err(HouseFault::NoMemory);
+        };
+        let Ok(()) = go_on_at(place, connection, &self.directory, out) else {
+            return Err(HouseFault::NoMemory);
+        };
+        Ok(())
+    }
+    // Bytes came for a connection at whose place nobody stands: one is opened first, with the seat's next serial.
+    fn welcome(
+        &mut self,
+        connection: u8,
+        piece: &[u8],
+        out: &mut Vec<u8>,
+    ) -> Result<(), HouseFault>
+        requires vacant { IsVacant self.old connection }
+        ensures follows { OnOk result (Follows self.old (events.Bytes connection piece.entry) self.new out.old.items out.new.items) }
+        ensures only { IfErr result (λ e. e ≡ HouseFault.NoMemory) }
+        ensures no_memory { OnErr result (FollowsInPart self.old (events.Bytes connection piece.entry) self.new out.old.items out.new.items) }
+    {
+        let seat = usize::from(connection - 1);
+        let serial = self.serials[seat];
+        let limits = Limits {
+            host: &self.host,
+            max_message: self.max_message,
+        };
+        let Ok(caller) = opened(
+            *self.host.allocator(),
+            connection - 1,
+            serial,
+            limits,
+            piece,
+        ) else {
+            return Err(HouseFault::NoMemory);
+        };
+        self.serials[seat] = serial + 1;
+        let place = &mut self.callers[seat];
+        *place = Some(caller);
+        let Ok(()) = go_on_at(place, connection, &self.directory, out) else {
+            return Err(HouseFault::NoMemory);
+        };
+        Ok(())
+    }
+
+    // A connection puts the next copy of its message.
+    fn put(&mut self, connection: u8, out: &mut Vec<u8>) -> Result<(), HouseFault>
+        requires seat { HasSeat self.old connection }
+        ensures follows { OnOk result (Follows self.old (events.Put connection) self.new out.old.items out.new.items) }
+        ensures nobody { (result ≡ Err HouseFault.Nobody) ↔ IsEmptySeat self.old connection }
+        ensures busy { result ≢ Err HouseFault.Busy }
+        ensures idle { result ≡ Err HouseFault.Nothing → IsIdle self.old (events.Put connection) }
+        ensures no_memory { result ≡ Err HouseFault.NoMemory → FollowsInPart self.old (events.Put connection) self.new out.old.items out.new.items }
+        ensures refused { result ≢ Err HouseFault.NoMemory → OnErr result ((self.new ≡ self.old) × (out.new.items ≡ out.old.items)) }
+    {
+        let seat = usize::from(connection - 1);
+        let why = match put_next(&mut self.core, &self.callers[seat]) {
+            Ok(why) => why,
+            Err(fault) => return Err(fault),
+        };
+        let place = &mut self.callers[seat];
+        note_put_at(place, why);
+        let Ok(()) = go_on_at(place, connection, &self.directory, out) else {
+            return Err(HouseFault::NoMemory);
+        };
+        Ok(())
+    }
+
+    // A connection hears the verdict at the front of its reply lane.
+    fn hear(&mut self, connection: u8, out: &mut Vec<u8>) -> Result<(), HouseFault>
+        requires seat { HasSeat self.old connection }
+        ensures follows { OnOk result (Follows self.old (events.Hear connection) self.new out.old.items out.new.items) }
+        ensures nobody { (result ≡ Err HouseFault.Nobody) ↔ IsEmptySeat self.old connection }
+        ensures busy { result ≢ Err HouseFault.Busy }
+        ensures idle { result ≡ Err HouseFault.Nothing → IsIdle self.old (events.Hear connection) }
+        ensures no_memory { result ≡ Err HouseFault.NoMemory → FollowsInPart self.old (events.Hear connection) self.new out.old.items out.new.items }
+        ensures refused { result ≢ Err HouseFault.NoMemory → OnErr result ((self.new ≡ self.old) × (out.new.items ≡ out.old.items)) }
+    {
+        let seat = usize::from(connection - 1);
+        if self.callers[seat].is_none() {
+            return Err(HouseFault::Nobody);
+        }
+        let noted = match self.core.hear(connection - 1) {
+            Ok(noted) => noted,
+            Err(Fault::NoMemory) => return Err(HouseFault::NoMemory),
+            Err(Fault::Nothing) => return Err(HouseFault::Nothing),
+            Err(Fault::Nobody) => return Err(HouseFault::Nothing),
+        };
+        let place = &mut self.callers[seat];
+        hear_at(place, &noted);
+        let Ok(()) = go_on_at(place, connection, &self.directory, out) else {
+            return Err(HouseFault::NoMemory);
+        };
+        Ok(())
+    }
+
+    // A shard's consumer takes what waits at the front of its lane.
+    fn take(&mut self, shard: u8) -> Result<(), HouseFault>
+        ensures follows { OnOk result ((k : Setup) (s : scene.Scene) (old : List ℕ) → StandsFor k self.old s → Led k true s (events.Take shard) self.new old old) }
+        ensures nobody { (result ≡ Err HouseFault.Nobody) ↔ IsNobody self.old (events.Take shard) }
+        ensures idle { result ≡ Err HouseFault.Nothing → IsIdle self.old (events.Take shard) }
+        ensures only { IfErr result (λ e. (e ≡ HouseFault.Nobody) ⊎ (e ≡ HouseFault.Nothing)) }
+        ensures refused { OnErr result (self.new ≡ self.old) }
+    {
+        if let Err(fault) = self.core.take(shard) {
+            return Err(fault_of(fault));
+        }
+        Ok(())
+    }
+
+    // The copy in a shard's hand is delivered, or refused.
+    fn deliver(&mut self, shard: u8) -> Result<(), HouseFault>
+        ensures follows { OnOk result ((k : Setup) (s : scene.Scene) (old : List ℕ) → StandsFor k self.old s → Led k true s (events.Deliver shard) self.new old old) }
+        ensures nobody { (result ≡ Err HouseFault.Nobody) ↔ IsNobody self.old (events.Deliver shard) }
+        ensures idle { result ≡ Err HouseFault.Nothing → IsIdle self.old (events.Deliver shard) }
+        ensures only { IfErr result (λ e. (e ≡ HouseFault.Nobody) ⊎ (e ≡ HouseFault.Nothing)) }
+        ensures refused { OnErr result (self.new ≡ self.old) }
+    {
+        if let Err(fault) = self.core.deliver(shard) {
+            return Err(fault_of(fault));
+        }
+        Ok(())
+    }
+
+    // The verdict in a shard's hand goes into the reply lane of the copy's seat.
+    fn answer(&mut self, shard: u8) -> Result<(), HouseFault>
+        ensures follows { OnOk result ((k : Setup) (s : scene.Scene) (old : List ℕ) → StandsFor k self.old s → Led k true s (events.Answer shard) self.new old old) }
+        ensures nobody { (result ≡ Err HouseFault.Nobody) ↔ IsNobody self.old (events.Answer shard) }
+        ensures idle { result ≡ Err HouseFault.Nothing → IsIdle self.old (events.Answer shard) }
+        ensures only { IfErr result (λ e. (e ≡ HouseFault.Nobody) ⊎ (e ≡ HouseFault.Nothing)) }
+        ensures refused { OnErr result (self.new ≡ self.old) }
+    {
+        if let Err(fault) = self.core.answer(shard) {
+            return Err(fault_of(fault));
+        }
+        Ok(())
+    }
+
+    /// One event. What it appends to `out` is what it prints.
+    ///
+    /// Nobody, Busy and Nothing come in this order, and after them nothing changed: Nobody where the connection or the shard isn't
+    /// there, Nothing where the event would change nothing. After NoMemory what was done by then stands, and the next event of the
+    /// connection goes on from there; bytes that came with it were taken up or weren't there at all.
+    pub fn step(&mut self, event: Event<'_>, out: &mut Vec<u8>) -> Result<(), HouseFault>
+        ensures follows { OnOk result (Follows self.old event.entry self.new out.old.items out.new.items) }
+        ensures nobody { (result ≡ Err HouseFault.Nobody) ↔ IsNobody self.old event.entry }
+        ensures busy { result ≢ Err HouseFault.Busy }
+        ensures idle { result ≡ Err HouseFault.Nothing → IsIdle self.old event.entry }
+        ensures bytes { (connection : ℕ) (piece : Bor (List ℕ)) → event.entry ≡ events.Bytes connection piece → result ≢ Err HouseFault.Nothing }
+        ensures no_memory { result ≡ Err HouseFault.NoMemory → FollowsInPart self.old event.entry self.new out.old.items out.new.items }
+        ensures refused { result ≢ Err HouseFault.NoMemory → OnErr result ((self.new ≡ self.old) × (out.new.items ≡ out.old.items)) }
+    {
+        match event {
+            Event::Bytes(connection, piece) => self.bytes(connection, piece, out),
+            Event::Put(connection) => self.put_at(connection, out),
+            Event::Take(shard) => self.take(shard),
+            Event::Deliver(shard) => self.deliver(shard),
+            Event::Answer(shard) => self.answer(shard),
+            Event::Hear(connection) => self.hear_at(connection, out),
+        }
+    }
+
+    // Bytes came from the peer of a connection.
+    fn bytes(
+        &mut self,
+        connection: u8,
+        piece: &[u8],
+        out: &mut Vec<u8>,
+    ) -> Result<(), HouseFault>
+        ensures follows { OnOk result (Follows self.old (events.Bytes connection piece.entry) self.new out.old.items out.new.items) }
+        ensures nobody { (result ≡ Err HouseFault.Nobody) ↔ IsNobody self.old (events.Bytes connection piece.entry) }
+        ensures only { IfErr result (λ e. (e ≡ HouseFault.Nobody) ⊎ (e ≡ HouseFault.NoMemory)) }
+        ensures no_memory { result ≡ Err HouseFault.NoMemory → FollowsInPart self.old (events.Bytes connection piece.entry) self.new out.old.items out.new.items }
+        ensures refused { result ≢ Err HouseFault.NoMemory → OnErr result ((self.new ≡ self.old) × (out.new.items ≡ out.old.items)) }
+    {
+        if connection == 0 || usize::from(connection) > self.callers.len() {
+            return Err(HouseFault::Nobody);
+        }
+        let seat = usize::from(connection - 1);
+        if self.callers[seat].is_some() {
+            return self.receive(connection, piece, out);
+        }
+        if self.serials[seat] == u64::MAX {
+            return Err(HouseFault::Nobody);
+        }
+        self.welcome(connection, piece, out)
+    }
+
+    // A connection puts the next copy of its message.
+    fn put_at(&mut self, connection: u8, out: &mut Vec<u8>) -> Result<(), HouseFault>
+        ensures follows { OnOk result (Follows self.old (events.Put connection) self.new out.old.items out.new.items) }
+        ensures nobody { (result ≡ Err HouseFault.Nobody) ↔ IsNobody self.old (events.Put connection) }
+        ensures busy { result ≢ Err HouseFault.Busy }
+        ensures idle { result ≡ Err HouseFault.Nothing → IsIdle self.old (events.Put connection) }
+        ensures no_memory { result ≡ Err HouseFault.NoMemory → FollowsInPart self.old (events.Put connection) self.new out.old.items out.new.items }
+        ensures refused { result ≢ Err HouseFault.NoMemory → OnErr result ((self.new ≡ self.old) × (out.new.items ≡ out.old.items)) }
+    {
+        if connection == 0 || usize::from(connection) > self.callers.len() {
+            return Err(HouseFault::Nobody);
+        }
+        self.put(connection, out)
+    }
+
+    // A connection hears the verdict at the front of its reply lane.
+    fn hear_at(&mut self, connection: u8, out: &mut Vec<u8>) -> Result<(), HouseFault>
+        ensures follows { OnOk result (Follows self.old (events.Hear connection) self.new out.old.items out.new.items) }
+        ensures nobody { (result ≡ Err HouseFault.Nobody) ↔ IsNobody self.old (events.Hear connection) }
+        ensures busy { result ≢ Err HouseFault.Busy }
+        ensures idle { result ≡ Err HouseFault.Nothing → IsIdle self.old (events.Hear connection) }
+        ensures no_memory { result ≡ Err HouseFault.NoMemory → FollowsInPart self.old (events.Hear connection) self.new out.old.items out.new.items }
+        ensures refused { result ≢ Err HouseFault.NoMemory → OnErr result ((self.new ≡ self.old) × (out.new.items ≡ out.old.items)) }
+    {
+        if connection == 0 || usize::from(connection) > self.callers.len() {
+            return Err(HouseFault::Nobody);
+        }
+        self.hear(connection, out)
+    }
+}
+
+fn fault_of(fault: Fault) -> HouseFault
+    ensures { result ≡ fault_of fault }
+{
+    match fault {
+        Fault::Nobody => HouseFault::Nobody,
+        Fault::Nothing => HouseFault::Nothing,
+        Fault::NoMemory => HouseFault::NoMemory,
+    }
+}

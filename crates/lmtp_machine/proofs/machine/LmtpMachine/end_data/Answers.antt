@@ -1,0 +1,65 @@
+use Rattle.std.proofs.Common.{◌≡◌, ℕ, ◌+◌, ◌++◌, List, [], ◌∷◌, length, refl, ap, sym, subst, ◌∙◌}
+use Rattle.std.specs.Prelude.{codes}
+use Rattle.std.proofs.Common.{arith, ◌≤◌}
+use Rattle.std.proofs.lemmas.List.Elements.{All-cons, All-nil}
+use Rattle.std.proofs.lemmas.List.{append-nil}
+use Rattle.line_io.specs.Wire.{crlf}
+use Rattle.dot_stuffing.specs.declared.Outcome.TheVariants as outcomes
+use Rattle.lmtp_machine.specs.Message.{plain}
+use Rattle.lmtp_machine.specs.Standing.{CommandState, standing_of}
+use Rattle.lmtp_machine.specs.Dialogue.{Waiting, Standing, Submission, keys_from}
+use Rattle.lmtp_machine.specs.Machine.{Machine, IsPending}
+use Rattle.lmtp_machine.specs.Calls.{submission_of}
+use Rattle.lmtp_machine.specs.Ending.{so, IsBetween}
+use Rattle.lmtp_machine.proofs.Kept.{keys_length}
+use Rattle.lmtp_machine.proofs.machine.LmtpMachine.end_data.Goals as goal
+
+pub invariant_of-self : goal.invariant_of-self
+invariant_of-self c =
+    let s : Submission = submission_of c.in-Ok-build.submission in
+    let e : length s.keys ≡ length c.self.inside.commands.recipients =
+    ap (λ (x : Submission). length x.keys) c.in-Ok-build.ensures.made
+    ∙ keys_length c.args.self.now.setting c.args.self.now.commands.submitted 0 c.args.self.now.commands.recipients
+    ∙ ap (λ (x : Machine). length x.commands.recipients) (sym c.self.view_is) in (
+      c.self.invariant.0,
+      c.self.invariant.1,
+      c.self.invariant.2,
+      c.self.invariant.3,
+      subst (λ (x : CommandState). IsPending x.stage x.recipients (s ∷ [])) (sym c.submit.ensures) (s, refl, e),
+    )
+
+pub returns-in-Ok-build-clause-most : goal.returns-in-Ok-build-clause-most
+returns-in-Ok-build-clause-most c =
+    let e : length (submission_of c.in-Ok-build.submission).keys ≡ length c.args.self.now.commands.recipients =
+    ap (λ (x : Submission). length x.keys) c.in-Ok-build.ensures.made
+    ∙ keys_length c.args.self.now.setting c.args.self.now.commands.submitted 0 c.args.self.now.commands.recipients in
+    let few = c.in-Ok-build.ensures.few in
+    All-cons (λ (s : Submission). length s.keys ≤ 100) (submission_of c.in-Ok-build.submission) [] (omega (arith, e, few)) (All-nil (λ (s : Submission). length s.keys ≤ 100))
+
+pub returns-in-Ok-build-clause-does : goal.returns-in-Ok-build-clause-does
+returns-in-Ok-build-clause-does c lines k =
+    let m : Machine = c.args.self.now in
+    let n : ℕ = m.commands.submitted in
+    let text : c.as_slice.result.now ≡ plain lines = c.as_slice.ensures.value ∙ c.text.ensures ∙ k c.in-Ok.is in (
+      outcomes.Ok,
+      so (sym c.in-Ok.is),
+      record {
+        cutter = ap (λ (x : Machine). x.cutter) c.self.view_is;
+        unstuffer = ap (λ (x : Machine). x.unstuffer) c.self.view_is;
+        stage = subst (λ (x : CommandState). IsBetween x.stage) (sym c.submit.ensures) tt;
+        standing = ap (λ (x : CommandState). standing_of x) c.submit.ensures
+            ∙ ap (λ (x : Machine). let s : Standing = record { phase = Waiting (length x.commands.recipients); submitted = x.commands.submitted + 1 } in s) c.self.view_is;
+        pending = ap (λ (x : Submission). x ∷ []) (c.in-Ok-build.ensures.made
+            ∙ ap (λ (b : List ℕ). let x : Submission = record {
+              keys = keys_from m.setting n 0 m.commands.recipients;
+              mailboxes = m.commands.recipients;
+              text = codes "Return-Path: <" ++ m.commands.sender ++ codes ">" ++ crlf ++ b;
+            } in x) text);
+        said = sym (append-nil c.args.out.now.items);
+        tells = record {
+          submission = _;
+          only = refl;
+          waits = ap (λ (x : ℕ). Waiting x) (sym (keys_length m.setting n 0 m.commands.recipients));
+        };
+      },
+    )

@@ -1,0 +1,95 @@
+//! What a connection makes of a whole message: the keys and the text that are submitted, and a reply to each recipient. When a message
+//! is whole, and what it does to the connection, is for machine.rt.
+
+ghost use Rattle.std.specs.Prelude.{◌≡◌, ◌+◌, ◌*◌, ◌++◌, ◌∷◌, [], ◌≤◌, ℕ, codes, length, map, replicate, IfOk, vec_len, vec_capacity};
+ghost use Rattle.line_io.specs.Wire.{crlf};
+ghost use Rattle.lmtp_machine.specs.Replies.{wire, IsBrief};
+ghost use Rattle.lmtp_machine.specs.Dialogue.{keys_from, verdict_reply, refusal_reply};
+
+use crate::reply::{Reply, say};
+use delivery_token::{CopyKey, Refusal, Verdict};
+use std::alloc::{AllocError, Global};
+
+/// The keys of a message's copies, one for each recipient.
+///
+/// Errors: `AllocError` where memory for them was refused.
+pub fn keys_of(
+    alloc: Global,
+    seat: u8,
+    serial: u64,
+    message: u32,
+    recipients: &[u8],
+) -> Result<Vec<CopyKey>, AllocError>
+    requires { length recipients.now ≤ 100 }
+    ensures { IfOk result (λ v. (most : ℕ) → v.items ≡ keys_from (record { seat = seat; serial = serial; max_message = most }) message 0 recipients.now) }
+{
+    let mut keys = Vec::with_capacity(alloc, recipients.len())?;
+    for i in 0..recipients.len() {
+        keys.push_reserved(CopyKey {
+            seat,
+            serial,
+            message,
+            recipient: i as u8,
+        });
+    }
+    Ok(keys)
+}
+
+/// The text that is stored: who sent it (RFC 5321, section 4.4), and then the data.
+///
+/// Errors: `AllocError` where memory for it was refused.
+pub fn text_of(alloc: Global, sender: &[u8], body: &[u8]) -> Result<Vec<u8>, AllocError>
+    ensures { IfOk result (λ v. v.items ≡ codes "Return-Path: <" ++ sender.now ++ codes ">" ++ crlf ++ body.now) }
+{
+    let mut text = Vec::new(alloc);
+    text.extend_from_slice(b"Return-Path: <")?;
+    text.extend_from_slice(sender)?;
+    text.extend_from_slice(b">\r\n")?;
+    text.extend_from_slice(body)?;
+    Ok(text)
+}
+
+fn refusal_reply(refusal: Refusal) -> Reply
+    ensures value { result ≡ refusal_reply refusal }
+    ensures brief { IsBrief result }
+{
+    match refusal {
+        Refusal::Full => Reply::ShardFull,
+        Refusal::MailboxFull => Reply::MailboxFull,
+        Refusal::NoMemory => Reply::OutOfMemory,
+        Refusal::UidSpent => Reply::NoUidLeft,
+    }
+}
+
+fn verdict_reply(verdict: Verdict) -> Reply
+    ensures value { result ≡ verdict_reply verdict }
+    ensures brief { IsBrief result }
+{
+    match verdict {
+        Verdict::Stored { .. } => Reply::Delivered,
+        Verdict::Refused(refusal) => refusal_reply(refusal),
+    }
+}
+
+/// Writes a reply to each recipient by the verdict on its copy, in room that was reserved.
+#[tactic(auto, using(crate::proofs::Replies::answered_more))]
+pub fn say_verdicts(out: &mut Vec<u8>, host: &[u8], verdicts: &[Verdict])
+    requires { vec_len out.old + length verdicts.now * 40 ≤ vec_capacity out.old }
+    ensures { out.new.items ≡ out.old.items ++ wire host.now (map verdict_reply verdicts.now) }
+{
+    for verdict in verdicts {
+        say(out, host, verdict_reply(*verdict));
+    }
+}
+
+/// Writes the same reply to so many recipients, in room that was reserved.
+#[tactic(auto, using(crate::proofs::Replies::told_more))]
+pub fn say_to_each(out: &mut Vec<u8>, host: &[u8], reply: Reply, recipients: usize)
+    requires room { vec_len out.old + recipients * 40 ≤ vec_capacity out.old }
+    requires brief { IsBrief reply }
+    ensures { out.new.items ≡ out.old.items ++ wire host.now (replicate recipients reply) }
+{
+    for told in 0..recipients {
+        say(out, host, reply);
+    }
+}
