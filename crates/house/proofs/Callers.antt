@@ -10,14 +10,14 @@ use Rattle.lmtp_machine.specs.declared.connection.What.TheVariants.{More, Submit
 use Rattle.lmtp_machine.specs.Replies.{wire}
 use Rattle.lmtp_machine.specs.Dialogue as dialogue
 use Rattle.lmtp_machine.specs.Dialogue.{Phase, Start, Ready, Transaction, Data, Waiting, Ended, Standing, Setting, Submission, Turn, on_event}
-use Rattle.lmtp_machine.specs.Conversation.{Conversation, Leads}
+use Rattle.lmtp_machine.specs.Conversation.{Conversation, Leads, opened}
 use Rattle.lmtp_machine.specs.Calls.{Happens, IsListening, Submits, Taken, Tells}
 use Rattle.lmtp_machine.specs.Kept.{AreMessages, IsMessage, Kept, KeptAfter}
 use Rattle.lmtp_machine.specs.Machine.{Machine, StandsFor}
 use Rattle.lmtp_machine.proofs.Kept.{taken_keeps, event_keeps}
 use Rattle.house.specs.Line.{Line}
 use Rattle.house.specs.Talk.{IsWhole, Talk, WorksOff, marked, prints_all, prints_none}
-use Rattle.house.specs.Scene.{Caller, GoesOn, HeardFor, IsAnswered, Leaves, Setup, Talks, copies, copies_of, goes, keys_of, meets, setting_of, stays, works, waits, answers, stalls}
+use Rattle.house.specs.Scene.{Caller, GoesOn, HeardFor, IsAnswered, Leaves, Setup, Talks, copies, copies_of, goes, greeted, keys_of, meets, setting_of, stays, works, waits, answers, stalls}
 use Rattle.house.specs.Taking.{AreKnown, TakenBy}
 use Rattle.delivery_core.specs.Puts.{AtLeast}
 use Rattle.house.specs.CallerStands.{IsAwaited, IsOf, IsThere, SlotsFor, StandsForCaller, WentOn, WorkedOff}
@@ -258,3 +258,22 @@ module _ (k : Setup) (seat : ℕ) (next : CopyKey) (heard : List Noted) where
 
       answered_number : (vs : List Verdict) (phase : Phase) (submitted message count : ℕ) → phase ≡ Waiting count → message + 1 ≡ submitted → message < (dialogue.on_verdicts phase submitted vs).standing.submitted
       answered_number vs phase submitted message count e f = let x : (dialogue.on_verdicts phase submitted vs).standing.submitted ≡ submitted = ap (λ (p : Phase). (dialogue.on_verdicts p submitted vs).standing.submitted) e in omega (arith, x, f)
+
+  -- ---- a new connection
+
+  pub opened_stands : (serial limit : ℕ) (host said : List ℕ) (m n : Machine) → StandsFor m opened → m.setting ≡ record { seat = seat; serial = serial; max_message = limit } → m.host ≡ host → m.pending ≡ []
+      → ((d : Directory) (c : Conversation) → StandsFor m c → Happens (StandsFor n) m.setting m.host d c dialogue.Opened [] said) → n.setting ≡ m.setting → n.host ≡ m.host → n.pending ≡ m.pending
+      → k.host ≡ host → k.max_message ≡ limit → AtLeast next (record { seat = seat; serial = serial; message = 0; recipient = 0 })
+      → StandsForCaller k seat next heard (record { serial = serial; machine = n; waits = []; unsaid = said; verdicts = [] }) (greeted k seat serial)
+  opened_stands serial limit host said m n st es eh quiet happens ss sh sp kh kl ahead =
+      let set : m.setting ≡ setting_of k seat serial = es ∙ ap (λ (l : ℕ). record { seat = seat; serial = serial; max_message = l }) (sym kl) in
+      let h1 = happens k.directory opened st in
+      let h2 = subst (λ (x : List ℕ). Happens (StandsFor n) (setting_of k seat serial) x k.directory opened dialogue.Opened [] said) (eh ∙ sym kh) (subst (λ (x : Setting). Happens (StandsFor n) x m.host k.directory opened dialogue.Opened [] said) set h1) in
+      record {
+        serial = refl; setting = ss ∙ set; host = sh ∙ eh ∙ sym kh; machine = h2.stands; waits = refl; unsaid = h2.said; pending = sp ∙ quiet; to_put = refl; verdicts = no-slots heard [];
+        awaited = λ n e. let x : Start ≡ Waiting n = e in cc;
+        kept = record { here = omega arith };
+        message = 0;
+        numbered = refl;
+        ahead = ahead;
+      }

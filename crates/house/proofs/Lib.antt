@@ -8,4 +8,5 @@ pub mod Places
 pub mod Events
 pub mod Putting
 pub mod Turns
+pub mod Efforts
 pub mod Arrivals

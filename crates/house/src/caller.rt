@@ -7,6 +7,7 @@ ghost use Rattle.delivery_token.specs.declared.Verdict.{Verdict};
 ghost use Rattle.lmtp_machine.specs.Conversation.{Conversation};
 ghost use Rattle.house.specs.Taking.{AwaitsIn, AreKnown, HearsSlot, TakenBy, due, noted_put, with_more};
 ghost use Rattle.house.specs.CallerSteps.{SaidVerdicts, TookWhatWaits};
+ghost use Rattle.house.specs.Effort.{line_effort};
 ghost use Rattle.house.specs.Few.{AreFew};
 ghost use Rattle.delivery_core.specs.Puts.{AtLeast};
 ghost use Rattle.house.specs.CallerStands.{IsAwaited, IsOf, StandsForCaller, WentOn, WorkedOff};
@@ -74,6 +75,7 @@ fn take_all(
     requires { machine.old.pending ≡ [] }
     ensures used { result.used ≤ length piece.now }
     ensures all { result.what ≡ Some whats.More → result.used ≡ length piece.now }
+    ensures moves { result.what ≡ Some whats.Submit → 0 < result.used }
     ensures awaits { AwaitsIn result.what machine.new.pending }
     ensures most { AreFew machine.new.pending }
     ensures same { (machine.new.setting ≡ machine.old.setting) × (machine.new.host ≡ machine.old.host) }
@@ -122,9 +124,16 @@ impl Caller {
         ensures { IfOk result (λ h. (k : Setup) (next : CopyKey) (heard : List Noted) → k.host ≡ limits.entry.host.now → k.max_message ≡ limits.entry.max_message
             → AtLeast next (record { seat = seat; serial = serial; message = 0; recipient = 0 }) → StandsForCaller k seat next heard h (greeted k seat serial)) }
     {
-        let mut machine = LmtpMachine::new(alloc, seat, serial, limits)?;
+        let Ok(verdicts) = Vec::with_capacity(alloc, 100) else {
+            return Err(AllocError);
+        };
+        let Ok(mut machine) = LmtpMachine::new(alloc, seat, serial, limits) else {
+            return Err(AllocError);
+        };
         let mut unsaid = Vec::new(alloc);
-        machine.greet(&mut unsaid)?;
+        let Ok(()) = machine.greet(&mut unsaid) else {
+            return Err(AllocError);
+        };
         Ok(Caller {
             serial,
             machine,
@@ -132,7 +141,7 @@ impl Caller {
             taken: 0,
             unsaid,
             is_waiting: false,
-            verdicts: Vec::with_capacity(alloc, 100)?,
+            verdicts,
         })
     }
 
@@ -157,7 +166,8 @@ impl Caller {
     // Takes what waits, as far as it goes: None where memory was wanting.
     fn take_what_waits(&mut self, directory: &Directory) -> Option<What>
         requires { self.old.machine.pending ≡ [] }
-        ensures { (k : Setup) (seat : ℕ) (next : CopyKey) (heard : List Noted) (b : scene.Caller) → directory.now ≡ k.directory → StandsForCaller k seat next heard self.old b →
+        ensures less { line_effort self.new ≤ line_effort self.old }
+        ensures took { (k : Setup) (seat : ℕ) (next : CopyKey) (heard : List Noted) (b : scene.Caller) → directory.now ≡ k.directory → StandsForCaller k seat next heard self.old b →
             TookWhatWaits k seat next heard b result self.new }
     {
         let progress = take_all(
@@ -183,6 +193,7 @@ impl Caller {
         out: &mut Vec<u8>,
     ) -> Result<What, AllocError>
         requires { self.old.machine.pending ≡ [] }
+        ensures less { line_effort self.new ≤ line_effort self.old }
         ensures ok { IfOk result (λ what. (k : Setup) (seat : ℕ) (next : CopyKey) (heard : List Noted) (b : scene.Caller) → IsOf k number seat directory.now → StandsForCaller k seat next heard self.old b →
             WorkedOff k true seat next heard b what self.new out.old.items out.new.items) }
         ensures err { OnErr result ((k : Setup) (seat : ℕ) (next : CopyKey) (heard : List Noted) (b : scene.Caller) → IsOf k number seat directory.now → StandsForCaller k seat next heard self.old b →
@@ -208,6 +219,7 @@ impl Caller {
         directory: &Directory,
         out: &mut Vec<u8>,
     ) -> Result<What, AllocError>
+        ensures less { line_effort self.new ≤ line_effort self.old }
         ensures ok { IfOk result (λ what. (k : Setup) (seat : ℕ) (next : CopyKey) (heard : List Noted) (b : scene.Caller) → IsOf k number seat directory.now → StandsForCaller k seat next heard self.old b →
             WentOn k true seat next heard b what self.new out.old.items out.new.items) }
         ensures err { OnErr result ((k : Setup) (seat : ℕ) (next : CopyKey) (heard : List Noted) (b : scene.Caller) → IsOf k number seat directory.now → StandsForCaller k seat next heard self.old b →
@@ -230,6 +242,7 @@ impl Caller {
         out: &mut Vec<u8>,
     ) -> Result<What, AllocError>
         requires { length self.old.machine.pending ≡ 1 }
+        ensures less { line_effort self.new ≤ line_effort self.old }
         ensures ok { IfOk result (λ what. (k : Setup) (seat : ℕ) (next : CopyKey) (heard : List Noted) (b : scene.Caller) → IsOf k number seat directory.now → StandsForCaller k seat next heard self.old b →
             WentOn k true seat next heard b what self.new out.old.items out.new.items) }
         ensures err { OnErr result ((k : Setup) (seat : ℕ) (next : CopyKey) (heard : List Noted) (b : scene.Caller) → IsOf k number seat directory.now → StandsForCaller k seat next heard self.old b →
@@ -254,6 +267,7 @@ impl Caller {
     fn say(&mut self, verdicts: &[Verdict]) -> Result<(), AllocError>
         requires one { length self.old.machine.pending ≡ 1 }
         requires known { AreKnown self.old verdicts.now }
+        ensures less { line_effort self.new ≤ line_effort self.old }
         ensures err { OnErr result (self.new ≡ self.old) }
         ensures quiet { OnOk result (self.new.machine.pending ≡ []) }
         ensures ok { OnOk result ((k : Setup) (seat : ℕ) (next : CopyKey) (heard : List Noted) (b : scene.Caller) → StandsForCaller k seat next heard self.old b → 0 < length b.talk.pending →

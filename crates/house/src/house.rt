@@ -11,6 +11,8 @@ ghost use Rattle.house.specs.CallerStands.{IsOf, StandsForCaller};
 ghost use Rattle.house.specs.Scene as scene;
 ghost use Rattle.house.specs.Scene.{Setup, greeted, more_waits};
 ghost use Rattle.house.specs.Stands.{StandsFor};
+ghost use Rattle.house.specs.Effort.{MakesLess, place_effort};
+ghost use Rattle.delivery_core.specs.Load.{load};
 ghost use Rattle.std.specs.Borrow.{Bor};
 ghost use Rattle.house.specs.Steps.{Follows, FollowsInPart, IsIdle, HasSeat, IsEmptySeat, IsNoSeat, IsNobody, IsThere, IsVacant, Led, MayNotPut, PlaceWentOn, PutsNext, StandsForMaybe, fault_of};
 ghost use Rattle.house.specs.declared.event.Event.TheVariants as events;
@@ -60,6 +62,7 @@ fn go_on_at(
     directory: &Directory,
     out: &mut Vec<u8>,
 ) -> Result<(), AllocError>
+    ensures less { place_effort place.new ≤ place_effort place.old }
     ensures ok { OnOk result ((k : Setup) (seat : ℕ) (next : CopyKey) (heard : List Noted) (b : scene.Caller) → IsOf k number seat directory.now → StandsForMaybe k seat next heard place.old (Some b) →
         PlaceWentOn k true seat next heard b place.new out.old.items out.new.items) }
     ensures err { OnErr result ((k : Setup) (seat : ℕ) (next : CopyKey) (heard : List Noted) (b : scene.Caller) → IsOf k number seat directory.now → StandsForMaybe k seat next heard place.old (Some b) →
@@ -115,6 +118,7 @@ fn put_next(core: &mut DeliveryCore, place: &Option<Caller>) -> Result<Option<Re
     ensures busy { result ≢ Err HouseFault.Busy }
     ensures nothing { result ≡ Err HouseFault.Nothing → (h : Line) × (place.now ≡ Some h) × MayNotPut core.old h }
     ensures puts { IfOk result (λ why. (h : Line) × (place.now ≡ Some h) × PutsNext core.old h core.new why) }
+    ensures load { OnOk result (load core.new ≤ load core.old + 4) }
     ensures refused { OnErr result (core.new ≡ core.old) }
 {
     let Some(caller) = place else {
@@ -219,6 +223,7 @@ impl House {
     fn put(&mut self, connection: u8, out: &mut Vec<u8>) -> Result<(), HouseFault>
         requires seat { HasSeat self.old connection }
         ensures follows { OnOk result (Follows self.old (events.Put connection) self.new out.old.items out.new.items) }
+        ensures effort { OnOk result (MakesLess (events.Put connection) self.old self.new) }
         ensures nobody { (result ≡ Err HouseFault.Nobody) ↔ IsEmptySeat self.old connection }
         ensures busy { result ≢ Err HouseFault.Busy }
         ensures idle { result ≡ Err HouseFault.Nothing → IsIdle self.old (events.Put connection) }
@@ -242,6 +247,7 @@ impl House {
     fn hear(&mut self, connection: u8, out: &mut Vec<u8>) -> Result<(), HouseFault>
         requires seat { HasSeat self.old connection }
         ensures follows { OnOk result (Follows self.old (events.Hear connection) self.new out.old.items out.new.items) }
+        ensures effort { OnOk result (MakesLess (events.Hear connection) self.old self.new) }
         ensures nobody { (result ≡ Err HouseFault.Nobody) ↔ IsEmptySeat self.old connection }
         ensures busy { result ≢ Err HouseFault.Busy }
         ensures idle { result ≡ Err HouseFault.Nothing → IsIdle self.old (events.Hear connection) }
@@ -269,6 +275,7 @@ impl House {
     // A shard's consumer takes what waits at the front of its lane.
     fn take(&mut self, shard: u8) -> Result<(), HouseFault>
         ensures follows { OnOk result ((k : Setup) (s : scene.Scene) (old : List ℕ) → StandsFor k self.old s → Led k true s (events.Take shard) self.new old old) }
+        ensures effort { OnOk result (MakesLess (events.Take shard) self.old self.new) }
         ensures nobody { (result ≡ Err HouseFault.Nobody) ↔ IsNobody self.old (events.Take shard) }
         ensures idle { result ≡ Err HouseFault.Nothing → IsIdle self.old (events.Take shard) }
         ensures only { IfErr result (λ e. (e ≡ HouseFault.Nobody) ⊎ (e ≡ HouseFault.Nothing)) }
@@ -283,6 +290,7 @@ impl House {
     // The copy in a shard's hand is delivered, or refused.
     fn deliver(&mut self, shard: u8) -> Result<(), HouseFault>
         ensures follows { OnOk result ((k : Setup) (s : scene.Scene) (old : List ℕ) → StandsFor k self.old s → Led k true s (events.Deliver shard) self.new old old) }
+        ensures effort { OnOk result (MakesLess (events.Deliver shard) self.old self.new) }
         ensures nobody { (result ≡ Err HouseFault.Nobody) ↔ IsNobody self.old (events.Deliver shard) }
         ensures idle { result ≡ Err HouseFault.Nothing → IsIdle self.old (events.Deliver shard) }
         ensures only { IfErr result (λ e. (e ≡ HouseFault.Nobody) ⊎ (e ≡ HouseFault.Nothing)) }
@@ -297,6 +305,7 @@ impl House {
     // The verdict in a shard's hand goes into the reply lane of the copy's seat.
     fn answer(&mut self, shard: u8) -> Result<(), HouseFault>
         ensures follows { OnOk result ((k : Setup) (s : scene.Scene) (old : List ℕ) → StandsFor k self.old s → Led k true s (events.Answer shard) self.new old old) }
+        ensures effort { OnOk result (MakesLess (events.Answer shard) self.old self.new) }
         ensures nobody { (result ≡ Err HouseFault.Nobody) ↔ IsNobody self.old (events.Answer shard) }
         ensures idle { result ≡ Err HouseFault.Nothing → IsIdle self.old (events.Answer shard) }
         ensures only { IfErr result (λ e. (e ≡ HouseFault.Nobody) ⊎ (e ≡ HouseFault.Nothing)) }
@@ -315,6 +324,7 @@ impl House {
     /// connection goes on from there; bytes that came with it were taken up or weren't there at all.
     pub fn step(&mut self, event: Event<'_>, out: &mut Vec<u8>) -> Result<(), HouseFault>
         ensures follows { OnOk result (Follows self.old event.entry self.new out.old.items out.new.items) }
+        ensures effort { OnOk result (MakesLess (event.entry) self.old self.new) }
         ensures nobody { (result ≡ Err HouseFault.Nobody) ↔ IsNobody self.old event.entry }
         ensures busy { result ≢ Err HouseFault.Busy }
         ensures idle { result ≡ Err HouseFault.Nothing → IsIdle self.old event.entry }
@@ -361,6 +371,7 @@ impl House {
     // A connection puts the next copy of its message.
     fn put_at(&mut self, connection: u8, out: &mut Vec<u8>) -> Result<(), HouseFault>
         ensures follows { OnOk result (Follows self.old (events.Put connection) self.new out.old.items out.new.items) }
+        ensures effort { OnOk result (MakesLess (events.Put connection) self.old self.new) }
         ensures nobody { (result ≡ Err HouseFault.Nobody) ↔ IsNobody self.old (events.Put connection) }
         ensures busy { result ≢ Err HouseFault.Busy }
         ensures idle { result ≡ Err HouseFault.Nothing → IsIdle self.old (events.Put connection) }
@@ -376,6 +387,7 @@ impl House {
     // A connection hears the verdict at the front of its reply lane.
     fn hear_at(&mut self, connection: u8, out: &mut Vec<u8>) -> Result<(), HouseFault>
         ensures follows { OnOk result (Follows self.old (events.Hear connection) self.new out.old.items out.new.items) }
+        ensures effort { OnOk result (MakesLess (events.Hear connection) self.old self.new) }
         ensures nobody { (result ≡ Err HouseFault.Nobody) ↔ IsNobody self.old (events.Hear connection) }
         ensures busy { result ≢ Err HouseFault.Busy }
         ensures idle { result ≡ Err HouseFault.Nothing → IsIdle self.old (events.Hear connection) }

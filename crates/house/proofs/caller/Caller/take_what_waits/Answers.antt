@@ -1,4 +1,4 @@
-use Rattle.std.proofs.Common.{◌≡◌, ◌∙◌, ◌+◌, ap, sym, subst, take, drop, [], ◌∷◌, ◌++◌, List, ℕ, arith, length, length-drop, refl}
+use Rattle.std.proofs.Common.{◌≡◌, ◌∙◌, ◌+◌, ◌*◌, ◌≤◌, ap, sym, subst, take, drop, [], ◌∷◌, ◌++◌, List, ℕ, arith, length, length-drop, refl}
 use Rattle.envelope.specs.Directory.{Directory}
 use Rattle.lmtp_machine.proofs.Calls.{the_rest}
 use Rattle.lmtp_machine.specs.Machine.{StandsFor}
@@ -7,11 +7,14 @@ use Rattle.house.specs.Line.{Line}
 use Rattle.house.specs.Taking.{TakenBy}
 use Rattle.house.specs.CallerStands.{IsAwaited, StandsForCaller}
 use Rattle.house.proofs.Callers.{took_what_waits}
+use Rattle.house.specs.Effort.{line_effort}
+use Rattle.house.specs.Scene.{copies_of}
+use Rattle.house.proofs.Efforts.{took_less}
 use Rattle.house.proofs.Working.{waited, none_left}
 use Rattle.house.proofs.caller.Caller.take_what_waits.Goals as goal
 
-pub returns : goal.returns
-returns c k seat next heard b e s =
+pub returns-clause-took : goal.returns-clause-took
+returns-clause-took c k seat next heard b e s =
     let i = c.self.inside in
     let r = c.take_all-progress in
     let f = r.ensures in
@@ -23,3 +26,14 @@ returns c k seat next heard b e s =
       (λ m. none_left (i.taken + r.result.used) i.came.items (let u = f.all m in omega (arith, u, ap length (the_rest i.taken c.deref.result.now), ap length c.deref.ensures.value, length-drop i.taken i.came.items)))
       (subst (λ (d : Directory). TakenBy (StandsFor r.new.machine) i.machine.setting i.machine.host d b.talk.at (take r.result.used (drop i.taken i.came.items)) i.unsaid.items r.new.out.items r.result.what r.new.machine.pending) e
         (rw (c.deref.ensures.value, the_rest i.taken i.came.items) at (f.taken b.talk.at s1.machine (subst (λ (ss : List Submission). IsAwaited ss b.talk.at.standing.phase) (sym s1.pending ∙ quiet) s1.awaited))))
+
+pub returns-clause-less : goal.returns-clause-less
+returns-clause-less c =
+    let i = c.self.inside in
+    let r = c.take_all-progress in
+    let f = r.ensures in
+    let quiet = ap (λ (x : Line). x.machine.pending) c.self.view_is ∙ c.requires in
+    let u = f.used in
+    let within : i.taken + r.result.used ≤ length i.came.items = let v = c.self.invariant.0 in omega (arith, u, v, ap length (the_rest i.taken c.deref.result.now), ap length c.deref.ensures.value, length-drop i.taken i.came.items) in
+    subst (λ (x : Line). 501 * length (drop (i.taken + r.result.used) i.came.items) + 5 * length (drop (length i.verdicts.items) (copies_of r.new.machine.pending)) ≤ line_effort x) c.self.view_is
+    (took_less i.came.items i.taken r.result.used (length i.verdicts.items) r.result.what i.machine.pending r.new.machine.pending quiet within f.moves f.awaits f.most)
