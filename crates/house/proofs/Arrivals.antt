@@ -1,5 +1,5 @@
 -- Bytes that come for a caller.
-use Rattle.std.proofs.Common.{◌≡◌, ℕ, ◌++◌, List, refl, ap, ◌∙◌}
+use Rattle.std.proofs.Common.{ℕ, ◌++◌, List, ap}
 use Rattle.delivery_token.specs.declared.CopyKey.{CopyKey}
 use Rattle.delivery_token.specs.declared.log.Noted.{Noted}
 use Rattle.house.specs.Line.{Line}
@@ -10,6 +10,18 @@ use Rattle.house.specs.CallerStands.{StandsForCaller}
 pub more_stands : (k : Setup) (seat : ℕ) (next : CopyKey) (heard : List Noted) (h : Line) (b : Caller) (piece : List ℕ) → StandsForCaller k seat next heard h b
     → StandsForCaller k seat next heard (with_more piece h) (more_waits b piece)
 more_stands k seat next heard h b piece s = record {
-  serial = s.serial; setting = s.setting; host = s.host; machine = s.machine; waits = ap (λ (l : List ℕ). l ++ piece) s.waits; unsaid = s.unsaid; pending = s.pending;
-  to_put = s.to_put; verdicts = s.verdicts; awaited = s.awaited; kept = s.kept; message = s.message; numbered = s.numbered; ahead = s.ahead;
+  serial = s.serial;
+  setting = s.setting;
+  host = s.host;
+  machine = s.machine;
+  waits = ap (λ (l : List ℕ). l ++ piece) s.waits;
+  unsaid = s.unsaid;
+  pending = s.pending;
+  to_put = s.to_put;
+  verdicts = s.verdicts;
+  awaited = s.awaited;
+  kept = s.kept;
+  message = s.message;
+  numbered = s.numbered;
+  ahead = s.ahead;
 }

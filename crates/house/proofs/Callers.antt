@@ -1,5 +1,5 @@
 -- What a connection's steps come to, from the machine's own promises.
-use Rattle.std.proofs.Common.{◌≡◌, ℕ, zero, suc, ◌+◌, ◌<◌, ◌≤◌, ◌⊎◌, inl, inr, Bool, true, false, List, [], ◌∷◌, ◌++◌, length, drop, take, map, refl, ap, sym, ◌∙◌, subst, arith, Option, Some, None}
+use Rattle.std.proofs.Common.{◌≡◌, ℕ, zero, suc, ◌+◌, ◌<◌, ◌≤◌, Bool, true, false, List, [], ◌∷◌, ◌++◌, length, drop, refl, ap, sym, ◌∙◌, subst, arith, Option, Some, None}
 use Rattle.std.proofs.lemmas.List.{append-nil}
 use Rattle.delivery_token.specs.declared.CopyKey.{CopyKey}
 use Rattle.delivery_token.specs.declared.Verdict.{Verdict}
@@ -10,17 +10,17 @@ use Rattle.lmtp_machine.specs.declared.connection.What.TheVariants.{More, Submit
 use Rattle.lmtp_machine.specs.Replies.{wire}
 use Rattle.lmtp_machine.specs.Dialogue as dialogue
 use Rattle.lmtp_machine.specs.Dialogue.{Phase, Start, Ready, Transaction, Data, Waiting, Ended, Standing, Setting, Submission, Turn, on_event}
-use Rattle.lmtp_machine.specs.Conversation.{Conversation, Leads, opened}
-use Rattle.lmtp_machine.specs.Calls.{Happens, IsListening, Submits, Taken, Tells}
-use Rattle.lmtp_machine.specs.Kept.{AreMessages, IsMessage, Kept, KeptAfter}
+use Rattle.lmtp_machine.specs.Conversation.{Conversation, opened}
+use Rattle.lmtp_machine.specs.Calls.{Happens, IsListening, Taken, Tells}
+use Rattle.lmtp_machine.specs.Kept.{AreMessages, IsMessage}
 use Rattle.lmtp_machine.specs.Machine.{Machine, StandsFor}
 use Rattle.lmtp_machine.proofs.Kept.{taken_keeps, event_keeps}
 use Rattle.house.specs.Line.{Line}
-use Rattle.house.specs.Talk.{IsWhole, Talk, WorksOff, marked, prints_all, prints_none}
-use Rattle.house.specs.Scene.{Caller, GoesOn, HeardFor, IsAnswered, Leaves, Setup, Talks, copies, copies_of, goes, greeted, keys_of, meets, setting_of, stays, works, waits, answers, stalls}
+use Rattle.house.specs.Talk.{Talk, marked, prints_all, prints_none}
+use Rattle.house.specs.Scene.{Caller, IsAnswered, Leaves, Setup, copies, copies_of, goes, greeted, keys_of, meets, setting_of, stays, works, waits, answers, stalls}
 use Rattle.house.specs.Taking.{AreKnown, TakenBy}
 use Rattle.delivery_core.specs.Puts.{AtLeast}
-use Rattle.house.specs.CallerStands.{IsAwaited, IsOf, IsThere, SlotsFor, StandsForCaller, WentOn, WorkedOff}
+use Rattle.house.specs.CallerStands.{IsAwaited, IsThere, SlotsFor, StandsForCaller, WentOn, WorkedOff}
 use Rattle.house.specs.CallerSteps.{IsAnswer, SaidVerdicts, TookWhatWaits}
 use Rattle.house.proofs.Copies.{copies-one, keys-one, no-key}
 use Rattle.house.proofs.Slots.{all-full, heard-for, later-message, no-slots}
@@ -65,7 +65,13 @@ module _ (k : Setup) (seat : ℕ) (next : CopyKey) (heard : List Noted) where
         all = all;
         is = is;
         stands = record {
-          serial = s.serial; setting = es ∙ s.setting; host = eh ∙ s.host; machine = t.stands; waits = refl; unsaid = refl; pending = refl;
+          serial = s.serial;
+          setting = es ∙ s.setting;
+          host = eh ∙ s.host;
+          machine = t.stands;
+          waits = refl;
+          unsaid = refl;
+          pending = refl;
           to_put = ap copies_of (sym t.submits) ∙ ap (λ (os : List (Option Verdict)). drop (length os) (copies_of m.pending)) (sym none);
           verdicts = subst (λ (os : List (Option Verdict)). SlotsFor heard (keys_of m.pending) os) (sym none) (no-slots heard (keys_of m.pending));
           awaited = awaits what t.turn m.pending t.after.standing.phase t.tells t.submits (ap (λ (x : Standing). x.phase) t.leads.stands);
@@ -83,12 +89,12 @@ module _ (k : Setup) (seat : ℕ) (next : CopyKey) (heard : List Noted) where
       → TookWhatWaits k seat next heard b result (record { serial = h.serial; machine = m; waits = left; unsaid = said; verdicts = h.verdicts })
   took_what_waits b h m bytes left said None s quiet split es eh all t =
       took b h m bytes left said None t.0 s quiet split es eh all tt
-        (subst (λ (n : List ℕ). Taken (StandsFor m) (setting_of k seat b.serial) n k.directory b.talk.at bytes h.unsaid said t.0 m.pending) s.host
-          (subst (λ (x : Setting). Taken (StandsFor m) x h.machine.host k.directory b.talk.at bytes h.unsaid said t.0 m.pending) s.setting t.1))
+      (subst (λ (n : List ℕ). Taken (StandsFor m) (setting_of k seat b.serial) n k.directory b.talk.at bytes h.unsaid said t.0 m.pending) s.host
+      (subst (λ (x : Setting). Taken (StandsFor m) x h.machine.host k.directory b.talk.at bytes h.unsaid said t.0 m.pending) s.setting t.1))
   took_what_waits b h m bytes left said (Some what) s quiet split es eh all t =
       took b h m bytes left said (Some what) what s quiet split es eh all refl
-        (subst (λ (n : List ℕ). Taken (StandsFor m) (setting_of k seat b.serial) n k.directory b.talk.at bytes h.unsaid said what m.pending) s.host
-          (subst (λ (x : Setting). Taken (StandsFor m) x h.machine.host k.directory b.talk.at bytes h.unsaid said what m.pending) s.setting t))
+      (subst (λ (n : List ℕ). Taken (StandsFor m) (setting_of k seat b.serial) n k.directory b.talk.at bytes h.unsaid said what m.pending) s.host
+      (subst (λ (x : Setting). Taken (StandsFor m) x h.machine.host k.directory b.talk.at bytes h.unsaid said what m.pending) s.setting t))
 
   -- ---- printing what was said
 
@@ -108,8 +114,20 @@ module _ (k : Setup) (seat : ℕ) (next : CopyKey) (heard : List Noted) where
 
   stands_silent : (h : Line) (b : Caller) → StandsForCaller k seat next heard h b → StandsForCaller k seat next heard (silent h) (record { serial = b.serial; talk = silent_talk b.talk; to_put = b.to_put })
   stands_silent h b s = record {
-    serial = s.serial; setting = s.setting; host = s.host; machine = s.machine; waits = s.waits; unsaid = refl; pending = s.pending; to_put = s.to_put; verdicts = s.verdicts;
-    awaited = s.awaited; kept = s.kept; message = s.message; numbered = s.numbered; ahead = s.ahead;
+    serial = s.serial;
+    setting = s.setting;
+    host = s.host;
+    machine = s.machine;
+    waits = s.waits;
+    unsaid = refl;
+    pending = s.pending;
+    to_put = s.to_put;
+    verdicts = s.verdicts;
+    awaited = s.awaited;
+    kept = s.kept;
+    message = s.message;
+    numbered = s.numbered;
+    ahead = s.ahead;
   }
 
   printed_all : (number : ℕ) (h : Line) (said : List ℕ) (b : Caller) (w : Talk) → number ≡ seat + 1 → h.unsaid ≡ w.unsaid → w.unsaid ≡ b.talk.unsaid ++ said → marked number h.unsaid ≡ marked (seat + 1) (b.talk.unsaid ++ said)
@@ -124,7 +142,9 @@ module _ (k : Setup) (seat : ℕ) (next : CopyKey) (heard : List Noted) where
         left = t.0;
         printed = marked number h.unsaid;
         talks = record {
-          turn = w.turn; what = w.what; after = after;
+          turn = w.turn;
+          what = w.what;
+          after = after;
           works = record { taken = w.works.taken; waited = w.works.waited; leads = w.works.leads; tells = w.works.tells; submits = w.works.submits };
           prints = prints_all refl (printed_all number h (wire k.host w.turn.replies) b w.after e w.stands.unsaid w.said);
           all = λ x. record { said = refl; taken = λ m. w.all (ap (λ (v : What). Some v) (w.is ∙ m)) };
@@ -143,7 +163,9 @@ module _ (k : Setup) (seat : ℕ) (next : CopyKey) (heard : List Noted) where
         left = Some (record { serial = b.serial; talk = after; to_put = copies_of w.turn.submissions });
         printed = marked number h.unsaid;
         talks = record {
-          turn = w.turn; what = w.what; after = after;
+          turn = w.turn;
+          what = w.what;
+          after = after;
           works = record { taken = w.works.taken; waited = w.works.waited; leads = w.works.leads; tells = w.works.tells; submits = w.works.submits };
           prints = prints_all refl (printed_all number h (wire k.host w.turn.replies) b w.after e w.stands.unsaid w.said);
           all = λ x. absurd (let y : false ≡ true = x in cc);
@@ -161,7 +183,9 @@ module _ (k : Setup) (seat : ℕ) (next : CopyKey) (heard : List Noted) where
         left = Some (record { serial = b.serial; talk = w.after; to_put = copies_of w.turn.submissions });
         printed = [];
         talks = record {
-          turn = w.turn; what = w.what; after = w.after;
+          turn = w.turn;
+          what = w.what;
+          after = w.after;
           works = w.works;
           prints = prints_none w.said refl;
           all = λ x. absurd (let y : false ≡ true = x in cc);
@@ -187,7 +211,11 @@ module _ (k : Setup) (seat : ℕ) (next : CopyKey) (heard : List Noted) where
 
   pub went_stalls : (b : Caller) (h : Line) (old new : List ℕ) → StandsForCaller k seat next heard h b → new ≡ old → WentOn k false seat next heard b More h old new
   went_stalls b h old new s e = record {
-    left = Some b; printed = []; goes = stalls refl refl refl; there = ((λ q. let x : More ≡ Quit = q in cc), s); out = e ∙ sym (append-nil old);
+    left = Some b;
+    printed = [];
+    goes = stalls refl refl refl;
+    there = ((λ q. let x : More ≡ Quit = q in cc), s);
+    out = e ∙ sym (append-nil old);
   }
 
   -- all copies of the one message are put where none is left
@@ -242,9 +270,15 @@ module _ (k : Setup) (seat : ℕ) (next : CopyKey) (heard : List Noted) where
       record {
         answered = record { put = put; each = heard-for heard (keys_of b.talk.pending) h.verdicts vs s.verdicts long known.each };
         stands = record {
-          serial = s.serial; setting = es ∙ s.setting; host = eh ∙ s.host; machine = h2.stands; waits = s.waits;
+          serial = s.serial;
+          setting = es ∙ s.setting;
+          host = eh ∙ s.host;
+          machine = h2.stands;
+          waits = s.waits;
           unsaid = h2.said ∙ ap (λ (l : List ℕ). l ++ wire k.host (on_event (setting_of k seat b.serial) k.directory b.talk.at.standing (dialogue.Answered vs)).replies) s.unsaid;
-          pending = quiet; to_put = refl; verdicts = no-slots heard [];
+          pending = quiet;
+          to_put = refl;
+          verdicts = no-slots heard [];
           awaited = λ n e. answered_phase vs b.talk.at.standing.phase _ n o.4 e;
           kept = (event_keeps (setting_of k seat b.serial) k.directory b.talk.at.standing (dialogue.Answered vs) s.kept).kept;
           message = (on_event (setting_of k seat b.serial) k.directory b.talk.at.standing (dialogue.Answered vs)).standing.submitted;
@@ -270,7 +304,15 @@ module _ (k : Setup) (seat : ℕ) (next : CopyKey) (heard : List Noted) where
       let h1 = happens k.directory opened st in
       let h2 = subst (λ (x : List ℕ). Happens (StandsFor n) (setting_of k seat serial) x k.directory opened dialogue.Opened [] said) (eh ∙ sym kh) (subst (λ (x : Setting). Happens (StandsFor n) x m.host k.directory opened dialogue.Opened [] said) set h1) in
       record {
-        serial = refl; setting = ss ∙ set; host = sh ∙ eh ∙ sym kh; machine = h2.stands; waits = refl; unsaid = h2.said; pending = sp ∙ quiet; to_put = refl; verdicts = no-slots heard [];
+        serial = refl;
+        setting = ss ∙ set;
+        host = sh ∙ eh ∙ sym kh;
+        machine = h2.stands;
+        waits = refl;
+        unsaid = h2.said;
+        pending = sp ∙ quiet;
+        to_put = refl;
+        verdicts = no-slots heard [];
         awaited = λ n e. let x : Start ≡ Waiting n = e in cc;
         kept = record { here = omega arith };
         message = 0;

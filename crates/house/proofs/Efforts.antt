@@ -1,21 +1,17 @@
 -- How the work that is left becomes less.
-use Rattle.std.proofs.Common.{◌≡◌, ◌≢◌, ℕ, zero, suc, ◌+◌, ◌-◌, ◌*◌, ◌<◌, ◌≤◌, ◌⊎◌, inl, inr, List, [], ◌∷◌, ◌++◌, length, drop, take, map, refl, ap, sym, ◌∙◌, subst, arith, Option, Some, None, get_or, set, length-drop, length-append, append-nil}
-use Rattle.std.specs.Prelude.{All, sum_by}
-use Rattle.std.specs.Option.{option_map}
+use Rattle.std.proofs.Common.{◌≡◌, ℕ, suc, ◌+◌, ◌*◌, ◌<◌, ◌≤◌, List, [], ◌∷◌, ◌++◌, length, drop, refl, ap, ◌∙◌, arith, Option, Some, None, length-drop, length-append, append-nil}
 use Rattle.std.proofs.Math.Seq.{drop-nil}
 use Rattle.std.proofs.lemmas.List.Elements.{All-head}
 use Rattle.delivery_token.specs.declared.Job.{Job}
-use Rattle.delivery_token.specs.declared.Refusal.{Refusal}
 use Rattle.delivery_token.specs.declared.Verdict.{Verdict}
-use Rattle.delivery_token.specs.declared.log.Noted.{Noted}
 use Rattle.lmtp_machine.specs.declared.connection.What.{What}
 use Rattle.lmtp_machine.specs.declared.connection.What.TheVariants.{More, Submit, Quit}
 use Rattle.lmtp_machine.specs.Dialogue.{Submission}
 use Rattle.house.specs.Line.{Line}
-use Rattle.house.specs.Effort.{line_effort, place_effort}
+use Rattle.house.specs.Effort.{line_effort}
 use Rattle.house.specs.Few.{AreFew}
 use Rattle.house.specs.Scene.{copies, copies_of}
-use Rattle.house.specs.Taking.{AwaitsIn, HearsSlot, due, noted_put, notes_it, passes_it}
+use Rattle.house.specs.Taking.{AwaitsIn, due, noted_put}
 use Rattle.house.proofs.Copies.{length-copies}
 
 -- at most 100 copies of one message are still to be put

@@ -1,5 +1,5 @@
 -- What bytes, a put and a hearing come to, from who stands at the seat.
-use Rattle.std.proofs.Common.{◌≡◌, ◌≢◌, ℕ, zero, suc, ◌+◌, ◌-◌, ◌<◌, ◌≤◌, ◌⊎◌, inl, inr, Bool, true, false, List, [], ◌∷◌, ◌++◌, length, map, refl, ap, sym, ◌∙◌, subst, arith, Option, Some, None, get_or, set, IsSome, length-set, get_or-set_other, get_or-set_same}
+use Rattle.std.proofs.Common.{◌≡◌, ℕ, ◌+◌, ◌<◌, Bool, true, false, List, ◌++◌, length, refl, ap, sym, ◌∙◌, subst, arith, Option, Some, None, get_or, set, IsSome, length-set, get_or-set_other, get_or-set_same}
 use Rattle.delivery_core.specs.Puts.{AtLeast}
 use Rattle.shard_queue.specs.At.{set_at}
 use Rattle.shard_queue.proofs.AtLaws.{set_at-same}
@@ -10,10 +10,10 @@ use Rattle.envelope.specs.Directory.{Directory}
 use Rattle.delivery_core.specs.New.{first_key}
 use Rattle.house.specs.Line.{Line}
 use Rattle.house.specs.State.{State}
-use Rattle.house.specs.Scene.{BytesPlay, Caller, Scene, Setup, goes_on, greeted, more_waits, most_serials, opens, seat_of, with_caller}
+use Rattle.house.specs.Scene.{BytesPlay, Caller, Scene, Setup, goes_on, greeted, more_waits, most_serials, opens, with_caller}
 use Rattle.house.specs.Taking.{with_more}
 use Rattle.house.specs.CallerStands.{IsOf, StandsForCaller}
-use Rattle.house.specs.Stands.{StandsFor, StandsForOne, StandsForSeat}
+use Rattle.house.specs.Stands.{StandsFor, StandsForOne}
 use Rattle.house.specs.Steps.{PlaceWentOn, StandsForMaybe}
 use Rattle.house.proofs.Arrivals.{more_stands}
 use Rattle.house.proofs.Places.{after_going, at_there}
@@ -44,8 +44,8 @@ pub received : (k : Setup) (h : State) (s : Scene) (number seat : ℕ) (piece : 
     → StandsFor k h s → number ≡ seat + 1 → directory ≡ h.directory → seat < length h.callers → IsSome (get_or h.callers seat None) → place ≡ option_map (with_more piece) (get_or h.callers seat None)
     → ((x : Setup) (p : ℕ) (next : CopyKey) (heard : List Noted) (b : Caller) → IsOf x number p directory → StandsForMaybe x p next heard place (Some b) → PlaceWentOn x whole p next heard b l old new)
     → (t : Scene) × (printed : List ℕ) × BytesPlay k whole s seat piece t printed
-      × StandsFor k (record { core = h.core; callers = set h.callers seat l; serials = h.serials; directory = h.directory; host = h.host; max_message = h.max_message }) t
-      × (new ≡ old ++ printed)
+    × StandsFor k (record { core = h.core; callers = set h.callers seat l; serials = h.serials; directory = h.directory; host = h.host; max_message = h.max_message }) t
+    × (new ≡ old ++ printed)
 received k h s number seat piece directory l place whole old new st e dir lt some is f =
     let g = some_line (get_or h.callers seat None) some in
     let y = first_key seat in
@@ -54,11 +54,14 @@ received k h s number seat piece directory l place whole old new st e dir lt som
     let m = more_stands k seat (get_or h.core.next seat y) (s.world.heard seat) g.0 a.caller piece a.stands in
     let at = is ∙ ap (option_map (with_more piece)) g.1 in
     let w = f k seat (get_or h.core.next seat y) (s.world.heard seat) b (record { numbered = e; looks_up = dir ∙ st.directory })
-        (subst (λ (x : Option Line). StandsForMaybe k seat (get_or h.core.next seat y) (s.world.heard seat) x (Some b)) (sym at) m) in
-    (with_caller s seat w.left, w.printed, goes_on a.caller a.here w.left w.goes refl,
+    (subst (λ (x : Option Line). StandsForMaybe k seat (get_or h.core.next seat y) (s.world.heard seat) x (Some b)) (sym at) m) in (
+      with_caller s seat w.left,
+      w.printed,
+      goes_on a.caller a.here w.left w.goes refl,
       after_going k h h.core h.serials s s.world s.next seat y l (with_more piece g.0) b whole old new st st.core lt (λ q ne. refl) (λ q z ne. refl) refl
-        (λ n. (st.each seat y n None lt).counted) (λ q n ne. refl) (λ q ne. refl) m a.serial w,
-      w.out)
+          (λ n. (st.each seat y n None lt).counted) (λ q n ne. refl) (λ q ne. refl) m a.serial w,
+      w.out,
+    )
 
 -- where nobody stands, the seat's next key is no later than that of its next connection
 vacant : (k : Setup) (s : Scene) (seat : ℕ) (next : CopyKey) (o : Option Caller) → s.caller seat ≡ o → StandsForOne k seat next (s.world.heard seat) (s.next seat) None o
@@ -71,8 +74,8 @@ pub welcomed : (k : Setup) (h : State) (s : Scene) (number seat : ℕ) (piece : 
     → ((x : Setup) (next : CopyKey) (heard : List Noted) → x.host ≡ h.host → x.max_message ≡ h.max_message → AtLeast next (record { seat = seat; serial = get_or h.serials seat 0; message = 0; recipient = 0 }) → StandsForCaller x seat next heard g (more_waits (greeted x seat (get_or h.serials seat 0)) piece))
     → ((x : Setup) (p : ℕ) (next : CopyKey) (heard : List Noted) (b : Caller) → IsOf x number p directory → StandsForMaybe x p next heard (Some g) (Some b) → PlaceWentOn x whole p next heard b l old new)
     → (t : Scene) × (printed : List ℕ) × BytesPlay k whole s seat piece t printed
-      × StandsFor k (record { core = h.core; callers = set h.callers seat l; serials = set h.serials seat (get_or h.serials seat 0 + 1); directory = h.directory; host = h.host; max_message = h.max_message }) t
-      × (new ≡ old ++ printed)
+    × StandsFor k (record { core = h.core; callers = set h.callers seat l; serials = set h.serials seat (get_or h.serials seat 0 + 1); directory = h.directory; host = h.host; max_message = h.max_message }) t
+    × (new ≡ old ++ printed)
 welcomed k h s number seat piece directory l g whole old new st e dir lt none less opened f =
     let y = first_key seat in
     let n = get_or h.serials seat 0 in
@@ -81,14 +84,16 @@ welcomed k h s number seat piece directory l g whole old new st e dir lt none le
     let o = vacant k s seat (get_or h.core.next seat y) (s.caller seat) refl (subst (λ (x : Option Line). StandsForOne k seat (get_or h.core.next seat y) (s.world.heard seat) (s.next seat) x (s.caller seat)) none each.who) in
     let b = more_waits (greeted k seat (s.next seat)) piece in
     let m : StandsForCaller k seat (get_or h.core.next seat y) (s.world.heard seat) g b
-        = subst (λ (z : ℕ). StandsForCaller k seat (get_or h.core.next seat y) (s.world.heard seat) g (more_waits (greeted k seat z) piece)) same
-          (opened k (get_or h.core.next seat y) (s.world.heard seat) (sym st.host) (sym st.max_message) (subst (λ (z : ℕ). AtLeast (get_or h.core.next seat y) (record { seat = seat; serial = z; message = 0; recipient = 0 })) (sym same) o.1)) in
+    = subst (λ (z : ℕ). StandsForCaller k seat (get_or h.core.next seat y) (s.world.heard seat) g (more_waits (greeted k seat z) piece)) same
+    (opened k (get_or h.core.next seat y) (s.world.heard seat) (sym st.host) (sym st.max_message) (subst (λ (z : ℕ). AtLeast (get_or h.core.next seat y) (record { seat = seat; serial = z; message = 0; recipient = 0 })) (sym same) o.1)) in
     let w = f k seat (get_or h.core.next seat y) (s.world.heard seat) b (record { numbered = e; looks_up = dir ∙ st.directory }) m in
     let ls : seat < length h.serials = let p = st.seats in let q = st.numbers in omega (arith, p, q, lt) in
-    let here : set_at s.next seat (s.next seat + 1) seat ≡ s.next seat + 1 = set_at-same s.next seat (s.next seat + 1) in
-    (record { world = s.world; caller = set_at s.caller seat w.left; next = set_at s.next seat (s.next seat + 1) }, w.printed,
+    let here : set_at s.next seat (s.next seat + 1) seat ≡ s.next seat + 1 = set_at-same s.next seat (s.next seat + 1) in (
+      record { world = s.world; caller = set_at s.caller seat w.left; next = set_at s.next seat (s.next seat + 1) },
+      w.printed,
       opens (let p = st.seats in omega (arith, p, lt)) o.0 (omega (arith, less, same)) w.left w.goes refl,
       after_going k h h.core (set h.serials seat (n + 1)) s s.world (set_at s.next seat (s.next seat + 1)) seat y l g b whole old new st st.core lt (λ q ne. refl) (λ q z ne. refl)
-        (length-set h.serials seat (n + 1)) (λ i. get_or-set_same h.serials seat (n + 1) i ls ∙ ap (λ (z : ℕ). z + 1) same ∙ sym here)
-        (λ q i ne. get_or-set_other h.serials seat q (n + 1) i ne) (λ q ne. at_there s.next seat (s.next seat + 1) q ne) m (omega (arith, here)) w,
-      w.out)
+          (length-set h.serials seat (n + 1)) (λ i. get_or-set_same h.serials seat (n + 1) i ls ∙ ap (λ (z : ℕ). z + 1) same ∙ sym here)
+          (λ q i ne. get_or-set_other h.serials seat q (n + 1) i ne) (λ q ne. at_there s.next seat (s.next seat + 1) q ne) m (omega (arith, here)) w,
+      w.out,
+    )

@@ -10,3 +10,7 @@ pub mod Putting
 pub mod Turns
 pub mod Efforts
 pub mod Arrivals
+pub mod PrintLaws
+pub mod ScriptLaws
+pub mod TailLaws
+pub mod NewHouse

@@ -1,12 +1,12 @@
 -- A house whose caller at one place went on: that place stands for who is left there, and the others stand as they stood.
-use Rattle.std.proofs.Common.{◌≡◌, ◌≢◌, ℕ, zero, suc, ◌+◌, ◌-◌, ◌<◌, ◌≤◌, ◌⊎◌, inl, inr, Bool, true, false, eqb, List, [], ◌∷◌, ◌++◌, length, map, refl, ap, sym, ◌∙◌, subst, arith, Option, Some, None, get_or, set, length-set, get_or-set_other, get_or-set_same}
+use Rattle.std.proofs.Common.{◌≡◌, ◌≢◌, ℕ, ◌<◌, ◌⊎◌, inl, inr, Bool, true, false, eqb, List, length, refl, ap, sym, ◌∙◌, subst, arith, Option, Some, None, get_or, set, length-set, get_or-set_other, get_or-set_same}
 use Rattle.std.proofs.lemmas.Bool.Decides.{eqb_tells}
 use Rattle.delivery_token.specs.Keys.{Below}
 use Rattle.delivery_token.specs.declared.CopyKey.{CopyKey}
 use Rattle.delivery_token.specs.declared.log.Noted.{Noted}
 use Rattle.shard_queue.specs.At.{set_at}
 use Rattle.shard_queue.proofs.AtLaws.{at_cases, set_at-same}
-use Rattle.world.specs.World.{Config, World, Step, Steps}
+use Rattle.world.specs.World.{World}
 use Rattle.delivery_core.specs.Held.{Held, notes_of}
 use Rattle.delivery_core.specs.Puts.{AtLeast}
 use Rattle.delivery_core.specs.Stands as core
@@ -16,7 +16,7 @@ use Rattle.lmtp_machine.specs.Dialogue.{Submission}
 use Rattle.house.specs.Line.{Line}
 use Rattle.house.specs.State.{State}
 use Rattle.house.specs.Talk.{Talk}
-use Rattle.house.specs.Scene.{Caller, GoesOn, Leaves, Scene, Setup, Talks, answers, copies_of, goes, stalls, stays, waits, works, with_caller, with_world}
+use Rattle.house.specs.Scene.{Caller, GoesOn, Leaves, Scene, Setup, answers, copies_of, goes, stalls, stays, waits, works}
 use Rattle.house.specs.CallerStands.{StandsForCaller}
 use Rattle.house.specs.Stands.{StandsFor, StandsForOne, StandsForSeat}
 use Rattle.house.specs.Steps.{PlaceWentOn, StandsForMaybe}
@@ -68,9 +68,14 @@ pub after_going : (k : Setup) (h : State) (c : Held) (serials : List ℕ) (s : S
     → StandsForCaller k seat (get_or c.next seat y) (v.heard seat) g a → a.serial < numbers seat
     → (w : PlaceWentOn k whole seat (get_or c.next seat y) (v.heard seat) a l old new)
     → StandsFor k (record { core = c; callers = set h.callers seat l; serials = serials; directory = h.directory; host = h.host; max_message = h.max_message })
-        (record { world = v; caller = set_at s.caller seat w.left; next = numbers })
+    (record { world = v; caller = set_at s.caller seat w.left; next = numbers })
 after_going k h c serials s v numbers seat y l g a whole old new st cs lt notes nexts len here there other sa less w = record {
-  core = cs; directory = st.directory; host = st.host; max_message = st.max_message; homes = st.homes; some_shard = st.some_shard;
+  core = cs;
+  directory = st.directory;
+  host = st.host;
+  max_message = st.max_message;
+  homes = st.homes;
+  some_shard = st.some_shard;
   seats = length-set h.callers seat l ∙ st.seats;
   numbers = len ∙ st.numbers;
   each = λ q z n d m. place q z n d m (eqb_tells q seat);
@@ -86,7 +91,7 @@ after_going k h c serials s v numbers seat y l g a whole old new st cs lt notes 
     at_seat z n d = record {
       counted = here n;
       who = subst (λ (x : CopyKey). StandsForOne k seat x (v.heard seat) (numbers seat) (get_or (set h.callers seat l) seat d) (set_at s.caller seat w.left seat)) (get_or-any c.next seat y z in_next)
-        (subst (λ (x : Option Line). StandsForOne k seat (get_or c.next seat y) (v.heard seat) (numbers seat) x (set_at s.caller seat w.left seat)) (sym (get_or-set_same h.callers seat l d lt))
+          (subst (λ (x : Option Line). StandsForOne k seat (get_or c.next seat y) (v.heard seat) (numbers seat) x (set_at s.caller seat w.left seat)) (sym (get_or-set_same h.callers seat l d lt))
           (subst (λ (x : Option Caller). StandsForOne k seat (get_or c.next seat y) (v.heard seat) (numbers seat) l x) (sym (set_at-same s.caller seat w.left)) one));
     }
 
@@ -94,8 +99,8 @@ after_going k h c serials s v numbers seat y l g a whole old new st cs lt notes 
     elsewhere q z n d m ne =
         let lk : q < k.config.seats = let e = st.seats in omega (arith, m, e) in
         seat_kept k s (record { world = v; caller = set_at s.caller seat w.left; next = numbers }) q (get_or h.core.next q z) (get_or c.next q z) (get_or h.serials q n) (get_or serials q n) (get_or h.callers q d) (get_or (set h.callers seat l) q d) (st.each q z n d m)
-          (nexts q z ne) (there q n ne) (get_or-set_other h.callers seat q l d ne)
-          (sym (heard_is k.config c v cs q lk) ∙ notes q ne ∙ heard_is k.config h.core s.world st.core q lk) (at_there s.caller seat w.left q ne) (other q ne)
+        (nexts q z ne) (there q n ne) (get_or-set_other h.callers seat q l d ne)
+        (sym (heard_is k.config c v cs q lk) ∙ notes q ne ∙ heard_is k.config h.core s.world st.core q lk) (at_there s.caller seat w.left q ne) (other q ne)
 
     place : (q : ℕ) (z : CopyKey) (n : ℕ) (d : Option Line) → q < length (set h.callers seat l) → ((eqb q seat ≡ true) × (q ≡ seat)) ⊎ ((eqb q seat ≡ false) × (q ≢ seat))
         → StandsForSeat k (record { world = v; caller = set_at s.caller seat w.left; next = numbers }) q (get_or c.next q z) (get_or serials q n) (get_or (set h.callers seat l) q d)

@@ -1,5 +1,5 @@
 -- A copy was put, or a verdict was heard: the connection stands for its caller as before.
-use Rattle.std.proofs.Common.{◌≡◌, ◌≢◌, ℕ, zero, suc, ◌+◌, ◌-◌, ◌<◌, ◌≤◌, ◌⊎◌, inl, inr, Bool, true, false, eqb, List, [], ◌∷◌, ◌++◌, length, drop, map, refl, ap, sym, ◌∙◌, subst, arith, Option, Some, None, get_or, set, length-set, length-append, append-nil, get_or-set_other, get_or-set_same}
+use Rattle.std.proofs.Common.{◌≡◌, ◌≢◌, ℕ, zero, suc, ◌+◌, ◌<◌, ◌≤◌, ◌⊎◌, inl, inr, true, false, eqb, List, [], ◌∷◌, ◌++◌, length, drop, refl, ap, sym, ◌∙◌, subst, arith, Option, Some, None, get_or, set, length-set, length-append, append-nil, get_or-set_other, get_or-set_same}
 use Rattle.std.specs.Prelude.{Contains, All}
 use Rattle.std.proofs.lemmas.Bool.Decides.{eqb_tells}
 use Rattle.std.proofs.lemmas.List.Elements.{Contains-append_left, Contains-push, Contains-push_cases, All-contains, All-head, All-tail}
@@ -127,9 +127,9 @@ module _ (k : Setup) (seat : ℕ) (next : CopyKey) (heard : List Noted) where
       let kl = ap (λ (x : List CopyKey). length x) ks in
       let room : n < length (keys_of b.talk.pending) = omega (arith, w, l, kl) in
       let each : (i : ℕ) (d : CopyKey) → i < length (keys_of b.talk.pending) → get_or (keys_of b.talk.pending) i d ≡ record { seat = seat; serial = b.serial; message = s.message; recipient = i }
-          = λ i d h. let q = o.2.keys in let ql = ap (λ (x : List CopyKey). length x) q in let z : zero + i ≡ i = omega arith in
-            ap (λ (x : List CopyKey). get_or x i d) (ks ∙ q) ∙ key_at (setting_of k seat b.serial) s.message 0 i o.0.mailboxes d (omega (arith, h, kl, ql))
-            ∙ ap (λ (m : ℕ). record { seat = seat; serial = b.serial; message = s.message; recipient = m }) z in
+      = λ i d h. let q = o.2.keys in let ql = ap (λ (x : List CopyKey). length x) q in let z : zero + i ≡ i = omega arith in
+      ap (λ (x : List CopyKey). get_or x i d) (ks ∙ q) ∙ key_at (setting_of k seat b.serial) s.message 0 i o.0.mailboxes d (omega (arith, h, kl, ql))
+      ∙ ap (λ (m : ℕ). record { seat = seat; serial = b.serial; message = s.message; recipient = m }) z in
       let here : (d : CopyKey) → get_or (keys_of b.talk.pending) n d ≡ c.key = λ d. ap (λ (x : List CopyKey). get_or x n d) ks ∙ front_key n o.0.keys o.0.mailboxes o.0.text c others d g in
       record {
         key = sym (here c.key) ∙ each n c.key room;
@@ -146,10 +146,19 @@ module _ (k : Setup) (seat : ℕ) (next : CopyKey) (heard : List Noted) where
       → after ≡ past c.key → All (λ r. Below r.key c.key) heard → now ≡ heard ++ heard_at_once c.key c.mailbox why
       → StandsForCaller k seat after now (noted_put (heard_verdict why) h) (record { serial = b.serial; talk = b.talk; to_put = others })
   put_stands h b c others why after now s n ea above en = record {
-    serial = s.serial; setting = s.setting; host = s.host; machine = s.machine; waits = s.waits; unsaid = s.unsaid; pending = s.pending;
+    serial = s.serial;
+    setting = s.setting;
+    host = s.host;
+    machine = s.machine;
+    waits = s.waits;
+    unsaid = s.unsaid;
+    pending = s.pending;
     to_put = sym n.rest ∙ ap (λ (m : ℕ). drop m (copies_of b.talk.pending)) longer;
     verdicts = subst (λ (x : List Noted). SlotsFor x (keys_of b.talk.pending) (h.verdicts ++ heard_verdict why ∷ [])) (sym en) (slots why);
-    awaited = s.awaited; kept = s.kept; message = s.message; numbered = s.numbered;
+    awaited = s.awaited;
+    kept = s.kept;
+    message = s.message;
+    numbered = s.numbered;
     ahead = inl (ea ∙ ap past n.key ∙ ap (λ (m : ℕ). record { seat = seat; serial = b.serial; message = s.message; recipient = m }) longer_by_one);
   }
     where
@@ -189,9 +198,12 @@ module _ (k : Setup) (seat : ℕ) (next : CopyKey) (heard : List Noted) where
 
   heard_slots : (b : Caller) (h : Line) (r : Noted) (g : Line) → (s : StandsForCaller k seat next heard h b) → HearsSlot h r g
       → (os : List (Option Verdict)) × (g ≡ record { serial = h.serial; machine = h.machine; waits = h.waits; unsaid = h.unsaid; verdicts = os }) × (length os ≡ length h.verdicts) × SlotsFor (heard ++ r ∷ []) (keys_of b.talk.pending) os
-  heard_slots b h r g s (notes_it a e) =
-      (set h.verdicts r.key.recipient (Some r.verdict), e, length-set h.verdicts r.key.recipient (Some r.verdict),
-        record { few = let l = length-set h.verdicts r.key.recipient (Some r.verdict) in let f = s.verdicts.few in omega (arith, l, f); each = λ j key d lt. one j key d lt (eqb_tells j r.key.recipient) })
+  heard_slots b h r g s (notes_it a e) = (
+    set h.verdicts r.key.recipient (Some r.verdict),
+    e,
+    length-set h.verdicts r.key.recipient (Some r.verdict),
+    record { few = let l = length-set h.verdicts r.key.recipient (Some r.verdict) in let f = s.verdicts.few in omega (arith, l, f); each = λ j key d lt. one j key d lt (eqb_tells j r.key.recipient) },
+  )
     where
       here : (d : CopyKey) → get_or (keys_of b.talk.pending) r.key.recipient d ≡ r.key
       here d = ap (λ (ss : List Submission). get_or (keys_of ss) r.key.recipient d) (sym s.pending) ∙ a.same d
@@ -200,14 +212,14 @@ module _ (k : Setup) (seat : ℕ) (next : CopyKey) (heard : List Noted) where
           → SlotFor (heard ++ r ∷ []) (get_or (keys_of b.talk.pending) j key) (get_or (set h.verdicts r.key.recipient (Some r.verdict)) j d)
       one j key d lt (inl (t, e)) = subst (λ (i : ℕ). SlotFor (heard ++ r ∷ []) (get_or (keys_of b.talk.pending) i key) (get_or (set h.verdicts r.key.recipient (Some r.verdict)) i d)) (sym e)
           (subst (λ (x : Option Verdict). SlotFor (heard ++ r ∷ []) (get_or (keys_of b.talk.pending) r.key.recipient key) x) (sym (get_or-set_same h.verdicts r.key.recipient (Some r.verdict) d a.within))
-            (slot_now heard (get_or (keys_of b.talk.pending) r.key.recipient key) r (sym (here key))))
+          (slot_now heard (get_or (keys_of b.talk.pending) r.key.recipient key) r (sym (here key))))
       one j key d lt (inr (t, ne)) =
           let l = length-set h.verdicts r.key.recipient (Some r.verdict) in
           let f = s.verdicts.few in
           let m : j < length h.verdicts = omega (arith, lt, l) in
           subst (λ (x : Option Verdict). SlotFor (heard ++ r ∷ []) (get_or (keys_of b.talk.pending) j key) x) (sym (get_or-set_other h.verdicts r.key.recipient j (Some r.verdict) d ne))
           (slot_more heard (get_or (keys_of b.talk.pending) j key) (get_or h.verdicts j d) r (s.verdicts.each j key d m)
-            (λ e. ne (sym (ap (λ (q : CopyKey). q.recipient) (e ∙ numbers b h s j key (omega (arith, m, f)))))))
+          (λ e. ne (sym (ap (λ (q : CopyKey). q.recipient) (e ∙ numbers b h s j key (omega (arith, m, f)))))))
   heard_slots b h r g s (passes_it isnt e) =
       (h.verdicts, e, refl, record { few = s.verdicts.few; each = λ j key d lt. slot_more heard (get_or (keys_of b.talk.pending) j key) (get_or h.verdicts j d) r (s.verdicts.each j key d lt) (λ e. isnt (awaited j key lt e)) })
     where
@@ -227,9 +239,18 @@ module _ (k : Setup) (seat : ℕ) (next : CopyKey) (heard : List Noted) where
   heard_stands b h r g now s q en =
       let o = heard_slots b h r g s q in
       subst (λ (x : Line). StandsForCaller k seat next now x b) (sym o.1) (record {
-        serial = s.serial; setting = s.setting; host = s.host; machine = s.machine; waits = s.waits; unsaid = s.unsaid; pending = s.pending;
+        serial = s.serial;
+        setting = s.setting;
+        host = s.host;
+        machine = s.machine;
+        waits = s.waits;
+        unsaid = s.unsaid;
+        pending = s.pending;
         to_put = s.to_put ∙ ap (λ (m : ℕ). drop m (copies_of b.talk.pending)) (sym o.2);
         verdicts = subst (λ (x : List Noted). SlotsFor x (keys_of b.talk.pending) o.0) (sym en) o.3;
-        awaited = s.awaited; kept = s.kept; message = s.message; numbered = s.numbered;
+        awaited = s.awaited;
+        kept = s.kept;
+        message = s.message;
+        numbered = s.numbered;
         ahead = subst (λ (m : ℕ). AtLeast next (record { seat = seat; serial = b.serial; message = s.message; recipient = m })) (sym o.2) s.ahead;
       })

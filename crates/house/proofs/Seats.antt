@@ -1,5 +1,5 @@
 -- A house after a change: the seats that were not touched stand as they stood.
-use Rattle.std.proofs.Common.{◌≡◌, ◌≢◌, ℕ, zero, suc, ◌+◌, ◌<◌, ◌≤◌, ◌⊎◌, inl, inr, Bool, true, false, List, [], ◌∷◌, ◌++◌, length, map, refl, ap, sym, ◌∙◌, subst, arith, Option, Some, None, get_or}
+use Rattle.std.proofs.Common.{◌≡◌, ℕ, ◌<◌, List, [], ◌∷◌, length, map, refl, ap, sym, ◌∙◌, subst, arith, Option, get_or}
 use Rattle.std.proofs.lemmas.List.{get_or-map}
 use Rattle.delivery_token.specs.declared.CopyKey.{CopyKey}
 use Rattle.delivery_token.specs.declared.log.Noted.{Noted}
@@ -10,8 +10,7 @@ use Rattle.delivery_core.specs.Held.{Held, notes_of}
 use Rattle.delivery_core.specs.Stands as core
 use Rattle.house.specs.Line.{Line}
 use Rattle.house.specs.State.{State}
-use Rattle.house.specs.Scene.{Caller, Moves, Scene, Setup, with_world}
-use Rattle.house.specs.CallerStands.{StandsForCaller}
+use Rattle.house.specs.Scene.{Caller, Scene, Setup, with_world}
 use Rattle.house.specs.Stands.{StandsFor, StandsForOne, StandsForSeat}
 
 -- what the world says that a seat has heard is what it noted
@@ -27,10 +26,10 @@ pub seat_kept : (k : Setup) (s t : Scene) (q : ℕ) (y z : CopyKey) (n m : ℕ) 
 seat_kept k s t q y z n m l o h ey en el eh ec ex = record {
   counted = en ∙ h.counted ∙ sym ex;
   who = subst (λ (v : CopyKey). StandsForOne k q v (t.world.heard q) (t.next q) o (t.caller q)) (sym ey)
-    (subst (λ (v : List Noted). StandsForOne k q y v (t.next q) o (t.caller q)) (sym eh)
+      (subst (λ (v : List Noted). StandsForOne k q y v (t.next q) o (t.caller q)) (sym eh)
       (subst (λ (v : ℕ). StandsForOne k q y (s.world.heard q) v o (t.caller q)) (sym ex)
-        (subst (λ (v : Option Line). StandsForOne k q y (s.world.heard q) (s.next q) v (t.caller q)) (sym el)
-          (subst (λ (v : Option Caller). StandsForOne k q y (s.world.heard q) (s.next q) l v) (sym ec) h.who))));
+      (subst (λ (v : Option Line). StandsForOne k q y (s.world.heard q) (s.next q) v (t.caller q)) (sym el)
+      (subst (λ (v : Option Caller). StandsForOne k q y (s.world.heard q) (s.next q) l v) (sym ec) h.who))));
 }
 
 -- one step of the world
@@ -41,10 +40,17 @@ one_step k w v e s = subst (λ (x : World). Step k w e x) (sym s.2) s.1
 pub moved : (k : Setup) (h : State) (c : Held) (s : Scene) (v : World) → StandsFor k h s → core.StandsFor k.config c v → c.heard ≡ h.core.heard → c.next ≡ h.core.next
     → StandsFor k (record { core = c; callers = h.callers; serials = h.serials; directory = h.directory; host = h.host; max_message = h.max_message }) (with_world s v)
 moved k h c s v st cs eh en = record {
-  core = cs; directory = st.directory; host = st.host; max_message = st.max_message; homes = st.homes; some_shard = st.some_shard; seats = st.seats; numbers = st.numbers;
+  core = cs;
+  directory = st.directory;
+  host = st.host;
+  max_message = st.max_message;
+  homes = st.homes;
+  some_shard = st.some_shard;
+  seats = st.seats;
+  numbers = st.numbers;
   each = λ q y n d l.
-    let lt : q < k.config.seats = let e = st.seats in omega (arith, l, e) in
-    seat_kept k s (with_world s v) q (get_or h.core.next q y) (get_or c.next q y) (get_or h.serials q n) (get_or h.serials q n) (get_or h.callers q d) (get_or h.callers q d) (st.each q y n d l)
+      let lt : q < k.config.seats = let e = st.seats in omega (arith, l, e) in
+      seat_kept k s (with_world s v) q (get_or h.core.next q y) (get_or c.next q y) (get_or h.serials q n) (get_or h.serials q n) (get_or h.callers q d) (get_or h.callers q d) (st.each q y n d l)
       (ap (λ (ks : List CopyKey). get_or ks q y) en) refl refl
       (sym (heard_is k.config c v cs q lt) ∙ ap (λ (bs : List Book). get_or (map (λ (b : Book). b.notes) bs) q []) eh ∙ heard_is k.config h.core s.world st.core q lt) refl refl;
 }

@@ -1,7 +1,7 @@
 -- A put and a hearing, over the whole house.
-use Rattle.std.proofs.Common.{◌≡◌, ◌≢◌, ℕ, zero, suc, ◌+◌, ◌-◌, ◌%◌, ◌<◌, ◌≤◌, ◌⊎◌, inl, inr, Bool, true, false, List, [], ◌∷◌, ◌++◌, length, map, refl, ap, sym, ◌∙◌, subst, arith, Option, Some, None, get_or, set, length-set, length-append, drop, get_or-set_other, get_or-set_same}
-use Rattle.std.specs.Prelude.{All, IsSomeAnd, MatchOption}
-use Rattle.delivery_token.specs.Keys.{Below, Precedes}
+use Rattle.std.proofs.Common.{◌≡◌, ℕ, ◌+◌, ◌%◌, ◌<◌, ◌⊎◌, inl, inr, Bool, true, List, [], ◌∷◌, ◌++◌, length, refl, ap, sym, ◌∙◌, subst, arith, Option, Some, None, get_or, set, length-append, drop, get_or-set_other, get_or-set_same}
+use Rattle.std.specs.Prelude.{IsSomeAnd, MatchOption}
+use Rattle.delivery_token.specs.Keys.{Precedes}
 use Rattle.delivery_token.specs.declared.CopyKey.{CopyKey}
 use Rattle.delivery_token.specs.declared.Job.{Job}
 use Rattle.delivery_token.specs.declared.Refusal.{Refusal}
@@ -23,10 +23,10 @@ use Rattle.house.specs.Scene.{Caller, HearPlay, PutPlay, Scene, Setup, copies_of
 use Rattle.house.specs.Taking.{HearsSlot, due, heard_verdict, noted_put}
 use Rattle.house.specs.CallerStands.{IsOf, StandsForCaller}
 use Rattle.house.specs.Stands.{StandsFor}
-use Rattle.house.specs.Steps.{CorePuts, MayNotPut, PlaceWentOn, PutsNext, StandsForMaybe}
+use Rattle.house.specs.Steps.{MayNotPut, PlaceWentOn, PutsNext, StandsForMaybe}
 use Rattle.house.proofs.Events.{IsAt, at_seat}
 use Rattle.house.proofs.Places.{after_going}
-use Rattle.house.proofs.Putting.{IsNextCopy, heard_stands, next_copy, put_stands}
+use Rattle.house.proofs.Putting.{heard_stands, next_copy, put_stands}
 use Rattle.house.proofs.Seats.{heard_is, one_step}
 
 -- what may be put
@@ -55,8 +55,8 @@ pub put_led : (k : Setup) (h : State) (s : Scene) (number seat : ℕ) (directory
     → StandsFor k h s → number ≡ seat + 1 → directory ≡ h.directory → seat < length h.callers → get_or h.callers seat None ≡ Some g → PutsNext h.core g c why → place ≡ Some (noted_put (heard_verdict why) g)
     → ((x : Setup) (p : ℕ) (next : CopyKey) (heard : List Noted) (b : Caller) → IsOf x number p directory → StandsForMaybe x p next heard place (Some b) → PlaceWentOn x whole p next heard b l old new)
     → (t : Scene) × (printed : List ℕ) × PutPlay k whole s seat t printed
-      × StandsFor k (record { core = c; callers = set h.callers seat l; serials = h.serials; directory = h.directory; host = h.host; max_message = h.max_message }) t
-      × (new ≡ old ++ printed)
+    × StandsFor k (record { core = c; callers = set h.callers seat l; serials = h.serials; directory = h.directory; host = h.host; max_message = h.max_message }) t
+    × (new ≡ old ++ printed)
 put_led k h s number seat directory g c why place l whole old new st e dir lt some puts is f =
     let y = first_key seat in
     let a = at_seat k h s seat y g st lt some in
@@ -70,20 +70,22 @@ put_led k h s number seat directory g c why place l whole old new st e dir lt so
     let lk : seat < k.config.seats = let q = st.seats in omega (arith, lt, q) in
     let ln : seat < length h.core.next = let q = st.core.nexts in omega (arith, lk, q) in
     let heard : v.heard seat ≡ s.world.heard seat ++ heard_at_once puts.copy.key puts.copy.mailbox why
-        = sym (heard_is k.config c v cs seat lk) ∙ subst (λ (q : ℕ). notes_of c q ≡ notes_of h.core q ++ heard_at_once puts.copy.key puts.copy.mailbox why) es p.heard.here
-          ∙ ap (λ (ns : List Noted). ns ++ heard_at_once puts.copy.key puts.copy.mailbox why) (heard_is k.config h.core s.world st.core seat lk) in
+    = sym (heard_is k.config c v cs seat lk) ∙ subst (λ (q : ℕ). notes_of c q ≡ notes_of h.core q ++ heard_at_once puts.copy.key puts.copy.mailbox why) es p.heard.here
+    ∙ ap (λ (ns : List Noted). ns ++ heard_at_once puts.copy.key puts.copy.mailbox why) (heard_is k.config h.core s.world st.core seat lk) in
     let next : get_or c.next seat y ≡ past puts.copy.key = ap (λ (ks : List CopyKey). get_or ks seat y) (p.next ∙ ap (λ (q : ℕ). set h.core.next q (past puts.copy.key)) es) ∙ get_or-set_same h.core.next seat (past puts.copy.key) y ln in
     let b : Caller = record { serial = a.caller.serial; talk = a.caller.talk; to_put = puts.others } in
     let b1 = put_stands k seat (get_or h.core.next seat y) (s.world.heard seat) g a.caller puts.copy puts.others why (get_or c.next seat y) (v.heard seat) a.stands n next (may_of k.config s.world seat _ puts.copy v step).above_heard heard in
     let w = f k seat (get_or c.next seat y) (v.heard seat) b (record { numbered = e; looks_up = dir ∙ st.directory })
-        (subst (λ (x : Option Line). StandsForMaybe k seat (get_or c.next seat y) (v.heard seat) x (Some b)) (sym is) b1) in
-    (with_caller (with_world s v) seat w.left, w.printed,
+    (subst (λ (x : Option Line). StandsForMaybe k seat (get_or c.next seat y) (v.heard seat) x (Some b)) (sym is) b1) in (
+      with_caller (with_world s v) seat w.left,
+      w.printed,
       record { caller = a.caller; there = a.here; copy = puts.copy; others = puts.others; front = n.front; moved = v; step = step; left = w.left; goes = w.goes; after = refl },
       after_going k h c h.serials s v s.next seat y l (noted_put (heard_verdict why) g) b whole old new st cs lt
-        (λ q ne. p.heard.others q (λ z. ne (z ∙ es)))
-        (λ q z ne. ap (λ (ks : List CopyKey). get_or ks q z) (p.next ∙ ap (λ (r : ℕ). set h.core.next r (past puts.copy.key)) es) ∙ get_or-set_other h.core.next seat q (past puts.copy.key) z ne)
-        refl (λ i. (st.each seat y i None lt).counted) (λ q i ne. refl) (λ q ne. refl) b1 a.serial w,
-      w.out)
+          (λ q ne. p.heard.others q (λ z. ne (z ∙ es)))
+          (λ q z ne. ap (λ (ks : List CopyKey). get_or ks q z) (p.next ∙ ap (λ (r : ℕ). set h.core.next r (past puts.copy.key)) es) ∙ get_or-set_other h.core.next seat q (past puts.copy.key) z ne)
+          refl (λ i. (st.each seat y i None lt).counted) (λ q i ne. refl) (λ q ne. refl) b1 a.serial w,
+      w.out,
+    )
 
 -- a copy that is next may be put
 may_be_put : (k : Setup) (h : State) (s : Scene) (seat : ℕ) (g : Line) (c : Job) (others : List Job) → StandsFor k h s → seat < length h.callers → get_or h.callers seat None ≡ Some g → due g ≡ c ∷ others → IsNextKey h.core c.key c.mailbox
@@ -99,7 +101,7 @@ may_be_put k h s seat g c others st lt some front =
     record {
       seat = let q = st.core.seats in omega (arith, es, lk, q);
       next = subst (λ (q : ℕ). (get_or h.core.next q c.key ≡ c.key) ⊎ Precedes (get_or h.core.next q c.key) c.key) (sym es)
-        (elim ahead [ inl e ↦ inl e | inr b ↦ inr (own ∙ sym es, b) ]);
+          (elim ahead [ inl e ↦ inl e | inr b ↦ inr (own ∙ sym es, b) ]);
       last = let r = n.room in let m = n.few in let z = ap (λ (q : CopyKey). q.recipient) n.key in omega (arith, r, m, z);
       mailbox_there = let m = n.mailbox in let q = st.homes in let r = st.core.mailboxes in omega (arith, m, q, r);
       shard_there = let q = st.some_shard in let r = st.core.shards in omega (arith, q, r);
@@ -133,8 +135,8 @@ pub heard_led : (k : Setup) (h : State) (s : Scene) (number seat : ℕ) (directo
     → ((x : Config) → core.Follows x h.core (world.Hear seat ∷ []) c) → Hears h.core c seat (r ∷ []) → c.next ≡ h.core.next → HearsSlot g r q
     → ((x : Setup) (p : ℕ) (next : CopyKey) (heard : List Noted) (b : Caller) → IsOf x number p directory → StandsForMaybe x p next heard (Some q) (Some b) → PlaceWentOn x whole p next heard b l old new)
     → (t : Scene) × (printed : List ℕ) × HearPlay k whole s seat t printed
-      × StandsFor k (record { core = c; callers = set h.callers seat l; serials = h.serials; directory = h.directory; host = h.host; max_message = h.max_message }) t
-      × (new ≡ old ++ printed)
+    × StandsFor k (record { core = c; callers = set h.callers seat l; serials = h.serials; directory = h.directory; host = h.host; max_message = h.max_message }) t
+    × (new ≡ old ++ printed)
 heard_led k h s number seat directory g c r q l whole old new st e dir lt some follows hears nexts slot f =
     let y = first_key seat in
     let a = at_seat k h s seat y g st lt some in
@@ -145,12 +147,14 @@ heard_led k h s number seat directory g c r q l whole old new st e dir lt some f
     let heard : v.heard seat ≡ s.world.heard seat ++ r ∷ [] = sym (heard_is k.config c v cs seat lk) ∙ hears.here ∙ ap (λ (ns : List Noted). ns ++ r ∷ []) (heard_is k.config h.core s.world st.core seat lk) in
     let same : get_or c.next seat y ≡ get_or h.core.next seat y = ap (λ (ks : List CopyKey). get_or ks seat y) nexts in
     let b1 = subst (λ (z : CopyKey). StandsForCaller k seat z (v.heard seat) q a.caller) (sym same) (heard_stands k seat (get_or h.core.next seat y) (s.world.heard seat) a.caller g r q (v.heard seat) a.stands slot heard) in
-    let w = f k seat (get_or c.next seat y) (v.heard seat) a.caller (record { numbered = e; looks_up = dir ∙ st.directory }) b1 in
-    (with_caller (with_world s v) seat w.left, w.printed,
+    let w = f k seat (get_or c.next seat y) (v.heard seat) a.caller (record { numbered = e; looks_up = dir ∙ st.directory }) b1 in (
+      with_caller (with_world s v) seat w.left,
+      w.printed,
       record { caller = a.caller; there = a.here; moved = v; step = one_step k.config s.world v (world.Hear seat) m.1; left = w.left; goes = w.goes; after = refl },
       after_going k h c h.serials s v s.next seat y l q a.caller whole old new st cs lt hears.others (λ p z ne. ap (λ (ks : List CopyKey). get_or ks p z) nexts)
-        refl (λ i. (st.each seat y i None lt).counted) (λ p i ne. refl) (λ p ne. refl) b1 a.serial w,
-      w.out)
+          refl (λ i. (st.each seat y i None lt).counted) (λ p i ne. refl) (λ p ne. refl) b1 a.serial w,
+      w.out,
+    )
 
 pub hear_idles : (k : Setup) (h : State) (s : Scene) (seat : ℕ) (t : Scene) (printed : List ℕ) → StandsFor k h s → ((x : Config) → core.Idle x h.core (world.Hear seat)) → HearPlay k true s seat t printed → ⊥
 hear_idles k h s seat t printed st idle p = hear_moves s.world seat p.moved p.step (idle k.config s.world p.moved st.core p.step)

@@ -1,19 +1,16 @@
 -- Events of the world in which nobody says a word.
-use Rattle.std.proofs.Common.{◌≡◌, ℕ, ◌++◌, List, [], ◌∷◌, refl, ap, sym, ◌∙◌, subst}
-use Rattle.std.proofs.lemmas.List.{append-nil}
+use Rattle.std.proofs.Common.{◌≡◌, ℕ, List, [], ◌∷◌, refl, ap, ◌∙◌}
 use Rattle.world.specs.World.{Config, World, Step, Steps}
 use Rattle.world.specs.World as world
 use Rattle.delivery_core.specs.Held.{Held}
 use Rattle.delivery_core.specs.Stands as core
 use Rattle.delivery_core.specs.declared.steps.Fault.{Fault}
 use Rattle.delivery_core.specs.declared.steps.Fault.TheVariants as faults
-use Rattle.house.specs.declared.event.HouseFault.{HouseFault}
 use Rattle.house.specs.declared.event.HouseFault.TheVariants as house_faults
-use Rattle.house.specs.declared.event.Event.{Event}
 use Rattle.house.specs.State.{State}
-use Rattle.house.specs.Scene.{Moves, Plays, Scene, Setup, with_world}
+use Rattle.house.specs.Scene.{Moves, Scene, Setup, with_world}
 use Rattle.house.specs.Stands.{StandsFor}
-use Rattle.house.specs.Steps.{Led, fault_of}
+use Rattle.house.specs.Steps.{fault_of}
 use Rattle.house.proofs.Seats.{moved, one_step}
 
 pub is_nothing : (f : Fault) → fault_of f ≡ house_faults.Nothing → f ≡ faults.Nothing

@@ -1,5 +1,5 @@
 -- How much is left to do before nothing moves: bytes that wait to be taken, copies that are to be put, and what the delivery side has before it.
-use Rattle.std.specs.Prelude.{ℕ, ◌+◌, ◌*◌, ◌<◌, ◌≤◌, List, length, Option, Some, None, sum_by}
+use Rattle.std.specs.Prelude.{ℕ, ◌+◌, ◌*◌, ◌<◌, length, Option, Some, None, sum_by}
 use Rattle.delivery_core.specs.Load.{load}
 use Rattle.house.specs.declared.event.Event.{Event}
 use Rattle.house.specs.declared.event.Event.TheVariants.{Bytes, Put, Take, Deliver, Answer, Hear}

@@ -3,6 +3,7 @@ pub mod Line
 pub mod Few
 pub mod State
 pub mod Scene
+pub mod Settings
 pub mod Taking
 pub mod CallerStands
 pub mod CallerSteps

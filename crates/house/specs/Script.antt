@@ -1,6 +1,8 @@
 -- A script: what its lines are, what each does to the house, and what is written.
-use Rattle.std.specs.Prelude.{◌≡◌, ℕ, ◌+◌, ◌-◌, ◌<◌, ◌≤◌, ◌==◌, ◌&&◌, ◌||◌, nat_le, nat_lt, ◌⊎◌, Bool, true, false, if◌then◌else◌, List, [], ◌∷◌, ◌++◌, length, map, drop, take, flat_map, codes, decimal, Option, Some, None, slice_index_or}
+use Rattle.std.specs.Prelude.{◌≡◌, ℕ, ◌+◌, ◌-◌, ◌<◌, ◌≤◌, ◌==◌, ◌&&◌, nat_eq, nat_le, nat_lt, ◌⊎◌, Bool, true, false, if◌then◌else◌, List, [], ◌∷◌, ◌++◌, length, map, drop, take, flat_map, codes, decimal, Option, Some, None}
+use Rattle.std.specs.Io.BufRead.{ends_with_byte, strip_last}
 use Rattle.std.specs.Io.KnownBytes.{Appends}
+use Rattle.std.specs.List.{list_any, starts_with}
 use Rattle.change_ring.specs.declared.change.Change.{Change}
 use Rattle.change_ring.specs.declared.change.Change.TheVariants.{Add, Gone, Flags as SetFlags}
 use Rattle.change_ring.specs.declared.change.Flags.{Flags}
@@ -9,6 +11,8 @@ use Rattle.envelope.specs.Names.{number_of}
 use Rattle.line_io.specs.Wire.{crlf}
 use Rattle.house.specs.Scene.{BytesPlay, Scene, Setup, empty_scene, most_serials, seat_of}
 use Rattle.house.specs.Settling.{Settles}
+use Rattle.house.specs.declared.script.ScriptLine as read
+use Rattle.house.specs.declared.script.ScriptLine.TheVariants as reads
 
 -- ---- the lines of a script
 
@@ -23,10 +27,7 @@ pieces (b ∷ bs) = if b == 10 then (10 ∷ []) ∷ pieces bs else put_first b (
 
 -- a piece without its LF, and without a CR before that
 abbrev pub line_of : List ℕ → List ℕ
-line_of [] = []
-line_of (b ∷ []) = if b == 10 then [] else b ∷ []
-line_of (b ∷ c ∷ []) = if (b == 13) && (c == 10) then [] else b ∷ line_of (c ∷ [])
-line_of (b ∷ c ∷ d ∷ bs) = b ∷ line_of (c ∷ d ∷ bs)
+line_of piece = if ends_with_byte 10 piece then strip_last 13 (strip_last 10 piece) else piece
 
 pub data ScriptLine : Type 0 where
   -- a line comes from the peer of a connection
@@ -37,13 +38,19 @@ pub data ScriptLine : Type 0 where
   Skip : ScriptLine
   Bad : ScriptLine
 
+-- a line that was read, as a line of the script
+abbrev pub as_spec : read.ScriptLine → ScriptLine
+as_spec (reads.Says connection text) = Says connection text.now
+as_spec (reads.Tail word) = Tail word.now
+as_spec reads.Skip = Skip
+as_spec reads.Bad = Bad
+
 -- the most bytes of a line, without its end
 abbrev pub most_bytes : ℕ
 most_bytes = 65536
 
 abbrev pub has_space : List ℕ → Bool
-has_space [] = false
-has_space (b ∷ bs) = (b == 32) || has_space bs
+has_space bytes = list_any (λ b. b == 32) bytes
 
 -- a connection's number is one digit from 1 to 8
 abbrev pub is_connection : ℕ → Bool
@@ -60,9 +67,7 @@ tail_of word = if has_space word then Bad else Tail word
 
 -- the line begins with this text
 abbrev pub begins : List ℕ → List ℕ → Bool
-begins [] line = true
-begins (b ∷ bs) [] = false
-begins (b ∷ bs) (c ∷ cs) = (b == c) && begins bs cs
+begins text line = starts_with nat_eq line text
 
 abbrev pub is_skipped : List ℕ → Bool
 is_skipped [] = true
@@ -89,7 +94,8 @@ script_of input = map (λ piece. asked (line_of piece)) (pieces input)
 
 abbrev pub flag_words : Flags → List (List ℕ)
 flag_words f =
-    (if f.answered then codes "\\Answered" ∷ [] else []) ++ (if f.flagged then codes "\\Flagged" ∷ [] else []) ++ (if f.deleted then codes "\\Deleted" ∷ [] else [])
+    (if f.answered then codes "\\Answered" ∷ [] else []) ++ (if f.flagged then codes "\\Flagged" ∷ [] else [])
+    ++ (if f.deleted then codes "\\Deleted" ∷ [] else [])
     ++ (if f.seen then codes "\\Seen" ∷ [] else []) ++ (if f.draft then codes "\\Draft" ∷ [] else [])
 
 -- the words with a space between two
@@ -114,6 +120,12 @@ tail_text word changes total = flat_map (λ c. tail_line word (change_text c)) c
 abbrev pub window_text : List ℕ → Box → List ℕ
 window_text word b = tail_text word (drop b.base b.log) (length b.log)
 
+-- what was printed of the mailbox that this word names
+pub record PrintsWindow (k : Setup) (s : Scene) (word old new : List ℕ) : Type 0 where
+  pub mailbox : ℕ
+  pub named : number_of k.directory word ≡ Some mailbox
+  pub out : new ≡ old ++ window_text word (s.world.box mailbox)
+
 -- ---- what a script does
 
 abbrev pub refusal : ℕ → List ℕ → List ℕ
@@ -121,14 +133,19 @@ refusal number why = codes "? " ++ decimal number ++ codes " " ++ why ++ 10 ∷ 
 
 -- there is no such connection, or its seat takes no more
 abbrev pub NobodyThere : Setup → Scene → ℕ → Type 0
-NobodyThere k s connection = (connection ≡ 0) ⊎ (k.config.seats < connection) ⊎ ((s.caller (seat_of connection) ≡ None) × (most_serials ≤ s.next (seat_of connection)))
+NobodyThere k s connection = (connection ≡ 0) ⊎ (k.config.seats < connection)
+    ⊎ ((s.caller (seat_of connection) ≡ None) × (most_serials ≤ s.next (seat_of connection)))
 
 -- what the line itself does, before the house settles
 pub data LineDoes (k : Setup) (number : ℕ) (s : Scene) (t : Scene) (printed : List ℕ) : ScriptLine → Type 0 where
-  says : (connection : ℕ) (text : List ℕ) → BytesPlay k true s (seat_of connection) (text ++ crlf) t printed → LineDoes k number s t printed (Says connection text)
-  says_to_nobody : (connection : ℕ) (text : List ℕ) → NobodyThere k s connection → t ≡ s → printed ≡ refusal number (codes "Nobody") → LineDoes k number s t printed (Says connection text)
-  tails : (word : List ℕ) (m : ℕ) → number_of k.directory word ≡ Some m → t ≡ s → printed ≡ window_text word (s.world.box m) → LineDoes k number s t printed (Tail word)
-  tails_nobody : (word : List ℕ) → number_of k.directory word ≡ None → t ≡ s → printed ≡ refusal number (codes "Nobody") → LineDoes k number s t printed (Tail word)
+  says : (connection : ℕ) (text : List ℕ) → BytesPlay k true s (seat_of connection) (text ++ crlf) t printed
+      → LineDoes k number s t printed (Says connection text)
+  says_to_nobody : (connection : ℕ) (text : List ℕ) → NobodyThere k s connection → t ≡ s → printed ≡ refusal number (codes "Nobody")
+      → LineDoes k number s t printed (Says connection text)
+  tails : (word : List ℕ) (m : ℕ) → number_of k.directory word ≡ Some m → t ≡ s → printed ≡ window_text word (s.world.box m)
+      → LineDoes k number s t printed (Tail word)
+  tails_nobody : (word : List ℕ) → number_of k.directory word ≡ None → t ≡ s → printed ≡ refusal number (codes "Nobody")
+      → LineDoes k number s t printed (Tail word)
   skips : t ≡ s → printed ≡ [] → LineDoes k number s t printed Skip
   is_bad : t ≡ s → printed ≡ refusal number (codes "Line") → LineDoes k number s t printed Bad
 

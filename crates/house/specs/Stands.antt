@@ -2,7 +2,6 @@
 use Rattle.std.specs.Prelude.{◌≡◌, ℕ, ◌<◌, slice_index_or, List, length, Option, Some, None}
 use Rattle.delivery_token.specs.declared.CopyKey.{CopyKey}
 use Rattle.delivery_token.specs.declared.log.Noted.{Noted}
-use Rattle.delivery_core.specs.Held.{Held}
 use Rattle.delivery_core.specs.Puts.{AtLeast}
 use Rattle.delivery_core.specs.Stands as core
 use Rattle.house.specs.Line.{Line}
@@ -33,4 +32,3 @@ pub record StandsFor (k : Setup) (h : State) (s : Scene) : Type 0 where
   pub numbers : length h.serials ≡ k.config.seats
   pub each : (seat : ℕ) (y : CopyKey) (n : ℕ) (d : Option Line) → seat < length h.callers
       → StandsForSeat k s seat (slice_index_or h.core.next seat y) (slice_index_or h.serials seat n) (slice_index_or h.callers seat d)
-

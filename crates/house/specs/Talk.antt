@@ -1,9 +1,9 @@
 -- A connection of the house: where its dialogue stands, what waits to be taken, and what was said and not printed yet.
-use Rattle.std.specs.Prelude.{◌≡◌, ℕ, Bool, true, List, [], ◌∷◌, ◌++◌, codes, decimal, flat_map}
+use Rattle.std.specs.Prelude.{◌≡◌, ℕ, List, [], ◌∷◌, ◌++◌, codes, decimal, flat_map}
 use Rattle.envelope.specs.Directory.{Directory}
 use Rattle.line_io.specs.Wire.{wire_lines}
 use Rattle.lmtp_machine.specs.declared.connection.What.{What}
-use Rattle.lmtp_machine.specs.declared.connection.What.TheVariants.{More, Submit, Quit}
+use Rattle.lmtp_machine.specs.declared.connection.What.TheVariants.{More}
 use Rattle.lmtp_machine.specs.Replies.{wire}
 use Rattle.lmtp_machine.specs.Dialogue.{Setting, Submission, Turn}
 use Rattle.lmtp_machine.specs.Conversation.{Conversation, Leads}

@@ -18,9 +18,9 @@ ghost use Rattle.delivery_token.specs.declared.CopyKey.{CopyKey};
 ghost use Rattle.lmtp_machine.specs.Machine.{StandsFor};
 ghost use Rattle.lmtp_machine.specs.declared.connection.What.TheVariants as whats;
 
+use crate::print::print_said;
 use delivery_token::{CopyKey, Noted, Text, Verdict};
 use envelope::Directory;
-use crate::print::print_said;
 use lmtp_machine::{Limits, LmtpMachine, What};
 use std::alloc::{AllocError, Global};
 use std::marker::Model;

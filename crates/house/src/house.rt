@@ -163,12 +163,7 @@ fn hear_at(place: &mut Option<Caller>, noted: &Noted)
 
 impl House {
     // Bytes came for a connection that stands at its place.
-    fn receive(
-        &mut self,
-        connection: u8,
-        piece: &[u8],
-        out: &mut Vec<u8>,
-    ) -> Result<(), HouseFault>
+    fn receive(&mut self, connection: u8, piece: &[u8], out: &mut Vec<u8>) -> Result<(), HouseFault>
         requires there { IsThere self.old connection }
         ensures follows { OnOk result (Follows self.old (events.Bytes connection piece.entry) self.new out.old.items out.new.items) }
         ensures only { IfErr result (λ e. e ≡ HouseFault.NoMemory) }
@@ -184,12 +179,7 @@ impl House {
         Ok(())
     }
     // Bytes came for a connection at whose place nobody stands: one is opened first, with the seat's next serial.
-    fn welcome(
-        &mut self,
-        connection: u8,
-        piece: &[u8],
-        out: &mut Vec<u8>,
-    ) -> Result<(), HouseFault>
+    fn welcome(&mut self, connection: u8, piece: &[u8], out: &mut Vec<u8>) -> Result<(), HouseFault>
         requires vacant { IsVacant self.old connection }
         ensures follows { OnOk result (Follows self.old (events.Bytes connection piece.entry) self.new out.old.items out.new.items) }
         ensures only { IfErr result (λ e. e ≡ HouseFault.NoMemory) }
@@ -343,12 +333,7 @@ impl House {
     }
 
     // Bytes came from the peer of a connection.
-    fn bytes(
-        &mut self,
-        connection: u8,
-        piece: &[u8],
-        out: &mut Vec<u8>,
-    ) -> Result<(), HouseFault>
+    fn bytes(&mut self, connection: u8, piece: &[u8], out: &mut Vec<u8>) -> Result<(), HouseFault>
         ensures follows { OnOk result (Follows self.old (events.Bytes connection piece.entry) self.new out.old.items out.new.items) }
         ensures nobody { (result ≡ Err HouseFault.Nobody) ↔ IsNobody self.old (events.Bytes connection piece.entry) }
         ensures only { IfErr result (λ e. (e ≡ HouseFault.Nobody) ⊎ (e ≡ HouseFault.NoMemory)) }

@@ -3,9 +3,15 @@
 #![tactic(auto)]
 
 mod caller;
+mod config;
 mod event;
 mod house;
+mod make;
 mod print;
+mod script;
+mod tail;
 
+pub use config::{Config, ConfigFault};
 pub use event::{Event, HouseFault};
 pub use house::House;
+pub use script::ScriptLine;

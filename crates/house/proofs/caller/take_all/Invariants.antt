@@ -3,7 +3,6 @@ use Rattle.lmtp_machine.specs.Conversation.{Conversation}
 use Rattle.lmtp_machine.specs.declared.connection.What.{What}
 use Rattle.lmtp_machine.specs.Calls.{Taken}
 use Rattle.lmtp_machine.specs.Machine.{StandsFor}
-use Rattle.house.specs.Few.{AreFew}
 use Rattle.house.specs.CallerStands.{IsAwaited}
 use Rattle.house.proofs.caller.take_all.Given as goal
 
@@ -14,7 +13,7 @@ invariant-loop-fed l = record {
   setting : l.machine.setting ≡ l.fn.machine.setting;
   host : l.machine.host ≡ l.fn.machine.host;
   taken : (c : Conversation) → StandsFor l.fn.machine c → IsAwaited [] c.standing.phase
-    → (what : What) × Taken (StandsFor l.machine) l.fn.machine.setting l.fn.machine.host l.directory c (take l.used l.piece) l.fn.out.items l.out.items what l.machine.pending;
+      → (what : What) × Taken (StandsFor l.machine) l.fn.machine.setting l.fn.machine.host l.directory c (take l.used l.piece) l.fn.out.items l.out.items what l.machine.pending;
 }
 
 abbrev pub decreases-loop-fed : goal.decreases-loop-fed

@@ -1,4 +1,4 @@
-use Rattle.std.proofs.Common.{◌≡◌, sym, subst}
+use Rattle.std.proofs.Common.{sym, subst}
 use Rattle.house.specs.Line.{Line}
 use Rattle.house.specs.CallerStands.{StandsForCaller}
 use Rattle.house.specs.Scene.{greeted, more_waits}

@@ -1,6 +1,5 @@
-use Rattle.std.proofs.Common.{◌≡◌, inr, refl, sym, subst, ap, ◌∙◌, Err}
+use Rattle.std.proofs.Common.{inr, ap, Err}
 use Rattle.delivery_token.specs.declared.Job.{Job}
-use Rattle.house.specs.Line.{Line}
 use Rattle.house.proofs.house.put_next.Goals as goal
 
 pub returns-in-Err-Nothing-clause-nothing : goal.returns-in-Err-Nothing-clause-nothing

@@ -1,4 +1,4 @@
-use Rattle.std.proofs.Common.{◌≡◌, ◌∙◌, ◌<◌, ap, sym, subst, length, List, refl, arith, Some, Option, Ok, Vec, Global}
+use Rattle.std.proofs.Common.{◌≡◌, ◌<◌, ap, sym, subst, length, List, refl, arith, Option, Ok, Vec, Global}
 use Rattle.delivery_token.specs.declared.Verdict.{Verdict}
 use Rattle.house.specs.CallerStands.{WentOn}
 use Rattle.std.specs.Prelude.{true, false}
@@ -6,7 +6,6 @@ use Rattle.lmtp_machine.specs.declared.connection.What.TheVariants.{More}
 use Rattle.lmtp_machine.specs.Dialogue.{Answered, Submission}
 use Rattle.house.specs.Line.{Line}
 use Rattle.house.specs.Scene.{meets}
-use Rattle.house.specs.Taking.{AreKnown}
 use Rattle.house.proofs.Callers.{went_answers, went_stalls, went_waits}
 use Rattle.house.proofs.caller.Caller.answer.Goals as goal
 

@@ -1,4 +1,4 @@
-use Rattle.std.proofs.Common.{◌≡◌, ◌∙◌, ap, sym, subst}
+use Rattle.std.proofs.Common.{◌∙◌, ap, sym}
 use Rattle.std.specs.Prelude.{true, false}
 use Rattle.lmtp_machine.specs.declared.connection.What.TheVariants.{More}
 use Rattle.house.specs.Line.{Line}

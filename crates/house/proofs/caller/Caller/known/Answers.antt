@@ -1,7 +1,6 @@
-use Rattle.std.proofs.Common.{◌≡◌, ◌∙◌, ap, sym, subst, suc, zero, ◌<◌, take, map, Some, None, Option, [], ◌∷◌, List, ℕ, arith, length, get_or}
+use Rattle.std.proofs.Common.{◌≡◌, ◌∙◌, ap, suc, zero, ◌<◌, map, Some, None, Option, [], ◌∷◌, List, ℕ, arith, length, get_or}
 use Rattle.delivery_token.specs.declared.Verdict.{Verdict}
 use Rattle.house.specs.Line.{Line}
-use Rattle.house.specs.Taking.{AreKnown}
 use Rattle.house.proofs.caller.Caller.known.Goals as goal
 
 -- nothing is missing among what is all there

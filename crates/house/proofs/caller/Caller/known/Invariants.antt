@@ -1,4 +1,4 @@
-use Rattle.std.proofs.Common.{◌≡◌, take, map, Some, vec_len}
+use Rattle.std.proofs.Common.{◌≡◌, take, map, Some}
 use Rattle.house.proofs.caller.Caller.known.Given as goal
 
 abbrev pub invariant-loop-verdict : goal.invariant-loop-verdict

@@ -1,5 +1,4 @@
-use Rattle.std.proofs.Common.{◌≡◌, ◌∙◌, suc, ap, sym, subst, drop, [], ◌∷◌, List, arith, length}
-use Rattle.delivery_token.specs.declared.Job.{Job}
+use Rattle.std.proofs.Common.{◌≡◌, ◌∙◌, suc, ap, subst, drop, [], ◌∷◌, arith, length}
 use Rattle.lmtp_machine.specs.Calls.{submission_of}
 use Rattle.house.specs.Line.{Line}
 use Rattle.house.specs.Scene.{copies}
@@ -23,8 +22,9 @@ pub returns-clause-some : goal.returns-clause-some
 returns-clause-some c =
     let s = submission_of c.submission-submission.result.now in
     let n = c.self.inside.verdicts.items in
-    let one = ap (drop (length n)) (copies-one c.self.inside.machine.pending s c.submission-submission.ensures) in
-    (drop (suc (length n)) (copies s.keys s.mailboxes s.text),
+    let one = ap (drop (length n)) (copies-one c.self.inside.machine.pending s c.submission-submission.ensures) in (
+      drop (suc (length n)) (copies s.keys s.mailboxes s.text),
       subst (λ (h : Line). due h ≡ record { key = c.index.result.now; mailbox = c.index-2.result.now; text = c.submission-submission.result.now.text } ∷ drop (suc (length n)) (copies s.keys s.mailboxes s.text)) c.self.view_is
-      (one ∙ drop-copies (length n) s.keys s.mailboxes s.text c.index.result.now c.index-2.result.now (omega arith) (omega arith)
-        (rw (c.len-place.ensures, c.self.inside.verdicts.ok.0) at c.index.ensures) (rw (c.len-place.ensures, c.self.inside.verdicts.ok.0) at c.index-2.ensures)))
+          (one ∙ drop-copies (length n) s.keys s.mailboxes s.text c.index.result.now c.index-2.result.now (omega arith) (omega arith)
+          (rw (c.len-place.ensures, c.self.inside.verdicts.ok.0) at c.index.ensures) (rw (c.len-place.ensures, c.self.inside.verdicts.ok.0) at c.index-2.ensures)),
+    )

@@ -1,4 +1,4 @@
-use Rattle.std.proofs.Common.{◌≡◌, ◌⊎◌, inl, inr, ◌<◌, Bool, true, false, sym, subst, length, List, [], ℕ, refl, arith}
+use Rattle.std.proofs.Common.{◌≡◌, ◌⊎◌, inl, inr, ◌<◌, Bool, true, false, sym, subst, length, List, [], refl, arith}
 use Rattle.lmtp_machine.specs.Dialogue.{Submission}
 use Rattle.house.specs.Line.{Line}
 use Rattle.house.specs.Taking.{due}
@@ -13,5 +13,5 @@ pub push_reserved-requires : goal.push_reserved-requires
 push_reserved-requires c =
     let i = c.self.invariant in
     let n = few-due (length c.self.inside.verdicts.items) c.self.inside.machine.pending (waiting c.self.inside.is_waiting c.self.inside.machine.pending i.1 i.2) i.4
-        (subst (λ (h : Line). 0 < length (due h)) (sym c.self.view_is) c.requires) in
+    (subst (λ (h : Line). 0 < length (due h)) (sym c.self.view_is) c.requires) in
     omega (arith, n, i.3)

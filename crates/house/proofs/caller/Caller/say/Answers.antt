@@ -1,13 +1,11 @@
-use Rattle.std.proofs.Common.{◌≡◌, ◌∙◌, ◌<◌, ap, sym, subst, [], ◌∷◌, List, ℕ, arith, length, drop, Bool, true, false, Option, Some}
+use Rattle.std.proofs.Common.{◌∙◌, ap, sym, subst, List, arith, length, drop, Option}
 use Rattle.std.proofs.lemmas.List.{length-map}
 use Rattle.delivery_token.specs.declared.CopyKey.{CopyKey}
 use Rattle.delivery_token.specs.declared.Verdict.{Verdict}
-use Rattle.lmtp_machine.specs.Dialogue.{Submission}
 use Rattle.house.specs.Line.{Line}
 use Rattle.house.specs.CallerStands.{StandsForCaller}
 use Rattle.house.specs.CallerSteps.{SaidVerdicts}
-use Rattle.house.specs.Taking.{AreKnown, awaited_keys}
-use Rattle.house.specs.Scene.{keys_of}
+use Rattle.house.specs.Taking.{AreKnown}
 use Rattle.house.proofs.Copies.{keys-one}
 use Rattle.house.proofs.Callers.{said_verdicts}
 use Rattle.house.proofs.caller.Caller.say.Goals as goal

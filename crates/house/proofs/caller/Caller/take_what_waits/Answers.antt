@@ -1,4 +1,4 @@
-use Rattle.std.proofs.Common.{◌≡◌, ◌∙◌, ◌+◌, ◌*◌, ◌≤◌, ap, sym, subst, take, drop, [], ◌∷◌, ◌++◌, List, ℕ, arith, length, length-drop, refl}
+use Rattle.std.proofs.Common.{◌∙◌, ◌+◌, ◌*◌, ◌≤◌, ap, sym, subst, take, drop, List, arith, length, length-drop}
 use Rattle.envelope.specs.Directory.{Directory}
 use Rattle.lmtp_machine.proofs.Calls.{the_rest}
 use Rattle.lmtp_machine.specs.Machine.{StandsFor}
@@ -22,10 +22,10 @@ returns-clause-took c k seat next heard b e s =
     let s1 = subst (λ (x : Line). StandsForCaller k seat next heard x b) (sym c.self.view_is) s in
     let quiet = ap (λ (x : Line). x.machine.pending) c.self.view_is ∙ c.requires in
     took_what_waits k seat next heard b h r.new.machine (take r.result.used (drop i.taken i.came.items)) (drop (i.taken + r.result.used) i.came.items) r.new.out.items r.result.what
-      s1 quiet (waited i.came.items i.taken r.result.used) f.same.0 f.same.1
-      (λ m. none_left (i.taken + r.result.used) i.came.items (let u = f.all m in omega (arith, u, ap length (the_rest i.taken c.deref.result.now), ap length c.deref.ensures.value, length-drop i.taken i.came.items)))
-      (subst (λ (d : Directory). TakenBy (StandsFor r.new.machine) i.machine.setting i.machine.host d b.talk.at (take r.result.used (drop i.taken i.came.items)) i.unsaid.items r.new.out.items r.result.what r.new.machine.pending) e
-        (rw (c.deref.ensures.value, the_rest i.taken i.came.items) at (f.taken b.talk.at s1.machine (subst (λ (ss : List Submission). IsAwaited ss b.talk.at.standing.phase) (sym s1.pending ∙ quiet) s1.awaited))))
+    s1 quiet (waited i.came.items i.taken r.result.used) f.same.0 f.same.1
+    (λ m. none_left (i.taken + r.result.used) i.came.items (let u = f.all m in omega (arith, u, ap length (the_rest i.taken c.deref.result.now), ap length c.deref.ensures.value, length-drop i.taken i.came.items)))
+    (subst (λ (d : Directory). TakenBy (StandsFor r.new.machine) i.machine.setting i.machine.host d b.talk.at (take r.result.used (drop i.taken i.came.items)) i.unsaid.items r.new.out.items r.result.what r.new.machine.pending) e
+    (rw (c.deref.ensures.value, the_rest i.taken i.came.items) at (f.taken b.talk.at s1.machine (subst (λ (ss : List Submission). IsAwaited ss b.talk.at.standing.phase) (sym s1.pending ∙ quiet) s1.awaited))))
 
 pub returns-clause-less : goal.returns-clause-less
 returns-clause-less c =

@@ -1,4 +1,4 @@
-use Rattle.std.proofs.Common.{◌≡◌, ◌∙◌, ◌++◌, ap, sym, subst, [], List, ℕ, drop, Option, Some, None}
+use Rattle.std.proofs.Common.{◌∙◌, ◌++◌, ap, sym, subst, List, ℕ, drop, Some}
 use Rattle.house.specs.Line.{Line}
 use Rattle.house.specs.Talk.{marked}
 use Rattle.house.specs.CallerSteps.{TookWhatWaits}

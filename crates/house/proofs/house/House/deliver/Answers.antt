@@ -1,8 +1,6 @@
-use Rattle.std.proofs.Common.{◌≡◌, ◌∙◌, ap, sym, subst, refl, [], List, ℕ, Err}
+use Rattle.std.proofs.Common.{◌≡◌, ◌∙◌, ap, sym, subst, [], Err}
 use Rattle.std.proofs.lemmas.List.{append-nil}
 use Rattle.world.specs.World as world
-use Rattle.delivery_core.specs.Stands as core
-use Rattle.house.specs.declared.event.HouseFault.{HouseFault}
 use Rattle.house.specs.declared.event.HouseFault.TheVariants as house_faults
 use Rattle.house.specs.State.{State}
 use Rattle.house.specs.Scene.{with_world}

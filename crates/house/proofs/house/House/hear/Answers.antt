@@ -1,15 +1,11 @@
-use Rattle.std.proofs.Common.{◌≡◌, ◌≢◌, ◌⊎◌, ◌+◌, ◌-◌, ◌<◌, inr, inl, refl, sym, subst, ap, ◌∙◌, Bool, true, false, not, Some, None, Option, Err, List, ℕ, length, arith, get_or, [], ◌∷◌}
-use Rattle.std.specs.Option.{option_map, is_some}
+use Rattle.std.proofs.Common.{◌≡◌, ◌+◌, ◌<◌, inl, refl, sym, subst, ap, ◌∙◌, true, false, not, Some, None, Option, Err, ℕ, length, arith, [], ◌∷◌}
+use Rattle.std.specs.Option.{is_some}
 use Rattle.world.specs.World as world
 use Rattle.delivery_core.specs.Stands as core
 use Rattle.delivery_core.proofs.Follow.{get_or-any}
-use Rattle.lmtp_machine.specs.Kept.{Kept}
-use Rattle.house.specs.declared.event.HouseFault.{HouseFault}
-use Rattle.house.specs.declared.event.HouseFault.TheVariants as house_faults
 use Rattle.house.specs.Line.{Line}
 use Rattle.house.specs.State.{State}
-use Rattle.house.specs.Scene.{BytesPlay, HearPlay, PutPlay, seat_of}
-use Rattle.house.specs.Taking.{heard_verdict, noted_put}
+use Rattle.house.specs.Scene.{HearPlay, seat_of}
 use Rattle.house.specs.Stands.{StandsFor}
 use Rattle.house.specs.Steps.{StandsForMaybe}
 use Rattle.delivery_core.specs.Changes.{Hears}
@@ -34,8 +30,8 @@ returns-in_default-clause-no_memory c e k s st =
     let q = heard_at c.index_mut-place.result.now c.hear_at.new.place c.in-Ok.noted g.0 (c.index_mut-place.ensures.value ∙ get_or-any i.callers.items c.from-seat.result _ None lt ∙ some) c.hear_at.ensures in
     let f = c.in-Ok.ensures in
     let r = heard_led k h s c.args.connection c.from-seat.result i.directory g.0 c.hear.new.self c.in-Ok.noted q.0 c.go_on_at.new.place false c.args.out.now.items c.go_on_at.new.out.items
-        st1 number refl lt some (subst (λ (n : ℕ). (x : world.Config) → core.Follows x i.core (world.Hear n ∷ []) c.hear.new.self) (sym e1) f.follows) (subst (λ (n : ℕ). Hears i.core c.hear.new.self n (c.in-Ok.noted ∷ [])) (sym e1) f.heard) f.next q.2
-        (λ x p next heard b of m. c.in_default.ensures.err x p next heard b of (subst (λ (o : Option Line). StandsForMaybe x p next heard o (Some b)) (sym q.1) m)) in
+    st1 number refl lt some (subst (λ (n : ℕ). (x : world.Config) → core.Follows x i.core (world.Hear n ∷ []) c.hear.new.self) (sym e1) f.follows) (subst (λ (n : ℕ). Hears i.core c.hear.new.self n (c.in-Ok.noted ∷ [])) (sym e1) f.heard) f.next q.2
+    (λ x p next heard b of m. c.in_default.ensures.err x p next heard b of (subst (λ (o : Option Line). StandsForMaybe x p next heard o (Some b)) (sym q.1) m)) in
     inl (record { after = r.0; printed = r.1; plays = subst (λ (n : ℕ). HearPlay k false s n r.0 r.1) e1 r.2; stands = r.3; out = r.4 })
 
 pub returns-clause-follows : goal.returns-clause-follows
@@ -52,8 +48,8 @@ returns-clause-follows c k s st =
     let q = heard_at c.index_mut-place.result.now c.hear_at.new.place c.in-Ok.noted g.0 (c.index_mut-place.ensures.value ∙ get_or-any i.callers.items c.from-seat.result _ None lt ∙ some) c.hear_at.ensures in
     let f = c.in-Ok.ensures in
     let r = heard_led k h s c.args.connection c.from-seat.result i.directory g.0 c.hear.new.self c.in-Ok.noted q.0 c.go_on_at.new.place true c.args.out.now.items c.go_on_at.new.out.items
-        st1 number refl lt some (subst (λ (n : ℕ). (x : world.Config) → core.Follows x i.core (world.Hear n ∷ []) c.hear.new.self) (sym e1) f.follows) (subst (λ (n : ℕ). Hears i.core c.hear.new.self n (c.in-Ok.noted ∷ [])) (sym e1) f.heard) f.next q.2
-        (λ x p next heard b of m. c.in-Ok-go_on_at.ensures.ok x p next heard b of (subst (λ (o : Option Line). StandsForMaybe x p next heard o (Some b)) (sym q.1) m)) in
+    st1 number refl lt some (subst (λ (n : ℕ). (x : world.Config) → core.Follows x i.core (world.Hear n ∷ []) c.hear.new.self) (sym e1) f.follows) (subst (λ (n : ℕ). Hears i.core c.hear.new.self n (c.in-Ok.noted ∷ [])) (sym e1) f.heard) f.next q.2
+    (λ x p next heard b of m. c.in-Ok-go_on_at.ensures.ok x p next heard b of (subst (λ (o : Option Line). StandsForMaybe x p next heard o (Some b)) (sym q.1) m)) in
     record { after = r.0; printed = r.1; plays = subst (λ (n : ℕ). HearPlay k true s n r.0 r.1) e1 r.2; stands = r.3; out = r.4 }
 
 pub returns-in-Err-Nothing-clause-idle : goal.returns-in-Err-Nothing-clause-idle

@@ -1,17 +1,11 @@
-use Rattle.std.proofs.Common.{◌≡◌, ◌≢◌, ◌⊎◌, ◌+◌, ◌-◌, ◌<◌, inr, inl, refl, sym, subst, ap, ◌∙◌, Bool, true, false, Some, None, Option, Err, List, ℕ, length, arith, get_or}
+use Rattle.std.proofs.Common.{◌≡◌, ◌+◌, ◌<◌, inl, refl, sym, subst, ap, ◌∙◌, true, false, None, Err, ℕ, length, arith}
 use Rattle.std.specs.Option.{option_map}
-use Rattle.world.specs.World as world
-use Rattle.delivery_core.specs.Stands as core
 use Rattle.delivery_core.proofs.Follow.{get_or-any}
-use Rattle.lmtp_machine.specs.Kept.{Kept}
-use Rattle.house.specs.declared.event.HouseFault.{HouseFault}
 use Rattle.house.specs.declared.event.HouseFault.TheVariants as house_faults
-use Rattle.house.specs.Line.{Line}
 use Rattle.house.specs.State.{State}
-use Rattle.house.specs.Scene.{BytesPlay, HearPlay, PutPlay, seat_of}
+use Rattle.house.specs.Scene.{PutPlay}
 use Rattle.house.specs.Taking.{heard_verdict, noted_put}
 use Rattle.house.specs.Stands.{StandsFor}
-use Rattle.house.specs.Steps.{MayNotPut}
 use Rattle.house.proofs.Turns.{put_idles, put_led}
 use Rattle.house.proofs.house.House.put.Goals as goal
 
@@ -28,7 +22,7 @@ returns-in_default-clause-no_memory c e k s st =
     let some = get_or-any i.callers.items c.from-seat.result None c.index.result.now lt ∙ sym c.index.ensures ∙ p.1 in
     let at = c.note_put_at.ensures ∙ ap (option_map (noted_put (heard_verdict c.in-Ok.why))) (c.index_mut-place.ensures.value ∙ get_or-any i.callers.items c.from-seat.result _ None lt ∙ some) in
     let r = put_led k h s c.args.connection c.from-seat.result i.directory p.0 c.put_next.new.core c.in-Ok.why c.note_put_at.new.place c.go_on_at.new.place false c.args.out.now.items c.go_on_at.new.out.items
-        st1 number refl lt some p.2 at c.in_default.ensures.err in
+    st1 number refl lt some p.2 at c.in_default.ensures.err in
     inl (record { after = r.0; printed = r.1; plays = subst (λ (n : ℕ). PutPlay k false s n r.0 r.1) e1 r.2; stands = r.3; out = r.4 })
 
 pub returns-clause-follows : goal.returns-clause-follows
@@ -44,7 +38,7 @@ returns-clause-follows c k s st =
     let some = get_or-any i.callers.items c.from-seat.result None c.index.result.now lt ∙ sym c.index.ensures ∙ p.1 in
     let at = c.note_put_at.ensures ∙ ap (option_map (noted_put (heard_verdict c.in-Ok.why))) (c.index_mut-place.ensures.value ∙ get_or-any i.callers.items c.from-seat.result _ None lt ∙ some) in
     let r = put_led k h s c.args.connection c.from-seat.result i.directory p.0 c.put_next.new.core c.in-Ok.why c.note_put_at.new.place c.go_on_at.new.place true c.args.out.now.items c.go_on_at.new.out.items
-        st1 number refl lt some p.2 at c.in-Ok-go_on_at.ensures.ok in
+    st1 number refl lt some p.2 at c.in-Ok-go_on_at.ensures.ok in
     record { after = r.0; printed = r.1; plays = subst (λ (n : ℕ). PutPlay k true s n r.0 r.1) e1 r.2; stands = r.3; out = r.4 }
 
 pub returns-in-Err-clause-idle : goal.returns-in-Err-clause-idle

@@ -1,8 +1,7 @@
-use Rattle.std.proofs.Common.{◌≡◌, ◌⊎◌, ◌+◌, ◌-◌, ◌<◌, inr, inl, refl, sym, subst, ap, ◌∙◌, true, false, Some, None, Option, List, ℕ, length, arith, get_or, IsSome}
+use Rattle.std.proofs.Common.{◌≡◌, ◌+◌, ◌-◌, ◌<◌, inl, refl, sym, subst, ap, ◌∙◌, true, false, None, ℕ, length, arith, get_or, IsSome}
 use Rattle.std.specs.Option.{option_map}
 use Rattle.delivery_core.proofs.Follow.{get_or-any}
 use Rattle.house.specs.Taking.{with_more}
-use Rattle.house.specs.Line.{Line}
 use Rattle.house.specs.State.{State}
 use Rattle.house.specs.Scene.{BytesPlay}
 use Rattle.house.specs.Stands.{StandsFor}
@@ -21,7 +20,7 @@ returns-in_default-go_on_at-clause-no_memory c k s st =
     let lt : c.from.result < length i.callers.items = let m = c.requires.there.seat in omega (arith, number, m, many) in
     let at = c.in-Ok.ensures.ok ∙ ap (option_map (with_more c.args.piece.now)) (c.index_mut-place.ensures.value ∙ get_or-any i.callers.items c.from.result _ None lt) in
     let r = received k h s c.args.connection c.from.result c.args.piece.now i.directory c.go_on_at.new.place c.append_at.new.place false c.args.out.now.items c.go_on_at.new.out.items st1
-        number refl lt who at c.in_default-go_on_at.ensures.err in
+    number refl lt who at c.in_default-go_on_at.ensures.err in
     inl (record { after = r.0; printed = r.1; plays = subst (λ (n : ℕ). BytesPlay k false s n c.args.piece.now r.0 r.1) e r.2; stands = r.3; out = r.4 })
 
 pub returns-clause-follows : goal.returns-clause-follows
@@ -36,5 +35,5 @@ returns-clause-follows c k s st =
     let lt : c.from.result < length i.callers.items = let m = c.requires.there.seat in omega (arith, number, m, many) in
     let at = c.in-Ok.ensures.ok ∙ ap (option_map (with_more c.args.piece.now)) (c.index_mut-place.ensures.value ∙ get_or-any i.callers.items c.from.result _ None lt) in
     let r = received k h s c.args.connection c.from.result c.args.piece.now i.directory c.go_on_at.new.place c.append_at.new.place true c.args.out.now.items c.go_on_at.new.out.items st1
-        number refl lt who at c.in-Ok-go_on_at.ensures.ok in
+    number refl lt who at c.in-Ok-go_on_at.ensures.ok in
     record { after = r.0; printed = r.1; plays = subst (λ (n : ℕ). BytesPlay k true s n c.args.piece.now r.0 r.1) e r.2; stands = r.3; out = r.4 }

@@ -1,8 +1,7 @@
-use Rattle.std.proofs.Common.{◌≡◌, ◌≢◌, ◌⊎◌, ◌+◌, ◌-◌, ◌<◌, inr, inl, refl, sym, subst, ap, ◌∙◌, Bool, true, false, Some, None, Option, Err, List, ℕ, length, arith, get_or, set}
+use Rattle.std.proofs.Common.{◌≡◌, ◌+◌, ◌-◌, ◌<◌, inl, refl, sym, subst, ap, ◌∙◌, true, false, None, List, ℕ, length, arith, get_or, set}
 use Rattle.delivery_core.proofs.Follow.{get_or-any}
-use Rattle.house.specs.Line.{Line}
 use Rattle.house.specs.State.{State}
-use Rattle.house.specs.Scene.{BytesPlay, most_serials, seat_of}
+use Rattle.house.specs.Scene.{BytesPlay, most_serials}
 use Rattle.house.specs.Stands.{StandsFor}
 use Rattle.house.proofs.Events.{welcomed}
 use Rattle.house.specs.Scene.{greeted, more_waits}
@@ -28,14 +27,19 @@ returns-in_default-go_on_at-clause-no_memory c k s st =
     let ls : seat < length i.serials.items = let z = c.self.invariant.0 in omega (arith, lt, z) in
     let serial : c.index-serial.result.now ≡ get_or i.serials.items seat 0 = c.index-serial.ensures ∙ get_or-any i.serials.items seat c.index-serial.result.now 0 ls in
     let opened = λ (x : Setup) (next : CopyKey) (heard : List Noted) (a : x.host ≡ i.host.items) (b : x.max_message ≡ i.max_message) (l : AtLeast next (record { seat = seat; serial = get_or i.serials.items seat 0; message = 0; recipient = 0 })).
-        subst (λ (n : ℕ). StandsForCaller x seat next heard c.in-Ok.caller (more_waits (greeted x seat n) c.args.piece.now)) serial
-        (subst (λ (n : ℕ). StandsForCaller x n next heard c.in-Ok.caller (more_waits (greeted x n c.index-serial.result.now) c.args.piece.now)) (sym e1)
-          (c.in-Ok.ensures x next heard (a ∙ sym c.deref.ensures.value) b
-            (subst (λ (n : ℕ). AtLeast next (record { seat = n; serial = c.index-serial.result.now; message = 0; recipient = 0 })) e1 (subst (λ (n : ℕ). AtLeast next (record { seat = seat; serial = n; message = 0; recipient = 0 })) (sym serial) l)))) in
+    subst (λ (n : ℕ). StandsForCaller x seat next heard c.in-Ok.caller (more_waits (greeted x seat n) c.args.piece.now)) serial
+    (subst (λ (n : ℕ). StandsForCaller x n next heard c.in-Ok.caller (more_waits (greeted x n c.index-serial.result.now) c.args.piece.now)) (sym e1)
+    (c.in-Ok.ensures x next heard (a ∙ sym c.deref.ensures.value) b
+    (subst (λ (n : ℕ). AtLeast next (record { seat = n; serial = c.index-serial.result.now; message = 0; recipient = 0 })) e1 (subst (λ (n : ℕ). AtLeast next (record { seat = seat; serial = n; message = 0; recipient = 0 })) (sym serial) l)))) in
     let r = welcomed k h s c.args.connection seat c.args.piece.now i.directory c.go_on_at.new.place c.in-Ok.caller false c.args.out.now.items c.go_on_at.new.out.items
-        st1 number refl lt none more opened c.in_default-go_on_at.ensures.err in
-    inl (record { after = r.0; printed = r.1; plays = subst (λ (n : ℕ). BytesPlay k false s n c.args.piece.now r.0 r.1) e1 r.2;
-      stands = subst (λ (n : ℕ). StandsFor k (record { core = i.core; callers = set i.callers.items seat c.go_on_at.new.place; serials = set i.serials.items seat (n + 1); directory = i.directory; host = i.host.items; max_message = i.max_message }) r.0) (sym serial) r.3; out = r.4 })
+    st1 number refl lt none more opened c.in_default-go_on_at.ensures.err in
+    inl (record {
+      after = r.0;
+      printed = r.1;
+      plays = subst (λ (n : ℕ). BytesPlay k false s n c.args.piece.now r.0 r.1) e1 r.2;
+      stands = subst (λ (n : ℕ). StandsFor k (record { core = i.core; callers = set i.callers.items seat c.go_on_at.new.place; serials = set i.serials.items seat (n + 1); directory = i.directory; host = i.host.items; max_message = i.max_message }) r.0) (sym serial) r.3;
+      out = r.4;
+    })
 
 pub returns-clause-follows : goal.returns-clause-follows
 returns-clause-follows c k s st =
@@ -52,11 +56,16 @@ returns-clause-follows c k s st =
     let ls : seat < length i.serials.items = let z = c.self.invariant.0 in omega (arith, lt, z) in
     let serial : c.index-serial.result.now ≡ get_or i.serials.items seat 0 = c.index-serial.ensures ∙ get_or-any i.serials.items seat c.index-serial.result.now 0 ls in
     let opened = λ (x : Setup) (next : CopyKey) (heard : List Noted) (a : x.host ≡ i.host.items) (b : x.max_message ≡ i.max_message) (l : AtLeast next (record { seat = seat; serial = get_or i.serials.items seat 0; message = 0; recipient = 0 })).
-        subst (λ (n : ℕ). StandsForCaller x seat next heard c.in-Ok.caller (more_waits (greeted x seat n) c.args.piece.now)) serial
-        (subst (λ (n : ℕ). StandsForCaller x n next heard c.in-Ok.caller (more_waits (greeted x n c.index-serial.result.now) c.args.piece.now)) (sym e1)
-          (c.in-Ok.ensures x next heard (a ∙ sym c.deref.ensures.value) b
-            (subst (λ (n : ℕ). AtLeast next (record { seat = n; serial = c.index-serial.result.now; message = 0; recipient = 0 })) e1 (subst (λ (n : ℕ). AtLeast next (record { seat = seat; serial = n; message = 0; recipient = 0 })) (sym serial) l)))) in
+    subst (λ (n : ℕ). StandsForCaller x seat next heard c.in-Ok.caller (more_waits (greeted x seat n) c.args.piece.now)) serial
+    (subst (λ (n : ℕ). StandsForCaller x n next heard c.in-Ok.caller (more_waits (greeted x n c.index-serial.result.now) c.args.piece.now)) (sym e1)
+    (c.in-Ok.ensures x next heard (a ∙ sym c.deref.ensures.value) b
+    (subst (λ (n : ℕ). AtLeast next (record { seat = n; serial = c.index-serial.result.now; message = 0; recipient = 0 })) e1 (subst (λ (n : ℕ). AtLeast next (record { seat = seat; serial = n; message = 0; recipient = 0 })) (sym serial) l)))) in
     let r = welcomed k h s c.args.connection seat c.args.piece.now i.directory c.go_on_at.new.place c.in-Ok.caller true c.args.out.now.items c.go_on_at.new.out.items
-        st1 number refl lt none more opened c.in-Ok-go_on_at.ensures.ok in
-    record { after = r.0; printed = r.1; plays = subst (λ (n : ℕ). BytesPlay k true s n c.args.piece.now r.0 r.1) e1 r.2;
-      stands = subst (λ (n : ℕ). StandsFor k (record { core = i.core; callers = set i.callers.items seat c.go_on_at.new.place; serials = set i.serials.items seat (n + 1); directory = i.directory; host = i.host.items; max_message = i.max_message }) r.0) (sym serial) r.3; out = r.4 }
+    st1 number refl lt none more opened c.in-Ok-go_on_at.ensures.ok in
+    record {
+      after = r.0;
+      printed = r.1;
+      plays = subst (λ (n : ℕ). BytesPlay k true s n c.args.piece.now r.0 r.1) e1 r.2;
+      stands = subst (λ (n : ℕ). StandsFor k (record { core = i.core; callers = set i.callers.items seat c.go_on_at.new.place; serials = set i.serials.items seat (n + 1); directory = i.directory; host = i.host.items; max_message = i.max_message }) r.0) (sym serial) r.3;
+      out = r.4;
+    }

@@ -1,0 +1,58 @@
+-- A new house stands for the empty scene.
+use Rattle.std.proofs.Common.{◌≡◌, ℕ, ◌<◌, Bool, true, false, List, [], ◌∷◌, length, map, sym, ap, ◌∙◌, arith, inl, subst, Option, Some, None, Ok, Err, get_or, replicate}
+use Rattle.std.specs.Prelude.{nat_lt, not, if◌then◌else◌}
+use Rattle.std.specs.List.{list_all}
+use Rattle.std.proofs.lemmas.List.{length-map, get_or-replicate}
+use Rattle.delivery_token.specs.declared.CopyKey.{CopyKey}
+use Rattle.delivery_core.specs.New.{first_key}
+use Rattle.delivery_core.specs.Stands as core
+use Rattle.envelope.specs.Directory.{Directory, Home}
+use Rattle.envelope.specs.Names.{is_name, home_of, words_read, first_fault, homes_unless}
+use Rattle.envelope.specs.declared.directory.DirectoryFault.{DirectoryFault}
+use Rattle.envelope.specs.declared.directory.DirectoryFault.TheVariants.{TooMany, BadName}
+use Rattle.house.specs.declared.config.Config.{Config}
+use Rattle.house.specs.Line.{Line}
+use Rattle.house.specs.State.{State}
+use Rattle.house.specs.Scene.{empty_scene}
+use Rattle.house.specs.Settings.{seats, setup_of, words_of}
+use Rattle.house.specs.Stands.{StandsFor, StandsForOne}
+
+-- words that are read are the mailboxes that they name
+homes_are : (many right : Bool) (fault : Option DirectoryFault) (homes read : List Home)
+    → (if many then Err TooMany else if not right then Err BadName else homes_unless fault homes) ≡ Ok read → read ≡ homes
+homes_are true right fault homes read e = absurd (cc)
+homes_are false false fault homes read e = absurd (cc)
+homes_are false true None homes read e = cc
+homes_are false true (Some fault) homes read e = absurd (cc)
+
+pub read_homes : (domains words : List (List ℕ)) (read : List Home) → words_read domains words ≡ Ok read → read ≡ map home_of words
+read_homes domains words read e = homes_are (nat_lt 64 (length words)) (list_all is_name domains) (first_fault [] (map home_of words)) (map home_of words) read e
+
+pub new_house : (c : Config) (h : State) → core.StandsFor (setup_of c).config h.core (empty_scene).world
+    → ((p : ℕ) (d : CopyKey) → p < seats → get_or h.core.next p d ≡ first_key p)
+    → h.callers ≡ replicate seats None → h.serials ≡ replicate seats 0 → h.directory ≡ (setup_of c).directory → h.host ≡ c.host.items → h.max_message ≡ c.max_message
+    → 0 < c.shards
+    → StandsFor (setup_of c) h empty_scene
+new_house c h stands keys callers serials directory host most some = record {
+  core = stands;
+  directory = directory;
+  host = host;
+  max_message = most;
+  some_shard = some;
+  homes = length-map (words_of c) home_of;
+  seats = ap length callers;
+  numbers = ap length serials;
+  each = λ seat y n d below.
+      let lt : seat < seats = let e : length h.callers ≡ seats = ap length callers in omega (arith, below, e) in
+      let nobody : get_or h.callers seat d ≡ None = ap (λ (xs : List (Option Line)). get_or xs seat d) callers ∙ get_or-replicate seats seat None d lt in
+      record {
+        counted = ap (λ (xs : List ℕ). get_or xs seat n) serials ∙ get_or-replicate seats seat 0 n lt;
+        who = subst (λ (o : Option Line). StandsForOne (setup_of c) seat (get_or h.core.next seat y) [] 0 o None) (sym nobody) (inl (keys seat y lt));
+      };
+}
+
+pub directory_is : (c : Config) (d : Directory) → d.domains ≡ c.domain.items ∷ [] → d.homes ≡ map home_of (words_of c) → d.shards ≡ c.shards → d ≡ (setup_of c).directory
+directory_is c d domains homes shards =
+    ap (λ (x : List (List ℕ)). let r : Directory = record { domains = x; homes = d.homes; shards = d.shards } in r) domains
+    ∙ ap (λ (x : List Home). let r : Directory = record { domains = c.domain.items ∷ []; homes = x; shards = d.shards } in r) homes
+    ∙ ap (λ (x : ℕ). let r : Directory = record { domains = c.domain.items ∷ []; homes = map home_of (words_of c); shards = x } in r) shards

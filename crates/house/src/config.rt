@@ -1,0 +1,142 @@
+//! The settings of a house, and what may be wrong with them. No house is made here, and no command line is read.
+
+ghost use Rattle.std.specs.Prelude.{◌≡◌, IfOk, map};
+ghost use Rattle.envelope.specs.Names.{texts};
+ghost use Rattle.house.specs.Settings.{IsDefault, fault_named};
+
+use envelope::DirectoryFault;
+use std::alloc::{AllocError, Global};
+use std::error::Error;
+use std::fmt;
+
+/// The settings of a house.
+#[derive(Debug, Drop)]
+pub struct Config {
+    /// The name that the house gives itself in greetings: 1 to 255 letters, digits, `-` and `.`.
+    pub host: Vec<u8>,
+    /// The domain that mail comes for, of the same form.
+    pub domain: Vec<u8>,
+    /// The mailboxes, 1 to 64: `user`, or `user/folder` after its user's word.
+    pub mailboxes: Vec<Vec<u8>>,
+    /// So many shards keep the mailboxes, 1 to 8.
+    pub shards: u8,
+    /// So many entries have room in a shard's lane, 1 to 1024.
+    pub depth: usize,
+    /// So many of its last changes each mailbox keeps, 16 to 65536, and at least two for each message.
+    pub ring: usize,
+    /// So many messages each mailbox may hold, 1 to 32768.
+    pub messages: usize,
+    /// The most bytes of a message's data, 1 to 16777216.
+    pub max_message: usize,
+    /// What each mailbox tells as its UIDVALIDITY, 1 to 4294967295 (RFC 9051, 2.3.1.1).
+    pub uidvalidity: u32,
+    /// The UID of a mailbox's first message, 1 to 4294967294.
+    pub first_uid: u32,
+}
+
+/// What is wrong with the settings. The first that holds is the fault; want of memory comes where memory was refused.
+#[derive(Clone, Copy, Debug, PartialEq, Eq)]
+pub enum ConfigFault {
+    /// There are more than 64 mailboxes.
+    TooMany,
+    /// The host, the domain or a mailbox is spelled wrong, or a folder's user has no word before it.
+    BadName,
+    /// A word names the mailbox of an earlier one, in upper or lower case.
+    Twice,
+    /// The ring keeps fewer than two changes for each message.
+    Ring,
+    /// Memory was refused.
+    NoMemory,
+}
+
+impl fmt::Display for ConfigFault {
+    fn fmt<W: fmt::Write>(&self, f: &mut fmt::Formatter<W>) -> fmt::Result {
+        let name = match self {
+            ConfigFault::TooMany => "TooMany",
+            ConfigFault::BadName => "BadName",
+            ConfigFault::Twice => "Twice",
+            ConfigFault::Ring => "Ring",
+            ConfigFault::NoMemory => "NoMemory",
+        };
+        f.write_str(name)
+    }
+}
+
+impl Error for ConfigFault {}
+
+impl From<AllocError> for ConfigFault {
+    ghost use Rattle.house.specs.declared.config.ConfigFault.{ConfigFault};
+
+    ghost from_gives = { λ _ fault. fault ≡ ConfigFault.NoMemory };
+
+    fn from(_error: AllocError) -> ConfigFault {
+        ConfigFault::NoMemory
+    }
+}
+
+impl From<DirectoryFault> for ConfigFault {
+    ghost from_gives = { λ named fault. fault ≡ fault_named named };
+
+    fn from(fault: DirectoryFault) -> ConfigFault {
+        match fault {
+            DirectoryFault::TooMany => ConfigFault::TooMany,
+            DirectoryFault::BadName => ConfigFault::BadName,
+            DirectoryFault::Twice => ConfigFault::Twice,
+            DirectoryFault::NoMemory => ConfigFault::NoMemory,
+        }
+    }
+}
+
+/// Bytes of their own for each of the words.
+fn own_words(alloc: Global, words: &[&[u8]]) -> Result<Vec<Vec<u8>>, AllocError>
+    ensures { IfOk result (λ own. map (λ w. w.items) own.items ≡ texts words.now) }
+{
+    let mut own = Vec::new(alloc);
+    for word in words {
+        own.push(Vec::from_slice(alloc, word)?)?;
+    }
+    Ok(own)
+}
+
+impl Config {
+    /// The settings that stand where none are given, with these mailboxes. An error where memory is refused; nothing is looked at
+    /// here, neither a name nor a range.
+    pub fn new(alloc: Global, mailboxes: &[&[u8]]) -> Result<Config, AllocError>
+        ensures { IfOk result (λ config. IsDefault config (texts mailboxes.now)) }
+    {
+        Ok(Config {
+            host: Vec::from_slice(alloc, b"mx.example.org")?,
+            domain: Vec::from_slice(alloc, b"example.org")?,
+            mailboxes: own_words(alloc, mailboxes)?,
+            shards: 1,
+            depth: 64,
+            ring: 2048,
+            messages: 1024,
+            max_message: 1_048_576,
+            uidvalidity: 1,
+            first_uid: 1,
+        })
+    }
+}
+
+#[cfg(test)]
+mod tests {
+    use super::*;
+
+    #[test]
+    fn what_stands_where_nothing_is_given(rt: HostRuntime) -> Result<(), AllocError> {
+        let config = Config::new(rt.alloc(), &[b"alice".as_slice()])?;
+        assert_eq!(rt; config.host.as_slice(), b"mx.example.org".as_slice());
+        assert_eq!(rt; config.domain.as_slice(), b"example.org".as_slice());
+        assert_eq!(rt; config.mailboxes.len(), 1);
+        assert_eq!(rt; config.max_message, 1_048_576);
+        Ok(())
+    }
+
+    #[test]
+    fn faults_have_names(rt: HostRuntime) -> Result<(), AllocError> {
+        let text = format!(in rt.alloc(); "{} {}", ConfigFault::TooMany, ConfigFault::Ring)?;
+        assert_eq!(rt; text.as_str(), "TooMany Ring");
+        Ok(())
+    }
+}

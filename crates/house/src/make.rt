@@ -1,0 +1,158 @@
+//! The making of a house from its settings: its parts, each as large as the settings say. What it does then is told in `house`.
+
+ghost use Rattle.std.specs.Prelude.{◌≡◌, ◌≢◌, ◌<◌, ◌≤◌, ◌⊎◌, ℕ, List, [], ◌∷◌, length, map, IfOk, IfErr, IfSome, IsOk, IsOkUnless, Ok, Err, None, replicate};
+ghost use Rattle.envelope.specs.Names.{texts, words_read};
+ghost use Rattle.house.specs.Scene.{empty_scene};
+ghost use Rattle.house.specs.Settings.{IsInRange, config_fault, fault_named, seats, setup_of, words_of};
+ghost use Rattle.house.specs.Stands.{StandsFor};
+
+use crate::caller::Caller;
+use crate::config::{Config, ConfigFault};
+use crate::house::House;
+use delivery_core::{DeliveryCore, Settings};
+use envelope::{Directory, is_name};
+use mailbox::Limits;
+use std::alloc::{AllocError, Global};
+
+/// So many connections may stand at a time.
+const SEATS: u8 = 8;
+
+/// The most mailboxes of a house.
+const MOST_MAILBOXES: usize = 64;
+
+// The words where they lie.
+fn borrowed_words(alloc: Global, words: &[Vec<u8>]) -> Result<Vec<&[u8]>, AllocError>
+    ensures { IfOk result (λ v. texts v.items ≡ map (λ w. w.items) words.entry.now) }
+{
+    let mut borrowed = Vec::new(alloc);
+    for word in words {
+        borrowed.push(word.as_slice())?;
+    }
+    Ok(borrowed)
+}
+
+// The directory of the mailboxes, where all names are right.
+fn directory_of(alloc: Global, config: &Config) -> Result<Directory, ConfigFault>
+    requires { 0 < config.now.shards }
+    ensures homes { IfOk result (λ d. words_read (config.now.host.items ∷ config.now.domain.items ∷ []) (words_of config.now) ≡ Ok d.homes) }
+    ensures domains { IfOk result (λ d. d.domains ≡ config.now.domain.items ∷ []) }
+    ensures shards { IfOk result (λ d. d.shards ≡ config.now.shards) }
+    ensures host { IfOk result (λ d. length config.now.host.items < 256) }
+    ensures fault { IfErr (words_read (config.now.host.items ∷ config.now.domain.items ∷ []) (words_of config.now))
+        (λ fault. (result ≡ Err (fault_named fault)) ⊎ (result ≡ Err ConfigFault.NoMemory)) }
+    ensures made { IsOk (words_read (config.now.host.items ∷ config.now.domain.items ∷ []) (words_of config.now)) → IsOkUnless result ConfigFault.NoMemory }
+{
+    if config.mailboxes.len() > MOST_MAILBOXES {
+        return Err(ConfigFault::TooMany);
+    }
+    if !is_name(&config.host) {
+        return Err(ConfigFault::BadName);
+    }
+    let Ok(words) = borrowed_words(alloc, &config.mailboxes) else {
+        return Err(ConfigFault::NoMemory);
+    };
+    match Directory::new(alloc, &[config.domain.as_slice()], &words, config.shards) {
+        Ok(directory) => Ok(directory),
+        Err(fault) => Err(ConfigFault::from(fault)),
+    }
+}
+
+// At each seat nobody.
+fn empty_places(alloc: Global) -> Result<Vec<Option<Caller>>, AllocError>
+    ensures { IfOk result (λ v. v.items ≡ replicate SEATS None) }
+{
+    let mut places = Vec::new(alloc);
+    for _seat in 0..SEATS {
+        places.push(None)?;
+    }
+    Ok(places)
+}
+
+impl House {
+    /// A house of these settings, with nobody at its seats and nothing in its mailboxes.
+    ///
+    /// Errors, the first that holds: `TooMany` for more than 64 mailboxes; `BadName` for the host, then for the domain; then the fault
+    /// of the first word that has one, `BadName` if it is spelled wrong or its user has no word before it, `Twice` if it names an
+    /// earlier one's mailbox in upper or lower case; `Ring` where the ring keeps fewer than two changes for each message. In place of
+    /// any of them, and where nothing else is wrong, `NoMemory` if memory is refused.
+    pub fn new(alloc: Global, config: &Config) -> Result<House, ConfigFault>
+        requires { IsInRange config.now }
+        ensures stands { IfOk result (λ h. StandsFor (setup_of config.now) h empty_scene) }
+        ensures fault { IfSome (config_fault config.now) (λ fault. (result ≡ Err fault) ⊎ (result ≡ Err ConfigFault.NoMemory)) }
+        // Where nothing is wrong.
+        ensures made { config_fault config.now ≡ None → IsOkUnless result ConfigFault.NoMemory }
+    {
+        let directory = directory_of(alloc, config)?;
+        if config.ring < 2 * config.messages {
+            return Err(ConfigFault::Ring);
+        }
+        let settings = Settings {
+            seats: SEATS,
+            shards: config.shards,
+            mailboxes: directory.mailboxes() as u8,
+            depth: config.depth,
+            uidvalidity: config.uidvalidity,
+            first_uid: config.first_uid,
+            limits: Limits {
+                messages: config.messages,
+                ring: config.ring,
+            },
+        };
+        Ok(House {
+            core: DeliveryCore::new(alloc, settings)?,
+            callers: empty_places(alloc)?,
+            serials: vec![in alloc; 0; usize::from(SEATS)]?,
+            directory,
+            host: Vec::from_slice(alloc, &config.host)?,
+            max_message: config.max_message,
+        })
+    }
+}
+
+#[cfg(test)]
+mod tests {
+    use super::*;
+
+    // What is wrong with settings of these mailboxes and this ring.
+    fn fault_of(
+        alloc: Global,
+        words: &[&[u8]],
+        host: &[u8],
+        ring: usize,
+    ) -> Result<Option<ConfigFault>, AllocError>
+        requires some { 0 < length words.now }
+        requires least { 16 ≤ ring }
+        requires most { ring ≤ 65536 }
+    {
+        let mut config = Config::new(alloc, words)?;
+        config.host = Vec::from_slice(alloc, host)?;
+        config.ring = ring;
+        Ok(House::new(alloc, &config).err())
+    }
+
+    #[test]
+    fn faults_in_their_order(rt: HostRuntime) -> Result<(), AllocError> {
+        let good = [b"alice".as_slice(), b"alice/Work".as_slice()];
+        let twice = [b"alice".as_slice(), b"alice".as_slice()];
+        let many = [b"*".as_slice(); 65];
+        let alloc = rt.alloc();
+        assert_eq!(rt; fault_of(alloc, &good, b"mx.example.org", 2048)?, None);
+        assert_eq!(rt;
+            fault_of(alloc, &good, b"mx.example.org", 2047)?,
+            Some(ConfigFault::Ring)
+        );
+        assert_eq!(rt;
+            fault_of(alloc, &twice, b"mx.example.org", 16)?,
+            Some(ConfigFault::Twice)
+        );
+        assert_eq!(rt;
+            fault_of(alloc, &twice, b"", 16)?,
+            Some(ConfigFault::BadName)
+        );
+        assert_eq!(rt;
+            fault_of(alloc, &many, b"", 16)?,
+            Some(ConfigFault::TooMany)
+        );
+        Ok(())
+    }
+}
