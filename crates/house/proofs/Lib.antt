@@ -14,3 +14,5 @@ pub mod PrintLaws
 pub mod ScriptLaws
 pub mod TailLaws
 pub mod NewHouse
+pub mod Settlement
+pub mod RunLaws

@@ -1,5 +1,5 @@
 -- A new house stands for the empty scene.
-use Rattle.std.proofs.Common.{◌≡◌, ℕ, ◌<◌, Bool, true, false, List, [], ◌∷◌, length, map, sym, ap, ◌∙◌, arith, inl, subst, Option, Some, None, Ok, Err, get_or, replicate}
+use Rattle.std.proofs.Common.{refl, ◌≡◌, ℕ, ◌<◌, Bool, true, false, List, [], ◌∷◌, length, map, sym, ap, ◌∙◌, arith, inl, subst, Option, Some, None, Ok, Err, get_or, replicate}
 use Rattle.std.specs.Prelude.{nat_lt, not, if◌then◌else◌}
 use Rattle.std.specs.List.{list_all}
 use Rattle.std.proofs.lemmas.List.{length-map, get_or-replicate}
@@ -38,6 +38,7 @@ new_house c h stands keys callers serials directory host most some = record {
   directory = directory;
   host = host;
   max_message = most;
+  shards = refl;
   some_shard = some;
   homes = length-map (words_of c) home_of;
   seats = ap length callers;

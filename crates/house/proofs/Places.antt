@@ -75,6 +75,7 @@ after_going k h c serials s v numbers seat y l g a whole old new st cs lt notes 
   host = st.host;
   max_message = st.max_message;
   homes = st.homes;
+  shards = st.shards;
   some_shard = st.some_shard;
   seats = length-set h.callers seat l ∙ st.seats;
   numbers = len ∙ st.numbers;

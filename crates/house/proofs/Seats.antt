@@ -45,6 +45,7 @@ moved k h c s v st cs eh en = record {
   host = st.host;
   max_message = st.max_message;
   homes = st.homes;
+  shards = st.shards;
   some_shard = st.some_shard;
   seats = st.seats;
   numbers = st.numbers;

@@ -13,3 +13,5 @@ pub mod Effort
 pub mod Settling
 pub mod Settled
 pub mod Script
+pub mod Trying
+pub mod Running

@@ -27,6 +27,7 @@ pub record StandsFor (k : Setup) (h : State) (s : Scene) : Type 0 where
   pub host : h.host ≡ k.host
   pub max_message : h.max_message ≡ k.max_message
   pub homes : length k.directory.homes ≡ k.config.mailboxes
+  pub shards : k.directory.shards ≡ k.config.shards
   pub some_shard : 0 < k.config.shards
   pub seats : length h.callers ≡ k.config.seats
   pub numbers : length h.serials ≡ k.config.seats

@@ -8,10 +8,13 @@ mod event;
 mod house;
 mod make;
 mod print;
+mod run;
 mod script;
+mod settle;
 mod tail;
 
 pub use config::{Config, ConfigFault};
 pub use event::{Event, HouseFault};
 pub use house::House;
+pub use run::{RunFault, drive};
 pub use script::ScriptLine;

@@ -1,0 +1,570 @@
+-- How what was tried goes together: in a row, over and over, and with want of memory at the end.
+use Rattle.std.proofs.Common.{◌≡◌, ℕ, zero, suc, ◌+◌, ◌<◌, ◌≤◌, ◌⊎◌, inl, inr, Bool, true, false, List, [], ◌∷◌, ◌++◌, length, map, ◌-◌, take, get_or, add-one, zero-add, refl, ap, sym, ◌∙◌, subst, arith, append_assoc, Option, Some, None, Result, Ok, Err}
+use Rattle.std.specs.Prelude.{All, replicate, ◌||◌, filter, not, cond}
+use Rattle.std.specs.List.{range_with_len}
+use Rattle.std.proofs.lemmas.List.FromFn.{map-range_with_len_more}
+use Rattle.change_ring.proofs.RangeLaws.{range-push}
+use Rattle.std.proofs.lemmas.List.{append-nil, map-append}
+use Rattle.lmtp_machine.specs.declared.connection.What.{What}
+use Rattle.lmtp_machine.specs.Dialogue.{Submission}
+use Rattle.delivery_token.specs.declared.log.Noted.{Noted}
+use Rattle.house.specs.declared.event.Event.{Event}
+use Rattle.house.specs.declared.event.Event.TheVariants.{Bytes, Put, Take, Deliver, Answer, Hear}
+use Rattle.house.specs.Talk.{Talk}
+use Rattle.house.specs.Scene.{BytesPlay, Caller, GoesOn, HasNothing, HearPlay, Leaves, Plays, PutPlay, Scene, Setup, Talks, seat_of, opens, goes_on, goes, stays, works, waits, answers, stalls}
+use Rattle.house.specs.Settling.{Happened, InTurn, Settles, Tries, Visit, Visits, happens, in_a_row, passes, round}
+use Rattle.house.specs.Settled.{HappenedFrom, SettledFrom, is_held}
+use Rattle.house.specs.Stands.{StandsFor, StandsForOne}
+use Rattle.house.specs.Steps.{Follows, FollowsInPart, IsEmptySeat, IsNoSeat, IsNobody, Led}
+use Rattle.house.specs.Line.{Line}
+use Rattle.envelope.specs.Directory.{Directory}
+use Rattle.delivery_token.specs.declared.CopyKey.{CopyKey}
+use Rattle.delivery_core.specs.New.{first_key}
+use Rattle.std.proofs.lemmas.List.Elements.{All-append, All-cons, All-get_or, All-head, All-nil, All-tail, filter-append}
+use Rattle.std.proofs.Math.Seq.{take-suc}
+use Rattle.house.specs.State.{State}
+use Rattle.house.specs.Effort.{MakesLess, effort}
+use Rattle.house.specs.Trying.{CameVisit, CameVisits, Did, DidVisits, IsAmong, IsOwn, Moved, Rests, Wants, Went, hears, puts, serve, serves}
+
+-- ---- what a whole event does, one that is cut short may do as well
+
+leaves_part : (serial : ℕ) (what : What) (after : Talk) (ss : List Submission) (o : Option Caller) → Leaves true serial what after ss o → Leaves false serial what after ss o
+leaves_part serial what after ss o (goes q n e) = goes q n e
+leaves_part serial what after ss o (stays f e) = stays (λ x q. let y : false ≡ true = x in cc) e
+
+talks_part : (k : Setup) (seat : ℕ) (b : Caller) (o : Option Caller) (printed : List ℕ) → Talks k true seat b o printed → Talks k false seat b o printed
+talks_part k seat b o printed t = record {
+  turn = t.turn;
+  what = t.what;
+  after = t.after;
+  works = t.works;
+  prints = t.prints;
+  all = λ x. let y : false ≡ true = x in cc;
+  leaves = leaves_part b.serial t.what t.after t.turn.submissions o t.leaves;
+}
+
+goes_part : (k : Setup) (seat : ℕ) (heard : List Noted) (b : Caller) (o : Option Caller) (printed : List ℕ) → GoesOn k true seat heard b o printed → GoesOn k false seat heard b o printed
+goes_part k seat heard b o printed (works e t) = works e (talks_part k seat b o printed t)
+goes_part k seat heard b o printed (waits l n e p) = waits l n e p
+goes_part k seat heard b o printed (answers vs l a t) = answers vs l a (talks_part k seat _ o printed t)
+goes_part k seat heard b o printed (stalls w e p) = cc
+
+bytes_part : (k : Setup) (s : Scene) (seat : ℕ) (piece : List ℕ) (t : Scene) (printed : List ℕ) → BytesPlay k true s seat piece t printed → BytesPlay k false s seat piece t printed
+bytes_part k s seat piece t printed (opens l n m o g e) = opens l n m o (goes_part k seat _ _ o printed g) e
+bytes_part k s seat piece t printed (goes_on b n o g e) = goes_on b n o (goes_part k seat _ _ o printed g) e
+
+put_part : (k : Setup) (s : Scene) (seat : ℕ) (t : Scene) (printed : List ℕ) → PutPlay k true s seat t printed → PutPlay k false s seat t printed
+put_part k s seat t printed p = record {
+  caller = p.caller;
+  there = p.there;
+  copy = p.copy;
+  others = p.others;
+  front = p.front;
+  moved = p.moved;
+  step = p.step;
+  left = p.left;
+  goes = goes_part k seat (p.moved.heard seat) (record { serial = p.caller.serial; talk = p.caller.talk; to_put = p.others }) p.left printed p.goes;
+  after = p.after;
+}
+
+hear_part : (k : Setup) (s : Scene) (seat : ℕ) (t : Scene) (printed : List ℕ) → HearPlay k true s seat t printed → HearPlay k false s seat t printed
+hear_part k s seat t printed p = record {
+  caller = p.caller;
+  there = p.there;
+  moved = p.moved;
+  step = p.step;
+  left = p.left;
+  goes = goes_part k seat (p.moved.heard seat) p.caller p.left printed p.goes;
+  after = p.after;
+}
+
+pub plays_part : (k : Setup) (s : Scene) (e : Event) (t : Scene) (printed : List ℕ) → Plays k true s e t printed → Plays k false s e t printed
+plays_part k s (Bytes connection piece) t printed p = bytes_part k s _ _ t printed p
+plays_part k s (Put connection) t printed p = put_part k s _ t printed p
+plays_part k s (Take shard) t printed p = p
+plays_part k s (Deliver shard) t printed p = p
+plays_part k s (Answer shard) t printed p = p
+plays_part k s (Hear connection) t printed p = hear_part k s _ t printed p
+
+-- ---- in a row
+
+pub happened-append : (k : Setup) (es fs : List Event) (s m t : Scene) (one two : List ℕ) → Happened k es s m one → Happened k fs m t two → Happened k (es ++ fs) s t (one ++ two)
+happened-append k [] fs s m t one two (e, p) g =
+    subst (λ (x : List ℕ). Happened k fs s t (x ++ two)) (sym p) (subst (λ (x : Scene). Happened k fs x t two) e g)
+happened-append k (e ∷ es) fs s m t one two (n, a, b, p, r, q) g =
+    (n, a, b ++ two, p, happened-append k es fs n m t b two r g, ap (λ (x : List ℕ). x ++ two) q ∙ append_assoc a b two)
+
+pub turn-append : (k : Setup) (es fs : List Event) (s m t : Scene) (one two : List ℕ) → InTurn k es s m one → InTurn k fs m t two → InTurn k (es ++ fs) s t (one ++ two)
+turn-append k [] fs s m t one two (e, p) g =
+    subst (λ (x : List ℕ). InTurn k fs s t (x ++ two)) (sym p) (subst (λ (x : Scene). InTurn k fs x t two) e g)
+turn-append k (e ∷ es) fs s m t one two (n, a, b, p, r, q) g =
+    (n, a, b ++ two, p, turn-append k es fs n m t b two r g, ap (λ (x : List ℕ). x ++ two) q ∙ append_assoc a b two)
+
+pub visits-append : (k : Setup) (es fs : List (List Event)) (s m t : Scene) (one two : List ℕ) → Visits k es s m one → Visits k fs m t two → Visits k (es ++ fs) s t (one ++ two)
+visits-append k [] fs s m t one two (e, p) g =
+    subst (λ (x : List ℕ). Visits k fs s t (x ++ two)) (sym p) (subst (λ (x : Scene). Visits k fs x t two) e g)
+visits-append k (e ∷ es) fs s m t one two (n, a, b, p, r, q) g =
+    (n, a, b ++ two, p, visits-append k es fs n m t b two r g, ap (λ (x : List ℕ). x ++ two) q ∙ append_assoc a b two)
+
+-- some events happened
+abbrev pub SomeHappened : Setup → Scene → Scene → List ℕ → Type 0
+SomeHappened k s t printed = (es : List Event) × Happened k es s t printed
+
+tries_happened : (k : Setup) (e : Event) (s t : Scene) (printed : List ℕ) → Tries k s e t printed → SomeHappened k s t printed
+tries_happened k e s t printed (happens p) = (e ∷ [], (t, printed, [], plays_part k s e t printed p, (refl, refl), sym (append-nil printed)))
+tries_happened k e s t printed (passes n f g) = ([], (f, g))
+
+pub turn_happened : (k : Setup) (es : List Event) (s t : Scene) (printed : List ℕ) → InTurn k es s t printed → SomeHappened k s t printed
+turn_happened k [] s t printed (e, p) = ([], (e, p))
+turn_happened k (e ∷ es) s t printed (m, one, two, p, r, q) =
+    let a = tries_happened k e s m one p in
+    let b = turn_happened k es m t two r in
+    (a.0 ++ b.0, subst (λ (x : List ℕ). Happened k (a.0 ++ b.0) s t x) (sym q) (happened-append k a.0 b.0 s m t one two a.1 b.1))
+
+pub visits_happened : (k : Setup) (gs : List (List Event)) (s t : Scene) (printed : List ℕ) → Visits k gs s t printed → SomeHappened k s t printed
+visits_happened k [] s t printed (e, p) = ([], (e, p))
+visits_happened k (g ∷ gs) s t printed (m, one, two, p, r, q) =
+    let a = turn_happened k (in_a_row (replicate p.times g)) s m one p.goes in
+    let b = visits_happened k gs m t two r in
+    (a.0 ++ b.0, subst (λ (x : List ℕ). Happened k (a.0 ++ b.0) s t x) (sym q) (happened-append k a.0 b.0 s m t one two a.1 b.1))
+
+-- once more
+row-more : {A : Type 0} (n : ℕ) (group : List A) → in_a_row (replicate n group) ++ group ≡ in_a_row (replicate (suc n) group)
+row-more zero group = sym (append-nil group)
+row-more (suc n) group = append_assoc group (in_a_row (replicate n group)) group ∙ ap (λ xs. group ++ xs) (row-more n group)
+
+-- ---- where nothing was there to do
+
+pub rest_turn : (k : Setup) (es : List Event) (s : Scene) → All (HasNothing k s) es → InTurn k es s s []
+rest_turn k [] s h = (refl, refl)
+rest_turn k (e ∷ es) s h = (s, [], [], passes (All-head (HasNothing k s) e es h) refl refl, rest_turn k es s (All-tail (HasNothing k s) e es h), refl)
+
+pub rest_visit : (k : Setup) (group : List Event) (s : Scene) → All (HasNothing k s) group → Visit k group s s []
+rest_visit k group s h = record { times = 0; goes = (refl, refl); done = h }
+
+pub rest_visits : (k : Setup) (gs : List (List Event)) (s : Scene) → All (λ group. All (HasNothing k s) group) gs → Visits k gs s s []
+rest_visits k [] s h = (refl, refl)
+rest_visits k (g ∷ gs) s h = (s, [], [], rest_visit k g s (All-head (All (HasNothing k s)) g gs h), rest_visits k gs s (All-tail (All (HasNothing k s)) g gs h), refl)
+
+-- ---- one after the other
+
+-- how two ways go together
+pub record Joins (P₁ P₂ P : Setup → Scene → Scene → List ℕ → Type 0) (I₁ I₂ I : Setup → Scene → Type 0) : Type 0 where
+  pub first : (k : Setup) (s : Scene) → I₁ k s → P₁ k s s []
+  pub second : (k : Setup) (s : Scene) → I₂ k s → P₂ k s s []
+  pub join : (k : Setup) (s m t : Scene) (one two : List ℕ) → P₁ k s m one → P₂ k m t two → P k s t (one ++ two)
+  pub both : (k : Setup) (s : Scene) → I₁ k s → I₂ k s → I k s
+
+-- whether it moved or not, it went some way
+pub went : (Q : Setup → Type 0) (P : Setup → Scene → Scene → List ℕ → Type 0) (I : Setup → Scene → Type 0) (h : State) (o : List ℕ) (h1 : State) (o1 : List ℕ) (a : Bool)
+    → ((k : Setup) (s : Scene) → I k s → P k s s []) → Did Q P I h o h1 o1 a → (k : Setup) (s : Scene) → Q k → StandsFor k h s → Went P k s h1 o o1
+went Q P I h o h1 o1 true f c k s q st = c.went k s q st
+went Q P I h o h1 o1 false f c k s q st = record {
+  after = s;
+  printed = [];
+  goes = f k s (c.idle k s q st);
+  stands = subst (λ (x : State). StandsFor k x s) (sym c.same) st;
+  out = c.silent ∙ sym (append-nil o);
+}
+
+joined : (P₁ P₂ P : Setup → Scene → Scene → List ℕ → Type 0) → ((k : Setup) (s m t : Scene) (one two : List ℕ) → P₁ k s m one → P₂ k m t two → P k s t (one ++ two))
+    → (k : Setup) (s : Scene) (h1 h2 : State) (o o1 o2 : List ℕ) → (w : Went P₁ k s h1 o o1) → Went P₂ k w.after h2 o1 o2 → Went P k s h2 o o2
+joined P₁ P₂ P f k s h1 h2 o o1 o2 w v = record {
+  after = v.after;
+  printed = w.printed ++ v.printed;
+  goes = f k s w.after v.after w.printed v.printed w.goes v.goes;
+  stands = v.stands;
+  out = v.out ∙ ap (λ (x : List ℕ). x ++ v.printed) w.out ∙ append_assoc o w.printed v.printed;
+}
+
+pub did_then : (Q : Setup → Type 0) (P₁ P₂ P : Setup → Scene → Scene → List ℕ → Type 0) (I₁ I₂ I : Setup → Scene → Type 0) (h : State) (o : List ℕ) (h1 : State) (o1 : List ℕ) (h2 : State) (o2 : List ℕ) (a b : Bool)
+    → Joins P₁ P₂ P I₁ I₂ I → Did Q P₁ I₁ h o h1 o1 a → Did Q P₂ I₂ h1 o1 h2 o2 b → Did Q P I h o h2 o2 (a || b)
+did_then Q P₁ P₂ P I₁ I₂ I h o h1 o1 h2 o2 true true j c d = record {
+  went = λ k s q st. let w = c.went k s q st in joined P₁ P₂ P j.join k s h1 h2 o o1 o2 w (d.went k w.after q w.stands);
+  less = let x = c.less in let y = d.less in omega (arith, x, y);
+}
+did_then Q P₁ P₂ P I₁ I₂ I h o h1 o1 h2 o2 true false j c d = record {
+  went = λ k s q st. let w = c.went k s q st in joined P₁ P₂ P j.join k s h1 h2 o o1 o2 w (went Q P₂ I₂ h1 o1 h2 o2 false j.second d k w.after q w.stands);
+  less = let x = c.less in let y = ap effort d.same in omega (arith, x, y);
+}
+did_then Q P₁ P₂ P I₁ I₂ I h o h1 o1 h2 o2 false true j c d = record {
+  went = λ k s q st. let w = went Q P₁ I₁ h o h1 o1 false j.first c k s q st in joined P₁ P₂ P j.join k s h1 h2 o o1 o2 w (d.went k w.after q w.stands);
+  less = let x = ap effort c.same in let y = d.less in omega (arith, x, y);
+}
+did_then Q P₁ P₂ P I₁ I₂ I h o h1 o1 h2 o2 false false j c d = record {
+  same = d.same ∙ c.same;
+  silent = d.silent ∙ c.silent;
+  idle = λ k s q st. j.both k s (c.idle k s q st) (d.idle k s q (subst (λ (x : State). StandsFor k x s) (sym c.same) st));
+}
+
+-- want of memory after what came before
+pub wants_after : (P : Setup → Scene → Scene → List ℕ → Type 0) (k : Setup) (s : Scene) (h1 h2 : State) (o o1 o2 : List ℕ)
+    → ((k : Setup) (s t : Scene) (printed : List ℕ) → P k s t printed → SomeHappened k s t printed)
+    → (w : Went P k s h1 o o1) → HappenedFrom k w.after h2 o1 o2 → HappenedFrom k s h2 o o2
+wants_after P k s h1 h2 o o1 o2 f w v =
+    let a = f k s w.after w.printed w.goes in
+    record {
+      events = a.0 ++ v.events;
+      after = v.after;
+      printed = w.printed ++ v.printed;
+      happened = happened-append k a.0 v.events s w.after v.after w.printed v.printed a.1 v.happened;
+      stands = v.stands;
+      out = v.out ∙ ap (λ (x : List ℕ). x ++ v.printed) w.out ∙ append_assoc o w.printed v.printed;
+    }
+
+pub did_wants : (Q : Setup → Type 0) (P : Setup → Scene → Scene → List ℕ → Type 0) (I : Setup → Scene → Type 0) (h : State) (o : List ℕ) (h1 : State) (o1 : List ℕ) (h2 : State) (o2 : List ℕ) (a : Bool)
+    → ((k : Setup) (s : Scene) → I k s → P k s s []) → ((k : Setup) (s t : Scene) (printed : List ℕ) → P k s t printed → SomeHappened k s t printed)
+    → Did Q P I h o h1 o1 a → Wants Q h1 o1 h2 o2 → Wants Q h o h2 o2
+did_wants Q P I h o h1 o1 h2 o2 a r f c d = record {
+  happened = λ k s q st. let w = went Q P I h o h1 o1 a r c k s q st in wants_after P k s h1 h2 o o1 o2 f w (d.happened k w.after q w.stands);
+}
+
+-- ---- the same said of another way, in scenes for which the house stood
+
+pub did_as : (Q Q' : Setup → Type 0) (P P' : Setup → Scene → Scene → List ℕ → Type 0) (I I' : Setup → Scene → Type 0) (h : State) (o : List ℕ) (h1 : State) (o1 : List ℕ) (r : Bool)
+    → ((k : Setup) (s : Scene) → Q' k → StandsFor k h s → Q k)
+    → ((k : Setup) (s : Scene) → Q' k → StandsFor k h s → (t : Scene) (printed : List ℕ) → P k s t printed → P' k s t printed)
+    → ((k : Setup) (s : Scene) → Q' k → StandsFor k h s → I k s → I' k s)
+    → Did Q P I h o h1 o1 r → Did Q' P' I' h o h1 o1 r
+did_as Q Q' P P' I I' h o h1 o1 true f p i c = record {
+  went = λ k s q st. let w = c.went k s (f k s q st) st in record { after = w.after; printed = w.printed; goes = p k s q st w.after w.printed w.goes; stands = w.stands; out = w.out };
+  less = c.less;
+}
+did_as Q Q' P P' I I' h o h1 o1 false f p i c = record { same = c.same; silent = c.silent; idle = λ k s q st. i k s q st (c.idle k s (f k s q st) st) }
+
+pub wants_as : (Q Q' : Setup → Type 0) (h : State) (o : List ℕ) (h1 : State) (o1 : List ℕ) → ((k : Setup) (s : Scene) → Q' k → StandsFor k h s → Q k) → Wants Q h o h1 o1 → Wants Q' h o h1 o1
+wants_as Q Q' h o h1 o1 f c = record { happened = λ k s q st. c.happened k s (f k s q st) st }
+
+-- ---- an event where nobody is
+
+no_caller : (k : Setup) (s : Scene) (seat : ℕ) (next : CopyKey) (o : Option Caller) → s.caller seat ≡ o → StandsForOne k seat next (s.world.heard seat) (s.next seat) None o → s.caller seat ≡ None
+no_caller k s seat next None e w = e
+no_caller k s seat next (Some b) e w = absurd w
+
+nobody_there : (k : Setup) (h : State) (s : Scene) (n : ℕ) → 0 < n → n ≤ k.config.seats → StandsFor k h s → IsNoSeat h n ⊎ IsEmptySeat h n → s.caller (seat_of n) ≡ None
+nobody_there k h s n pos le st (inl (inl e)) = absurd (omega (arith, pos, e))
+nobody_there k h s n pos le st (inl (inr l)) = absurd (let e = st.seats in omega (arith, le, l, e))
+nobody_there k h s n pos le st (inr e) =
+    let y = first_key 0 in
+    let lt : n - 1 < length h.callers = let f = st.seats in omega (arith, pos, le, f) in
+    no_caller k s (n - 1) (get_or h.core.next (n - 1) y) (s.caller (n - 1)) refl
+    (subst (λ (x : Option Line). StandsForOne k (n - 1) (get_or h.core.next (n - 1) y) (s.world.heard (n - 1)) (s.next (n - 1)) x (s.caller (n - 1))) e (st.each (n - 1) y 0 None lt).who)
+
+pub nobody_nothing : (k : Setup) (h : State) (s : Scene) (e : Event) → IsAmong k e → StandsFor k h s → IsNobody h e → HasNothing k s e
+nobody_nothing k h s (Bytes connection piece) q st n = absurd q
+nobody_nothing k h s (Put connection) q st n = λ t printed p. absurd (let x = nobody_there k h s connection q.0 q.1 st n in let y = p.there in let z : None ≡ Some p.caller = sym x ∙ y in cc)
+nobody_nothing k h s (Hear connection) q st n = λ t printed p. absurd (let x = nobody_there k h s connection q.0 q.1 st n in let y = p.there in let z : None ≡ Some p.caller = sym x ∙ y in cc)
+nobody_nothing k h s (Take shard) q st n = absurd (let e = st.core.shards in omega (arith, e, q, n))
+nobody_nothing k h s (Deliver shard) q st n = absurd (let e = st.core.shards in omega (arith, e, q, n))
+nobody_nothing k h s (Answer shard) q st n = absurd (let e = st.core.shards in omega (arith, e, q, n))
+
+-- an own event makes less
+pub own_less : (e : Event) (old new : State) → IsOwn e → MakesLess e old new → effort new < effort old
+own_less (Bytes connection piece) old new o l = absurd o
+own_less (Put connection) old new o l = l
+own_less (Take shard) old new o l = l
+own_less (Deliver shard) old new o l = l
+own_less (Answer shard) old new o l = l
+own_less (Hear connection) old new o l = l
+
+-- an event that happened is one that was tried
+pub tried : (e : Event) (h h1 : State) (o o1 : List ℕ) → IsOwn e → Follows h e h1 o o1 → MakesLess e h h1 → Moved (λ k. IsAmong k e) (λ k s t printed. Tries k s e t printed) h o h1 o1
+tried e h h1 o o1 own f l = record {
+  went = λ k s q st. let w = f k s st in record { after = w.after; printed = w.printed; goes = happens w.plays; stands = w.stands; out = w.out };
+  less = own_less e h h1 own l;
+}
+
+led_or_not : (e : Event) (h h1 : State) (o o1 : List ℕ) (k : Setup) (s : Scene) → Led k false s e h1 o o1 ⊎ (StandsFor k h1 s × (o1 ≡ o)) → HappenedFrom k s h1 o o1
+led_or_not e h h1 o o1 k s (inl w) = record {
+  events = e ∷ [];
+  after = w.after;
+  printed = w.printed;
+  happened = (w.after, w.printed, [], w.plays, (refl, refl), sym (append-nil w.printed));
+  stands = w.stands;
+  out = w.out;
+}
+led_or_not e h h1 o o1 k s (inr (st, same)) = record { events = []; after = s; printed = []; happened = (refl, refl); stands = st; out = same ∙ sym (append-nil o) }
+
+pub wanted : (Q : Setup → Type 0) (e : Event) (h h1 : State) (o o1 : List ℕ) → FollowsInPart h e h1 o o1 → Wants Q h o h1 o1
+wanted Q e h h1 o o1 f = record { happened = λ k s q st. led_or_not e h h1 o o1 k s (f k s st) }
+
+pub All-one : {A : Type 0} (P : A → Type 0) (x : A) → P x → All P (x ∷ [])
+All-one P x h = All-cons P x [] h (All-nil P)
+
+-- ---- events in turn
+
+abbrev pub DidTurn : List Event → List Event → State → List ℕ → State → List ℕ → Bool → Type 0
+DidTurn group es h o h1 o1 moved = Did (λ k. All (IsAmong k) group) (λ k s t printed. InTurn k es s t printed) (λ k s. All (HasNothing k s) es) h o h1 o1 moved
+
+turn_one : (k : Setup) (es : List Event) (e : Event) (s m t : Scene) (one two : List ℕ) → InTurn k es s m one → Tries k m e t two → InTurn k (es ++ e ∷ []) s t (one ++ two)
+turn_one k es e s m t one two a b = turn-append k es (e ∷ []) s m t one two a (t, two, [], b, (refl, refl), sym (append-nil two))
+
+turn_then : (group es : List Event) (e : Event) (h : State) (o : List ℕ) (h1 : State) (o1 : List ℕ) (h2 : State) (o2 : List ℕ) (a b : Bool) → ((k : Setup) → All (IsAmong k) group → IsAmong k e)
+    → DidTurn group es h o h1 o1 a → Did (λ k. IsAmong k e) (λ k s t printed. Tries k s e t printed) (λ k s. HasNothing k s e) h1 o1 h2 o2 b → DidTurn group (es ++ e ∷ []) h o h2 o2 (a || b)
+turn_then group es e h o h1 o1 h2 o2 a b f c d =
+    did_then (λ k. All (IsAmong k) group) (λ k s t printed. InTurn k es s t printed) (λ k s t printed. Tries k s e t printed) (λ k s t printed. InTurn k (es ++ e ∷ []) s t printed)
+    (λ k s. All (HasNothing k s) es) (λ k s. HasNothing k s e) (λ k s. All (HasNothing k s) (es ++ e ∷ [])) h o h1 o1 h2 o2 a b
+    (record {
+      first = λ k s x. rest_turn k es s x;
+      second = λ k s x. passes x refl refl;
+      join = λ k s m t one two x y. turn_one k es e s m t one two x y;
+      both = λ k s x y. All-append (HasNothing k s) es (e ∷ []) x (All-one (HasNothing k s) e y);
+    }) c
+    (did_as (λ k. IsAmong k e) (λ k. All (IsAmong k) group) (λ k s t printed. Tries k s e t printed) (λ k s t printed. Tries k s e t printed) (λ k s. HasNothing k s e) (λ k s. HasNothing k s e) h1 o1 h2 o2 b
+    (λ k s q st. f k q) (λ k s q st t printed x. x) (λ k s q st x. x) d)
+
+pub each_step : (group : List Event) (i : ℕ) (d : Event) (h : State) (o : List ℕ) (h1 : State) (o1 : List ℕ) (h2 : State) (o2 : List ℕ) (a b : Bool) → i < length group
+    → DidTurn group (take i group) h o h1 o1 a → Did (λ k. IsAmong k (get_or group i d)) (λ k s t printed. Tries k s (get_or group i d) t printed) (λ k s. HasNothing k s (get_or group i d)) h1 o1 h2 o2 b
+    → DidTurn group (take (i + 1) group) h o h2 o2 (a || b)
+each_step group i d h o h1 o1 h2 o2 a b l c e =
+    subst (λ (xs : List Event). DidTurn group xs h o h2 o2 (a || b)) (sym (take-suc group i d l) ∙ ap (λ (n : ℕ). take n group) (sym (add-one i)))
+    (turn_then group (take i group) (get_or group i d) h o h1 o1 h2 o2 a b (λ k q. All-get_or (IsAmong k) group i d l q) c e)
+
+pub each_wants : (group es : List Event) (e : Event) (h : State) (o : List ℕ) (h1 : State) (o1 : List ℕ) (h2 : State) (o2 : List ℕ) (a : Bool) → ((k : Setup) → All (IsAmong k) group → IsAmong k e)
+    → DidTurn group es h o h1 o1 a → Wants (λ k. IsAmong k e) h1 o1 h2 o2 → Wants (λ k. All (IsAmong k) group) h o h2 o2
+each_wants group es e h o h1 o1 h2 o2 a f c d =
+    did_wants (λ k. All (IsAmong k) group) (λ k s t printed. InTurn k es s t printed) (λ k s. All (HasNothing k s) es) h o h1 o1 h2 o2 a (λ k s x. rest_turn k es s x)
+    (λ k s t printed x. turn_happened k es s t printed x) c (wants_as (λ k. IsAmong k e) (λ k. All (IsAmong k) group) h1 o1 h2 o2 (λ k s q st. f k q) d)
+
+-- ---- over and over
+
+-- so often
+abbrev pub Often : Setup → List Event → Scene → Scene → List ℕ → Type 0
+Often k group s t printed = (n : ℕ) × InTurn k (in_a_row (replicate n group)) s t printed
+
+often_more : (k : Setup) (group : List Event) (s m t : Scene) (one two : List ℕ) → Often k group s m one → InTurn k group m t two → Often k group s t (one ++ two)
+often_more k group s m t one two (n, a) b =
+    (suc n, subst (λ (xs : List Event). InTurn k xs s t (one ++ two)) (row-more n group) (turn-append k (in_a_row (replicate n group)) group s m t one two a b))
+
+often_happened : (k : Setup) (group : List Event) (s t : Scene) (printed : List ℕ) → Often k group s t printed → SomeHappened k s t printed
+often_happened k group s t printed (n, a) = turn_happened k (in_a_row (replicate n group)) s t printed a
+
+abbrev pub DidOften : List Event → State → List ℕ → State → List ℕ → Bool → Type 0
+DidOften group h o h1 o1 moved = Did (λ k. All (IsAmong k) group) (λ k s t printed. Often k group s t printed) (λ k s. Unit {0}) h o h1 o1 moved
+
+often_went : (group : List Event) (h : State) (o : List ℕ) (h1 : State) (o1 : List ℕ) (a : Bool) → DidOften group h o h1 o1 a
+    → (k : Setup) (s : Scene) → All (IsAmong k) group → StandsFor k h s → Went (λ k s t printed. Often k group s t printed) k s h1 o o1
+often_went group h o h1 o1 a c = went (λ k. All (IsAmong k) group) (λ k s t printed. Often k group s t printed) (λ k s. Unit {0}) h o h1 o1 a (λ k s x. (0, (refl, refl))) c
+
+no_more : (group : List Event) (h : State) (o : List ℕ) (h1 : State) (o1 : List ℕ) (a : Bool) → DidOften group h o h1 o1 a → effort h1 ≤ effort h
+no_more group h o h1 o1 true c = let x = c.less in omega (arith, x)
+no_more group h o h1 o1 false c = let x = ap effort c.same in omega (arith, x)
+
+pub often_again : (group : List Event) (h : State) (o : List ℕ) (h1 : State) (o1 : List ℕ) (h2 : State) (o2 : List ℕ) (a b : Bool) → b ≡ true → DidOften group h o h1 o1 a → DidTurn group group h1 o1 h2 o2 b → DidOften group h o h2 o2 true
+often_again group h o h1 o1 h2 o2 a false e c d = cc
+often_again group h o h1 o1 h2 o2 a true e c d = record {
+  went = λ k s q st. let w = often_went group h o h1 o1 a c k s q st in
+      joined (λ k s t printed. Often k group s t printed) (λ k s t printed. InTurn k group s t printed) (λ k s t printed. Often k group s t printed)
+      (λ k s m t one two x y. often_more k group s m t one two x y) k s h1 h2 o o1 o2 w (d.went k w.after q w.stands);
+  less = let x = no_more group h o h1 o1 a c in let y = d.less in omega (arith, x, y);
+}
+
+pub turn_less : (group : List Event) (h : State) (o : List ℕ) (h1 : State) (o1 : List ℕ) (b : Bool) → b ≡ true → DidTurn group group h o h1 o1 b → effort h1 < effort h
+turn_less group h o h1 o1 false e d = cc
+turn_less group h o h1 o1 true e d = d.less
+
+pub often_wants : (group : List Event) (h : State) (o : List ℕ) (h1 : State) (o1 : List ℕ) (h2 : State) (o2 : List ℕ) (a : Bool) → DidOften group h o h1 o1 a → Wants (λ k. All (IsAmong k) group) h1 o1 h2 o2
+    → Wants (λ k. All (IsAmong k) group) h o h2 o2
+often_wants group h o h1 o1 h2 o2 a c d =
+    did_wants (λ k. All (IsAmong k) group) (λ k s t printed. Often k group s t printed) (λ k s. Unit {0}) h o h1 o1 h2 o2 a (λ k s x. (0, (refl, refl))) (λ k s t printed x. often_happened k group s t printed x) c d
+
+-- the last turn moved nothing: the visit is done
+abbrev pub DidVisit : List Event → State → List ℕ → State → List ℕ → Bool → Type 0
+DidVisit group h o h1 o1 moved = Did (λ k. All (IsAmong k) group) (λ k s t printed. Visit k group s t printed) (λ k s. All (HasNothing k s) group) h o h1 o1 moved
+
+visit_of : (k : Setup) (group : List Event) (s t : Scene) (printed : List ℕ) → Often k group s t printed → All (HasNothing k t) group → Visit k group s t printed
+visit_of k group s t printed (n, a) d = record { times = n; goes = a; done = d }
+
+visit_rests : (group : List Event) (h : State) (o : List ℕ) (h1 : State) (o1 : List ℕ) (h2 : State) (o2 : List ℕ) (a : Bool) → DidOften group h o h1 o1 a
+    → Rests (λ k. All (IsAmong k) group) (λ k s. All (HasNothing k s) group) h1 o1 h2 o2 → DidVisit group h o h2 o2 a
+visit_rests group h o h1 o1 h2 o2 true c d = record {
+  went = λ k s q st. let w = c.went k s q st in record {
+    after = w.after;
+    printed = w.printed;
+    goes = visit_of k group s w.after w.printed w.goes (d.idle k w.after q w.stands);
+    stands = subst (λ (x : State). StandsFor k x w.after) (sym d.same) w.stands;
+    out = d.silent ∙ w.out;
+  };
+  less = let x = c.less in let y = ap effort d.same in omega (arith, x, y);
+}
+visit_rests group h o h1 o1 h2 o2 false c d = record {
+  same = d.same ∙ c.same;
+  silent = d.silent ∙ c.silent;
+  idle = λ k s q st. d.idle k s q (subst (λ (x : State). StandsFor k x s) (sym c.same) st);
+}
+
+pub visit_done : (group : List Event) (h : State) (o : List ℕ) (h1 : State) (o1 : List ℕ) (h2 : State) (o2 : List ℕ) (a b : Bool) → b ≡ false → DidOften group h o h1 o1 a → DidTurn group group h1 o1 h2 o2 b → DidVisit group h o h2 o2 a
+visit_done group h o h1 o1 h2 o2 a true e c d = cc
+visit_done group h o h1 o1 h2 o2 a false e c d = visit_rests group h o h1 o1 h2 o2 a c d
+
+-- ---- visits one after another
+
+pub visits_then : (Q : Setup → Type 0) (gs hs : Setup → List (List Event)) (h : State) (o : List ℕ) (h1 : State) (o1 : List ℕ) (h2 : State) (o2 : List ℕ) (a b : Bool)
+    → DidVisits Q gs h o h1 o1 a → DidVisits Q hs h1 o1 h2 o2 b → DidVisits Q (λ k. gs k ++ hs k) h o h2 o2 (a || b)
+visits_then Q gs hs h o h1 o1 h2 o2 a b c d =
+    did_then Q (λ k s t printed. Visits k (gs k) s t printed) (λ k s t printed. Visits k (hs k) s t printed) (λ k s t printed. Visits k (gs k ++ hs k) s t printed)
+    (λ k s. All (λ group. All (HasNothing k s) group) (gs k)) (λ k s. All (λ group. All (HasNothing k s) group) (hs k)) (λ k s. All (λ group. All (HasNothing k s) group) (gs k ++ hs k)) h o h1 o1 h2 o2 a b
+    (record {
+      first = λ k s x. rest_visits k (gs k) s x;
+      second = λ k s x. rest_visits k (hs k) s x;
+      join = λ k s m t one two x y. visits-append k (gs k) (hs k) s m t one two x y;
+      both = λ k s x y. All-append (λ group. All (HasNothing k s) group) (gs k) (hs k) x y;
+    }) c d
+
+pub visits_wants : (Q : Setup → Type 0) (gs : Setup → List (List Event)) (h : State) (o : List ℕ) (h1 : State) (o1 : List ℕ) (h2 : State) (o2 : List ℕ) (a : Bool)
+    → DidVisits Q gs h o h1 o1 a → Wants Q h1 o1 h2 o2 → Wants Q h o h2 o2
+visits_wants Q gs h o h1 o1 h2 o2 a c d =
+    did_wants Q (λ k s t printed. Visits k (gs k) s t printed) (λ k s. All (λ group. All (HasNothing k s) group) (gs k)) h o h1 o1 h2 o2 a
+    (λ k s x. rest_visits k (gs k) s x) (λ k s t printed x. visits_happened k (gs k) s t printed x) c d
+
+-- one visit, as a list of visits
+pub one_visit : (Q : Setup → Type 0) (group : List Event) (h : State) (o : List ℕ) (h1 : State) (o1 : List ℕ) (b : Bool) → ((k : Setup) → Q k → All (IsAmong k) group)
+    → DidVisit group h o h1 o1 b → DidVisits Q (λ k. group ∷ []) h o h1 o1 b
+one_visit Q group h o h1 o1 b f c =
+    did_as (λ k. All (IsAmong k) group) Q (λ k s t printed. Visit k group s t printed) (λ k s t printed. Visits k (group ∷ []) s t printed)
+    (λ k s. All (HasNothing k s) group) (λ k s. All (λ g. All (HasNothing k s) g) (group ∷ [])) h o h1 o1 b
+    (λ k s q st. f k q) (λ k s q st t printed x. (t, printed, [], x, (refl, refl), sym (append-nil printed))) (λ k s q st x. All-one (λ g. All (HasNothing k s) g) group x) c
+
+-- the seat's visit after those of the seats before it
+pub seats_step : (make : ℕ → List Event) (seats seat : ℕ) (h : State) (o : List ℕ) (h1 : State) (o1 : List ℕ) (h2 : State) (o2 : List ℕ) (a b : Bool) → ((k : Setup) → k.config.seats ≡ seats → All (IsAmong k) (make (seat + 1)))
+    → DidVisits (λ k. k.config.seats ≡ seats) (λ k. map make (range_with_len 1 seat)) h o h1 o1 a → DidVisit (make (seat + 1)) h1 o1 h2 o2 b
+    → DidVisits (λ k. k.config.seats ≡ seats) (λ k. map make (range_with_len 1 (seat + 1))) h o h2 o2 (a || b)
+seats_step make seats seat h o h1 o1 h2 o2 a b f c d =
+    subst (λ (gs : List (List Event)). DidVisits (λ k. k.config.seats ≡ seats) (λ k. gs) h o h2 o2 (a || b)) (sym (map-range_with_len_more make 1 seat (seat + 1) (omega arith)))
+    (visits_then (λ k. k.config.seats ≡ seats) (λ k. map make (range_with_len 1 seat)) (λ k. make (seat + 1) ∷ []) h o h1 o1 h2 o2 a b c
+    (one_visit (λ k. k.config.seats ≡ seats) (make (seat + 1)) h1 o1 h2 o2 b f d))
+
+pub seats_wants : (make : ℕ → List Event) (seats seat : ℕ) (h : State) (o : List ℕ) (h1 : State) (o1 : List ℕ) (h2 : State) (o2 : List ℕ) (a : Bool) → ((k : Setup) → k.config.seats ≡ seats → All (IsAmong k) (make (seat + 1)))
+    → seats ≡ length h.callers → DidVisits (λ k. k.config.seats ≡ seats) (λ k. map make (range_with_len 1 seat)) h o h1 o1 a → Wants (λ k. All (IsAmong k) (make (seat + 1))) h1 o1 h2 o2 → Wants (λ k. Unit {0}) h o h2 o2
+seats_wants make seats seat h o h1 o1 h2 o2 a f e c d =
+    wants_as (λ k. k.config.seats ≡ seats) (λ k. Unit {0}) h o h2 o2 (λ k s q st. sym (e ∙ st.seats))
+    (visits_wants (λ k. k.config.seats ≡ seats) (λ k. map make (range_with_len 1 seat)) h o h1 o1 h2 o2 a c
+    (wants_as (λ k. All (IsAmong k) (make (seat + 1))) (λ k. k.config.seats ≡ seats) h1 o1 h2 o2 (λ k s q st. f k q) d))
+
+-- all of them, where so many seats are there
+pub visits_as : (Q : Setup → Type 0) (gs hs : Setup → List (List Event)) (h : State) (o : List ℕ) (h1 : State) (o1 : List ℕ) (b : Bool)
+    → ((k : Setup) (s : Scene) → StandsFor k h s → Q k) → ((k : Setup) → Q k → gs k ≡ hs k) → DidVisits Q gs h o h1 o1 b → DidVisits (λ k. Unit {0}) hs h o h1 o1 b
+visits_as Q gs hs h o h1 o1 b f e c =
+    did_as Q (λ k. Unit {0}) (λ k s t printed. Visits k (gs k) s t printed) (λ k s t printed. Visits k (hs k) s t printed)
+    (λ k s. All (λ group. All (HasNothing k s) group) (gs k)) (λ k s. All (λ group. All (HasNothing k s) group) (hs k)) h o h1 o1 b
+    (λ k s q st. f k s st) (λ k s q st t printed x. subst (λ (xs : List (List Event)). Visits k xs s t printed) (e k (f k s st)) x)
+    (λ k s q st x. subst (λ (xs : List (List Event)). All (λ group. All (HasNothing k s) group) xs) (e k (f k s st)) x) c
+
+-- ---- shards
+
+served : (held : ℕ → Bool) (n : ℕ) → serves held n ++ serve n (held n) ≡ serves held (n + 1)
+served held n = one (held n) refl
+  where
+    more : (ns : List ℕ) → filter (λ s. not (held s)) (n ∷ []) ≡ ns → serves held n ++ map (λ s. Take s ∷ Deliver s ∷ Answer s ∷ []) ns ≡ serves held (n + 1)
+    more ns e = sym (map-append (λ s. Take s ∷ Deliver s ∷ Answer s ∷ []) (filter (λ s. not (held s)) (range_with_len 0 n)) ns)
+        ∙ ap (λ (xs : List ℕ). map (λ s. Take s ∷ Deliver s ∷ Answer s ∷ []) (filter (λ s. not (held s)) (range_with_len 0 n) ++ xs)) (sym e)
+        ∙ ap (λ (xs : List ℕ). map (λ s. Take s ∷ Deliver s ∷ Answer s ∷ []) xs) (sym (filter-append (λ s. not (held s)) (range_with_len 0 n) (n ∷ [])))
+        ∙ ap (λ (xs : List ℕ). map (λ s. Take s ∷ Deliver s ∷ Answer s ∷ []) (filter (λ s. not (held s)) xs)) (ap (λ (i : ℕ). range_with_len 0 n ++ i ∷ []) (sym (zero-add n)) ∙ range-push 0 n)
+
+    chosen : (b : Bool) → held n ≡ b → filter (λ s. not (held s)) (n ∷ []) ≡ cond b [] (n ∷ [])
+    chosen true e = rw e refl
+    chosen false e = rw e refl
+
+    one : (b : Bool) → held n ≡ b → serves held n ++ serve n b ≡ serves held (n + 1)
+    one true e = more [] (chosen true e)
+    one false e = more (n ∷ []) (chosen false e)
+
+-- ---- rounds
+
+abbrev pub Rounds : Setup → (ℕ → Bool) → Scene → Scene → List ℕ → Type 0
+Rounds k held s t printed = (n : ℕ) × Visits k (in_a_row (replicate n (round k held))) s t printed
+
+abbrev pub DidRound : (ℕ → Bool) → State → List ℕ → State → List ℕ → Bool → Type 0
+DidRound held h o h1 o1 moved = DidVisits (λ k. Unit {0}) (λ k. round k held) h o h1 o1 moved
+
+rounds_more : (k : Setup) (held : ℕ → Bool) (s m t : Scene) (one two : List ℕ) → Rounds k held s m one → Visits k (round k held) m t two → Rounds k held s t (one ++ two)
+rounds_more k held s m t one two (n, a) b =
+    (suc n, subst (λ (xs : List (List Event)). Visits k xs s t (one ++ two)) (row-more n (round k held)) (visits-append k (in_a_row (replicate n (round k held))) (round k held) s m t one two a b))
+
+rounds_happened : (k : Setup) (held : ℕ → Bool) (s t : Scene) (printed : List ℕ) → Rounds k held s t printed → SomeHappened k s t printed
+rounds_happened k held s t printed (n, a) = visits_happened k (in_a_row (replicate n (round k held))) s t printed a
+
+pub no_round : (k : Setup) (held : ℕ → Bool) (s : Scene) (h : State) (o : List ℕ) → StandsFor k h s → Went (λ k s t printed. Rounds k held s t printed) k s h o o
+no_round k held s h o st = record { after = s; printed = []; goes = (0, (refl, refl)); stands = st; out = sym (append-nil o) }
+
+pub round_again : (held : ℕ → Bool) (k : Setup) (s : Scene) (h1 h2 : State) (o o1 o2 : List ℕ) (b : Bool) → Went (λ k s t printed. Rounds k held s t printed) k s h1 o o1 → DidRound held h1 o1 h2 o2 b
+    → Went (λ k s t printed. Rounds k held s t printed) k s h2 o o2
+round_again held k s h1 h2 o o1 o2 b w d =
+    joined (λ k s t printed. Rounds k held s t printed) (λ k s t printed. Visits k (round k held) s t printed) (λ k s t printed. Rounds k held s t printed)
+    (λ k s m t one two x y. rounds_more k held s m t one two x y) k s h1 h2 o o1 o2 w
+    (went (λ k. Unit {0}) (λ k s t printed. Visits k (round k held) s t printed) (λ k s. All (λ group. All (HasNothing k s) group) (round k held)) h1 o1 h2 o2 b (λ k s x. rest_visits k (round k held) s x) d k w.after tt w.stands)
+
+pub round_less : (held : ℕ → Bool) (h : State) (o : List ℕ) (h1 : State) (o1 : List ℕ) (b : Bool) → b ≡ true → DidRound held h o h1 o1 b → effort h1 < effort h
+round_less held h o h1 o1 false e d = cc
+round_less held h o h1 o1 true e d = d.less
+
+pub rounds_want : (held : ℕ → Bool) (k : Setup) (s : Scene) (h1 h2 : State) (o o1 o2 : List ℕ) → Went (λ k s t printed. Rounds k held s t printed) k s h1 o o1 → Wants (λ k. Unit {0}) h1 o1 h2 o2 → HappenedFrom k s h2 o o2
+rounds_want held k s h1 h2 o o1 o2 w d =
+    wants_after (λ k s t printed. Rounds k held s t printed) k s h1 h2 o o1 o2 (λ k s t printed x. rounds_happened k held s t printed x) w (d.happened k w.after tt w.stands)
+
+settles_of : (k : Setup) (held : ℕ → Bool) (s t : Scene) (printed : List ℕ) → Rounds k held s t printed → All (λ group. All (HasNothing k t) group) (round k held) → Settles k held s t printed
+settles_of k held s t printed (n, a) d = record { rounds = n; goes = a; done = d }
+
+-- the last round moved nothing: the house has settled
+pub settled : (held : List Bool) (k : Setup) (s : Scene) (h1 h2 : State) (o o1 o2 : List ℕ) (b : Bool) → b ≡ false → Went (λ k s t printed. Rounds k (is_held held) s t printed) k s h1 o o1 → DidRound (is_held held) h1 o1 h2 o2 b
+    → SettledFrom k held s h2 o o2
+settled held k s h1 h2 o o1 o2 true e w d = cc
+settled held k s h1 h2 o o1 o2 false e w d = record {
+  after = w.after;
+  printed = w.printed;
+  settles = settles_of k (is_held held) s w.after w.printed w.goes (d.idle k w.after tt w.stands);
+  stands = subst (λ (x : State). StandsFor k x w.after) (sym d.same) w.stands;
+  out = d.silent ∙ w.out;
+}
+
+-- a round from its parts
+pub parts_wants : (held : ℕ → Bool) (h : State) (o : List ℕ) (h1 : State) (o1 : List ℕ) (h2 : State) (o2 : List ℕ) (h3 : State) (o3 : List ℕ) (a b : Bool)
+    → DidVisits (λ k. Unit {0}) (λ k. puts k.config.seats) h o h1 o1 a → DidVisits (λ k. Unit {0}) (λ k. serves held k.config.shards) h1 o1 h2 o2 b → Wants (λ k. Unit {0}) h2 o2 h3 o3 → Wants (λ k. Unit {0}) h o h3 o3
+parts_wants held h o h1 o1 h2 o2 h3 o3 a b x y z =
+    visits_wants (λ k. Unit {0}) (λ k. puts k.config.seats ++ serves held k.config.shards) h o h2 o2 h3 o3 (a || b)
+    (visits_then (λ k. Unit {0}) (λ k. puts k.config.seats) (λ k. serves held k.config.shards) h o h1 o1 h2 o2 a b x y) z
+
+pub round_of : (held : ℕ → Bool) (h : State) (o : List ℕ) (h1 : State) (o1 : List ℕ) (h2 : State) (o2 : List ℕ) (h3 : State) (o3 : List ℕ) (a b c : Bool)
+    → DidVisits (λ k. Unit {0}) (λ k. puts k.config.seats) h o h1 o1 a → DidVisits (λ k. Unit {0}) (λ k. serves held k.config.shards) h1 o1 h2 o2 b → DidVisits (λ k. Unit {0}) (λ k. hears k.config.seats) h2 o2 h3 o3 c
+    → DidRound held h o h3 o3 ((a || b) || c)
+round_of held h o h1 o1 h2 o2 h3 o3 a b c x y z =
+    visits_then (λ k. Unit {0}) (λ k. puts k.config.seats ++ serves held k.config.shards) (λ k. hears k.config.seats) h o h2 o2 h3 o3 (a || b) c
+    (visits_then (λ k. Unit {0}) (λ k. puts k.config.seats) (λ k. serves held k.config.shards) h o h1 o1 h2 o2 a b x y) z
+
+-- ---- who is there
+
+pub put_among : (k : Setup) (seats seat : ℕ) → seat < seats → k.config.seats ≡ seats → All (IsAmong k) (Put (seat + 1) ∷ [])
+put_among k seats seat l e = All-one (IsAmong k) (Put (seat + 1)) (omega arith, omega (arith, l, e))
+
+pub hear_among : (k : Setup) (seats seat : ℕ) → seat < seats → k.config.seats ≡ seats → All (IsAmong k) (Hear (seat + 1) ∷ [])
+hear_among k seats seat l e = All-one (IsAmong k) (Hear (seat + 1)) (omega arith, omega (arith, l, e))
+
+shard_among : (k : Setup) (shard : ℕ) → shard < k.config.shards → All (IsAmong k) (Take shard ∷ Deliver shard ∷ Answer shard ∷ [])
+shard_among k shard l = All-cons (IsAmong k) (Take shard) (Deliver shard ∷ Answer shard ∷ []) l (All-cons (IsAmong k) (Deliver shard) (Answer shard ∷ []) l (All-one (IsAmong k) (Answer shard) l))
+
+-- a shard that isn't held is visited
+pub serve_came : {E : Type 0} (shard : ℕ) (held : Bool) (h : State) (o : List ℕ) (h1 : State) (o1 : List ℕ) (r : Result Bool E) → held ≡ false
+    → CameVisit {E = E} (Take shard ∷ Deliver shard ∷ Answer shard ∷ []) h o h1 o1 r → CameVisits {E = E} (λ k. shard < k.config.shards) (λ k. serve shard held) h o h1 o1 r
+serve_came shard true h o h1 o1 r e c = cc
+serve_came shard false h o h1 o1 (Ok b) e c = one_visit (λ k. shard < k.config.shards) (Take shard ∷ Deliver shard ∷ Answer shard ∷ []) h o h1 o1 b (λ k q. shard_among k shard q) c
+serve_came shard false h o h1 o1 (Err x) e c = wants_as (λ k. All (IsAmong k) (Take shard ∷ Deliver shard ∷ Answer shard ∷ [])) (λ k. shard < k.config.shards) h o h1 o1 (λ k s q st. shard_among k shard q) c
+
+pub shards_step : (held : ℕ → Bool) (shards shard : ℕ) (is : Bool) (h : State) (o : List ℕ) (h1 : State) (o1 : List ℕ) (h2 : State) (o2 : List ℕ) (a b : Bool) → shard < shards → is ≡ held shard
+    → DidVisits (λ k. k.config.shards ≡ shards) (λ k. serves held shard) h o h1 o1 a → DidVisits (λ k. shard < k.config.shards) (λ k. serve shard is) h1 o1 h2 o2 b
+    → DidVisits (λ k. k.config.shards ≡ shards) (λ k. serves held (shard + 1)) h o h2 o2 (a || b)
+shards_step held shards shard is h o h1 o1 h2 o2 a b l e c d =
+    subst (λ (gs : List (List Event)). DidVisits (λ k. k.config.shards ≡ shards) (λ k. gs) h o h2 o2 (a || b)) (ap (λ (x : Bool). serves held shard ++ serve shard x) e ∙ served held shard)
+    (visits_then (λ k. k.config.shards ≡ shards) (λ k. serves held shard) (λ k. serve shard is) h o h1 o1 h2 o2 a b c
+    (did_as (λ k. shard < k.config.shards) (λ k. k.config.shards ≡ shards) (λ k s t printed. Visits k (serve shard is) s t printed) (λ k s t printed. Visits k (serve shard is) s t printed)
+    (λ k s. All (λ group. All (HasNothing k s) group) (serve shard is)) (λ k s. All (λ group. All (HasNothing k s) group) (serve shard is)) h1 o1 h2 o2 b
+    (λ k s q st. omega (arith, l, q)) (λ k s q st t printed x. x) (λ k s q st x. x) d))
+
+pub shards_of : (k : Setup) (s : Scene) (h : State) → StandsFor k h s → k.config.shards ≡ h.directory.shards
+shards_of k s h st = sym (ap (λ (d : Directory). d.shards) st.directory ∙ st.shards)
+
+pub shards_wants : (held : ℕ → Bool) (shard : ℕ) (h : State) (o : List ℕ) (h1 : State) (o1 : List ℕ) (h2 : State) (o2 : List ℕ) (a : Bool) → shard < h.directory.shards
+    → DidVisits (λ k. k.config.shards ≡ h.directory.shards) (λ k. serves held shard) h o h1 o1 a → Wants (λ k. shard < k.config.shards) h1 o1 h2 o2 → Wants (λ k. Unit {0}) h o h2 o2
+shards_wants held shard h o h1 o1 h2 o2 a l c d =
+    wants_as (λ k. k.config.shards ≡ h.directory.shards) (λ k. Unit {0}) h o h2 o2 (λ k s q st. shards_of k s h st)
+    (visits_wants (λ k. k.config.shards ≡ h.directory.shards) (λ k. serves held shard) h o h1 o1 h2 o2 a c
+    (wants_as (λ k. shard < k.config.shards) (λ k. k.config.shards ≡ h.directory.shards) h1 o1 h2 o2 (λ k s q st. omega (arith, l, q)) d))

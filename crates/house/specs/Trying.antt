@@ -1,0 +1,96 @@
+-- What the parts of settling promise: for each scene for which the house stood, what was tried leads to one for which it stands now; or
+-- nothing was there to do, and all is as it was.
+use Rattle.std.specs.Prelude.{◌≡◌, ℕ, ◌<◌, ◌≤◌, ◌++◌, Bool, true, false, not, List, [], ◌∷◌, map, filter, All, Result, Ok, Err}
+use Rattle.std.specs.List.{range_with_len}
+use Rattle.house.specs.declared.event.Event.{Event}
+use Rattle.house.specs.declared.event.Event.TheVariants.{Bytes, Put, Take, Deliver, Answer, Hear}
+use Rattle.house.specs.Effort.{effort}
+use Rattle.house.specs.Scene.{HasNothing, Scene, Setup}
+use Rattle.house.specs.Settling.{InTurn, Tries, Visit, Visits}
+use Rattle.house.specs.Settled.{HappenedFrom}
+use Rattle.house.specs.Stands.{StandsFor}
+use Rattle.house.specs.State.{State}
+
+-- not bytes from a peer
+abbrev pub IsOwn : Event → Type 0
+IsOwn (Bytes connection piece) = ⊥
+IsOwn (Put connection) = Unit {0}
+IsOwn (Take shard) = Unit {0}
+IsOwn (Deliver shard) = Unit {0}
+IsOwn (Answer shard) = Unit {0}
+IsOwn (Hear connection) = Unit {0}
+
+-- there is such a connection, or such a shard
+abbrev pub IsAmong : Setup → Event → Type 0
+IsAmong k (Bytes connection piece) = ⊥
+IsAmong k (Put connection) = (0 < connection) × (connection ≤ k.config.seats)
+IsAmong k (Take shard) = shard < k.config.shards
+IsAmong k (Deliver shard) = shard < k.config.shards
+IsAmong k (Answer shard) = shard < k.config.shards
+IsAmong k (Hear connection) = (0 < connection) × (connection ≤ k.config.seats)
+
+-- the visits of a round: each connection puts, each shard that isn't held serves, each connection hears
+abbrev pub puts : ℕ → List (List Event)
+puts seats = map (λ n. Put n ∷ []) (range_with_len 1 seats)
+
+abbrev pub serves : (ℕ → Bool) → ℕ → List (List Event)
+serves held shards = map (λ s. Take s ∷ Deliver s ∷ Answer s ∷ []) (filter (λ s. not (held s)) (range_with_len 0 shards))
+
+abbrev pub hears : ℕ → List (List Event)
+hears seats = map (λ n. Hear n ∷ []) (range_with_len 1 seats)
+
+-- the visits of one shard: none where it is held
+abbrev pub serve : ℕ → Bool → List (List Event)
+serve shard true = []
+serve shard false = (Take shard ∷ Deliver shard ∷ Answer shard ∷ []) ∷ []
+
+-- some way leads from the scene to one for which the house stands, and what was appended is what it prints
+pub record Went (P : Setup → Scene → Scene → List ℕ → Type 0) (k : Setup) (s : Scene) (h : State) (old new : List ℕ) : Type 0 where
+  pub after : Scene
+  pub printed : List ℕ
+  pub goes : P k s after printed
+  pub stands : StandsFor k h after
+  pub out : new ≡ old ++ printed
+
+-- something happened, and less is left to do
+pub record Moved (Q : Setup → Type 0) (P : Setup → Scene → Scene → List ℕ → Type 0) (before : State) (old : List ℕ) (h : State) (new : List ℕ) : Type 0 where
+  pub went : (k : Setup) (s : Scene) → Q k → StandsFor k before s → Went P k s h old new
+  pub less : effort h < effort before
+
+-- nothing was there to do
+pub record Rests (Q : Setup → Type 0) (I : Setup → Scene → Type 0) (before : State) (old : List ℕ) (h : State) (new : List ℕ) : Type 0 where
+  pub same : h ≡ before
+  pub silent : new ≡ old
+  pub idle : (k : Setup) (s : Scene) → Q k → StandsFor k before s → I k s
+
+-- memory was wanting: what happened by then stands
+pub record Wants (Q : Setup → Type 0) (before : State) (old : List ℕ) (h : State) (new : List ℕ) : Type 0 where
+  pub happened : (k : Setup) (s : Scene) → Q k → StandsFor k before s → HappenedFrom k s h old new
+
+-- what came of trying: whether something happened
+abbrev pub Did : (Setup → Type 0) → (Setup → Scene → Scene → List ℕ → Type 0) → (Setup → Scene → Type 0) → State → List ℕ → State → List ℕ → Bool → Type 0
+Did Q P I before old h new true = Moved Q P before old h new
+Did Q P I before old h new false = Rests Q I before old h new
+
+abbrev pub Came : {E : Type 0} → (Setup → Type 0) → (Setup → Scene → Scene → List ℕ → Type 0) → (Setup → Scene → Type 0) → State → List ℕ → State → List ℕ → Result Bool E → Type 0
+Came Q P I before old h new (Ok moved) = Did Q P I before old h new moved
+Came Q P I before old h new (Err e) = Wants Q before old h new
+
+-- what came of trying an event, some events in turn, and a visit
+abbrev pub CameOne : {E : Type 0} → Event → State → List ℕ → State → List ℕ → Result Bool E → Type 0
+CameOne event before old h new r = Came (λ k. IsAmong k event) (λ k s t printed. Tries k s event t printed) (λ k s. HasNothing k s event) before old h new r
+
+abbrev pub CameInTurn : {E : Type 0} → List Event → State → List ℕ → State → List ℕ → Result Bool E → Type 0
+CameInTurn group before old h new r = Came (λ k. All (IsAmong k) group) (λ k s t printed. InTurn k group s t printed) (λ k s. All (HasNothing k s) group) before old h new r
+
+abbrev pub CameVisit : {E : Type 0} → List Event → State → List ℕ → State → List ℕ → Result Bool E → Type 0
+CameVisit group before old h new r = Came (λ k. All (IsAmong k) group) (λ k s t printed. Visit k group s t printed) (λ k s. All (HasNothing k s) group) before old h new r
+
+-- what came of visits one after another
+abbrev pub DidVisits : (Setup → Type 0) → (Setup → List (List Event)) → State → List ℕ → State → List ℕ → Bool → Type 0
+DidVisits Q groups before old h new moved =
+    Did Q (λ k s t printed. Visits k (groups k) s t printed) (λ k s. All (λ group. All (HasNothing k s) group) (groups k)) before old h new moved
+
+abbrev pub CameVisits : {E : Type 0} → (Setup → Type 0) → (Setup → List (List Event)) → State → List ℕ → State → List ℕ → Result Bool E → Type 0
+CameVisits Q groups before old h new (Ok moved) = DidVisits Q groups before old h new moved
+CameVisits Q groups before old h new (Err e) = Wants Q before old h new

@@ -1,0 +1,165 @@
+//! How the house settles: each in turn does what it has to do, over and over until nobody has anything to do. What an event does is
+//! the house's own; nothing here looks into it.
+
+ghost use Rattle.std.specs.Prelude.{◌≡◌, ◌<◌, ℕ, List, All, OnOk, OnErr};
+ghost use Rattle.house.specs.Scene as scene;
+ghost use Rattle.house.specs.Scene.{Setup};
+ghost use Rattle.house.specs.Settled.{HappenedFrom, SettledFrom, is_held};
+ghost use Rattle.house.specs.Settling.{round};
+ghost use Rattle.house.specs.Stands.{StandsFor};
+ghost use Rattle.house.specs.Trying.{CameInTurn, CameOne, CameVisit, CameVisits, IsOwn, hears, puts, serve, serves};
+
+use crate::event::{Event, HouseFault};
+use crate::house::House;
+use std::alloc::AllocError;
+
+impl House {
+    // An event is tried: whether it happened.
+    fn try_event(&mut self, event: Event<'_>, out: &mut Vec<u8>) -> Result<bool, AllocError>
+        requires own { IsOwn event }
+        ensures { CameOne event.entry self.old out.old.items self.new out.new.items result }
+    {
+        match self.step(event, out) {
+            Ok(()) => Ok(true),
+            Err(HouseFault::NoMemory) => Err(AllocError),
+            Err(HouseFault::Nobody) => Ok(false),
+            Err(HouseFault::Busy) => Ok(false),
+            Err(HouseFault::Nothing) => Ok(false),
+        }
+    }
+
+    // Some events are tried, one after another: whether any happened.
+    fn try_each(&mut self, group: &[Event<'_>], out: &mut Vec<u8>) -> Result<bool, AllocError>
+        requires own { All IsOwn group.now }
+        ensures { CameInTurn group.now self.old out.old.items self.new out.new.items result }
+    {
+        let mut moved = false;
+        for event in group {
+            let Ok(one) = self.try_event(*event, out) else {
+                return Err(AllocError);
+            };
+            moved |= one;
+        }
+        Ok(moved)
+    }
+
+    // Some events are tried over and over, until none of them has anything to do: whether any happened.
+    fn visit(&mut self, group: &[Event<'_>], out: &mut Vec<u8>) -> Result<bool, AllocError>
+        requires own { All IsOwn group.now }
+        ensures { CameVisit group.now self.old out.old.items self.new out.new.items result }
+    {
+        let mut moved = false;
+        loop {
+            let Ok(more) = self.try_each(group, out) else {
+                return Err(AllocError);
+            };
+            if !more {
+                return Ok(moved);
+            }
+            moved = true;
+        }
+    }
+
+    // Each connection puts its copies.
+    fn put_all(&mut self, out: &mut Vec<u8>) -> Result<bool, AllocError>
+        ensures { CameVisits (λ k. Unit {0}) (λ k. puts k.config.seats) self.old out.old.items self.new out.new.items result }
+    {
+        let seats = self.callers.len() as u8;
+        let mut moved = false;
+        for seat in 0..seats {
+            let Ok(one) = self.visit(&[Event::Put(seat + 1)], out) else {
+                return Err(AllocError);
+            };
+            moved |= one;
+        }
+        Ok(moved)
+    }
+
+    // Each shard that isn't held takes, delivers and answers.
+    fn serve_all(&mut self, held: &[bool], out: &mut Vec<u8>) -> Result<bool, AllocError>
+        ensures { CameVisits (λ k. Unit {0}) (λ k. serves (is_held held.now) k.config.shards) self.old out.old.items self.new out.new.items result }
+    {
+        let shards = self.directory.shards();
+        let mut moved = false;
+        for shard in 0..shards {
+            let Ok(one) = self.serve(shard, is_held(held, shard), out) else {
+                return Err(AllocError);
+            };
+            moved |= one;
+        }
+        Ok(moved)
+    }
+
+    // A shard takes, delivers and answers, unless it is held.
+    fn serve(&mut self, shard: u8, held: bool, out: &mut Vec<u8>) -> Result<bool, AllocError>
+        ensures { CameVisits (λ k. shard < k.config.shards) (λ k. serve shard held) self.old out.old.items self.new out.new.items result }
+    {
+        if held {
+            return Ok(false);
+        }
+        let group = [
+            Event::Take(shard),
+            Event::Deliver(shard),
+            Event::Answer(shard),
+        ];
+        self.visit(&group, out)
+    }
+
+    // Each connection hears its verdicts.
+    fn hear_all(&mut self, out: &mut Vec<u8>) -> Result<bool, AllocError>
+        ensures { CameVisits (λ k. Unit {0}) (λ k. hears k.config.seats) self.old out.old.items self.new out.new.items result }
+    {
+        let seats = self.callers.len() as u8;
+        let mut moved = false;
+        for seat in 0..seats {
+            let Ok(one) = self.visit(&[Event::Hear(seat + 1)], out) else {
+                return Err(AllocError);
+            };
+            moved |= one;
+        }
+        Ok(moved)
+    }
+
+    // A round: whether anything happened.
+    fn go_round(&mut self, held: &[bool], out: &mut Vec<u8>) -> Result<bool, AllocError>
+        ensures { CameVisits (λ k. Unit {0}) (λ k. round k (is_held held.now)) self.old out.old.items self.new out.new.items result }
+    {
+        let Ok(put) = self.put_all(out) else {
+            return Err(AllocError);
+        };
+        let Ok(served) = self.serve_all(held, out) else {
+            return Err(AllocError);
+        };
+        let Ok(heard) = self.hear_all(out) else {
+            return Err(AllocError);
+        };
+        Ok(put | served | heard)
+    }
+
+    /// Settles: each connection from 1 puts its copies; each shard from 0 that isn't held takes, delivers and answers until its lane
+    /// is empty; each connection from 1 hears its verdicts; and so on in rounds until nothing moves.
+    /// The one error is want of memory: what happened by then stands.
+    pub fn settle(&mut self, held: &[bool], out: &mut Vec<u8>) -> Result<(), AllocError>
+        ensures settles { OnOk result ((k : Setup) (s : scene.Scene) → StandsFor k self.old s → SettledFrom k held.now s self.new out.old.items out.new.items) }
+        ensures no_memory { OnErr result ((k : Setup) (s : scene.Scene) → StandsFor k self.old s → HappenedFrom k s self.new out.old.items out.new.items) }
+    {
+        loop {
+            let Ok(moved) = self.go_round(held, out) else {
+                return Err(AllocError);
+            };
+            if !moved {
+                return Ok(());
+            }
+        }
+    }
+}
+
+// Whether a shard is held: those that the list doesn't name aren't.
+fn is_held(held: &[bool], shard: u8) -> bool
+    ensures { result ≡ is_held held.now shard }
+{
+    match held.get(usize::from(shard)) {
+        Some(is) => *is,
+        None => false,
+    }
+}

@@ -1,0 +1,30 @@
+-- The exit statuses of the program.
+use Rattle.std.specs.Prelude.{ℕ, [], ◌∷◌, Contains}
+use Rattle.house.specs.declared.config.ConfigFault.{ConfigFault}
+use Rattle.house.specs.declared.config.ConfigFault.TheVariants as config_faults
+use Rattle.post_house.specs.declared.failure.Failure.{Failure}
+use Rattle.post_house.specs.declared.failure.Failure.TheVariants.{Config, Device, NoMemory}
+use Rattle.house.specs.declared.run.RunFault.{RunFault}
+use Rattle.house.specs.declared.run.RunFault.TheVariants as run_faults
+
+-- all went well, the command line, the settings, a device, memory
+abbrev pub IsStatus : ℕ → Type 0
+IsStatus n = Contains (0 ∷ 2 ∷ 3 ∷ 4 ∷ 5 ∷ []) n
+
+abbrev pub status_of : Failure → ℕ
+status_of (Config fault) = 3
+status_of Device = 4
+status_of NoMemory = 5
+
+-- settings are wrong, or they couldn't be looked at for want of memory
+abbrev pub config_failure : ConfigFault → Failure
+config_failure config_faults.TooMany = Config config_faults.TooMany
+config_failure config_faults.BadName = Config config_faults.BadName
+config_failure config_faults.Twice = Config config_faults.Twice
+config_failure config_faults.Ring = Config config_faults.Ring
+config_failure config_faults.NoMemory = NoMemory
+
+abbrev pub run_failure : RunFault → Failure
+run_failure run_faults.Read = Device
+run_failure (run_faults.Write sent) = Device
+run_failure run_faults.NoMemory = NoMemory

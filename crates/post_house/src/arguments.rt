@@ -1,0 +1,170 @@
+//! The command line: which words the program takes, and the settings that they come to. Nothing is run and nothing is printed here.
+
+ghost use Rattle.std.specs.Prelude.{◌<◌, length, IfOk};
+ghost use Rattle.house.specs.Settings.{IsFrom, IsInRange};
+
+use clap::builder::ValueParser;
+use clap::error::ErrorKind;
+use clap::{Arg, ArgAction, ArgMatches, Command, Error};
+use house::Config;
+use std::alloc::{AllocError, Global};
+use std::convert::AsStr;
+
+/// A number that may be set, with its range.
+#[derive(Clone, Copy)]
+struct Number {
+    name: &'static str,
+    help: &'static str,
+    least: u64,
+    most: u64,
+}
+
+const DEPTH: Number = Number {
+    name: "depth",
+    help: "Entries that each shard's lane has room for",
+    least: 1,
+    most: 1024,
+};
+
+const RING: Number = Number {
+    name: "ring",
+    help: "Changes that each mailbox keeps, at least two for each message",
+    least: 16,
+    most: 65_536,
+};
+
+const MESSAGES: Number = Number {
+    name: "messages",
+    help: "Messages that each mailbox may hold",
+    least: 1,
+    most: 32_768,
+};
+
+const UIDVALIDITY: Number = Number {
+    name: "uidvalidity",
+    help: "What each mailbox tells as its UIDVALIDITY",
+    least: 1,
+    most: 4_294_967_295,
+};
+
+/// What clap takes, and the program doesn't.
+#[derive(Drop)]
+enum Refused<'a> {
+    /// A number that is spelled with more than digits, as `+5`.
+    Spelling(&'static str, &'a str),
+    /// There is no mailbox.
+    NoMailbox,
+    /// Memory was refused.
+    NoMemory,
+}
+
+impl<'a> From<AllocError> for Refused<'a> {
+    fn from(_error: AllocError) -> Refused<'a> {
+        Refused::NoMemory
+    }
+}
+
+fn option<'a>(alloc: Global, number: Number) -> Arg<'a> {
+    Arg::new(alloc, number.name)
+        .long(number.name)
+        .help(number.help)
+        .action(ArgAction::Set)
+        .value_parser(ValueParser::unsigned(number.least, number.most))
+}
+
+// What the program takes: `script`, its options, and its mailboxes.
+fn command_line<'a>(alloc: Global) -> Result<Command<'a>, AllocError> {
+    let mailboxes = Arg::new(alloc, "MAILBOX")
+        .help("A mailbox, `user` or `user/folder`")
+        .action(ArgAction::Append)
+        .num_args(1..)
+        .required(true);
+    let script = Command::new(alloc, "script")
+        .about("Runs a script from standard input on a house of its own")
+        .arg(option(alloc, DEPTH))?
+        .arg(option(alloc, RING))?
+        .arg(option(alloc, MESSAGES))?
+        .arg(option(alloc, UIDVALIDITY))?
+        .arg(mailboxes)?;
+    Command::new(alloc, "post_house")
+        .about("Takes in mail for a few mailboxes")
+        .subcommand_required(true)
+        .subcommand(script)
+}
+
+fn are_digits(text: &str) -> bool {
+    text.bytes().all(|b| b.is_ascii_digit())
+}
+
+// The number that was given, or else the one that stands.
+fn given<'a>(matches: &ArgMatches<'a>, number: Number, standing: u64) -> Result<u64, Refused<'a>>
+    requires { IsFrom number.least number.most standing }
+    ensures { IfOk result (IsFrom number.least number.most) }
+{
+    let Some(text) = matches.get_str(number.name) else {
+        return Ok(standing);
+    };
+    match text.parse::<u64>() {
+        Ok(value) if are_digits(text) && number.least <= value && value <= number.most => Ok(value),
+        _ => Err(Refused::Spelling(number.name, text)),
+    }
+}
+
+// The words of the mailboxes.
+fn mailboxes_of<'a>(alloc: Global, matches: &ArgMatches<'a>) -> Result<Vec<&'a [u8]>, Refused<'a>>
+    ensures { IfOk result (λ words. 0 < length words.items) }
+{
+    let mut words = Vec::new(alloc);
+    for word in matches.get_strs("MAILBOX").unwrap_or_default() {
+        let Ok(()) = words.push(word.as_bytes()) else {
+            return Err(Refused::NoMemory);
+        };
+    }
+    if words.is_empty() {
+        return Err(Refused::NoMailbox);
+    }
+    Ok(words)
+}
+
+// The settings that the options and words of `script` come to.
+fn settings_of<'a>(alloc: Global, matches: &ArgMatches<'a>) -> Result<Config, Refused<'a>>
+    ensures { IfOk result IsInRange }
+{
+    let words = mailboxes_of(alloc, matches)?;
+    let mut config = Config::new(alloc, &words)?;
+    config.depth = given(matches, DEPTH, 64)? as usize;
+    config.ring = given(matches, RING, 2048)? as usize;
+    config.messages = given(matches, MESSAGES, 1024)? as usize;
+    config.uidvalidity = given(matches, UIDVALIDITY, 1)? as u32;
+    Ok(config)
+}
+
+/// The settings that these words ask for, the first of which is the program's name: `script`, options, mailboxes. Each number is in
+/// its range, and there is a mailbox; names are not looked at.
+///
+/// The error is clap's: a mistake in the words, a number that is out of its range or has other than digits, or a request for help; of
+/// kind `OutOfMemory` where memory is refused.
+pub fn config_of<'a, S: AsStr>(alloc: Global, words: &'a [S]) -> Result<Config, Error>
+    ensures { IfOk result IsInRange }
+{
+    let mut command = command_line(alloc)?;
+    let matches = command.try_get_matches_from_mut(words)?;
+    let Some(script) = matches.subcommand_matches("script") else {
+        let text = "there is nothing to do";
+        return Err(command.error(ErrorKind::MissingSubcommand, text)?);
+    };
+    match settings_of(alloc, script) {
+        Ok(config) => Ok(config),
+        Err(Refused::Spelling(name, text)) => {
+            let text = format!(in alloc;
+                "invalid value '{text}' for '--{name}': only digits are read"
+            )?;
+            Err(command.error(ErrorKind::ValueValidation, &text)?)
+        }
+        Err(Refused::NoMailbox) => {
+            let text = "there is no mailbox";
+            Err(command.error(ErrorKind::MissingRequiredArgument, text)?)
+        }
+        Err(Refused::NoMemory) => Err(Error::from(AllocError)),
+    }
+}

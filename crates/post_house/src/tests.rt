@@ -1,0 +1,144 @@
+//! The program on command lines whose status is known without a run.
+
+use crate::command;
+use line_io::Watched;
+use std::alloc::Global;
+use std::io;
+
+// What a run comes to: its exit status, what it wrote, and what it said of faults.
+#[derive(Drop)]
+struct Ended {
+    status: u8,
+    output: Vec<u8>,
+    faults: Vec<u8>,
+}
+
+// The program on these words after its name, and no input.
+fn run_of(alloc: Global, words: &[&str]) -> Ended {
+    let mut output = Vec::new(alloc);
+    let mut faults = Vec::new(alloc);
+    let mut input = io::empty();
+    let status = command(
+        alloc,
+        words,
+        &mut input,
+        &mut Watched::new(&mut output),
+        &mut faults,
+    );
+    Ended {
+        status,
+        output,
+        faults,
+    }
+}
+
+#[test]
+fn a_ring_that_is_short(rt: HostRuntime) {
+    let words = [
+        "post_house",
+        "script",
+        "--ring",
+        "16",
+        "--messages",
+        "9",
+        "alice",
+    ];
+    let ended = run_of(rt.alloc(), &words);
+    assert_eq!(rt; ended.status, 3);
+    assert!(rt; ended.output.is_empty());
+    assert_eq!(rt;
+        ended.faults.as_slice(),
+        b"post_house: bad configuration: Ring\n".as_slice()
+    );
+}
+
+#[test]
+fn command_lines_that_are_refused(rt: HostRuntime) {
+    let refused = [
+        ["post_house"].as_slice(),
+        ["post_house", "script"].as_slice(),
+        ["post_house", "serve", "alice"].as_slice(),
+        ["post_house", "script", "--depth", "0", "alice"].as_slice(),
+        ["post_house", "script", "--depth", "1025", "alice"].as_slice(),
+        ["post_house", "script", "--depth", "+5", "alice"].as_slice(),
+        ["post_house", "script", "--depth", "five", "alice"].as_slice(),
+        ["post_house", "script", "--ring=15", "alice"].as_slice(),
+        [
+            "post_house",
+            "script",
+            "--uidvalidity",
+            "4294967296",
+            "alice",
+        ]
+        .as_slice(),
+        ["post_house", "script", "--lmtp-port", "2424", "alice"].as_slice(),
+        [
+            "post_house",
+            "script",
+            "--depth",
+            "2",
+            "--depth",
+            "2",
+            "alice",
+        ]
+        .as_slice(),
+    ];
+    for words in refused {
+        let ended = run_of(rt.alloc(), words);
+        assert_eq!(rt; ended.status, 2);
+        assert!(rt; ended.output.is_empty() && !ended.faults.is_empty());
+    }
+}
+
+#[test]
+fn words_and_options_in_any_order(rt: HostRuntime) {
+    let short = [
+        [
+            "post_house",
+            "script",
+            "alice",
+            "--ring=16",
+            "alice/Work",
+            "--messages",
+            "9",
+        ]
+        .as_slice(),
+        [
+            "post_house",
+            "script",
+            "--ring=16",
+            "--messages=9",
+            "--",
+            "alice",
+        ]
+        .as_slice(),
+    ];
+    for words in short {
+        let ended = run_of(rt.alloc(), words);
+        assert_eq!(rt; ended.status, 3);
+        assert_eq!(rt;
+            ended.faults.as_slice(),
+            b"post_house: bad configuration: Ring\n".as_slice()
+        );
+    }
+    // What follows `--` is a mailbox, and so is a word of no bytes.
+    let misspelled = [
+        ["post_house", "script", "--", "alice", "--DEPTH"].as_slice(),
+        ["post_house", "script", ""].as_slice(),
+    ];
+    for words in misspelled {
+        let ended = run_of(rt.alloc(), words);
+        assert_eq!(rt; ended.status, 3);
+        assert_eq!(rt;
+            ended.faults.as_slice(),
+            b"post_house: bad configuration: BadName\n".as_slice()
+        );
+    }
+}
+
+#[test]
+fn help_is_no_fault(rt: HostRuntime) {
+    let ended = run_of(rt.alloc(), &["post_house", "script", "--help"]);
+    assert_eq!(rt; ended.status, 0);
+    assert!(rt; !ended.output.is_empty() && ended.faults.is_empty());
+}
