@@ -26,6 +26,7 @@ use Rattle.world.proofs.Base.{Every, Rising, rising_pair, rising_map, part_more,
 use Rattle.world.specs.Known.{key_in}
 use Rattle.world.proofs.Mails.{uids, rows_rising, removals_there, added_removals, flags_there, added_flags, range_rising, IsIn}
 use Rattle.world.proofs.Kept.{Kept, BoxOk, OwnCopy, hand_copies, SessionOk, kept_empty, kept_put, kept_end, kept_hears, kept_take, kept_refused, kept_delivered, kept_answer, kept_hear, kept_mail, kept_leave, kept_enter}
+use Rattle.world.proofs.Verdicts.{Verdicts, verdicts_always, one_verdict, refused_nowhere, below_itself}
 
 uids_rise : (k : Config) (b : Box) → BoxOk k b → Rising (λ u v. u < v) (added b.log)
 uids_rise k b B = rw B.counted (range_rising k.first_uid (length b.accepted))
@@ -127,11 +128,6 @@ keys_rise k w K p m =
 
 pub in_order : (k : Config) (w : World) → Kept k w → (p m : ℕ) → AllPairs Below (keys (accepted_of w p m))
 in_order k w K p m = rising_pair Below (keys (accepted_of w p m)) (keys_rise k w K p m)
-
-below_itself : (x : CopyKey) → Below x x → ⊥
-below_itself x (inl h) = absurd (omega arith)
-below_itself x (inr (e, inl h)) = absurd (omega arith)
-below_itself x (inr (e, inr (f, h))) = absurd (omega arith)
 
 -- a pair whose key another has too comes after it among its seat's
 no_other : (x : CopyKey) (accepted : List (Job × ℕ)) → Every (Below x) (keys (filter (λ a. a.0.key.seat == x.seat) accepted)) → Every (λ a. x ≢ a.0.key) accepted
@@ -285,10 +281,12 @@ heard_once k w K p u r h v = once (pairs (w.box r.mailbox).accepted) r.key u
     (subst (IsIn (r.key, u)) (sym (K.history p r.mailbox)) (is_in_front (r.key, u) (stored w p r.mailbox) (due k w p r.mailbox)
     (stored_heard r.mailbox u r (w.heard p) (is_in_of r (w.heard p) h.0 h.1 h.2) refl v))))
 
-pub headline : (k : Config) (w : World) → Kept k w → Headline k w
-headline k w K = record {
+pub headline : (k : Config) (w : World) → Kept k w → Verdicts w → Headline k w
+headline k w K V = record {
   history = K.history;
   answered = heard_once k w K;
+  refused = λ p r why h. refused_nowhere k w K V p r why (is_in_of r (w.heard p) h.0 h.1 h.2);
+  one_verdict = one_verdict w V;
   in_order = in_order k w K;
   taken = accepted_taken k w K;
   no_key_twice = no_key_twice k w K;
@@ -304,7 +302,7 @@ headline k w K = record {
 }
 
 pub always : (k : Config) (events : List Event) (w : World) → IsWorld k events w → Headline k w
-always k events w h = headline k w (kept_always k events w h)
+always k events w h = headline k w (kept_always k events w h) (verdicts_always k events w h)
 
 -- some events, and then some more
 pub steps_join : (k : Config) (u : World) (es : List Event) (v : World) (fs : List Event) (w : World) → Steps k u es v → Steps k v fs w → Steps k u (es ++ fs) w

@@ -7,3 +7,4 @@ pub mod FirstRun
 pub mod Known
 pub mod Waiting
 pub mod Heard
+pub mod Verdicts

@@ -68,7 +68,7 @@ gone_there view (r ∷ rs) o h = (is_in_contains r.uid view h.0, gone_there (wit
     go [] a b = tt
     go (u ∷ us) a b = (still_in r.uid u view a.0 b.0, go us a.1 b.1)
 
-every_in_itself : {A : Type 0} (xs : List A) → Every (λ x. IsIn x xs) xs
+pub every_in_itself : {A : Type 0} (xs : List A) → Every (λ x. IsIn x xs) xs
 every_in_itself [] = tt
 every_in_itself (x ∷ xs) = (inl refl, every_weaker (λ y. IsIn y xs) (λ y. IsIn y (x ∷ xs)) (λ y h. inr h) xs (every_in_itself xs))
 

@@ -1,5 +1,5 @@
 -- What holds of every world, whatever the events were.
-use Rattle.std.specs.Prelude.{◌≡◌, ℕ, ◌-◌, ◌<◌, ◌≤◌, ◌==◌, ◌≢◌, List, [], ◌∷◌, ◌++◌, ◌&&◌, map, length, take, drop, filter, filter_map, slice_index_or, Contains, AllPairs, Option, Some, None, if◌then◌else◌}
+use Rattle.std.specs.Prelude.{◌≡◌, ℕ, ◌-◌, ◌<◌, ◌≤◌, ◌==◌, ◌≢◌, List, [], ◌∷◌, ◌++◌, ◌&&◌, map, length, take, drop, filter, filter_map, slice_index_or, All, Contains, AllPairs, Option, Some, None, if◌then◌else◌}
 use Rattle.std.specs.List.{range_with_len}
 use Rattle.shard_queue.specs.declared.lane.Entry.{Entry}
 use Rattle.shard_queue.specs.declared.lane.Entry.TheVariants.{Item, End}
@@ -8,7 +8,8 @@ use Rattle.delivery_token.specs.declared.CopyKey.{CopyKey}
 use Rattle.delivery_token.specs.declared.Job.{Job}
 use Rattle.delivery_token.specs.Keys.{Below}
 use Rattle.delivery_token.specs.Log.{stored_in}
-use Rattle.delivery_token.specs.declared.Verdict.TheVariants.{Stored}
+use Rattle.delivery_token.specs.declared.Refusal.{Refusal}
+use Rattle.delivery_token.specs.declared.Verdict.TheVariants.{Stored, Refused}
 use Rattle.delivery_token.specs.declared.log.Noted.{Noted}
 use Rattle.change_ring.specs.declared.change.Change.{Change}
 use Rattle.change_ring.specs.Log.{IsLegalLog, added}
@@ -103,6 +104,10 @@ pub record Headline (k : Config) (w : World) : Type 0 where
   pub history : (p m : ℕ) → pairs (accepted_of w p m) ≡ stored w p m ++ due k w p m
   -- a copy that its seat heard as stored stands in its mailbox's history, under that UID, at one place and no other
   pub answered : (p u : ℕ) (r : Noted) → Contains (w.heard p) r → r.verdict ≡ Stored u → StandsOnce (pairs (w.box r.mailbox).accepted) r.key u
+  -- a copy that its seat heard as refused stands in no mailbox's history
+  pub refused : (p : ℕ) (r : Noted) (f : Refusal) → Contains (w.heard p) r → r.verdict ≡ Refused f → (m : ℕ) → All (λ a. a.0.key ≢ r.key) (w.box m).accepted
+  -- no copy has two verdicts
+  pub one_verdict : (p : ℕ) → AllPairs (λ a b. a.key ≢ b.key) (w.heard p)
   -- of each seat, the keys of a mailbox's history strictly rise
   pub in_order : (p m : ℕ) → AllPairs Below (keys (accepted_of w p m))
   -- of each seat, a mailbox's history has, in their order, only copies that its shard's consumer took, with the very text that was put
