@@ -5,6 +5,7 @@ ghost use Rattle.std.specs.Prelude.{◌≡◌, ℕ, ◌⊎◌, ◌%◌, ◌+◌,
 ghost use Rattle.world.specs.World.{Answer, Box, Config, Deliver, Hear, Put, PutEnd, Take, empty_world, in_hand};
 ghost use Rattle.shard_queue.specs.Plain.{MayPutMore, taken_entry};
 ghost use Rattle.delivery_core.specs.Changes.{Hears, SameCounts, heard_at_once};
+ghost use Rattle.delivery_core.specs.Held.{has_ended, is_ended};
 ghost use Rattle.delivery_core.specs.Load.{load};
 ghost use Rattle.delivery_core.specs.Puts.{AtLeast, IsNextKey, LanePuts, past};
 ghost use Rattle.delivery_core.specs.Stands.{EachAt, Follows, Idle, Lives, StandsFor, StandsForBox};
@@ -58,6 +59,13 @@ impl Model for DeliveryCore {
     ghost view = { λ p. record { lanes = p.lanes.items; hands = p.hands.items; replies = p.replies.items; heard = p.heard.items; boxes = p.boxes.items; next = p.next.items } };
 
     ghost invariant = { λ p. (length p.hands.items ≡ length p.lanes.items) × (length p.heard.items ≡ length p.replies.items) × (length p.next.items ≡ length p.replies.items) };
+}
+
+// Whether a seat may put no more into this lane.
+fn is_ended(seat: u8, lane: &PlainLane<Job>) -> bool
+    ensures { result ≡ is_ended seat lane.now }
+{
+    !lane.is_live(seat)
 }
 
 // What a mailbox's answer comes to.
@@ -211,6 +219,20 @@ impl DeliveryCore {
         let book = &mut self.heard[seat];
         book.note(key, mailbox, Verdict::Refused(why));
         Ok(Some(why))
+    }
+
+    /// How many shards there are.
+    pub fn shards(&self) -> usize
+        ensures { result ≡ length self.now.lanes }
+    {
+        self.lanes.len()
+    }
+
+    /// Whether a seat has put its end into the lane of any shard.
+    pub fn has_ended(&self, seat: u8) -> bool
+        ensures { result ≡ has_ended self.now seat }
+    {
+        self.lanes.iter().any(|lane| is_ended(seat, lane))
     }
 
     /// A seat puts its end into a shard's lane, after which it puts nothing more there. Nobody where

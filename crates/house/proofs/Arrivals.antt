@@ -11,6 +11,7 @@ pub more_stands : (k : Setup) (seat : ℕ) (next : CopyKey) (heard : List Noted)
     → StandsForCaller k seat next heard (with_more piece h) (more_waits b piece)
 more_stands k seat next heard h b piece s = record {
   serial = s.serial;
+  gone = s.gone;
   setting = s.setting;
   host = s.host;
   machine = s.machine;

@@ -17,12 +17,12 @@ use Rattle.lmtp_machine.specs.Machine.{Machine, StandsFor}
 use Rattle.lmtp_machine.proofs.Kept.{taken_keeps, event_keeps}
 use Rattle.house.specs.Line.{Line}
 use Rattle.house.specs.Talk.{Talk, marked, prints_all, prints_none}
-use Rattle.house.specs.Scene.{Caller, IsAnswered, Leaves, Setup, copies, copies_of, goes, greeted, keys_of, meets, setting_of, stays, works, waits, answers, stalls}
-use Rattle.house.specs.Taking.{AreKnown, TakenBy}
+use Rattle.house.specs.Scene.{Caller, IsAnswered, Leaves, Setup, copies, copies_of, goes, greeted, keys_of, meets, setting_of, stays, works, waits, answers, stalls, talks, lingers, fades, unread}
+use Rattle.house.specs.Taking.{AreKnown, TakenBy, with_nobody_there}
 use Rattle.delivery_core.specs.Puts.{AtLeast}
-use Rattle.house.specs.CallerStands.{IsAwaited, IsThere, SlotsFor, StandsForCaller, WentOn, WorkedOff}
+use Rattle.house.specs.CallerStands.{IsAwaited, IsThere, SlotsFor, Proceeded, StandsForCaller, WentOn, WorkedOff}
 use Rattle.house.specs.CallerSteps.{IsAnswer, SaidVerdicts, TookWhatWaits}
-use Rattle.house.proofs.Copies.{copies-one, keys-one, no-key}
+use Rattle.house.proofs.Copies.{copies-one, keys-one, no-key, none-due}
 use Rattle.house.proofs.Slots.{all-full, heard-for, later-message, no-slots}
 
 -- nothing was put of a message that isn't there
@@ -51,7 +51,7 @@ module _ (k : Setup) (seat : ℕ) (next : CopyKey) (heard : List Noted) where
       → StandsForCaller k seat next heard h b → h.machine.pending ≡ [] → h.waits ≡ bytes ++ left → m.setting ≡ h.machine.setting → m.host ≡ h.machine.host
       → (result ≡ Some More → left ≡ []) → IsAnswer result what
       → Taken (StandsFor m) (setting_of k seat b.serial) k.host k.directory b.talk.at bytes h.unsaid said what m.pending
-      → TookWhatWaits k seat next heard b result (record { serial = h.serial; machine = m; waits = left; unsaid = said; verdicts = h.verdicts })
+      → TookWhatWaits k seat next heard b result (record { serial = h.serial; gone = h.gone; machine = m; waits = left; unsaid = said; verdicts = h.verdicts })
   took b h m bytes left said result what s quiet split es eh all is t =
       let none = none_put heard h.verdicts b.talk.pending (sym s.pending ∙ quiet) s.verdicts in
       let after = taken_keeps (StandsFor m) (setting_of k seat b.serial) k.host k.directory b.talk.at bytes h.unsaid said what m.pending s.kept t in
@@ -66,6 +66,7 @@ module _ (k : Setup) (seat : ℕ) (next : CopyKey) (heard : List Noted) where
         is = is;
         stands = record {
           serial = s.serial;
+          gone = s.gone;
           setting = es ∙ s.setting;
           host = eh ∙ s.host;
           machine = t.stands;
@@ -86,7 +87,7 @@ module _ (k : Setup) (seat : ℕ) (next : CopyKey) (heard : List Noted) where
       → StandsForCaller k seat next heard h b → h.machine.pending ≡ [] → h.waits ≡ bytes ++ left → m.setting ≡ h.machine.setting → m.host ≡ h.machine.host
       → (result ≡ Some More → left ≡ [])
       → TakenBy (StandsFor m) h.machine.setting h.machine.host k.directory b.talk.at bytes h.unsaid said result m.pending
-      → TookWhatWaits k seat next heard b result (record { serial = h.serial; machine = m; waits = left; unsaid = said; verdicts = h.verdicts })
+      → TookWhatWaits k seat next heard b result (record { serial = h.serial; gone = h.gone; machine = m; waits = left; unsaid = said; verdicts = h.verdicts })
   took_what_waits b h m bytes left said None s quiet split es eh all t =
       took b h m bytes left said None t.0 s quiet split es eh all tt
       (subst (λ (n : List ℕ). Taken (StandsFor m) (setting_of k seat b.serial) n k.directory b.talk.at bytes h.unsaid said t.0 m.pending) s.host
@@ -99,22 +100,23 @@ module _ (k : Setup) (seat : ℕ) (next : CopyKey) (heard : List Noted) where
   -- ---- printing what was said
 
   gone_or_there : (whole : Bool) (b : Caller) (what : What) (after : Talk) (turn : Turn) (h : Line)
-      → after.unsaid ≡ [] → StandsForCaller k seat next heard h (record { serial = b.serial; talk = after; to_put = copies_of turn.submissions })
-      → (o : Option Caller) × Leaves whole b.serial what after turn.submissions o × IsThere k seat next heard what h o
-  gone_or_there whole b More after turn h e s = (Some (record { serial = b.serial; talk = after; to_put = copies_of turn.submissions }), stays (λ w q. let x : More ≡ Quit = q in cc) refl, ((λ q. let x : More ≡ Quit = q in cc), s))
-  gone_or_there whole b Submit after turn h e s = (Some (record { serial = b.serial; talk = after; to_put = copies_of turn.submissions }), stays (λ w q. let x : Submit ≡ Quit = q in cc) refl, ((λ q. let x : Submit ≡ Quit = q in cc), s))
+      → after.unsaid ≡ [] → StandsForCaller k seat next heard h (record { serial = b.serial; gone = b.gone; talk = after; to_put = copies_of turn.submissions })
+      → (o : Option Caller) × Leaves whole b what after turn.submissions o × IsThere k seat next heard what h o
+  gone_or_there whole b More after turn h e s = (Some (record { serial = b.serial; gone = b.gone; talk = after; to_put = copies_of turn.submissions }), stays (λ w q. let x : More ≡ Quit = q in cc) refl, ((λ q. let x : More ≡ Quit = q in cc), s))
+  gone_or_there whole b Submit after turn h e s = (Some (record { serial = b.serial; gone = b.gone; talk = after; to_put = copies_of turn.submissions }), stays (λ w q. let x : Submit ≡ Quit = q in cc) refl, ((λ q. let x : Submit ≡ Quit = q in cc), s))
   gone_or_there whole b Quit after turn h e s = (None, goes refl e refl, refl)
 
   -- the words are said, and the line holds none
   abbrev silent : Line → Line
-  silent h = record { serial = h.serial; machine = h.machine; waits = h.waits; unsaid = []; verdicts = h.verdicts }
+  silent h = record { serial = h.serial; gone = h.gone; machine = h.machine; waits = h.waits; unsaid = []; verdicts = h.verdicts }
 
   abbrev silent_talk : Talk → Talk
   silent_talk t = record { at = t.at; waits = t.waits; unsaid = []; pending = t.pending }
 
-  stands_silent : (h : Line) (b : Caller) → StandsForCaller k seat next heard h b → StandsForCaller k seat next heard (silent h) (record { serial = b.serial; talk = silent_talk b.talk; to_put = b.to_put })
+  stands_silent : (h : Line) (b : Caller) → StandsForCaller k seat next heard h b → StandsForCaller k seat next heard (silent h) (record { serial = b.serial; gone = b.gone; talk = silent_talk b.talk; to_put = b.to_put })
   stands_silent h b s = record {
     serial = s.serial;
+    gone = s.gone;
     setting = s.setting;
     host = s.host;
     machine = s.machine;
@@ -160,7 +162,7 @@ module _ (k : Setup) (seat : ℕ) (next : CopyKey) (heard : List Noted) where
   worked_part number b h result old new e w p =
       let after = silent_talk w.after in
       record {
-        left = Some (record { serial = b.serial; talk = after; to_put = copies_of w.turn.submissions });
+        left = Some (record { serial = b.serial; gone = b.gone; talk = after; to_put = copies_of w.turn.submissions });
         printed = marked number h.unsaid;
         talks = record {
           turn = w.turn;
@@ -180,7 +182,7 @@ module _ (k : Setup) (seat : ℕ) (next : CopyKey) (heard : List Noted) where
       → WorkedOff k false seat next heard b More h old new
   worked_unprinted b h result old new w p =
       record {
-        left = Some (record { serial = b.serial; talk = w.after; to_put = copies_of w.turn.submissions });
+        left = Some (record { serial = b.serial; gone = b.gone; talk = w.after; to_put = copies_of w.turn.submissions });
         printed = [];
         talks = record {
           turn = w.turn;
@@ -257,7 +259,7 @@ module _ (k : Setup) (seat : ℕ) (next : CopyKey) (heard : List Noted) where
   pub said_verdicts : (b : Caller) (h : Line) (m : Machine) (vs : List Verdict) (said : List ℕ) → StandsForCaller k seat next heard h b → 0 < length b.talk.pending → length h.machine.pending ≡ 1 → AreKnown h vs
       → m.setting ≡ h.machine.setting → m.host ≡ h.machine.host → m.pending ≡ []
       → ((d : Directory) (c : Conversation) → StandsFor h.machine c → Happens (StandsFor m) h.machine.setting h.machine.host d c (dialogue.Answered vs) h.unsaid said)
-      → SaidVerdicts k seat next heard b vs (record { serial = h.serial; machine = m; waits = h.waits; unsaid = said; verdicts = [] })
+      → SaidVerdicts k seat next heard b vs (record { serial = h.serial; gone = h.gone; machine = m; waits = h.waits; unsaid = said; verdicts = [] })
   said_verdicts b h m vs said s more one known es eh quiet happens =
       let o = the_one (setting_of k seat b.serial) k.directory s.message b.talk.at.standing.submitted b.talk.at.standing.phase b.talk.pending (ap (λ (x : List Submission). length x) (sym s.pending) ∙ one) s.numbered s.awaited in
       let c = ap (drop (length h.verdicts)) (copies-one b.talk.pending o.0 o.1) in
@@ -271,6 +273,7 @@ module _ (k : Setup) (seat : ℕ) (next : CopyKey) (heard : List Noted) where
         answered = record { put = put; each = heard-for heard (keys_of b.talk.pending) h.verdicts vs s.verdicts long known.each };
         stands = record {
           serial = s.serial;
+          gone = s.gone;
           setting = es ∙ s.setting;
           host = eh ∙ s.host;
           machine = h2.stands;
@@ -293,18 +296,96 @@ module _ (k : Setup) (seat : ℕ) (next : CopyKey) (heard : List Noted) where
       answered_number : (vs : List Verdict) (phase : Phase) (submitted message count : ℕ) → phase ≡ Waiting count → message + 1 ≡ submitted → message < (dialogue.on_verdicts phase submitted vs).standing.submitted
       answered_number vs phase submitted message count e f = let x : (dialogue.on_verdicts phase submitted vs).standing.submitted ≡ submitted = ap (λ (p : Phase). (dialogue.on_verdicts p submitted vs).standing.submitted) e in omega (arith, x, f)
 
+  -- ---- a caller whose peer is gone
+
+  pub proceeds : (whole : Bool) (b : Caller) (what : What) (h new_h : Line) (old new : List ℕ) → StandsForCaller k seat next heard h b → h.gone ≡ false
+      → WentOn k whole seat next heard b what new_h old new → Proceeded k whole seat next heard b what new_h old new
+  proceeds whole b what h new_h old new s live w = record { left = w.left; printed = w.printed; goes = talks (sym s.gone ∙ live) w.goes; there = w.there; out = w.out }
+
+  -- where none is left to put, each key has its slot
+  counted : (submitted n : ℕ) (setting : Setting) (message : ℕ) (phase : Phase) (pending : List Submission) → AreMessages setting k.directory message pending submitted → IsAwaited pending phase
+      → drop n (copies_of pending) ≡ [] → length (keys_of pending) ≤ n
+  counted submitted n setting message phase [] m a e = omega arith
+  counted submitted n setting message phase (x ∷ xs) m a e =
+      let one : length (x ∷ xs) ≡ 1 = let l = ap (λ (ss : List Submission). length ss) a.0 in omega (arith, l) in
+      let o = the_one setting k.directory message submitted phase (x ∷ xs) one m a in
+      let c = ap (drop n) (copies-one (x ∷ xs) o.0 o.1) in
+      let p = all_put n o.0.keys o.0.mailboxes o.0.text o.2.as_many (sym c ∙ e) in
+      let q = ap (λ (ks : List CopyKey). length ks) (keys-one (x ∷ xs) o.0 o.1) in
+      omega (arith, p, q)
+
+  -- what was heard is known
+  known_of : (b : Caller) (h : Line) (vs : List Verdict) → StandsForCaller k seat next heard h b → IsAnswered heard b vs → (us : List Verdict) × AreKnown h us
+  known_of b h vs s a =
+      let f = all-full heard (keys_of b.talk.pending) h.verdicts vs s.verdicts a.each in
+      let n = counted b.talk.at.standing.submitted (length h.verdicts) (setting_of k seat b.serial) s.message b.talk.at.standing.phase b.talk.pending s.numbered s.awaited (sym s.to_put ∙ a.put) in
+      let r = s.verdicts.few in
+      let t = ap (λ (ss : List Submission). length (keys_of ss)) s.pending in
+      (f.0, record { all = omega (arith, n, r, t); each = f.1 })
+
+  -- what is known was heard
+  answered_of : (b : Caller) (h : Line) (vs : List Verdict) → StandsForCaller k seat next heard h b → AreKnown h vs → IsAnswered heard b vs
+  answered_of b h vs s known =
+      let a = known.all in
+      let t = ap (λ (ss : List Submission). length (keys_of ss)) s.pending in
+      let long : length (keys_of b.talk.pending) ≤ length h.verdicts = omega (arith, a, t) in
+      record {
+        put = s.to_put ∙ none-due (length h.verdicts) b.talk.pending long;
+        each = heard-for heard (keys_of b.talk.pending) h.verdicts vs s.verdicts long known.each;
+      }
+
+  pub lingered : (b : Caller) (h : Line) (old : List ℕ) → StandsForCaller k seat next heard h b → h.gone ≡ true
+      → ((vs : List Verdict) → AreKnown h vs → ⊥) → Proceeded k true seat next heard b Submit h old old
+  lingered b h old s gone unknown = record {
+    left = Some b;
+    printed = [];
+    goes = lingers (sym s.gone ∙ gone) (λ vs a. let u = known_of b h vs s a in unknown u.0 u.1) refl refl;
+    there = ((λ q. let x : Submit ≡ Quit = q in cc), s);
+    out = sym (append-nil old);
+  }
+
+  pub faded : (b : Caller) (h : Line) (old : List ℕ) → StandsForCaller k seat next heard h b → h.gone ≡ true
+      → (vs : List Verdict) × AreKnown h vs → Proceeded k true seat next heard b Quit h old old
+  faded b h old s gone known = record {
+    left = None;
+    printed = [];
+    goes = fades known.0 (sym s.gone ∙ gone) (answered_of b h known.0 s known.1) refl refl;
+    there = refl;
+    out = sym (append-nil old);
+  }
+
+  pub unread_stands : (h : Line) (b : Caller) → StandsForCaller k seat next heard h b → StandsForCaller k seat next heard (with_nobody_there h) (unread b)
+  unread_stands h b s = record {
+    serial = s.serial;
+    gone = refl;
+    setting = s.setting;
+    host = s.host;
+    machine = s.machine;
+    waits = refl;
+    unsaid = refl;
+    pending = s.pending;
+    to_put = s.to_put;
+    verdicts = s.verdicts;
+    awaited = s.awaited;
+    kept = s.kept;
+    message = s.message;
+    numbered = s.numbered;
+    ahead = s.ahead;
+  }
+
   -- ---- a new connection
 
   pub opened_stands : (serial limit : ℕ) (host said : List ℕ) (m n : Machine) → StandsFor m opened → m.setting ≡ record { seat = seat; serial = serial; max_message = limit } → m.host ≡ host → m.pending ≡ []
       → ((d : Directory) (c : Conversation) → StandsFor m c → Happens (StandsFor n) m.setting m.host d c dialogue.Opened [] said) → n.setting ≡ m.setting → n.host ≡ m.host → n.pending ≡ m.pending
       → k.host ≡ host → k.max_message ≡ limit → AtLeast next (record { seat = seat; serial = serial; message = 0; recipient = 0 })
-      → StandsForCaller k seat next heard (record { serial = serial; machine = n; waits = []; unsaid = said; verdicts = [] }) (greeted k seat serial)
+      → StandsForCaller k seat next heard (record { serial = serial; gone = false; machine = n; waits = []; unsaid = said; verdicts = [] }) (greeted k seat serial)
   opened_stands serial limit host said m n st es eh quiet happens ss sh sp kh kl ahead =
       let set : m.setting ≡ setting_of k seat serial = es ∙ ap (λ (l : ℕ). record { seat = seat; serial = serial; max_message = l }) (sym kl) in
       let h1 = happens k.directory opened st in
       let h2 = subst (λ (x : List ℕ). Happens (StandsFor n) (setting_of k seat serial) x k.directory opened dialogue.Opened [] said) (eh ∙ sym kh) (subst (λ (x : Setting). Happens (StandsFor n) x m.host k.directory opened dialogue.Opened [] said) set h1) in
       record {
         serial = refl;
+        gone = refl;
         setting = ss ∙ set;
         host = sh ∙ eh ∙ sym kh;
         machine = h2.stands;

@@ -10,13 +10,16 @@ use Rattle.envelope.specs.Directory.{Directory}
 use Rattle.delivery_core.specs.New.{first_key}
 use Rattle.house.specs.Line.{Line}
 use Rattle.house.specs.State.{State}
-use Rattle.house.specs.Scene.{BytesPlay, Caller, Scene, Setup, goes_on, greeted, more_waits, most_serials, opens, with_caller}
-use Rattle.house.specs.Taking.{with_more}
+use Rattle.house.specs.Scene.{BytesPlay, Caller, Scene, Setup, VanishPlay, goes_on, greeted, more_waits, most_serials, opens, unread, with_caller}
+use Rattle.house.specs.Taking.{with_more, with_nobody_there}
 use Rattle.house.specs.CallerStands.{IsOf, StandsForCaller}
 use Rattle.house.specs.Stands.{StandsFor, StandsForOne}
-use Rattle.house.specs.Steps.{PlaceWentOn, StandsForMaybe}
+use Rattle.house.specs.Steps.{PlaceWentOn, StandsForMaybe, is_unread}
 use Rattle.house.proofs.Arrivals.{more_stands}
+use Rattle.house.proofs.Callers.{unread_stands}
+use Rattle.house.proofs.Ended.{ended_nowhere}
 use Rattle.house.proofs.Places.{after_going, at_there}
+use Rattle.delivery_core.specs.Held.{has_ended}
 
 -- where a line stands at a seat, so does a caller of the scene
 pub record IsAt (k : Setup) (s : Scene) (seat : ℕ) (next : CopyKey) (h : Line) : Type 0 where
@@ -40,13 +43,17 @@ pub some_line : (o : Option Line) → IsSome o → (g : Line) × (o ≡ Some g)
 some_line None h = absurd (let e : false ≡ true = h in cc)
 some_line (Some g) h = (g, refl)
 
+-- a peer is there where the seat isn't waiting for the verdicts of one that is gone
+peer_there : (k : Setup) (seat : ℕ) (next : CopyKey) (heard : List Noted) (o : Option Line) (g : Line) (b : Caller) → o ≡ Some g → is_unread o ≡ false → StandsForCaller k seat next heard g b → b.gone ≡ false
+peer_there k seat next heard o g b e u s = sym s.gone ∙ subst (λ (x : Option Line). is_unread x ≡ false) e u
+
 pub received : (k : Setup) (h : State) (s : Scene) (number seat : ℕ) (piece : List ℕ) (directory : Directory) (l : Option Line) (place : Option Line) (whole : Bool) (old new : List ℕ)
-    → StandsFor k h s → number ≡ seat + 1 → directory ≡ h.directory → seat < length h.callers → IsSome (get_or h.callers seat None) → place ≡ option_map (with_more piece) (get_or h.callers seat None)
+    → StandsFor k h s → number ≡ seat + 1 → directory ≡ h.directory → seat < length h.callers → IsSome (get_or h.callers seat None) → is_unread (get_or h.callers seat None) ≡ false → place ≡ option_map (with_more piece) (get_or h.callers seat None)
     → ((x : Setup) (p : ℕ) (next : CopyKey) (heard : List Noted) (b : Caller) → IsOf x number p directory → StandsForMaybe x p next heard place (Some b) → PlaceWentOn x whole p next heard b l old new)
     → (t : Scene) × (printed : List ℕ) × BytesPlay k whole s seat piece t printed
     × StandsFor k (record { core = h.core; callers = set h.callers seat l; serials = h.serials; directory = h.directory; host = h.host; max_message = h.max_message }) t
     × (new ≡ old ++ printed)
-received k h s number seat piece directory l place whole old new st e dir lt some is f =
+received k h s number seat piece directory l place whole old new st e dir lt some read is f =
     let g = some_line (get_or h.callers seat None) some in
     let y = first_key seat in
     let a = at_seat k h s seat y g.0 st lt g.1 in
@@ -57,8 +64,38 @@ received k h s number seat piece directory l place whole old new st e dir lt som
     (subst (λ (x : Option Line). StandsForMaybe k seat (get_or h.core.next seat y) (s.world.heard seat) x (Some b)) (sym at) m) in (
       with_caller s seat w.left,
       w.printed,
-      goes_on a.caller a.here w.left w.goes refl,
+      goes_on a.caller a.here (peer_there k seat (get_or h.core.next seat y) (s.world.heard seat) (get_or h.callers seat None) g.0 a.caller g.1 read a.stands) w.left w.goes refl,
       after_going k h h.core h.serials s s.world s.next seat y l (with_more piece g.0) b whole old new st st.core lt (λ q ne. refl) (λ q z ne. refl) refl
+          (λ n. (st.each seat y n None lt).counted) (λ q n ne. refl) (λ q ne. refl) m a.serial w,
+      w.out,
+    )
+
+pub vanished : (k : Setup) (h : State) (s : Scene) (number seat : ℕ) (directory : Directory) (l : Option Line) (place : Option Line) (whole : Bool) (old new : List ℕ)
+    → StandsFor k h s → number ≡ seat + 1 → directory ≡ h.directory → seat < length h.callers → IsSome (get_or h.callers seat None) → is_unread (get_or h.callers seat None) ≡ false → place ≡ option_map with_nobody_there (get_or h.callers seat None)
+    → ((x : Setup) (p : ℕ) (next : CopyKey) (heard : List Noted) (b : Caller) → IsOf x number p directory → StandsForMaybe x p next heard place (Some b) → PlaceWentOn x whole p next heard b l old new)
+    → (t : Scene) × (printed : List ℕ) × VanishPlay k whole s seat t printed
+    × StandsFor k (record { core = h.core; callers = set h.callers seat l; serials = h.serials; directory = h.directory; host = h.host; max_message = h.max_message }) t
+    × (new ≡ old ++ printed)
+vanished k h s number seat directory l place whole old new st e dir lt some read is f =
+    let g = some_line (get_or h.callers seat None) some in
+    let y = first_key seat in
+    let a = at_seat k h s seat y g.0 st lt g.1 in
+    let b = unread a.caller in
+    let m = unread_stands k seat (get_or h.core.next seat y) (s.world.heard seat) g.0 a.caller a.stands in
+    let at = is ∙ ap (option_map with_nobody_there) g.1 in
+    let w = f k seat (get_or h.core.next seat y) (s.world.heard seat) b (record { numbered = e; looks_up = dir ∙ st.directory })
+    (subst (λ (x : Option Line). StandsForMaybe k seat (get_or h.core.next seat y) (s.world.heard seat) x (Some b)) (sym at) m) in (
+      with_caller s seat w.left,
+      w.printed,
+      record {
+        caller = a.caller;
+        there = a.here;
+        was_read = peer_there k seat (get_or h.core.next seat y) (s.world.heard seat) (get_or h.callers seat None) g.0 a.caller g.1 read a.stands;
+        left = w.left;
+        goes = w.goes;
+        after = refl;
+      },
+      after_going k h h.core h.serials s s.world s.next seat y l (with_nobody_there g.0) b whole old new st st.core lt (λ q ne. refl) (λ q z ne. refl) refl
           (λ n. (st.each seat y n None lt).counted) (λ q n ne. refl) (λ q ne. refl) m a.serial w,
       w.out,
     )
@@ -70,13 +107,13 @@ vacant k s seat next None e w = (e, w)
 vacant k s seat next (Some b) e w = absurd w
 
 pub welcomed : (k : Setup) (h : State) (s : Scene) (number seat : ℕ) (piece : List ℕ) (directory : Directory) (l : Option Line) (g : Line) (whole : Bool) (old new : List ℕ)
-    → StandsFor k h s → number ≡ seat + 1 → directory ≡ h.directory → seat < length h.callers → get_or h.callers seat None ≡ None → get_or h.serials seat 0 < most_serials
+    → StandsFor k h s → number ≡ seat + 1 → directory ≡ h.directory → seat < length h.callers → get_or h.callers seat None ≡ None → get_or h.serials seat 0 < most_serials → has_ended h.core seat ≡ false
     → ((x : Setup) (next : CopyKey) (heard : List Noted) → x.host ≡ h.host → x.max_message ≡ h.max_message → AtLeast next (record { seat = seat; serial = get_or h.serials seat 0; message = 0; recipient = 0 }) → StandsForCaller x seat next heard g (more_waits (greeted x seat (get_or h.serials seat 0)) piece))
     → ((x : Setup) (p : ℕ) (next : CopyKey) (heard : List Noted) (b : Caller) → IsOf x number p directory → StandsForMaybe x p next heard (Some g) (Some b) → PlaceWentOn x whole p next heard b l old new)
     → (t : Scene) × (printed : List ℕ) × BytesPlay k whole s seat piece t printed
     × StandsFor k (record { core = h.core; callers = set h.callers seat l; serials = set h.serials seat (get_or h.serials seat 0 + 1); directory = h.directory; host = h.host; max_message = h.max_message }) t
     × (new ≡ old ++ printed)
-welcomed k h s number seat piece directory l g whole old new st e dir lt none less opened f =
+welcomed k h s number seat piece directory l g whole old new st e dir lt none less live opened f =
     let y = first_key seat in
     let n = get_or h.serials seat 0 in
     let each = st.each seat y 0 None lt in
@@ -91,7 +128,7 @@ welcomed k h s number seat piece directory l g whole old new st e dir lt none le
     let here : set_at s.next seat (s.next seat + 1) seat ≡ s.next seat + 1 = set_at-same s.next seat (s.next seat + 1) in (
       record { world = s.world; caller = set_at s.caller seat w.left; next = set_at s.next seat (s.next seat + 1) },
       w.printed,
-      opens (let p = st.seats in omega (arith, p, lt)) o.0 (omega (arith, less, same)) w.left w.goes refl,
+      opens (let p = st.seats in omega (arith, p, lt)) o.0 (omega (arith, less, same)) (ended_nowhere k.config h.core s.world seat st.core (let p = st.seats in omega (arith, p, lt)) live) w.left w.goes refl,
       after_going k h h.core (set h.serials seat (n + 1)) s s.world (set_at s.next seat (s.next seat + 1)) seat y l g b whole old new st st.core lt (λ q ne. refl) (λ q z ne. refl)
           (length-set h.serials seat (n + 1)) (λ i. get_or-set_same h.serials seat (n + 1) i ls ∙ ap (λ (z : ℕ). z + 1) same ∙ sym here)
           (λ q i ne. get_or-set_other h.serials seat q (n + 1) i ne) (λ q ne. at_there s.next seat (s.next seat + 1) q ne) m (omega (arith, here)) w,

@@ -9,6 +9,7 @@ pub mod Events
 pub mod Putting
 pub mod Turns
 pub mod Efforts
+pub mod Ended
 pub mod Arrivals
 pub mod PrintLaws
 pub mod ScriptLaws

@@ -12,11 +12,11 @@ use Rattle.delivery_core.specs.Puts.{AtLeast}
 use Rattle.delivery_core.specs.Stands as core
 use Rattle.delivery_core.proofs.Follow.{get_or-any}
 use Rattle.lmtp_machine.specs.declared.connection.What.{What}
-use Rattle.lmtp_machine.specs.Dialogue.{Submission}
+use Rattle.lmtp_machine.specs.Dialogue.{Answered, Submission}
 use Rattle.house.specs.Line.{Line}
 use Rattle.house.specs.State.{State}
 use Rattle.house.specs.Talk.{Talk}
-use Rattle.house.specs.Scene.{Caller, GoesOn, Leaves, Scene, Setup, answers, copies_of, goes, stalls, stays, waits, works}
+use Rattle.house.specs.Scene.{Caller, GoesOn, Leaves, Proceeds, Scene, Setup, answers, copies_of, fades, goes, lingers, meets, stalls, stays, talks, waits, works}
 use Rattle.house.specs.CallerStands.{StandsForCaller}
 use Rattle.house.specs.Stands.{StandsFor, StandsForOne, StandsForSeat}
 use Rattle.house.specs.Steps.{PlaceWentOn, StandsForMaybe}
@@ -30,15 +30,20 @@ at_there {A} f i x j n = at_cases (λ (v : A). v ≡ f j) f i x j (λ e. absurd 
 same_serial : (a b : Caller) → Some a ≡ Some b → a.serial ≡ b.serial
 same_serial a b e = let x : a ≡ b = cc in ap (λ (v : Caller). v.serial) x
 
-leaves_serial : (whole : Bool) (serial : ℕ) (what : What) (after : Talk) (ss : List Submission) (o : Option Caller) (b : Caller) → Leaves whole serial what after ss o → o ≡ Some b → b.serial ≡ serial
-leaves_serial whole serial what after ss o b (goes q u e) f = absurd (let x : None ≡ Some b = sym e ∙ f in cc)
-leaves_serial whole serial what after ss o b (stays q e) f = same_serial b (record { serial = serial; talk = after; to_put = copies_of ss }) (sym f ∙ e)
+leaves_serial : (whole : Bool) (a : Caller) (what : What) (after : Talk) (ss : List Submission) (o : Option Caller) (b : Caller) → Leaves whole a what after ss o → o ≡ Some b → b.serial ≡ a.serial
+leaves_serial whole a what after ss o b (goes q u e) f = absurd (let x : None ≡ Some b = sym e ∙ f in cc)
+leaves_serial whole a what after ss o b (stays q e) f = same_serial b (record { serial = a.serial; gone = a.gone; talk = after; to_put = copies_of ss }) (sym f ∙ e)
 
 goes_serial : (k : Setup) (whole : Bool) (seat : ℕ) (heard : List Noted) (a : Caller) (o : Option Caller) (printed : List ℕ) (b : Caller) → GoesOn k whole seat heard a o printed → o ≡ Some b → b.serial ≡ a.serial
-goes_serial k whole seat heard a o printed b (works p t) e = leaves_serial whole a.serial t.what t.after t.turn.submissions o b t.leaves e
+goes_serial k whole seat heard a o printed b (works p t) e = leaves_serial whole a t.what t.after t.turn.submissions o b t.leaves e
 goes_serial k whole seat heard a o printed b (waits m n f p) e = same_serial b a (sym e ∙ f)
-goes_serial k whole seat heard a o printed b (answers vs m n t) e = leaves_serial whole a.serial t.what t.after t.turn.submissions o b t.leaves e
+goes_serial k whole seat heard a o printed b (answers vs m n t) e = leaves_serial whole (meets k seat a (Answered vs)) t.what t.after t.turn.submissions o b t.leaves e
 goes_serial k whole seat heard a o printed b (stalls w f p) e = same_serial b a (sym e ∙ f)
+
+proceeds_serial : (k : Setup) (whole : Bool) (seat : ℕ) (heard : List Noted) (a : Caller) (o : Option Caller) (printed : List ℕ) (b : Caller) → Proceeds k whole seat heard a o printed → o ≡ Some b → b.serial ≡ a.serial
+proceeds_serial k whole seat heard a o printed b (talks l g) e = goes_serial k whole seat heard a o printed b g e
+proceeds_serial k whole seat heard a o printed b (lingers g n f p) e = same_serial b a (sym e ∙ f)
+proceeds_serial k whole seat heard a o printed b (fades vs g n f p) e = absurd (let x : None ≡ Some b = sym f ∙ e in cc)
 
 -- ---- the place itself
 
@@ -86,7 +91,7 @@ after_going k h c serials s v numbers seat y l g a whole old new st cs lt notes 
     in_next = let e = cs.nexts in let f = st.seats in omega (arith, e, f, lt)
 
     one : StandsForOne k seat (get_or c.next seat y) (v.heard seat) (numbers seat) l w.left
-    one = who_is_left k seat (get_or c.next seat y) (v.heard seat) (numbers seat) l w.left g a w.there sa less (λ b e. goes_serial k whole seat (v.heard seat) a w.left w.printed b w.goes e)
+    one = who_is_left k seat (get_or c.next seat y) (v.heard seat) (numbers seat) l w.left g a w.there sa less (λ b e. proceeds_serial k whole seat (v.heard seat) a w.left w.printed b w.goes e)
 
     at_seat : (z : CopyKey) (n : ℕ) (d : Option Line) → StandsForSeat k (record { world = v; caller = set_at s.caller seat w.left; next = numbers }) seat (get_or c.next seat z) (get_or serials seat n) (get_or (set h.callers seat l) seat d)
     at_seat z n d = record {

@@ -144,9 +144,10 @@ module _ (k : Setup) (seat : ℕ) (next : CopyKey) (heard : List Noted) where
 
   pub put_stands : (h : Line) (b : Caller) (c : Job) (others : List Job) (why : Option Refusal) (after : CopyKey) (now : List Noted) → (s : StandsForCaller k seat next heard h b) → IsNextCopy k seat h b s.message c others
       → after ≡ past c.key → All (λ r. Below r.key c.key) heard → now ≡ heard ++ heard_at_once c.key c.mailbox why
-      → StandsForCaller k seat after now (noted_put (heard_verdict why) h) (record { serial = b.serial; talk = b.talk; to_put = others })
+      → StandsForCaller k seat after now (noted_put (heard_verdict why) h) (record { serial = b.serial; gone = b.gone; talk = b.talk; to_put = others })
   put_stands h b c others why after now s n ea above en = record {
     serial = s.serial;
+    gone = s.gone;
     setting = s.setting;
     host = s.host;
     machine = s.machine;
@@ -197,7 +198,7 @@ module _ (k : Setup) (seat : ℕ) (next : CopyKey) (heard : List Noted) where
       at (t ∷ u ∷ us) few m i d lt = absurd (omega (arith, few))
 
   heard_slots : (b : Caller) (h : Line) (r : Noted) (g : Line) → (s : StandsForCaller k seat next heard h b) → HearsSlot h r g
-      → (os : List (Option Verdict)) × (g ≡ record { serial = h.serial; machine = h.machine; waits = h.waits; unsaid = h.unsaid; verdicts = os }) × (length os ≡ length h.verdicts) × SlotsFor (heard ++ r ∷ []) (keys_of b.talk.pending) os
+      → (os : List (Option Verdict)) × (g ≡ record { serial = h.serial; gone = h.gone; machine = h.machine; waits = h.waits; unsaid = h.unsaid; verdicts = os }) × (length os ≡ length h.verdicts) × SlotsFor (heard ++ r ∷ []) (keys_of b.talk.pending) os
   heard_slots b h r g s (notes_it a e) = (
     set h.verdicts r.key.recipient (Some r.verdict),
     e,
@@ -240,6 +241,7 @@ module _ (k : Setup) (seat : ℕ) (next : CopyKey) (heard : List Noted) where
       let o = heard_slots b h r g s q in
       subst (λ (x : Line). StandsForCaller k seat next now x b) (sym o.1) (record {
         serial = s.serial;
+        gone = s.gone;
         setting = s.setting;
         host = s.host;
         machine = s.machine;

@@ -3,7 +3,8 @@ use Rattle.std.proofs.Common.{◌≡◌, ℕ, ◌+◌, ◌<◌, Bool, true, fals
 use Rattle.std.proofs.lemmas.Bool.{eqb-true}
 use Rattle.std.specs.Io.BufRead.{take_through, drop_through}
 use Rattle.house.specs.Scene.{Scene, Setup}
-use Rattle.house.specs.Script.{LinePlays, Script, ScriptLine, asked, line_of, pieces, put_first, script_of}
+use Rattle.house.specs.Script.{LinePlays, Script, ScriptLine, asked, held_after, line_of, pieces, put_first, script_of}
+use Rattle.house.specs.Running.{held_by}
 
 piece_by : (b : ℕ) (bs : List ℕ) (t : Bool) → (b == 10) ≡ t → put_first b (pieces bs) ≡ (b ∷ take_through 10 bs) ∷ pieces (drop_through 10 bs)
     → (if t then (10 ∷ []) ∷ pieces bs else put_first b (pieces bs)) ≡ (if t then b ∷ [] else b ∷ take_through 10 bs) ∷ pieces (if t then bs else drop_through 10 bs)
@@ -21,11 +22,11 @@ first_line [] some = absurd (omega arith)
 first_line (b ∷ bs) some = ap (map (λ piece. asked (line_of piece))) (first_piece b bs)
 
 -- a script and one line more
-pub script_push : (k : Setup) (n number : ℕ) (lines : List ScriptLine) (line : ScriptLine) (s m t : Scene) (one two : List ℕ) → number ≡ n + length lines
-    → Script k n lines s m one → LinePlays k number line m t two → Script k n (lines ++ line ∷ []) s t (one ++ two)
-script_push k n number [] line s m t one two e (same, none) plays =
+pub script_push : (k : Setup) (n number : ℕ) (held : List Bool) (lines : List ScriptLine) (line : ScriptLine) (s m t : Scene) (one two : List ℕ) → number ≡ n + length lines
+    → Script k n held lines s m one → LinePlays k number (held_by held lines) line m t two → Script k n held (lines ++ line ∷ []) s t (one ++ two)
+script_push k n number held [] line s m t one two e (same, none) plays =
     let at : number ≡ n = e ∙ add-zero n in
-    let here : LinePlays k n line s t two = subst (λ (x : ℕ). LinePlays k x line s t two) at (subst (λ (x : Scene). LinePlays k number line x t two) same plays) in
+    let here : LinePlays k n held line s t two = subst (λ (x : ℕ). LinePlays k x held line s t two) at (subst (λ (x : Scene). LinePlays k number held line x t two) same plays) in
     (t, two, [], here, (refl, refl), ap (λ (x : List ℕ). x ++ two) none ∙ sym (append-nil two))
-script_push k n number (l ∷ ls) line s m t one two e (u, a, b, first, rest, both) plays =
-    (u, a, b ++ two, first, script_push k (n + 1) number ls line u m t b two (omega arith) rest plays, ap (λ (x : List ℕ). x ++ two) both ∙ append_assoc a b two)
+script_push k n number held (l ∷ ls) line s m t one two e (u, a, b, first, rest, both) plays =
+    (u, a, b ++ two, first, script_push k (n + 1) number (held_after held l) ls line u m t b two (omega arith) rest plays, ap (λ (x : List ℕ). x ++ two) both ∙ append_assoc a b two)

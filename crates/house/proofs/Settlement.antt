@@ -9,13 +9,13 @@ use Rattle.lmtp_machine.specs.declared.connection.What.{What}
 use Rattle.lmtp_machine.specs.Dialogue.{Submission}
 use Rattle.delivery_token.specs.declared.log.Noted.{Noted}
 use Rattle.house.specs.declared.event.Event.{Event}
-use Rattle.house.specs.declared.event.Event.TheVariants.{Bytes, Put, Take, Deliver, Answer, Hear}
+use Rattle.house.specs.declared.event.Event.TheVariants.{Bytes, Vanish, Put, Take, Deliver, Answer, Hear, End}
 use Rattle.house.specs.Talk.{Talk}
-use Rattle.house.specs.Scene.{BytesPlay, Caller, GoesOn, HasNothing, HearPlay, Leaves, Plays, PutPlay, Scene, Setup, Talks, seat_of, opens, goes_on, goes, stays, works, waits, answers, stalls}
+use Rattle.house.specs.Scene.{BytesPlay, Caller, GoesOn, HasNothing, HearPlay, Leaves, Plays, Proceeds, PutPlay, Scene, Setup, Talks, VanishPlay, seat_of, opens, goes_on, goes, stays, works, waits, answers, stalls, talks, lingers, fades, unread}
 use Rattle.house.specs.Settling.{Happened, InTurn, Settles, Tries, Visit, Visits, happens, in_a_row, passes, round}
 use Rattle.house.specs.Settled.{HappenedFrom, SettledFrom, is_held}
 use Rattle.house.specs.Stands.{StandsFor, StandsForOne}
-use Rattle.house.specs.Steps.{Follows, FollowsInPart, IsEmptySeat, IsNoSeat, IsNobody, Led}
+use Rattle.house.specs.Steps.{Follows, FollowsInPart, IsBusy, IsEmptySeat, IsNoSeat, IsNobody, Led}
 use Rattle.house.specs.Line.{Line}
 use Rattle.envelope.specs.Directory.{Directory}
 use Rattle.delivery_token.specs.declared.CopyKey.{CopyKey}
@@ -28,9 +28,9 @@ use Rattle.house.specs.Trying.{CameVisit, CameVisits, Did, DidVisits, IsAmong, I
 
 -- ---- what a whole event does, one that is cut short may do as well
 
-leaves_part : (serial : ℕ) (what : What) (after : Talk) (ss : List Submission) (o : Option Caller) → Leaves true serial what after ss o → Leaves false serial what after ss o
-leaves_part serial what after ss o (goes q n e) = goes q n e
-leaves_part serial what after ss o (stays f e) = stays (λ x q. let y : false ≡ true = x in cc) e
+leaves_part : (b : Caller) (what : What) (after : Talk) (ss : List Submission) (o : Option Caller) → Leaves true b what after ss o → Leaves false b what after ss o
+leaves_part b what after ss o (goes q n e) = goes q n e
+leaves_part b what after ss o (stays f e) = stays (λ x q. let y : false ≡ true = x in cc) e
 
 talks_part : (k : Setup) (seat : ℕ) (b : Caller) (o : Option Caller) (printed : List ℕ) → Talks k true seat b o printed → Talks k false seat b o printed
 talks_part k seat b o printed t = record {
@@ -40,7 +40,7 @@ talks_part k seat b o printed t = record {
   works = t.works;
   prints = t.prints;
   all = λ x. let y : false ≡ true = x in cc;
-  leaves = leaves_part b.serial t.what t.after t.turn.submissions o t.leaves;
+  leaves = leaves_part b t.what t.after t.turn.submissions o t.leaves;
 }
 
 goes_part : (k : Setup) (seat : ℕ) (heard : List Noted) (b : Caller) (o : Option Caller) (printed : List ℕ) → GoesOn k true seat heard b o printed → GoesOn k false seat heard b o printed
@@ -49,9 +49,24 @@ goes_part k seat heard b o printed (waits l n e p) = waits l n e p
 goes_part k seat heard b o printed (answers vs l a t) = answers vs l a (talks_part k seat _ o printed t)
 goes_part k seat heard b o printed (stalls w e p) = cc
 
+proceeds_part : (k : Setup) (seat : ℕ) (heard : List Noted) (b : Caller) (o : Option Caller) (printed : List ℕ) → Proceeds k true seat heard b o printed → Proceeds k false seat heard b o printed
+proceeds_part k seat heard b o printed (talks l g) = talks l (goes_part k seat heard b o printed g)
+proceeds_part k seat heard b o printed (lingers g n e p) = lingers g n e p
+proceeds_part k seat heard b o printed (fades vs g n e p) = fades vs g n e p
+
 bytes_part : (k : Setup) (s : Scene) (seat : ℕ) (piece : List ℕ) (t : Scene) (printed : List ℕ) → BytesPlay k true s seat piece t printed → BytesPlay k false s seat piece t printed
-bytes_part k s seat piece t printed (opens l n m o g e) = opens l n m o (goes_part k seat _ _ o printed g) e
-bytes_part k s seat piece t printed (goes_on b n o g e) = goes_on b n o (goes_part k seat _ _ o printed g) e
+bytes_part k s seat piece t printed (opens l n m f o g e) = opens l n m f o (proceeds_part k seat _ _ o printed g) e
+bytes_part k s seat piece t printed (goes_on b n l o g e) = goes_on b n l o (proceeds_part k seat _ _ o printed g) e
+
+vanish_part : (k : Setup) (s : Scene) (seat : ℕ) (t : Scene) (printed : List ℕ) → VanishPlay k true s seat t printed → VanishPlay k false s seat t printed
+vanish_part k s seat t printed p = record {
+  caller = p.caller;
+  there = p.there;
+  was_read = p.was_read;
+  left = p.left;
+  goes = proceeds_part k seat (s.world.heard seat) (unread p.caller) p.left printed p.goes;
+  after = p.after;
+}
 
 put_part : (k : Setup) (s : Scene) (seat : ℕ) (t : Scene) (printed : List ℕ) → PutPlay k true s seat t printed → PutPlay k false s seat t printed
 put_part k s seat t printed p = record {
@@ -63,7 +78,7 @@ put_part k s seat t printed p = record {
   moved = p.moved;
   step = p.step;
   left = p.left;
-  goes = goes_part k seat (p.moved.heard seat) (record { serial = p.caller.serial; talk = p.caller.talk; to_put = p.others }) p.left printed p.goes;
+  goes = proceeds_part k seat (p.moved.heard seat) (record { serial = p.caller.serial; gone = p.caller.gone; talk = p.caller.talk; to_put = p.others }) p.left printed p.goes;
   after = p.after;
 }
 
@@ -74,17 +89,19 @@ hear_part k s seat t printed p = record {
   moved = p.moved;
   step = p.step;
   left = p.left;
-  goes = goes_part k seat (p.moved.heard seat) p.caller p.left printed p.goes;
+  goes = proceeds_part k seat (p.moved.heard seat) p.caller p.left printed p.goes;
   after = p.after;
 }
 
 pub plays_part : (k : Setup) (s : Scene) (e : Event) (t : Scene) (printed : List ℕ) → Plays k true s e t printed → Plays k false s e t printed
 plays_part k s (Bytes connection piece) t printed p = bytes_part k s _ _ t printed p
+plays_part k s (Vanish connection) t printed p = vanish_part k s _ t printed p
 plays_part k s (Put connection) t printed p = put_part k s _ t printed p
 plays_part k s (Take shard) t printed p = p
 plays_part k s (Deliver shard) t printed p = p
 plays_part k s (Answer shard) t printed p = p
 plays_part k s (Hear connection) t printed p = hear_part k s _ t printed p
+plays_part k s (End connection shard) t printed p = p
 
 -- ---- in a row
 
@@ -252,6 +269,8 @@ nobody_there k h s n pos le st (inr e) =
 
 pub nobody_nothing : (k : Setup) (h : State) (s : Scene) (e : Event) → IsAmong k e → StandsFor k h s → IsNobody h e → HasNothing k s e
 nobody_nothing k h s (Bytes connection piece) q st n = absurd q
+nobody_nothing k h s (Vanish connection) q st n = absurd q
+nobody_nothing k h s (End connection shard) q st n = absurd q
 nobody_nothing k h s (Put connection) q st n = λ t printed p. absurd (let x = nobody_there k h s connection q.0 q.1 st n in let y = p.there in let z : None ≡ Some p.caller = sym x ∙ y in cc)
 nobody_nothing k h s (Hear connection) q st n = λ t printed p. absurd (let x = nobody_there k h s connection q.0 q.1 st n in let y = p.there in let z : None ≡ Some p.caller = sym x ∙ y in cc)
 nobody_nothing k h s (Take shard) q st n = absurd (let e = st.core.shards in omega (arith, e, q, n))
@@ -261,11 +280,24 @@ nobody_nothing k h s (Answer shard) q st n = absurd (let e = st.core.shards in o
 -- an own event makes less
 pub own_less : (e : Event) (old new : State) → IsOwn e → MakesLess e old new → effort new < effort old
 own_less (Bytes connection piece) old new o l = absurd o
+own_less (Vanish connection) old new o l = absurd o
+own_less (End connection shard) old new o l = absurd o
 own_less (Put connection) old new o l = l
 own_less (Take shard) old new o l = l
 own_less (Deliver shard) old new o l = l
 own_less (Answer shard) old new o l = l
 own_less (Hear connection) old new o l = l
+
+-- an own event is never refused as busy
+pub own_not_busy : (e : Event) (h : State) → IsOwn e → IsBusy h e → ⊥
+own_not_busy (Bytes connection piece) h o b = o
+own_not_busy (Vanish connection) h o b = o
+own_not_busy (Put connection) h o b = b
+own_not_busy (Take shard) h o b = b
+own_not_busy (Deliver shard) h o b = b
+own_not_busy (Answer shard) h o b = b
+own_not_busy (Hear connection) h o b = b
+own_not_busy (End connection shard) h o b = o
 
 -- an event that happened is one that was tried
 pub tried : (e : Event) (h h1 : State) (o o1 : List ℕ) → IsOwn e → Follows h e h1 o o1 → MakesLess e h h1 → Moved (λ k. IsAmong k e) (λ k s t printed. Tries k s e t printed) h o h1 o1

@@ -1,5 +1,7 @@
 -- Verdicts that are known, and keys in their order.
-use Rattle.std.proofs.Common.{◌≡◌, ℕ, suc, ◌<◌, ◌≤◌, inl, inr, List, [], ◌∷◌, length, map, refl, sym, subst, arith, Option, Some, None, Contains}
+use Rattle.std.specs.List.{list_all}
+use Rattle.std.specs.Option.{is_some}
+use Rattle.std.proofs.Common.{◌≡◌, true, false, ℕ, suc, ◌<◌, ◌≤◌, inl, inr, List, [], ◌∷◌, length, map, refl, sym, subst, arith, Option, Some, None, Contains}
 use Rattle.delivery_token.specs.declared.CopyKey.{CopyKey}
 use Rattle.delivery_token.specs.declared.Verdict.{Verdict}
 use Rattle.delivery_token.specs.declared.log.Noted.{Noted}
@@ -43,6 +45,19 @@ all-full heard (k ∷ ks) (o ∷ os) (v ∷ vs) h g =
     let f = full heard k o v g.0.0 (first-slot heard k ks o os h) g.0.1 in
     let r = all-full heard ks os vs (other-slots heard k ks o os h) g.1 in
     (f.0 ∷ r.0, let a : o ≡ Some f.0 = f.1 in let b : os ≡ map (λ v. Some v) r.0 = r.1 in cc (a, b))
+
+-- where each slot is full, they hold some verdicts
+pub all_known : (slots : List (Option Verdict)) → list_all is_some slots ≡ true → (vs : List Verdict) × (slots ≡ map (λ v. Some v) vs)
+all_known [] e = ([], refl)
+all_known (None ∷ os) e = absurd (let x : false ≡ true = e in cc)
+all_known (Some v ∷ os) e = let r = all_known os e in (v ∷ r.0, let f : os ≡ map (λ v. Some v) r.0 = r.1 in cc)
+
+pub known_all : (slots : List (Option Verdict)) (vs : List Verdict) → slots ≡ map (λ v. Some v) vs → list_all is_some slots ≡ true
+known_all slots vs e = rw e (full_all vs)
+  where
+    full_all : (us : List Verdict) → list_all is_some (map (λ v. Some v) us) ≡ true
+    full_all [] = refl
+    full_all (u ∷ us) = full_all us
 
 -- ---- keys in their order
 

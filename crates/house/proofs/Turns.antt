@@ -73,7 +73,7 @@ put_led k h s number seat directory g c why place l whole old new st e dir lt so
     = sym (heard_is k.config c v cs seat lk) ∙ subst (λ (q : ℕ). notes_of c q ≡ notes_of h.core q ++ heard_at_once puts.copy.key puts.copy.mailbox why) es p.heard.here
     ∙ ap (λ (ns : List Noted). ns ++ heard_at_once puts.copy.key puts.copy.mailbox why) (heard_is k.config h.core s.world st.core seat lk) in
     let next : get_or c.next seat y ≡ past puts.copy.key = ap (λ (ks : List CopyKey). get_or ks seat y) (p.next ∙ ap (λ (q : ℕ). set h.core.next q (past puts.copy.key)) es) ∙ get_or-set_same h.core.next seat (past puts.copy.key) y ln in
-    let b : Caller = record { serial = a.caller.serial; talk = a.caller.talk; to_put = puts.others } in
+    let b : Caller = record { serial = a.caller.serial; gone = a.caller.gone; talk = a.caller.talk; to_put = puts.others } in
     let b1 = put_stands k seat (get_or h.core.next seat y) (s.world.heard seat) g a.caller puts.copy puts.others why (get_or c.next seat y) (v.heard seat) a.stands n next (may_of k.config s.world seat _ puts.copy v step).above_heard heard in
     let w = f k seat (get_or c.next seat y) (v.heard seat) b (record { numbered = e; looks_up = dir ∙ st.directory })
     (subst (λ (x : Option Line). StandsForMaybe k seat (get_or c.next seat y) (v.heard seat) x (Some b)) (sym is) b1) in (

@@ -11,7 +11,7 @@ use Rattle.lmtp_machine.specs.Kept.{Kept, AreMessages}
 use Rattle.lmtp_machine.specs.Machine as machine
 use Rattle.envelope.specs.Directory.{Directory}
 use Rattle.house.specs.Line.{Line}
-use Rattle.house.specs.Scene.{Setup, Caller, GoesOn, Talks, setting_of, copies_of, keys_of}
+use Rattle.house.specs.Scene.{Setup, Caller, GoesOn, Proceeds, Talks, setting_of, copies_of, keys_of}
 
 -- what was heard for a key: this verdict, or none yet
 abbrev pub SlotFor : List Noted → CopyKey → Option Verdict → Type 0
@@ -31,6 +31,7 @@ IsAwaited (s ∷ ss) phase = (ss ≡ []) × (phase ≡ Waiting (length s.keys))
 -- the connection stands for this caller, whose seat has heard these verdicts and may use keys from `next` on
 pub record StandsForCaller (k : Setup) (seat : ℕ) (next : CopyKey) (heard : List Noted) (h : Line) (b : Caller) : Type 0 where
   pub serial : h.serial ≡ b.serial
+  pub gone : h.gone ≡ b.gone
   pub setting : h.machine.setting ≡ setting_of k seat b.serial
   pub host : h.machine.host ≡ k.host
   pub machine : machine.StandsFor h.machine b.talk.at
@@ -69,5 +70,13 @@ pub record WentOn (k : Setup) (whole : Bool) (seat : ℕ) (next : CopyKey) (hear
   pub left : Option Caller
   pub printed : List ℕ
   pub goes : GoesOn k whole seat heard b left printed
+  pub there : IsThere k seat next heard what h left
+  pub out : new ≡ old ++ printed
+
+-- The same, where its peer may be gone.
+pub record Proceeded (k : Setup) (whole : Bool) (seat : ℕ) (next : CopyKey) (heard : List Noted) (b : Caller) (what : What) (h : Line) (old new : List ℕ) : Type 0 where
+  pub left : Option Caller
+  pub printed : List ℕ
+  pub goes : Proceeds k whole seat heard b left printed
   pub there : IsThere k seat next heard what h left
   pub out : new ≡ old ++ printed

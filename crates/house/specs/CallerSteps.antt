@@ -26,7 +26,7 @@ pub record TookWhatWaits (k : Setup) (seat : ℕ) (next : CopyKey) (heard : List
   pub said : after.unsaid ≡ b.talk.unsaid ++ wire k.host turn.replies
   pub all : result ≡ Some More → after.waits ≡ []
   pub is : IsAnswer result what
-  pub stands : StandsForCaller k seat next heard h (record { serial = b.serial; talk = after; to_put = copies_of turn.submissions })
+  pub stands : StandsForCaller k seat next heard h (record { serial = b.serial; gone = b.gone; talk = after; to_put = copies_of turn.submissions })
 
 -- the verdicts were said, and nothing is awaited any more
 pub record SaidVerdicts (k : Setup) (seat : ℕ) (next : CopyKey) (heard : List Noted) (b : Caller) (verdicts : List Verdict) (h : Line) : Type 0 where

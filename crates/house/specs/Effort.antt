@@ -2,7 +2,7 @@
 use Rattle.std.specs.Prelude.{ℕ, ◌+◌, ◌*◌, ◌<◌, length, Option, Some, None, sum_by}
 use Rattle.delivery_core.specs.Load.{load}
 use Rattle.house.specs.declared.event.Event.{Event}
-use Rattle.house.specs.declared.event.Event.TheVariants.{Bytes, Put, Take, Deliver, Answer, Hear}
+use Rattle.house.specs.declared.event.Event.TheVariants.{Bytes, Vanish, Put, Take, Deliver, Answer, Hear, End}
 use Rattle.house.specs.Line.{Line}
 use Rattle.house.specs.State.{State}
 use Rattle.house.specs.Taking.{due}
@@ -18,9 +18,11 @@ place_effort (Some h) = line_effort h
 abbrev pub effort : State → ℕ
 effort h = sum_by place_effort h.callers + load h.core
 
--- an event that isn't bytes makes it less
+-- what the house does by itself makes it less
 abbrev pub MakesLess : Event → State → State → Type 0
 MakesLess (Bytes connection piece) old new = Unit {0}
+MakesLess (Vanish connection) old new = Unit {0}
+MakesLess (End connection shard) old new = Unit {0}
 MakesLess (Put connection) old new = effort new < effort old
 MakesLess (Take shard) old new = effort new < effort old
 MakesLess (Deliver shard) old new = effort new < effort old

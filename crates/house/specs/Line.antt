@@ -1,12 +1,13 @@
 -- What a connection holds, as contracts see it.
-use Rattle.std.specs.Prelude.{ℕ, List, Option}
+use Rattle.std.specs.Prelude.{ℕ, Bool, List, Option}
 use Rattle.delivery_token.specs.declared.Verdict.{Verdict}
 use Rattle.lmtp_machine.specs.Machine.{Machine}
 
--- a connection: its serial, its machine, the bytes that wait, the words that aren't printed yet, and of each copy that was put the
+-- a connection: its serial, whether its peer is gone, its machine, the bytes that wait, the words that aren't printed yet, and of each copy that was put the
 -- verdict, or None while it is awaited
 pub record Line : Type 0 where
   pub serial : ℕ
+  pub gone : Bool
   pub machine : Machine
   pub waits : List ℕ
   pub unsaid : List ℕ

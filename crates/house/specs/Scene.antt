@@ -6,6 +6,7 @@ use Rattle.delivery_token.specs.declared.Verdict.{Verdict}
 use Rattle.delivery_token.specs.declared.log.Noted.{Noted}
 use Rattle.envelope.specs.Directory.{Directory}
 use Rattle.shard_queue.specs.At.{set_at}
+use Rattle.shard_queue.specs.Lane.{has_end}
 use Rattle.world.specs.World as world
 use Rattle.world.specs.World.{World, Config, Step}
 use Rattle.lmtp_machine.specs.declared.connection.What.{What}
@@ -15,7 +16,7 @@ use Rattle.lmtp_machine.specs.Dialogue as dialogue
 use Rattle.lmtp_machine.specs.Dialogue.{Setting, Submission, on_event}
 use Rattle.lmtp_machine.specs.Conversation.{led_by, opened}
 use Rattle.house.specs.declared.event.Event.{Event}
-use Rattle.house.specs.declared.event.Event.TheVariants.{Bytes, Put, Take, Deliver, Answer, Hear}
+use Rattle.house.specs.declared.event.Event.TheVariants.{Bytes, Vanish, Put, Take, Deliver, Answer, Hear, End}
 use Rattle.house.specs.Talk.{Talk, WorksOff, Prints, IsWhole}
 
 -- what is settled at the start
@@ -25,9 +26,11 @@ pub record Setup : Type 0 where
   pub host : List ℕ
   pub max_message : ℕ
 
--- a connection at a seat: its serial, its talk, and the copies of the message at hand that are still to be put
+-- a connection at a seat: its serial, its talk, and the copies of the message at hand that are still to be put. Its peer may be gone:
+-- then nothing more comes, nothing more is said, and it only waits for its verdicts.
 pub record Caller : Type 0 where
   pub serial : ℕ
+  pub gone : Bool
   pub talk : Talk
   pub to_put : List Job
 
@@ -78,9 +81,9 @@ pub record IsAnswered (heard : List Noted) (b : Caller) (verdicts : List Verdict
   pub each : HeardFor heard (keys_of b.talk.pending) verdicts
 
 -- who stands at the seat after a turn: one whose dialogue ended and who has said all is gone, and what waited is dropped
-pub data Leaves (whole : Bool) (serial : ℕ) (what : What) (after : Talk) (submitted : List Submission) (o : Option Caller) : Type 0 where
-  goes : what ≡ Quit → after.unsaid ≡ [] → o ≡ None → Leaves whole serial what after submitted o
-  stays : (whole ≡ true → what ≡ Quit → ⊥) → o ≡ Some (record { serial = serial; talk = after; to_put = copies_of submitted }) → Leaves whole serial what after submitted o
+pub data Leaves (whole : Bool) (b : Caller) (what : What) (after : Talk) (submitted : List Submission) (o : Option Caller) : Type 0 where
+  goes : what ≡ Quit → after.unsaid ≡ [] → o ≡ None → Leaves whole b what after submitted o
+  stays : (whole ≡ true → what ≡ Quit → ⊥) → o ≡ Some (record { serial = b.serial; gone = b.gone; talk = after; to_put = copies_of submitted }) → Leaves whole b what after submitted o
 
 -- The caller works off what waits, and this is printed, with what was still to be said. `whole` says that memory wasn't wanting.
 pub record Talks (k : Setup) (whole : Bool) (seat : ℕ) (b : Caller) (o : Option Caller) (printed : List ℕ) : Type 0 where
@@ -90,7 +93,7 @@ pub record Talks (k : Setup) (whole : Bool) (seat : ℕ) (b : Caller) (o : Optio
   pub works : WorksOff (setting_of k seat b.serial) k.directory b.talk turn what after
   pub prints : Prints (seat + 1) k.host b.talk after turn printed
   pub all : whole ≡ true → IsWhole what after
-  pub leaves : Leaves whole b.serial what after turn.submissions o
+  pub leaves : Leaves whole b what after turn.submissions o
 
 -- something that isn't a line happens to the dialogue, before more is worked off
 abbrev pub meets : Setup → ℕ → Caller → dialogue.Event → Caller
@@ -98,6 +101,7 @@ meets k seat b event =
     let setting = setting_of k seat b.serial in
     record {
       serial = b.serial;
+      gone = b.gone;
       to_put = [];
       talk = record {
         at = led_by setting k.directory b.talk.at event;
@@ -110,13 +114,14 @@ meets k seat b event =
 abbrev pub more_waits : Caller → List ℕ → Caller
 more_waits b piece = record {
   serial = b.serial;
+  gone = b.gone;
   to_put = b.to_put;
   talk = record { at = b.talk.at; waits = b.talk.waits ++ piece; unsaid = b.talk.unsaid; pending = b.talk.pending };
 }
 
 -- a new connection at a seat, which is greeted
 abbrev pub greeted : Setup → ℕ → ℕ → Caller
-greeted k seat serial = meets k seat (record { serial = serial; to_put = []; talk = record { at = opened; waits = []; unsaid = []; pending = [] } }) dialogue.Opened
+greeted k seat serial = meets k seat (record { serial = serial; gone = false; to_put = []; talk = record { at = opened; waits = []; unsaid = []; pending = [] } }) dialogue.Opened
 
 -- The caller goes on as far as it can, by what its seat has heard: where verdicts are awaited it waits for the last one, and
 -- says them all; then it works off what waits.
@@ -127,6 +132,25 @@ pub data GoesOn (k : Setup) (whole : Bool) (seat : ℕ) (heard : List Noted) (b 
   -- a growth was refused before anything was said
   stalls : whole ≡ false → o ≡ Some b → printed ≡ [] → GoesOn k whole seat heard b o printed
 
+-- The caller does what it can now: it goes on, or, where its peer is gone, it leaves as soon as every copy was put and each verdict is heard.
+pub data Proceeds (k : Setup) (whole : Bool) (seat : ℕ) (heard : List Noted) (b : Caller) (o : Option Caller) (printed : List ℕ) : Type 0 where
+  talks : b.gone ≡ false → GoesOn k whole seat heard b o printed → Proceeds k whole seat heard b o printed
+  lingers : b.gone ≡ true → ((vs : List Verdict) → IsAnswered heard b vs → ⊥) → o ≡ Some b → printed ≡ [] → Proceeds k whole seat heard b o printed
+  fades : (vs : List Verdict) → b.gone ≡ true → IsAnswered heard b vs → o ≡ None → printed ≡ [] → Proceeds k whole seat heard b o printed
+
+-- the peer is gone: what waited and what was still to be printed is dropped
+abbrev pub unread : Caller → Caller
+unread b = record {
+  serial = b.serial;
+  gone = true;
+  to_put = b.to_put;
+  talk = record { at = b.talk.at; waits = []; unsaid = []; pending = b.talk.pending };
+}
+
+-- seat p has put its end into the lane of some shard
+abbrev pub HasEnded : Config → World → ℕ → Type 0
+HasEnded k w p = (s : ℕ) × (s < k.shards) × (has_end ((w.lane s).sent p) ≡ true)
+
 -- at this seat now stands this caller, or nobody
 abbrev pub with_caller : Scene → ℕ → Option Caller → Scene
 with_caller s seat o = record { world = s.world; caller = set_at s.caller seat o; next = s.next }
@@ -136,12 +160,12 @@ with_world s w = record { world = w; caller = s.caller; next = s.next }
 
 -- bytes came from the peer of a connection
 pub data BytesPlay (k : Setup) (whole : Bool) (s : Scene) (seat : ℕ) (piece : List ℕ) (t : Scene) (printed : List ℕ) : Type 0 where
-  -- nobody stands there: a connection is opened first, with the seat's next serial
-  opens : seat < k.config.seats → s.caller seat ≡ None → s.next seat < most_serials → (o : Option Caller)
-      → GoesOn k whole seat (s.world.heard seat) (more_waits (greeted k seat (s.next seat)) piece) o printed
+  -- nobody stands there, and the seat has ended nowhere: a connection is opened first, with the seat's next serial
+  opens : seat < k.config.seats → s.caller seat ≡ None → s.next seat < most_serials → (HasEnded k.config s.world seat → ⊥) → (o : Option Caller)
+      → Proceeds k whole seat (s.world.heard seat) (more_waits (greeted k seat (s.next seat)) piece) o printed
       → t ≡ record { world = s.world; caller = set_at s.caller seat o; next = set_at s.next seat (s.next seat + 1) } → BytesPlay k whole s seat piece t printed
-  goes_on : (b : Caller) → s.caller seat ≡ Some b → (o : Option Caller)
-      → GoesOn k whole seat (s.world.heard seat) (more_waits b piece) o printed → t ≡ with_caller s seat o → BytesPlay k whole s seat piece t printed
+  goes_on : (b : Caller) → s.caller seat ≡ Some b → b.gone ≡ false → (o : Option Caller)
+      → Proceeds k whole seat (s.world.heard seat) (more_waits b piece) o printed → t ≡ with_caller s seat o → BytesPlay k whole s seat piece t printed
 
 -- the next copy of the message at hand is put
 pub record PutPlay (k : Setup) (whole : Bool) (s : Scene) (seat : ℕ) (t : Scene) (printed : List ℕ) : Type 0 where
@@ -153,7 +177,7 @@ pub record PutPlay (k : Setup) (whole : Bool) (s : Scene) (seat : ℕ) (t : Scen
   pub moved : World
   pub step : Step k.config s.world (world.Put seat (world.shard_of k.config copy.mailbox) copy) moved
   pub left : Option Caller
-  pub goes : GoesOn k whole seat (moved.heard seat) (record { serial = caller.serial; talk = caller.talk; to_put = others }) left printed
+  pub goes : Proceeds k whole seat (moved.heard seat) (record { serial = caller.serial; gone = caller.gone; talk = caller.talk; to_put = others }) left printed
   pub after : t ≡ with_caller (with_world s moved) seat left
 
 -- the seat hears a verdict
@@ -163,8 +187,17 @@ pub record HearPlay (k : Setup) (whole : Bool) (s : Scene) (seat : ℕ) (t : Sce
   pub moved : World
   pub step : Step k.config s.world (world.Hear seat) moved
   pub left : Option Caller
-  pub goes : GoesOn k whole seat (moved.heard seat) caller left printed
+  pub goes : Proceeds k whole seat (moved.heard seat) caller left printed
   pub after : t ≡ with_caller (with_world s moved) seat left
+
+-- the peer of a connection is gone
+pub record VanishPlay (k : Setup) (whole : Bool) (s : Scene) (seat : ℕ) (t : Scene) (printed : List ℕ) : Type 0 where
+  pub caller : Caller
+  pub there : s.caller seat ≡ Some caller
+  pub was_read : caller.gone ≡ false
+  pub left : Option Caller
+  pub goes : Proceeds k whole seat (s.world.heard seat) (unread caller) left printed
+  pub after : t ≡ with_caller s seat left
 
 -- the world moves, and nobody says a word
 pub record Moves (k : Setup) (s : Scene) (event : world.Event) (t : Scene) (printed : List ℕ) : Type 0 where
@@ -177,11 +210,13 @@ pub record Moves (k : Setup) (s : Scene) (event : world.Event) (t : Scene) (prin
 -- early: then bytes still wait, or words aren't printed yet.
 abbrev pub Plays : Setup → Bool → Scene → Event → Scene → List ℕ → Type 0
 Plays k whole s (Bytes connection piece) t printed = BytesPlay k whole s (seat_of connection) piece.now t printed
+Plays k whole s (Vanish connection) t printed = VanishPlay k whole s (seat_of connection) t printed
 Plays k whole s (Put connection) t printed = PutPlay k whole s (seat_of connection) t printed
 Plays k whole s (Take shard) t printed = Moves k s (world.Take shard) t printed
 Plays k whole s (Deliver shard) t printed = Moves k s (world.Deliver shard) t printed
 Plays k whole s (Answer shard) t printed = Moves k s (world.Answer shard) t printed
 Plays k whole s (Hear connection) t printed = HearPlay k whole s (seat_of connection) t printed
+Plays k whole s (End connection shard) t printed = (s.caller (seat_of connection) ≡ None) × Moves k s (world.PutEnd (seat_of connection) shard) t printed
 
 -- In no way does the event change anything, or print a word.
 abbrev pub HasNothing : Setup → Scene → Event → Type 0

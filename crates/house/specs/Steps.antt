@@ -3,12 +3,12 @@ use Rattle.std.specs.Prelude.{◌≡◌, ℕ, ◌<◌, ◌≤◌, ◌⊎◌, ◌
 use Rattle.delivery_token.specs.declared.CopyKey.{CopyKey}
 use Rattle.delivery_token.specs.declared.log.Noted.{Noted}
 use Rattle.house.specs.declared.event.Event.{Event}
-use Rattle.house.specs.declared.event.Event.TheVariants.{Bytes, Put, Take, Deliver, Answer, Hear}
+use Rattle.house.specs.declared.event.Event.TheVariants.{Bytes, Vanish, Put, Take, Deliver, Answer, Hear, End}
 use Rattle.delivery_token.specs.declared.Job.{Job}
 use Rattle.delivery_token.specs.declared.Refusal.{Refusal}
 use Rattle.world.specs.World.{Config}
 use Rattle.world.specs.World as world
-use Rattle.delivery_core.specs.Held.{Held}
+use Rattle.delivery_core.specs.Held.{Held, has_ended}
 use Rattle.delivery_core.specs.Changes.{Hears, SameCounts, heard_at_once}
 use Rattle.delivery_core.specs.Puts.{IsNextKey, past}
 use Rattle.delivery_core.specs.Stands as core
@@ -19,7 +19,7 @@ use Rattle.house.specs.declared.event.HouseFault.TheVariants as house_faults
 use Rattle.house.specs.Line.{Line}
 use Rattle.house.specs.Taking.{due}
 use Rattle.house.specs.State.{State}
-use Rattle.house.specs.Scene.{Setup, Scene, Caller, GoesOn, HasNothing, Plays, most_serials, seat_of}
+use Rattle.house.specs.Scene.{Setup, Scene, Caller, HasNothing, Plays, Proceeds, most_serials, seat_of}
 use Rattle.house.specs.CallerStands.{StandsForCaller}
 use Rattle.house.specs.Stands.{StandsFor}
 
@@ -42,21 +42,57 @@ pub record HasSeat (h : State) (connection : ℕ) : Type 0 where
   pub number : 0 < connection
   pub seat : connection ≤ length h.callers
 
+-- somebody stands at this place, and the peer is gone
+abbrev pub is_unread : Option Line → Bool
+is_unread None = false
+is_unread (Some l) = l.gone
+
+-- somebody stands at the connection's seat whose peer is gone
+pub record IsUnread (h : State) (connection : ℕ) : Type 0 where
+  pub number : 0 < connection
+  pub seat : connection ≤ length h.callers
+  pub gone : is_unread (slice_index_or h.callers (seat_of connection) None) ≡ true
+
+-- somebody stands there whose peer is there too
+pub record IsRead (h : State) (connection : ℕ) : Type 0 where
+  pub number : 0 < connection
+  pub seat : connection ≤ length h.callers
+  pub who : IsSome (slice_index_or h.callers (seat_of connection) None)
+  pub read : is_unread (slice_index_or h.callers (seat_of connection) None) ≡ false
+
 -- nobody stands at the connection's seat, which takes another
 pub record IsVacant (h : State) (connection : ℕ) : Type 0 where
   pub number : 0 < connection
   pub seat : connection ≤ length h.callers
   pub empty : IsEmptySeat h connection
   pub more : slice_index_or h.serials (seat_of connection) 0 < most_serials
+  pub goes_on : has_ended h.core (seat_of connection) ≡ false
+
+-- the seat takes no new connection: its serials are spent, or it has ended
+abbrev pub IsSpent : State → ℕ → Type 0
+IsSpent h connection = (most_serials ≤ slice_index_or h.serials (seat_of connection) 0) ⊎ (has_ended h.core (seat_of connection) ≡ true)
 
 -- there is nobody to whom the event could happen
 abbrev pub IsNobody : State → Event → Type 0
-IsNobody h (Bytes connection piece) = IsNoSeat h connection ⊎ (IsEmptySeat h connection × (most_serials ≤ slice_index_or h.serials (seat_of connection) 0))
+IsNobody h (Bytes connection piece) = IsNoSeat h connection ⊎ (IsEmptySeat h connection × IsSpent h connection)
+IsNobody h (Vanish connection) = IsNoSeat h connection ⊎ IsEmptySeat h connection
 IsNobody h (Put connection) = IsNoSeat h connection ⊎ IsEmptySeat h connection
 IsNobody h (Take shard) = length h.core.lanes ≤ shard
 IsNobody h (Deliver shard) = length h.core.lanes ≤ shard
 IsNobody h (Answer shard) = length h.core.lanes ≤ shard
 IsNobody h (Hear connection) = IsNoSeat h connection ⊎ IsEmptySeat h connection
+IsNobody h (End connection shard) = IsNoSeat h connection ⊎ (length h.core.lanes ≤ shard)
+
+-- the seat still owes verdicts to a peer that is gone; an end waits for whoever stands there
+abbrev pub IsBusy : State → Event → Type 0
+IsBusy h (Bytes connection piece) = IsUnread h connection
+IsBusy h (Vanish connection) = IsUnread h connection
+IsBusy h (Put connection) = ⊥
+IsBusy h (Take shard) = ⊥
+IsBusy h (Deliver shard) = ⊥
+IsBusy h (Answer shard) = ⊥
+IsBusy h (Hear connection) = ⊥
+IsBusy h (End connection shard) = (shard < length h.core.lanes) × IsThere h connection
 
 -- The event leads from the scene to one for which the house stands now, and what was appended is what it prints.
 pub record Led (k : Setup) (whole : Bool) (s : Scene) (event : Event) (h : State) (old new : List ℕ) : Type 0 where
@@ -89,7 +125,7 @@ StandsForMaybe k seat next heard (Some h) (Some b) = StandsForCaller k seat next
 pub record PlaceWentOn (k : Setup) (whole : Bool) (seat : ℕ) (next : CopyKey) (heard : List Noted) (b : Caller) (h : Option Line) (old new : List ℕ) : Type 0 where
   pub left : Option Caller
   pub printed : List ℕ
-  pub goes : GoesOn k whole seat heard b left printed
+  pub goes : Proceeds k whole seat heard b left printed
   pub there : StandsForMaybe k seat next heard h left
   pub out : new ≡ old ++ printed
 

@@ -1,5 +1,5 @@
 -- What a connection's own steps promise: how far bytes were taken, and what stands afterwards.
-use Rattle.std.specs.Prelude.{◌≡◌, ℕ, ◌<◌, ◌++◌, List, [], ◌∷◌, drop, length, map, slice_index_or, slice_set, Option, Some, None}
+use Rattle.std.specs.Prelude.{◌≡◌, ℕ, ◌<◌, ◌++◌, true, List, [], ◌∷◌, drop, length, map, slice_index_or, slice_set, Option, Some, None}
 use Rattle.delivery_token.specs.declared.CopyKey.{CopyKey}
 use Rattle.delivery_token.specs.declared.Job.{Job}
 use Rattle.delivery_token.specs.declared.Verdict.{Verdict}
@@ -40,16 +40,20 @@ pub record IsAwaitedBy (h : Line) (r : Noted) : Type 0 where
 
 -- The verdict is noted at its place, where it is awaited, and nothing else is changed.
 pub data HearsSlot (h : Line) (r : Noted) (new : Line) : Type 0 where
-  notes_it : IsAwaitedBy h r → new ≡ record { serial = h.serial; machine = h.machine; waits = h.waits; unsaid = h.unsaid; verdicts = slice_set h.verdicts r.key.recipient (Some r.verdict) } → HearsSlot h r new
+  notes_it : IsAwaitedBy h r → new ≡ record { serial = h.serial; gone = h.gone; machine = h.machine; waits = h.waits; unsaid = h.unsaid; verdicts = slice_set h.verdicts r.key.recipient (Some r.verdict) } → HearsSlot h r new
   passes_it : (IsAwaitedBy h r → ⊥) → new ≡ h → HearsSlot h r new
+
+-- the peer is gone: what waited and what was still to be printed is dropped
+abbrev pub with_nobody_there : Line → Line
+with_nobody_there h = record { serial = h.serial; gone = true; machine = h.machine; waits = []; unsaid = []; verdicts = h.verdicts }
 
 -- these bytes came and wait
 abbrev pub with_more : List ℕ → Line → Line
-with_more piece h = record { serial = h.serial; machine = h.machine; waits = h.waits ++ piece; unsaid = h.unsaid; verdicts = h.verdicts }
+with_more piece h = record { serial = h.serial; gone = h.gone; machine = h.machine; waits = h.waits ++ piece; unsaid = h.unsaid; verdicts = h.verdicts }
 
 -- the next copy was put, and this was heard of it at once
 abbrev pub noted_put : Option Verdict → Line → Line
-noted_put verdict h = record { serial = h.serial; machine = h.machine; waits = h.waits; unsaid = h.unsaid; verdicts = h.verdicts ++ verdict ∷ [] }
+noted_put verdict h = record { serial = h.serial; gone = h.gone; machine = h.machine; waits = h.waits; unsaid = h.unsaid; verdicts = h.verdicts ++ verdict ∷ [] }
 
 abbrev pub heard_verdict : Option Refusal → Option Verdict
 heard_verdict None = None

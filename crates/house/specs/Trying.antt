@@ -3,7 +3,7 @@
 use Rattle.std.specs.Prelude.{◌≡◌, ℕ, ◌<◌, ◌≤◌, ◌++◌, Bool, true, false, not, List, [], ◌∷◌, map, filter, All, Result, Ok, Err}
 use Rattle.std.specs.List.{range_with_len}
 use Rattle.house.specs.declared.event.Event.{Event}
-use Rattle.house.specs.declared.event.Event.TheVariants.{Bytes, Put, Take, Deliver, Answer, Hear}
+use Rattle.house.specs.declared.event.Event.TheVariants.{Bytes, Vanish, Put, Take, Deliver, Answer, Hear, End}
 use Rattle.house.specs.Effort.{effort}
 use Rattle.house.specs.Scene.{HasNothing, Scene, Setup}
 use Rattle.house.specs.Settling.{InTurn, Tries, Visit, Visits}
@@ -11,9 +11,11 @@ use Rattle.house.specs.Settled.{HappenedFrom}
 use Rattle.house.specs.Stands.{StandsFor}
 use Rattle.house.specs.State.{State}
 
--- not bytes from a peer
+-- what the house does by itself: not what a peer does, and no end
 abbrev pub IsOwn : Event → Type 0
 IsOwn (Bytes connection piece) = ⊥
+IsOwn (Vanish connection) = ⊥
+IsOwn (End connection shard) = ⊥
 IsOwn (Put connection) = Unit {0}
 IsOwn (Take shard) = Unit {0}
 IsOwn (Deliver shard) = Unit {0}
@@ -23,6 +25,8 @@ IsOwn (Hear connection) = Unit {0}
 -- there is such a connection, or such a shard
 abbrev pub IsAmong : Setup → Event → Type 0
 IsAmong k (Bytes connection piece) = ⊥
+IsAmong k (Vanish connection) = ⊥
+IsAmong k (End connection shard) = ⊥
 IsAmong k (Put connection) = (0 < connection) × (connection ≤ k.config.seats)
 IsAmong k (Take shard) = shard < k.config.shards
 IsAmong k (Deliver shard) = shard < k.config.shards

@@ -5,12 +5,14 @@ ghost use Rattle.std.specs.Prelude.{◌≡◌, ◌≤◌, ◌<◌, ◌+◌, ℕ,
 ghost use Rattle.delivery_token.specs.declared.Job.{Job};
 ghost use Rattle.delivery_token.specs.declared.Verdict.{Verdict};
 ghost use Rattle.lmtp_machine.specs.Conversation.{Conversation};
-ghost use Rattle.house.specs.Taking.{AwaitsIn, AreKnown, HearsSlot, TakenBy, due, noted_put, with_more};
+ghost use Rattle.std.specs.List.{list_all};
+ghost use Rattle.std.specs.Option.{is_some};
+ghost use Rattle.house.specs.Taking.{AwaitsIn, AreKnown, HearsSlot, TakenBy, awaited_keys, due, noted_put, with_more, with_nobody_there};
 ghost use Rattle.house.specs.CallerSteps.{SaidVerdicts, TookWhatWaits};
 ghost use Rattle.house.specs.Effort.{line_effort};
 ghost use Rattle.house.specs.Few.{AreFew};
 ghost use Rattle.delivery_core.specs.Puts.{AtLeast};
-ghost use Rattle.house.specs.CallerStands.{IsAwaited, IsOf, StandsForCaller, WentOn, WorkedOff};
+ghost use Rattle.house.specs.CallerStands.{IsAwaited, IsOf, Proceeded, StandsForCaller, WentOn, WorkedOff};
 ghost use Rattle.house.specs.Scene as scene;
 ghost use Rattle.house.specs.Scene.{Setup, greeted};
 ghost use Rattle.delivery_token.specs.declared.log.Noted.{Noted};
@@ -29,6 +31,8 @@ use std::marker::Model;
 #[derive(Drop)]
 pub struct Caller {
     serial: u64,
+    // Whether its peer is gone: then it says nothing more and only waits for its verdicts.
+    is_gone: bool,
     machine: LmtpMachine,
     // What came; the bytes before `taken` were taken by the machine.
     came: Vec<u8>,
@@ -48,6 +52,7 @@ impl Model for Caller {
 
     ghost view = { λ c. record {
       serial = c.serial;
+      gone = c.is_gone;
       machine = c.machine;
       waits = drop c.taken c.came.items;
       unsaid = c.unsaid.items;
@@ -112,6 +117,13 @@ fn take_all(
     }
 }
 
+// Whether each verdict is there.
+fn are_known(verdicts: &[Option<Verdict>]) -> bool
+    ensures { result ≡ list_all is_some verdicts.now }
+{
+    verdicts.iter().all(|verdict| verdict.is_some())
+}
+
 impl Caller {
     /// A connection that was just opened at a seat. Its greeting is said, and still to be printed.
     pub fn open(
@@ -136,6 +148,7 @@ impl Caller {
         };
         Ok(Caller {
             serial,
+            is_gone: false,
             machine,
             came: Vec::new(alloc),
             taken: 0,
@@ -277,6 +290,69 @@ impl Caller {
         self.verdicts.clear();
         self.is_waiting = false;
         Ok(())
+    }
+
+    /// Whether its peer is gone.
+    pub fn is_gone(&self) -> bool
+        ensures { result ≡ self.now.gone }
+    {
+        self.is_gone
+    }
+
+    /// Its peer is gone: what waited, and what was still to be printed, is dropped.
+    pub fn vanish(&mut self)
+        ensures { self.new ≡ with_nobody_there self.old }
+    {
+        self.came.clear();
+        self.taken = 0;
+        self.unsaid.clear();
+        self.is_gone = true;
+    }
+
+    // How many copies the message at hand has; 0 where there is none.
+    fn awaited(&self) -> usize
+        ensures { result ≡ length (awaited_keys self.now) }
+    {
+        if self.is_waiting {
+            self.machine.submission().keys.len()
+        } else {
+            0
+        }
+    }
+
+    // Whether every copy of the message at hand was put and its verdict is known; also where there is none.
+    fn is_answered(&self) -> bool
+        ensures known { result ≡ true → (vs : List Verdict) × AreKnown self.now vs }
+        ensures unknown { result ≡ false → (vs : List Verdict) → AreKnown self.now vs → ⊥ }
+    {
+        self.verdicts.len() == self.awaited() && are_known(&self.verdicts)
+    }
+
+    /// Does what it can now: it goes on, or, where its peer is gone, tells by Quit that nothing is awaited any more.
+    /// After an error what was done stands, and the next call goes on from there.
+    pub fn proceed(
+        &mut self,
+        number: u8,
+        directory: &Directory,
+        out: &mut Vec<u8>,
+    ) -> Result<What, AllocError>
+        ensures less { line_effort self.new ≤ line_effort self.old }
+        ensures ok { IfOk result (λ what. (k : Setup) (seat : ℕ) (next : CopyKey) (heard : List Noted) (b : scene.Caller) → IsOf k number seat directory.now → StandsForCaller k seat next heard self.old b →
+            Proceeded k true seat next heard b what self.new out.old.items out.new.items) }
+        ensures err { OnErr result ((k : Setup) (seat : ℕ) (next : CopyKey) (heard : List Noted) (b : scene.Caller) → IsOf k number seat directory.now → StandsForCaller k seat next heard self.old b →
+            Proceeded k false seat next heard b whats.More self.new out.old.items out.new.items) }
+    {
+        if self.is_gone {
+            return Ok(if self.is_answered() {
+                What::Quit
+            } else {
+                What::Submit
+            });
+        }
+        let Ok(what) = self.go_on(number, directory, out) else {
+            return Err(AllocError);
+        };
+        Ok(what)
     }
 
     /// The next copy of the message at hand that is to be put: its key, its mailbox and its text. None where all are put, or no

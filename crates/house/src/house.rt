@@ -4,7 +4,7 @@
 ghost use Rattle.std.specs.Prelude.{true, false, ◌≡◌, ◌≢◌, ◌≤◌, ◌<◌, ◌+◌, ◌⊎◌, ◌↔◌, ℕ, List, [], length, None, Some, Err, OnOk, OnErr, IfOk, IfErr, IfNone, IfSome, IsSome, IsSomeAnd, MatchOption, option_map};
 ghost use Rattle.delivery_core.specs.Puts.{AtLeast};
 ghost use Rattle.house.specs.Line.{Line};
-ghost use Rattle.house.specs.Taking.{HearsSlot, due, heard_verdict, noted_put, with_more};
+ghost use Rattle.house.specs.Taking.{HearsSlot, due, heard_verdict, noted_put, with_more, with_nobody_there};
 ghost use Rattle.delivery_token.specs.declared.CopyKey.{CopyKey};
 ghost use Rattle.delivery_token.specs.declared.log.Noted.{Noted};
 ghost use Rattle.house.specs.CallerStands.{IsOf, StandsForCaller};
@@ -14,7 +14,7 @@ ghost use Rattle.house.specs.Stands.{StandsFor};
 ghost use Rattle.house.specs.Effort.{MakesLess, place_effort};
 ghost use Rattle.delivery_core.specs.Load.{load};
 ghost use Rattle.std.specs.Borrow.{Bor};
-ghost use Rattle.house.specs.Steps.{Follows, FollowsInPart, IsIdle, HasSeat, IsEmptySeat, IsNoSeat, IsNobody, IsThere, IsVacant, Led, MayNotPut, PlaceWentOn, PutsNext, StandsForMaybe, fault_of};
+ghost use Rattle.house.specs.Steps.{Follows, FollowsInPart, IsIdle, HasSeat, IsBusy, IsEmptySeat, IsNoSeat, IsNobody, IsRead, IsVacant, Led, MayNotPut, PlaceWentOn, PutsNext, StandsForMaybe, fault_of, is_unread};
 ghost use Rattle.house.specs.declared.event.Event.TheVariants as events;
 
 use crate::caller::Caller;
@@ -71,7 +71,7 @@ fn go_on_at(
     let Some(caller) = place else {
         return Ok(());
     };
-    let Ok(what) = caller.go_on(number, directory, out) else {
+    let Ok(what) = caller.proceed(number, directory, out) else {
         return Err(AllocError);
     };
     if let What::Quit = what {
@@ -109,6 +109,25 @@ fn append_at(place: &mut Option<Caller>, piece: &[u8]) -> Result<(), AllocError>
     match place {
         Some(caller) => caller.append(piece),
         None => Ok(()),
+    }
+}
+
+// Whether somebody stands at a place whose peer is gone.
+fn is_unread(place: &Option<Caller>) -> bool
+    ensures { result ≡ is_unread place.now }
+{
+    match place {
+        Some(caller) => caller.is_gone(),
+        None => false,
+    }
+}
+
+// The peer of the caller at a place is gone.
+fn vanish_at(place: &mut Option<Caller>)
+    ensures { place.new ≡ option_map with_nobody_there place.old }
+{
+    if let Some(caller) = place {
+        caller.vanish();
     }
 }
 
@@ -164,7 +183,7 @@ fn hear_at(place: &mut Option<Caller>, noted: &Noted)
 impl House {
     // Bytes came for a connection that stands at its place.
     fn receive(&mut self, connection: u8, piece: &[u8], out: &mut Vec<u8>) -> Result<(), HouseFault>
-        requires there { IsThere self.old connection }
+        requires there { IsRead self.old connection }
         ensures follows { OnOk result (Follows self.old (events.Bytes connection piece.entry) self.new out.old.items out.new.items) }
         ensures only { IfErr result (λ e. e ≡ HouseFault.NoMemory) }
         ensures no_memory { OnErr result (FollowsInPart self.old (events.Bytes connection piece.entry) self.new out.old.items out.new.items) }
@@ -178,6 +197,21 @@ impl House {
         };
         Ok(())
     }
+    // The peer of a connection that stands at its place is gone.
+    fn lose(&mut self, connection: u8, out: &mut Vec<u8>) -> Result<(), HouseFault>
+        requires there { IsRead self.old connection }
+        ensures follows { OnOk result (Follows self.old (events.Vanish connection) self.new out.old.items out.new.items) }
+        ensures only { IfErr result (λ e. e ≡ HouseFault.NoMemory) }
+        ensures no_memory { OnErr result (FollowsInPart self.old (events.Vanish connection) self.new out.old.items out.new.items) }
+    {
+        let place = &mut self.callers[usize::from(connection - 1)];
+        vanish_at(place);
+        let Ok(()) = go_on_at(place, connection, &self.directory, out) else {
+            return Err(HouseFault::NoMemory);
+        };
+        Ok(())
+    }
+
     // Bytes came for a connection at whose place nobody stands: one is opened first, with the seat's next serial.
     fn welcome(&mut self, connection: u8, piece: &[u8], out: &mut Vec<u8>) -> Result<(), HouseFault>
         requires vacant { IsVacant self.old connection }
@@ -310,13 +344,14 @@ impl House {
     /// One event. What it appends to `out` is what it prints.
     ///
     /// Nobody, Busy and Nothing come in this order, and after them nothing changed: Nobody where the connection or the shard isn't
-    /// there, Nothing where the event would change nothing. After NoMemory what was done by then stands, and the next event of the
+    /// there, Busy where bytes, a vanishing or an end are for a seat that waits for the verdicts of a peer that is gone, and an end also
+    /// where a connection stands, Nothing where the event would change nothing. After NoMemory what was done by then stands, and the next event of the
     /// connection goes on from there; bytes that came with it were taken up or weren't there at all.
     pub fn step(&mut self, event: Event<'_>, out: &mut Vec<u8>) -> Result<(), HouseFault>
         ensures follows { OnOk result (Follows self.old event.entry self.new out.old.items out.new.items) }
         ensures effort { OnOk result (MakesLess (event.entry) self.old self.new) }
         ensures nobody { (result ≡ Err HouseFault.Nobody) ↔ IsNobody self.old event.entry }
-        ensures busy { result ≢ Err HouseFault.Busy }
+        ensures busy { (result ≡ Err HouseFault.Busy) ↔ IsBusy self.old event.entry }
         ensures idle { result ≡ Err HouseFault.Nothing → IsIdle self.old event.entry }
         ensures bytes { (connection : ℕ) (piece : Bor (List ℕ)) → event.entry ≡ events.Bytes connection piece → result ≢ Err HouseFault.Nothing }
         ensures no_memory { result ≡ Err HouseFault.NoMemory → FollowsInPart self.old event.entry self.new out.old.items out.new.items }
@@ -324,19 +359,29 @@ impl House {
     {
         match event {
             Event::Bytes(connection, piece) => self.bytes(connection, piece, out),
+            Event::Vanish(connection) => self.vanish(connection, out),
             Event::Put(connection) => self.put_at(connection, out),
             Event::Take(shard) => self.take(shard),
             Event::Deliver(shard) => self.deliver(shard),
             Event::Answer(shard) => self.answer(shard),
             Event::Hear(connection) => self.hear_at(connection, out),
+            Event::End(connection, shard) => self.end(connection, shard),
         }
+    }
+
+    /// So many shards keep the mailboxes, numbered from 0.
+    pub fn shards(&self) -> u8
+        ensures { result ≡ self.now.directory.shards }
+    {
+        self.directory.shards()
     }
 
     // Bytes came from the peer of a connection.
     fn bytes(&mut self, connection: u8, piece: &[u8], out: &mut Vec<u8>) -> Result<(), HouseFault>
         ensures follows { OnOk result (Follows self.old (events.Bytes connection piece.entry) self.new out.old.items out.new.items) }
         ensures nobody { (result ≡ Err HouseFault.Nobody) ↔ IsNobody self.old (events.Bytes connection piece.entry) }
-        ensures only { IfErr result (λ e. (e ≡ HouseFault.Nobody) ⊎ (e ≡ HouseFault.NoMemory)) }
+        ensures busy { (result ≡ Err HouseFault.Busy) ↔ IsBusy self.old (events.Bytes connection piece.entry) }
+        ensures nothing { result ≢ Err HouseFault.Nothing }
         ensures no_memory { result ≡ Err HouseFault.NoMemory → FollowsInPart self.old (events.Bytes connection piece.entry) self.new out.old.items out.new.items }
         ensures refused { result ≢ Err HouseFault.NoMemory → OnErr result ((self.new ≡ self.old) × (out.new.items ≡ out.old.items)) }
     {
@@ -344,13 +389,65 @@ impl House {
             return Err(HouseFault::Nobody);
         }
         let seat = usize::from(connection - 1);
+        if is_unread(&self.callers[seat]) {
+            return Err(HouseFault::Busy);
+        }
         if self.callers[seat].is_some() {
             return self.receive(connection, piece, out);
         }
-        if self.serials[seat] == u64::MAX {
+        if self.serials[seat] == u64::MAX || self.core.has_ended(connection - 1) {
             return Err(HouseFault::Nobody);
         }
         self.welcome(connection, piece, out)
+    }
+
+    // The peer of a connection is gone.
+    fn vanish(&mut self, connection: u8, out: &mut Vec<u8>) -> Result<(), HouseFault>
+        ensures follows { OnOk result (Follows self.old (events.Vanish connection) self.new out.old.items out.new.items) }
+        ensures nobody { (result ≡ Err HouseFault.Nobody) ↔ IsNobody self.old (events.Vanish connection) }
+        ensures busy { (result ≡ Err HouseFault.Busy) ↔ IsBusy self.old (events.Vanish connection) }
+        ensures nothing { result ≢ Err HouseFault.Nothing }
+        ensures no_memory { result ≡ Err HouseFault.NoMemory → FollowsInPart self.old (events.Vanish connection) self.new out.old.items out.new.items }
+        ensures refused { result ≢ Err HouseFault.NoMemory → OnErr result ((self.new ≡ self.old) × (out.new.items ≡ out.old.items)) }
+    {
+        if connection == 0 || usize::from(connection) > self.callers.len() {
+            return Err(HouseFault::Nobody);
+        }
+        let seat = usize::from(connection - 1);
+        if self.callers[seat].is_none() {
+            return Err(HouseFault::Nobody);
+        }
+        if is_unread(&self.callers[seat]) {
+            return Err(HouseFault::Busy);
+        }
+        self.lose(connection, out)
+    }
+
+    // A connection's seat puts its end into a shard's lane.
+    fn end(&mut self, connection: u8, shard: u8) -> Result<(), HouseFault>
+        ensures follows { OnOk result ((k : Setup) (s : scene.Scene) (old : List ℕ) → StandsFor k self.old s → Led k true s (events.End connection shard) self.new old old) }
+        ensures nobody { (result ≡ Err HouseFault.Nobody) ↔ IsNobody self.old (events.End connection shard) }
+        ensures busy { (result ≡ Err HouseFault.Busy) ↔ IsBusy self.old (events.End connection shard) }
+        ensures idle { result ≡ Err HouseFault.Nothing → IsIdle self.old (events.End connection shard) }
+        ensures memory { result ≢ Err HouseFault.NoMemory }
+        ensures refused { OnErr result (self.new ≡ self.old) }
+    {
+        if connection == 0 || usize::from(connection) > self.callers.len() {
+            return Err(HouseFault::Nobody);
+        }
+        if usize::from(shard) >= self.core.shards() {
+            return Err(HouseFault::Nobody);
+        }
+        if self.callers[usize::from(connection - 1)].is_some() {
+            return Err(HouseFault::Busy);
+        }
+        match self.core.end(connection - 1, shard) {
+            Ok(()) => {}
+            Err(Fault::NoMemory) => return Err(HouseFault::Nothing),
+            Err(Fault::Nothing) => return Err(HouseFault::Nothing),
+            Err(Fault::Nobody) => return Err(HouseFault::Nothing),
+        }
+        Ok(())
     }
 
     // A connection puts the next copy of its message.

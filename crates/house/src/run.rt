@@ -1,19 +1,26 @@
 //! A script's run: line after line is read and done, the house settles, and what the line printed is written. How a line is read and
 //! how things are printed is told elsewhere.
 
-ghost use Rattle.std.specs.Prelude.{false, true, ◌≡◌, ◌≢◌, ◌++◌, ◌∷◌, ◌<◌, ◌≤◌, ◌+◌, ◌^◌, ℕ, List, Option, Some, None, Ok, Err, IfOk, OnOk, OnErr, length, []};
+ghost use Rattle.std.specs.Prelude.{false, true, ◌≡◌, ◌≢◌, ◌++◌, ◌∷◌, ◌<◌, ◌≤◌, ◌+◌, ◌*◌, ◌^◌, ℕ, List, Option, Some, None, Ok, Err, IfOk, OnOk, OnErr, length, replicate, []};
 ghost use Rattle.std.specs.Io.BufRead.{take_through, drop_through};
-ghost use Rattle.house.specs.Running.{LineDone, LinePlayed, TurnTells};
+ghost use Rattle.hex.specs.Hex.{decode_of};
+ghost use Rattle.hex.specs.declared.error.FromHexError.TheVariants.{OutOfMemory};
+ghost use Rattle.line_io.specs.Wire.{crlf};
+ghost use Rattle.std.specs.List.{list_all};
+ghost use Rattle.std.specs.Char.{digit_value};
+ghost use Rattle.std.specs.Str.Parse.{digits_value};
+ghost use Rattle.house.specs.Running.{IsClipped, LineDone, LinePlayed, SetsHeld, TurnTells};
 ghost use Rattle.house.specs.Scene as scene;
 ghost use Rattle.house.specs.Scene.{Setup, empty_scene};
 ghost use Rattle.house.specs.Script as spec;
-ghost use Rattle.house.specs.Script.{Writes, WritesBeginning, WritesFirst, as_spec, asked, line_of, refusal, script_of};
+ghost use Rattle.house.specs.Script.{Writes, WritesBeginning, WritesFirst, as_spec, asked, held_after, is_digit, line_of, refusal, script_of, sent_in_hex};
 ghost use Rattle.house.specs.Stands.{StandsFor};
 
 use crate::event::{Event, HouseFault};
 use crate::house::House;
 use crate::print::append_parts;
 use crate::script::{ScriptLine, read_line, without_end};
+use hex::{FromHexError, decode};
 use itoa::Buffer;
 use line_io::{Sink, send};
 use std::alloc::{AllocError, Global};
@@ -42,9 +49,11 @@ enum TurnFault {
     NoMemory,
 }
 
-// What a run keeps from line to line: room for the line as it was read, for what a connection is told, and for what is printed.
+// What a run keeps from line to line: which shards are held, and room for the line as it was read, for what a connection is told, and
+// for what is printed.
 #[derive(Drop)]
 struct Room {
+    held: Vec<bool>,
     line: Vec<u8>,
     piece: Vec<u8>,
     out: Vec<u8>,
@@ -78,6 +87,24 @@ fn put_line(text: &[u8], piece: &mut Vec<u8>) -> Result<(), AllocError>
     piece.extend_from_slice(b"\r\n")
 }
 
+// Bytes come from the peer of a connection.
+fn hear_bytes(
+    house: &mut House,
+    number: u64,
+    connection: u8,
+    bytes: &[u8],
+    out: &mut Vec<u8>,
+) -> Result<(), AllocError>
+    ensures { OnOk result ((k : Setup) (s : scene.Scene) → StandsFor k house.old s → LineDone k number (spec.Sends connection bytes.now) s house.new out.old.items out.new.items) }
+{
+    match house.step(Event::Bytes(connection, bytes), out) {
+        Ok(()) => Ok(()),
+        Err(HouseFault::Nobody) => refuse(number, b"Nobody", out),
+        Err(HouseFault::Busy) => refuse(number, b"Busy", out),
+        Err(_) => Err(AllocError),
+    }
+}
+
 // A line comes from the peer of a connection.
 fn hear_line(
     house: &mut House,
@@ -87,15 +114,100 @@ fn hear_line(
     piece: &mut Vec<u8>,
     out: &mut Vec<u8>,
 ) -> Result<(), AllocError>
-    ensures { OnOk result ((k : Setup) (s : scene.Scene) → StandsFor k house.old s → LineDone k number (spec.Says connection text.now) s house.new out.old.items out.new.items) }
+    ensures { OnOk result ((k : Setup) (s : scene.Scene) → StandsFor k house.old s → LineDone k number (spec.Sends connection (text.now ++ crlf)) s house.new out.old.items out.new.items) }
 {
     put_line(text, piece)?;
-    match house.step(Event::Bytes(connection, piece), out) {
+    hear_bytes(house, number, connection, piece, out)
+}
+
+// Whether memory was wanting.
+fn is_want(fault: FromHexError) -> bool
+    ensures { result ≡ false → fault ≢ OutOfMemory }
+{
+    matches!(fault, FromHexError::OutOfMemory)
+}
+
+// Bytes in hexadecimal digits come from it, unless the digits can't be read or there are none.
+fn hear_hex(
+    alloc: Global,
+    house: &mut House,
+    number: u64,
+    connection: u8,
+    digits: &[u8],
+    out: &mut Vec<u8>,
+) -> Result<(), AllocError>
+    ensures { OnOk result ((k : Setup) (s : scene.Scene) → StandsFor k house.old s → LineDone k number (sent_in_hex connection (decode_of digits.now)) s house.new out.old.items out.new.items) }
+{
+    let bytes = match decode(alloc, digits) {
+        Ok(bytes) => bytes,
+        Err(fault) if is_want(fault) => return Err(AllocError),
+        Err(_) => return refuse(number, b"Line", out),
+    };
+    if bytes.is_empty() {
+        return refuse(number, b"Line", out);
+    }
+    hear_bytes(house, number, connection, &bytes, out)
+}
+
+// The peer of a connection is gone.
+fn lose_peer(
+    house: &mut House,
+    number: u64,
+    connection: u8,
+    out: &mut Vec<u8>,
+) -> Result<(), AllocError>
+    ensures { OnOk result ((k : Setup) (s : scene.Scene) → StandsFor k house.old s → LineDone k number (spec.Vanishes connection) s house.new out.old.items out.new.items) }
+{
+    match house.step(Event::Vanish(connection), out) {
         Ok(()) => Ok(()),
         Err(HouseFault::Nobody) => refuse(number, b"Nobody", out),
         Err(HouseFault::Busy) => refuse(number, b"Busy", out),
         Err(_) => Err(AllocError),
     }
+}
+
+// The same with one digit more.
+fn clipped_more(value: usize, digit: u8) -> usize
+    requires digit { is_digit digit ≡ true }
+    requires small { value ≤ 256 }
+    ensures small { result ≤ 256 }
+    ensures clipped { (n : ℕ) → IsClipped value n → IsClipped result (n * 10 + digit_value digit) }
+{
+    let more = value * 10 + usize::from(digit - b'0');
+    if more < 256 { more } else { 256 }
+}
+
+// The number that decimal digits write, or 256 where that is less.
+fn clipped_number(digits: &[u8]) -> usize
+    requires { list_all is_digit digits.now ≡ true }
+    ensures { IsClipped result (digits_value 10 digits.now) }
+{
+    let mut value = 0;
+    for digit in digits {
+        value = clipped_more(value, *digit);
+    }
+    value
+}
+
+// A shard's consumer stands still from now on, or goes on; there may be no such shard.
+fn set_held(
+    held: &mut Vec<bool>,
+    number: u64,
+    digits: &[u8],
+    is_held: bool,
+    out: &mut Vec<u8>,
+) -> Result<(), AllocError>
+    requires digits { list_all is_digit digits.now ≡ true }
+    requires few { length held.old.items ≤ 256 }
+    ensures sets { OnOk result (SetsHeld held.old.items number (digits_value 10 digits.now) is_held held.new.items out.old.items out.new.items) }
+    ensures places { length held.new.items ≡ length held.old.items }
+{
+    let shard = clipped_number(digits);
+    if shard >= held.len() {
+        return refuse(number, b"Nobody", out);
+    }
+    held[shard] = is_held;
+    Ok(())
 }
 
 // The window of the mailbox with this word is printed.
@@ -114,15 +226,25 @@ fn do_line(
     house: &mut House,
     number: u64,
     line: &[u8],
+    held: &mut Vec<bool>,
     piece: &mut Vec<u8>,
     out: &mut Vec<u8>,
 ) -> Result<(), AllocError>
-    ensures { OnOk result ((k : Setup) (s : scene.Scene) → StandsFor k house.old s → LineDone k number (asked line.now) s house.new out.old.items out.new.items) }
+    requires { length held.old.items ≤ 256 }
+    ensures done { OnOk result ((k : Setup) (s : scene.Scene) → StandsFor k house.old s → length held.old.items ≡ k.config.shards → LineDone k number (asked line.now) s house.new out.old.items out.new.items) }
+    ensures held { OnOk result (held.new.items ≡ held_after held.old.items (asked line.now)) }
+    ensures places { length held.new.items ≡ length held.old.items }
 {
     match read_line(line) {
         ScriptLine::Says(connection, text) => hear_line(
             house, number, connection, text, piece, out,
         ),
+        ScriptLine::SaysInHex(connection, digits) => {
+            hear_hex(*out.allocator(), house, number, connection, digits, out)
+        }
+        ScriptLine::Vanishes(connection) => lose_peer(house, number, connection, out),
+        ScriptLine::Hold(digits) => set_held(held, number, digits, true, out),
+        ScriptLine::Free(digits) => set_held(held, number, digits, false, out),
         ScriptLine::Tail(word) => show_tail(house, number, word, out),
         ScriptLine::Skip => Ok(()),
         ScriptLine::Bad => refuse(number, b"Line", out),
@@ -131,17 +253,33 @@ fn do_line(
 
 // Does the line that was read, and settles.
 fn play_line(house: &mut House, number: u64, room: &mut Room) -> Result<(), AllocError>
-    ensures { OnOk result ((k : Setup) (s : scene.Scene) → StandsFor k house.old s → LinePlayed k number (asked (line_of room.old.line.items)) s house.new [] room.new.out.items) }
+    requires { length room.old.held.items ≤ 256 }
+    ensures played { OnOk result ((k : Setup) (s : scene.Scene) → StandsFor k house.old s → length room.old.held.items ≡ k.config.shards →
+        LinePlayed k number room.old.held.items (asked (line_of room.old.line.items)) s house.new [] room.new.out.items) }
+    ensures held { OnOk result (room.new.held.items ≡ held_after room.old.held.items (asked (line_of room.old.line.items))) }
+    ensures places { length room.new.held.items ≡ length room.old.held.items }
 {
     room.out.clear();
     do_line(
         house,
         number,
         without_end(&room.line),
+        &mut room.held,
         &mut room.piece,
         &mut room.out,
     )?;
-    house.settle(&[], &mut room.out)
+    house.settle(&room.held, &mut room.out)
+}
+
+// At the start no shard is held.
+fn none_held(alloc: Global, shards: u8) -> Result<Vec<bool>, AllocError>
+    ensures { IfOk result (λ v. v.items ≡ replicate shards false) }
+{
+    let mut held = Vec::new(alloc);
+    for _shard in 0..shards {
+        held.push(false)?;
+    }
+    Ok(held)
 }
 
 // Reads the next line with its end, if there is one.
@@ -171,10 +309,12 @@ fn take_turn<R: BufRead, W: Sink>(
     reader: &mut R,
     writer: &mut W,
 ) -> Result<Option<usize>, TurnFault>
-    requires { W.failed writer.old ≡ false }
-    ensures tells { (k : Setup) (s : scene.Scene) (input : List ℕ) → StandsFor k house.old s → R.remaining reader.old ≡ Some input →
-        TurnTells k number s input house.new (R.remaining reader.new) (W.taken writer.old) (W.taken writer.new) result }
+    requires live { W.failed writer.old ≡ false }
+    requires few { length room.old.held.items ≤ 256 }
+    ensures tells { (k : Setup) (s : scene.Scene) (input : List ℕ) → StandsFor k house.old s → length room.old.held.items ≡ k.config.shards → R.remaining reader.old ≡ Some input →
+        TurnTells k number room.old.held.items s input house.new room.new.held.items (R.remaining reader.new) (W.taken writer.old) (W.taken writer.new) result }
     ensures live { OnOk result (W.failed writer.new ≡ false) }
+    ensures places { length room.new.held.items ≡ length room.old.held.items }
     ensures short { (sent : ℕ) → result ≡ Err (TurnFault.Write sent) → sent < 2 ^ 64 }
 {
     if !read_piece(reader, &mut room.line)? {
@@ -211,7 +351,11 @@ pub fn drive<R: BufRead, W: Sink>(
     ensures read { result ≡ Err RunFault.Read → (k : Setup) (input : List ℕ) → StandsFor k house.old empty_scene → R.remaining reader.old ≡ Some input →
         WritesBeginning k (script_of input) (W.taken writer.old) (W.taken writer.new) }
 {
+    let Ok(held) = none_held(alloc, house.shards()) else {
+        return Err(RunFault::NoMemory);
+    };
     let mut room = Room {
+        held,
         line: Vec::new(alloc),
         piece: Vec::new(alloc),
         out: Vec::new(alloc),

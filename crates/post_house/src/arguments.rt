@@ -19,6 +19,13 @@ struct Number {
     most: u64,
 }
 
+const SHARDS: Number = Number {
+    name: "shards",
+    help: "Shards that keep the mailboxes",
+    least: 1,
+    most: 8,
+};
+
 const DEPTH: Number = Number {
     name: "depth",
     help: "Entries that each shard's lane has room for",
@@ -38,6 +45,20 @@ const MESSAGES: Number = Number {
     help: "Messages that each mailbox may hold",
     least: 1,
     most: 32_768,
+};
+
+const MAX_MESSAGE: Number = Number {
+    name: "max-message",
+    help: "Bytes that a message's data may have",
+    least: 1,
+    most: 16_777_216,
+};
+
+const FIRST_UID: Number = Number {
+    name: "first-uid",
+    help: "The UID of each mailbox's first message",
+    least: 1,
+    most: 4_294_967_294,
 };
 
 const UIDVALIDITY: Number = Number {
@@ -72,6 +93,14 @@ fn option<'a>(alloc: Global, number: Number) -> Arg<'a> {
         .value_parser(ValueParser::unsigned(number.least, number.most))
 }
 
+// A name that may be set. Which names are right is the settings' to say.
+fn name<'a>(alloc: Global, name: &'static str, help: &'static str) -> Arg<'a> {
+    Arg::new(alloc, name)
+        .long(name)
+        .help(help)
+        .action(ArgAction::Set)
+}
+
 // What the program takes: `script`, its options, and its mailboxes.
 fn command_line<'a>(alloc: Global) -> Result<Command<'a>, AllocError> {
     let mailboxes = Arg::new(alloc, "MAILBOX")
@@ -81,10 +110,15 @@ fn command_line<'a>(alloc: Global) -> Result<Command<'a>, AllocError> {
         .required(true);
     let script = Command::new(alloc, "script")
         .about("Runs a script from standard input on a house of its own")
+        .arg(name(alloc, "host", "The name that the house greets with"))?
+        .arg(name(alloc, "domain", "The domain that mail comes for"))?
+        .arg(option(alloc, SHARDS))?
         .arg(option(alloc, DEPTH))?
         .arg(option(alloc, RING))?
         .arg(option(alloc, MESSAGES))?
+        .arg(option(alloc, MAX_MESSAGE))?
         .arg(option(alloc, UIDVALIDITY))?
+        .arg(option(alloc, FIRST_UID))?
         .arg(mailboxes)?;
     Command::new(alloc, "post_house")
         .about("Takes in mail for a few mailboxes")
@@ -110,6 +144,19 @@ fn given<'a>(matches: &ArgMatches<'a>, number: Number, standing: u64) -> Result<
     }
 }
 
+// The name that was given, or else the one that stands.
+fn given_name<'a>(
+    alloc: Global,
+    matches: &ArgMatches<'a>,
+    name: &str,
+    standing: Vec<u8>,
+) -> Result<Vec<u8>, AllocError> {
+    match matches.get_str(name) {
+        Some(text) => Vec::from_slice(alloc, text.as_bytes()),
+        None => Ok(standing),
+    }
+}
+
 // The words of the mailboxes.
 fn mailboxes_of<'a>(alloc: Global, matches: &ArgMatches<'a>) -> Result<Vec<&'a [u8]>, Refused<'a>>
     ensures { IfOk result (λ words. 0 < length words.items) }
@@ -132,10 +179,15 @@ fn settings_of<'a>(alloc: Global, matches: &ArgMatches<'a>) -> Result<Config, Re
 {
     let words = mailboxes_of(alloc, matches)?;
     let mut config = Config::new(alloc, &words)?;
+    config.host = given_name(alloc, matches, "host", config.host)?;
+    config.domain = given_name(alloc, matches, "domain", config.domain)?;
+    config.shards = given(matches, SHARDS, 1)? as u8;
     config.depth = given(matches, DEPTH, 64)? as usize;
     config.ring = given(matches, RING, 2048)? as usize;
     config.messages = given(matches, MESSAGES, 1024)? as usize;
+    config.max_message = given(matches, MAX_MESSAGE, 1_048_576)? as usize;
     config.uidvalidity = given(matches, UIDVALIDITY, 1)? as u32;
+    config.first_uid = given(matches, FIRST_UID, 1)? as u32;
     Ok(config)
 }
 

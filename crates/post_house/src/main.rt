@@ -5,6 +5,8 @@
 mod arguments;
 mod failure;
 #[cfg(test)]
+mod rows;
+#[cfg(test)]
 mod tests;
 
 ghost use Rattle.std.specs.Prelude.{◌≡◌, false, ℕ, List, Some, Err, OnOk};

@@ -22,9 +22,9 @@ pub returns-clause-ok : goal.returns-clause-ok
 returns-clause-ok c k seat next heard b s more =
     let i = c.self.inside in
     let e = c.in_ok-answer.ensures in
-    let h : Line = record { serial = i.serial; machine = i.machine; waits = drop i.taken i.came.items; unsaid = i.unsaid.items; verdicts = i.verdicts.items } in
+    let h : Line = record { serial = i.serial; gone = i.is_gone; machine = i.machine; waits = drop i.taken i.came.items; unsaid = i.unsaid.items; verdicts = i.verdicts.items } in
     let s1 = subst (λ (x : Line). StandsForCaller k seat next heard x b) (sym c.self.view_is) s in
     let known = subst (λ (x : Line). AreKnown x c.args.verdicts.now) (sym c.self.view_is) c.requires.known in
     let one = ap (λ (x : Line). length x.machine.pending) c.self.view_is ∙ c.requires.one in
-    subst (λ (os : List (Option Verdict)). SaidVerdicts k seat next heard b c.args.verdicts.now (record { serial = i.serial; machine = c.answer.new.self; waits = drop i.taken i.came.items; unsaid = c.answer.new.out.items; verdicts = os })) (sym c.clear.ensures.items)
+    subst (λ (os : List (Option Verdict)). SaidVerdicts k seat next heard b c.args.verdicts.now (record { serial = i.serial; gone = i.is_gone; machine = c.answer.new.self; waits = drop i.taken i.came.items; unsaid = c.answer.new.out.items; verdicts = os })) (sym c.clear.ensures.items)
     (said_verdicts k seat next heard b h c.answer.new.self c.args.verdicts.now c.answer.new.out.items s1 more one known e.same.0 e.same.1 e.pending e.ok)

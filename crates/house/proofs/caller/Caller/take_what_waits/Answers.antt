@@ -18,7 +18,7 @@ returns-clause-took c k seat next heard b e s =
     let i = c.self.inside in
     let r = c.take_all-progress in
     let f = r.ensures in
-    let h : Line = record { serial = i.serial; machine = i.machine; waits = drop i.taken i.came.items; unsaid = i.unsaid.items; verdicts = i.verdicts.items } in
+    let h : Line = record { serial = i.serial; gone = i.is_gone; machine = i.machine; waits = drop i.taken i.came.items; unsaid = i.unsaid.items; verdicts = i.verdicts.items } in
     let s1 = subst (λ (x : Line). StandsForCaller k seat next heard x b) (sym c.self.view_is) s in
     let quiet = ap (λ (x : Line). x.machine.pending) c.self.view_is ∙ c.requires in
     took_what_waits k seat next heard b h r.new.machine (take r.result.used (drop i.taken i.came.items)) (drop (i.taken + r.result.used) i.came.items) r.new.out.items r.result.what

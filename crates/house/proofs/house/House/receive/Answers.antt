@@ -5,6 +5,7 @@ use Rattle.house.specs.Taking.{with_more}
 use Rattle.house.specs.State.{State}
 use Rattle.house.specs.Scene.{BytesPlay}
 use Rattle.house.specs.Stands.{StandsFor}
+use Rattle.house.specs.Steps.{is_unread}
 use Rattle.house.proofs.Events.{received}
 use Rattle.house.proofs.house.House.receive.Goals as goal
 
@@ -16,11 +17,12 @@ returns-in_default-go_on_at-clause-no_memory c k s st =
     let many = ap (λ (x : State). length x.callers) c.self.view_is in
     let e = c.from.ensures in
     let who = subst (λ (n : ℕ). IsSome (get_or i.callers.items n None)) (sym e) (subst (λ (x : State). IsSome (get_or x.callers (c.args.connection - 1) None)) (sym c.self.view_is) c.requires.there.who) in
+    let read = subst (λ (n : ℕ). is_unread (get_or i.callers.items n None) ≡ false) (sym e) (subst (λ (x : State). is_unread (get_or x.callers (c.args.connection - 1) None) ≡ false) (sym c.self.view_is) c.requires.there.read) in
     let number : c.args.connection ≡ c.from.result + 1 = let n = c.requires.there.number in omega (arith, n, e) in
     let lt : c.from.result < length i.callers.items = let m = c.requires.there.seat in omega (arith, number, m, many) in
     let at = c.in-Ok.ensures.ok ∙ ap (option_map (with_more c.args.piece.now)) (c.index_mut-place.ensures.value ∙ get_or-any i.callers.items c.from.result _ None lt) in
     let r = received k h s c.args.connection c.from.result c.args.piece.now i.directory c.go_on_at.new.place c.append_at.new.place false c.args.out.now.items c.go_on_at.new.out.items st1
-    number refl lt who at c.in_default-go_on_at.ensures.err in
+    number refl lt who read at c.in_default-go_on_at.ensures.err in
     inl (record { after = r.0; printed = r.1; plays = subst (λ (n : ℕ). BytesPlay k false s n c.args.piece.now r.0 r.1) e r.2; stands = r.3; out = r.4 })
 
 pub returns-clause-follows : goal.returns-clause-follows
@@ -31,9 +33,10 @@ returns-clause-follows c k s st =
     let many = ap (λ (x : State). length x.callers) c.self.view_is in
     let e = c.from.ensures in
     let who = subst (λ (n : ℕ). IsSome (get_or i.callers.items n None)) (sym e) (subst (λ (x : State). IsSome (get_or x.callers (c.args.connection - 1) None)) (sym c.self.view_is) c.requires.there.who) in
+    let read = subst (λ (n : ℕ). is_unread (get_or i.callers.items n None) ≡ false) (sym e) (subst (λ (x : State). is_unread (get_or x.callers (c.args.connection - 1) None) ≡ false) (sym c.self.view_is) c.requires.there.read) in
     let number : c.args.connection ≡ c.from.result + 1 = let n = c.requires.there.number in omega (arith, n, e) in
     let lt : c.from.result < length i.callers.items = let m = c.requires.there.seat in omega (arith, number, m, many) in
     let at = c.in-Ok.ensures.ok ∙ ap (option_map (with_more c.args.piece.now)) (c.index_mut-place.ensures.value ∙ get_or-any i.callers.items c.from.result _ None lt) in
     let r = received k h s c.args.connection c.from.result c.args.piece.now i.directory c.go_on_at.new.place c.append_at.new.place true c.args.out.now.items c.go_on_at.new.out.items st1
-    number refl lt who at c.in-Ok-go_on_at.ensures.ok in
+    number refl lt who read at c.in-Ok-go_on_at.ensures.ok in
     record { after = r.0; printed = r.1; plays = subst (λ (n : ℕ). BytesPlay k true s n c.args.piece.now r.0 r.1) e r.2; stands = r.3; out = r.4 }
