@@ -19,6 +19,8 @@ const LF: u8 = 10;
 
 const DOT: u8 = 46;
 
+const NUL: u8 = 0;
+
 /// What came of data that has ended. The first that holds is the outcome.
 #[derive(Clone, Copy, Debug, PartialEq, Eq)]
 pub enum Outcome {

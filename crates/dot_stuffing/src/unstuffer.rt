@@ -1,14 +1,27 @@
 //! The unstuffer: it takes data from the wire in pieces of any sizes, and gives its text at the end.
 //! It reads from nowhere, and decides nothing before the end of the data.
 
-ghost use Rattle.std.specs.Prelude.{◌≡◌, ◌≢◌, ℕ, ◌<◌, ◌≤◌, List, [], ◌∷◌, ◌++◌, length, take, Some, None};
+ghost use Rattle.std.specs.Prelude.{◌≡◌, ◌≢◌, ℕ, ◌<◌, ◌≤◌, List, [], ◌∷◌, ◌++◌, length, take, slice_index, Some, None};
 ghost use Rattle.dot_stuffing.specs.Unstuffing.{StandsFor, outcome_of, Tells};
 
 use crate::collector::Collector;
 use crate::place::{Next, Place, step_from};
-use crate::{CR, Outcome, Progress, Taken};
+use crate::{CR, NUL, Outcome, Progress, Taken};
+use memchr::memchr2;
 use std::alloc::Global;
 use std::marker::Model;
+
+/// How many bytes stand before the first CR or NUL.
+fn before_cr_or_nul(piece: &[u8]) -> usize
+    ensures within { result ≤ length piece.now }
+    ensures no_cr { (k : ℕ) → k < result → slice_index piece.now k ≢ 13 }
+    ensures no_nul { (k : ℕ) → k < result → slice_index piece.now k ≢ 0 }
+{
+    match memchr2(CR, NUL, piece) {
+        Some(i) => i,
+        None => piece.len(),
+    }
+}
 
 /// Takes mail data from the wire, in pieces, and gives its text (RFC 5321, section 4.5.2).
 #[derive(Drop)]
@@ -53,6 +66,46 @@ impl Unstuffer {
         ensures data { (wire : List ℕ) → StandsFor self.old wire →
             Tells result.what self.new wire (take result.used piece.now) }
     {
+        let mut used = 0;
+        while used < piece.len() {
+            used += self.take_run(&piece[used..]);
+            if used < piece.len() {
+                match self.step(piece[used]) {
+                    Progress::More => used += 1,
+                    what => {
+                        return Taken {
+                            used: used + 1,
+                            what,
+                        };
+                    }
+                }
+            }
+        }
+        Taken {
+            used,
+            what: Progress::More,
+        }
+    }
+
+    /// The text, each line without the dot that was put before it, once the outcome is `Ok`.
+    pub fn text(self) -> Vec<u8>
+        requires { self.outcome ≡ Some Outcome.Ok }
+        ensures { result.items ≡ self.collected.bytes }
+    {
+        self.collector.into_bytes()
+    }
+
+    /// [`Unstuffer::take`] byte by byte: the plain program, which meets the same contract.
+    fn take_by_bytes(&mut self, piece: &[u8]) -> Taken
+        requires { self.old.outcome ≡ None }
+        ensures used { result.used ≤ length piece.now }
+        ensures all_used { result.what ≡ Progress.More → result.used ≡ length piece.now }
+        ensures some_used { result.what ≢ Progress.More → 0 < result.used }
+        ensures max { self.new.collected.max ≡ self.old.collected.max }
+        ensures outcome { self.new.outcome ≡ outcome_of result.what }
+        ensures data { (wire : List ℕ) → StandsFor self.old wire →
+            Tells result.what self.new wire (take result.used piece.now) }
+    {
         for (i, byte) in piece.iter().enumerate() {
             match self.step(*byte) {
                 Progress::More => {}
@@ -67,12 +120,21 @@ impl Unstuffer {
         }
     }
 
-    /// The text, each line without the dot that was put before it, once the outcome is `Ok`.
-    pub fn text(self) -> Vec<u8>
-        requires { self.outcome ≡ Some Outcome.Ok }
-        ensures { result.items ≡ self.collected.bytes }
+    /// Takes the bytes of the text that end no line at once, where the wire stands inside one, and
+    /// answers how many. Nothing but a CR can change the place there.
+    fn take_run(&mut self, piece: &[u8]) -> usize
+        requires { self.old.outcome ≡ None }
+        ensures within { result ≤ length piece.now }
+        ensures max { self.new.collected.max ≡ self.old.collected.max }
+        ensures outcome { self.new.outcome ≡ None }
+        ensures stands { (wire : List ℕ) → StandsFor self.old wire → StandsFor self.new (wire ++ take result piece.now) }
     {
-        self.collector.into_bytes()
+        let Place::Inside = self.place else {
+            return 0;
+        };
+        let len = before_cr_or_nul(piece);
+        self.collector.add_run(&piece[..len]);
+        len
     }
 
     /// Takes one byte.
