@@ -8,7 +8,7 @@ mod work;
 use crate::sample::data;
 use crate::work::{line_count, text_len};
 use std::alloc::Global;
-use std::time::{Duration, Instant};
+use std::time::{CpuClock, Duration};
 use std::{env, io};
 
 /// How many lines a message has: about a megabyte.
@@ -44,22 +44,17 @@ fn cut_rounds(alloc: Global, wire: &[u8], lines: usize) -> u64 {
     found
 }
 
-/// Measures both, and prints the rates.
+/// Measures both by the processor's time, so that others on the machine count for less, and prints the rates.
 fn measure(rt: &HostRuntime, wire: &[u8], len: usize, lines: usize) -> io::Result<()> {
-    let start = Instant::now(rt)?;
+    let start = rt.thread_cpu_time()?;
     let texts = unstuff_rounds(rt.alloc(), wire, len);
-    let unstuffing = start.elapsed(rt)?;
-    let start = Instant::now(rt)?;
+    let between = rt.thread_cpu_time()?;
     let cuts = cut_rounds(rt.alloc(), wire, lines);
-    let cutting = start.elapsed(rt)?;
-    println!(rt;
-        "unstuffer: {} MB/s, {texts} rounds of {ROUNDS} right",
-        rate(wire.len(), unstuffing)
-    )?;
-    println!(rt;
-        "cutter: {} MB/s, {cuts} rounds of {ROUNDS} right",
-        rate(wire.len(), cutting)
-    )?;
+    let end = rt.thread_cpu_time()?;
+    let unstuffed = rate(wire.len(), between.saturating_sub(start));
+    let cut = rate(wire.len(), end.saturating_sub(between));
+    println!(rt; "unstuffer: {unstuffed} MB/s, {texts} rounds of {ROUNDS} right")?;
+    println!(rt; "cutter: {cut} MB/s, {cuts} rounds of {ROUNDS} right")?;
     Ok(())
 }
 

@@ -7,20 +7,30 @@ ghost use Rattle.dot_stuffing.specs.Unstuffing.{StandsFor, outcome_of, Tells};
 use crate::collector::Collector;
 use crate::place::{Next, Place, step_from};
 use crate::{CR, NUL, Outcome, Progress, Taken};
-use memchr::memchr2;
+use memchr::memchr;
 use std::alloc::Global;
 use std::marker::Model;
 
-/// How many bytes stand before the first CR or NUL.
+/// How many bytes stand before the first that is this one.
+fn before(byte: u8, bytes: &[u8]) -> usize
+    ensures within { result ≤ length bytes.now }
+    ensures none { (k : ℕ) → k < result → slice_index bytes.now k ≢ byte }
+{
+    match memchr(byte, bytes) {
+        Some(i) => i,
+        None => bytes.len(),
+    }
+}
+
+/// How many bytes stand before the first CR or NUL. Two searches are faster here than one for both,
+/// since a line is short.
 fn before_cr_or_nul(piece: &[u8]) -> usize
     ensures within { result ≤ length piece.now }
     ensures no_cr { (k : ℕ) → k < result → slice_index piece.now k ≢ 13 }
     ensures no_nul { (k : ℕ) → k < result → slice_index piece.now k ≢ 0 }
 {
-    match memchr2(CR, NUL, piece) {
-        Some(i) => i,
-        None => piece.len(),
-    }
+    let line = before(CR, piece);
+    before(NUL, &piece[..line])
 }
 
 /// Takes mail data from the wire, in pieces, and gives its text (RFC 5321, section 4.5.2).
