@@ -106,7 +106,7 @@ impl Unstuffer {
     }
 
     /// [`Unstuffer::take`] byte by byte: the plain program, which meets the same contract.
-    fn take_by_bytes(&mut self, piece: &[u8]) -> Taken
+    pub(crate) fn take_by_bytes(&mut self, piece: &[u8]) -> Taken
         requires { self.old.outcome ≡ None }
         ensures used { result.used ≤ length piece.now }
         ensures all_used { result.what ≡ Progress.More → result.used ≡ length piece.now }
@@ -175,84 +175,6 @@ impl Unstuffer {
                 self.outcome = Some(outcome);
                 Progress::Done(outcome)
             }
-        }
-    }
-}
-
-#[cfg(test)]
-mod tests {
-    use super::*;
-
-    // What comes of data in pieces of this size, and the text where there is one. After it stands how many bytes were used.
-    fn unstuff(
-        alloc: Global,
-        max: usize,
-        wire: &[u8],
-        size: usize,
-    ) -> (Option<Outcome>, Option<Vec<u8>>, usize) {
-        let mut unstuffer = Unstuffer::new(alloc, max);
-        let mut rest = wire;
-        for _ in 0..wire.len() {
-            let piece = &rest[..size.min(rest.len())];
-            let taken = unstuffer.take(piece);
-            rest = &rest[taken.used..];
-            let at = wire.len().saturating_sub(rest.len());
-            match taken.what {
-                Progress::More => {}
-                Progress::Done(Outcome::Ok) => {
-                    return (Some(Outcome::Ok), Some(unstuffer.text()), at);
-                }
-                Progress::Done(outcome) => return (Some(outcome), None, at),
-            }
-        }
-        (None, None, wire.len())
-    }
-
-    #[test]
-    fn dots_come_off(rt: HostRuntime) {
-        for size in [1, 2, 3, 100] {
-            let (outcome, text, used) = unstuff(
-                rt.alloc(),
-                100,
-                b"..\r\n.x\r\nx.\r\n.\r\nQUIT\r\n",
-                size,
-            );
-            assert_eq!(rt; outcome, Some(Outcome::Ok));
-            assert_eq!(rt; used, 15);
-            if let Some(text) = text {
-                assert_eq!(rt; text.as_slice(), b".\r\nx\r\nx.\r\n".as_slice());
-            }
-        }
-    }
-
-    #[test]
-    fn only_crlf_ends_a_line(rt: HostRuntime) {
-        let wire = [
-            0x61, 0x0a, 0x2e, 0x0d, 0x0a, 0x0a, 0x2e, 0x0a, 0x62, 0x0d, 0x0a, 0x2e, 0x0d, 0x0a,
-        ];
-        for size in [1, 2, 5, 100] {
-            let (outcome, text, used) = unstuff(rt.alloc(), 100, &wire, size);
-            assert_eq!(rt; outcome, Some(Outcome::Ok));
-            assert_eq!(rt; used, 14);
-            if let Some(text) = text {
-                assert_eq!(rt; text.as_slice(), &wire[..11]);
-            }
-        }
-    }
-
-    #[test]
-    fn outcomes(rt: HostRuntime) {
-        let cases = [
-            (3, b".\r\n".as_slice(), Some(Outcome::Ok)),
-            (3, b"a\r\n.\r\n".as_slice(), Some(Outcome::Ok)),
-            (3, b"hi\r\n.\r\n".as_slice(), Some(Outcome::TooBig)),
-            (3, b"\0\r\n.\r\n".as_slice(), Some(Outcome::Nul)),
-            (3, b"\0hi\r\n.\r\n".as_slice(), Some(Outcome::Nul)),
-            (3, b"hi\r\n.\r".as_slice(), None),
-        ];
-        for (max, wire, want) in cases {
-            let (outcome, _, _) = unstuff(rt.alloc(), max, wire, 2);
-            assert_eq!(rt; outcome, want);
         }
     }
 }
