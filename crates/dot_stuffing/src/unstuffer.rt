@@ -22,8 +22,8 @@ fn before(byte: u8, bytes: &[u8]) -> usize
     }
 }
 
-/// How many bytes stand before the first CR or NUL. Two searches are faster here than one for both,
-/// since a line is short.
+/// How many bytes stand before the first CR or NUL. On lines of mail two searches were measured to be
+/// faster than `memchr2`, one search for both.
 fn before_cr_or_nul(piece: &[u8]) -> usize
     ensures within { result ≤ length piece.now }
     ensures no_cr { (k : ℕ) → k < result → slice_index piece.now k ≢ 13 }
