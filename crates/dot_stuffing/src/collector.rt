@@ -1,14 +1,14 @@
 //! The text of data as it comes: its bytes while they fit, and what is wrong with it. Nothing here
 //! knows lines or dots.
 
-ghost use Rattle.std.specs.Prelude.{◌≡◌, ℕ, List, [], ◌∷◌, ◌++◌};
+ghost use Rattle.std.specs.Prelude.{◌≡◌, ℕ, List, [], ◌∷◌, ◌++◌, Contains};
 ghost use Rattle.dot_stuffing.specs.Unstuffing.{Collects, IsOutcome};
 
 use crate::Outcome;
 use std::alloc::Global;
 use std::marker::Model;
 
-/// A text that comes byte by byte. Nothing is answered before its end.
+/// A text that comes by bytes and runs of bytes. Nothing is answered before its end.
 #[derive(Drop)]
 pub(crate) struct Collector {
     max: usize,
@@ -66,6 +66,24 @@ impl Collector {
         self.count += 1;
         if !self.no_memory {
             self.no_memory = self.bytes.push(byte).is_err();
+        }
+    }
+
+    /// Adds bytes without NUL at once, as [`Collector::add`] adds each. Of a run that doesn't fit
+    /// nothing is kept, since no text comes of it.
+    pub(crate) fn add_run(&mut self, run: &[u8])
+        requires { Contains run.now 0 → ⊥ }
+        ensures max { self.new.max ≡ self.old.max }
+        ensures collects { (text : List ℕ) → Collects self.old text → Collects self.new (text ++ run.now) }
+    {
+        if self.max - self.count < run.len() {
+            self.is_big = true;
+            self.count = self.max;
+            return;
+        }
+        self.count += run.len();
+        if !self.no_memory {
+            self.no_memory = self.bytes.extend_from_slice(run).is_err();
         }
     }
 

@@ -52,16 +52,3 @@ pub fn stuff(text: &[u8], out: &mut Vec<u8>) -> Result<(), AllocError>
     }
     appended
 }
-
-#[cfg(test)]
-mod tests {
-    use super::*;
-
-    #[test]
-    fn dots_go_on(rt: HostRuntime) -> Result<(), AllocError> {
-        let mut wire = vec![in rt.alloc(); b'>']?;
-        stuff(b".x\r\nab\r\n.\r\n", &mut wire)?;
-        assert_eq!(rt; wire.as_slice(), b">..x\r\nab\r\n..\r\n".as_slice());
-        Ok(())
-    }
-}

@@ -7,6 +7,8 @@ mod collector;
 mod dots;
 mod laws;
 mod place;
+#[cfg(test)]
+mod tests;
 mod unstuffer;
 
 pub use dots::stuff;
@@ -18,6 +20,8 @@ const CR: u8 = 13;
 const LF: u8 = 10;
 
 const DOT: u8 = 46;
+
+const NUL: u8 = 0;
 
 /// What came of data that has ended. The first that holds is the outcome.
 #[derive(Clone, Copy, Debug, PartialEq, Eq)]

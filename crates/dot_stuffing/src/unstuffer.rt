@@ -1,14 +1,37 @@
 //! The unstuffer: it takes data from the wire in pieces of any sizes, and gives its text at the end.
 //! It reads from nowhere, and decides nothing before the end of the data.
 
-ghost use Rattle.std.specs.Prelude.{◌≡◌, ◌≢◌, ℕ, ◌<◌, ◌≤◌, List, [], ◌∷◌, ◌++◌, length, take, Some, None};
+ghost use Rattle.std.specs.Prelude.{◌≡◌, ◌≢◌, ℕ, ◌<◌, ◌≤◌, List, [], ◌∷◌, ◌++◌, length, take, slice_index, Some, None};
 ghost use Rattle.dot_stuffing.specs.Unstuffing.{StandsFor, outcome_of, Tells};
 
 use crate::collector::Collector;
 use crate::place::{Next, Place, step_from};
-use crate::{CR, Outcome, Progress, Taken};
+use crate::{CR, NUL, Outcome, Progress, Taken};
+use memchr::memchr;
 use std::alloc::Global;
 use std::marker::Model;
+
+/// How many bytes stand before the first that is this one.
+fn before(byte: u8, bytes: &[u8]) -> usize
+    ensures within { result ≤ length bytes.now }
+    ensures none { (k : ℕ) → k < result → slice_index bytes.now k ≢ byte }
+{
+    match memchr(byte, bytes) {
+        Some(i) => i,
+        None => bytes.len(),
+    }
+}
+
+/// How many bytes stand before the first CR or NUL. On lines of mail two searches were measured to be
+/// faster than `memchr2`, one search for both.
+fn before_cr_or_nul(piece: &[u8]) -> usize
+    ensures within { result ≤ length piece.now }
+    ensures no_cr { (k : ℕ) → k < result → slice_index piece.now k ≢ 13 }
+    ensures no_nul { (k : ℕ) → k < result → slice_index piece.now k ≢ 0 }
+{
+    let line = before(CR, piece);
+    before(NUL, &piece[..line])
+}
 
 /// Takes mail data from the wire, in pieces, and gives its text (RFC 5321, section 4.5.2).
 #[derive(Drop)]
@@ -53,6 +76,46 @@ impl Unstuffer {
         ensures data { (wire : List ℕ) → StandsFor self.old wire →
             Tells result.what self.new wire (take result.used piece.now) }
     {
+        let mut used = 0;
+        while used < piece.len() {
+            used += self.take_run(&piece[used..]);
+            if used < piece.len() {
+                match self.step(piece[used]) {
+                    Progress::More => used += 1,
+                    what => {
+                        return Taken {
+                            used: used + 1,
+                            what,
+                        };
+                    }
+                }
+            }
+        }
+        Taken {
+            used,
+            what: Progress::More,
+        }
+    }
+
+    /// The text, each line without the dot that was put before it, once the outcome is `Ok`.
+    pub fn text(self) -> Vec<u8>
+        requires { self.outcome ≡ Some Outcome.Ok }
+        ensures { result.items ≡ self.collected.bytes }
+    {
+        self.collector.into_bytes()
+    }
+
+    /// [`Unstuffer::take`] byte by byte: the plain program, which meets the same contract.
+    pub(crate) fn take_by_bytes(&mut self, piece: &[u8]) -> Taken
+        requires { self.old.outcome ≡ None }
+        ensures used { result.used ≤ length piece.now }
+        ensures all_used { result.what ≡ Progress.More → result.used ≡ length piece.now }
+        ensures some_used { result.what ≢ Progress.More → 0 < result.used }
+        ensures max { self.new.collected.max ≡ self.old.collected.max }
+        ensures outcome { self.new.outcome ≡ outcome_of result.what }
+        ensures data { (wire : List ℕ) → StandsFor self.old wire →
+            Tells result.what self.new wire (take result.used piece.now) }
+    {
         for (i, byte) in piece.iter().enumerate() {
             match self.step(*byte) {
                 Progress::More => {}
@@ -67,12 +130,21 @@ impl Unstuffer {
         }
     }
 
-    /// The text, each line without the dot that was put before it, once the outcome is `Ok`.
-    pub fn text(self) -> Vec<u8>
-        requires { self.outcome ≡ Some Outcome.Ok }
-        ensures { result.items ≡ self.collected.bytes }
+    /// Takes the bytes of the text that end no line at once, where the wire stands inside one, and
+    /// answers how many. Nothing but a CR can change the place there.
+    fn take_run(&mut self, piece: &[u8]) -> usize
+        requires { self.old.outcome ≡ None }
+        ensures within { result ≤ length piece.now }
+        ensures max { self.new.collected.max ≡ self.old.collected.max }
+        ensures outcome { self.new.outcome ≡ None }
+        ensures stands { (wire : List ℕ) → StandsFor self.old wire → StandsFor self.new (wire ++ take result piece.now) }
     {
-        self.collector.into_bytes()
+        let Place::Inside = self.place else {
+            return 0;
+        };
+        let len = before_cr_or_nul(piece);
+        self.collector.add_run(&piece[..len]);
+        len
     }
 
     /// Takes one byte.
@@ -103,84 +175,6 @@ impl Unstuffer {
                 self.outcome = Some(outcome);
                 Progress::Done(outcome)
             }
-        }
-    }
-}
-
-#[cfg(test)]
-mod tests {
-    use super::*;
-
-    // What comes of data in pieces of this size, and the text where there is one. After it stands how many bytes were used.
-    fn unstuff(
-        alloc: Global,
-        max: usize,
-        wire: &[u8],
-        size: usize,
-    ) -> (Option<Outcome>, Option<Vec<u8>>, usize) {
-        let mut unstuffer = Unstuffer::new(alloc, max);
-        let mut rest = wire;
-        for _ in 0..wire.len() {
-            let piece = &rest[..size.min(rest.len())];
-            let taken = unstuffer.take(piece);
-            rest = &rest[taken.used..];
-            let at = wire.len().saturating_sub(rest.len());
-            match taken.what {
-                Progress::More => {}
-                Progress::Done(Outcome::Ok) => {
-                    return (Some(Outcome::Ok), Some(unstuffer.text()), at);
-                }
-                Progress::Done(outcome) => return (Some(outcome), None, at),
-            }
-        }
-        (None, None, wire.len())
-    }
-
-    #[test]
-    fn dots_come_off(rt: HostRuntime) {
-        for size in [1, 2, 3, 100] {
-            let (outcome, text, used) = unstuff(
-                rt.alloc(),
-                100,
-                b"..\r\n.x\r\nx.\r\n.\r\nQUIT\r\n",
-                size,
-            );
-            assert_eq!(rt; outcome, Some(Outcome::Ok));
-            assert_eq!(rt; used, 15);
-            if let Some(text) = text {
-                assert_eq!(rt; text.as_slice(), b".\r\nx\r\nx.\r\n".as_slice());
-            }
-        }
-    }
-
-    #[test]
-    fn only_crlf_ends_a_line(rt: HostRuntime) {
-        let wire = [
-            0x61, 0x0a, 0x2e, 0x0d, 0x0a, 0x0a, 0x2e, 0x0a, 0x62, 0x0d, 0x0a, 0x2e, 0x0d, 0x0a,
-        ];
-        for size in [1, 2, 5, 100] {
-            let (outcome, text, used) = unstuff(rt.alloc(), 100, &wire, size);
-            assert_eq!(rt; outcome, Some(Outcome::Ok));
-            assert_eq!(rt; used, 14);
-            if let Some(text) = text {
-                assert_eq!(rt; text.as_slice(), &wire[..11]);
-            }
-        }
-    }
-
-    #[test]
-    fn outcomes(rt: HostRuntime) {
-        let cases = [
-            (3, b".\r\n".as_slice(), Some(Outcome::Ok)),
-            (3, b"a\r\n.\r\n".as_slice(), Some(Outcome::Ok)),
-            (3, b"hi\r\n.\r\n".as_slice(), Some(Outcome::TooBig)),
-            (3, b"\0\r\n.\r\n".as_slice(), Some(Outcome::Nul)),
-            (3, b"\0hi\r\n.\r\n".as_slice(), Some(Outcome::Nul)),
-            (3, b"hi\r\n.\r".as_slice(), None),
-        ];
-        for (max, wire, want) in cases {
-            let (outcome, _, _) = unstuff(rt.alloc(), max, wire, 2);
-            assert_eq!(rt; outcome, want);
         }
     }
 }

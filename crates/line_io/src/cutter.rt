@@ -6,6 +6,7 @@ ghost use Rattle.line_io.specs.Wire.{wire_lines};
 ghost use Rattle.line_io.specs.Cutting.{StandsFor, Tells};
 
 use crate::{Cut, What};
+use memchr::memchr;
 use std::alloc::{AllocError, Global};
 use std::marker::Model;
 
@@ -18,12 +19,10 @@ fn before_lf(piece: &[u8]) -> usize
     ensures within { result ≤ length piece.now }
     ensures none { (k : ℕ) → k < result → slice_index piece.now k ≢ 10 }
 {
-    for (i, byte) in piece.iter().enumerate() {
-        if *byte == LF {
-            return i;
-        }
+    match memchr(LF, piece) {
+        Some(i) => i,
+        None => piece.len(),
     }
-    piece.len()
 }
 
 // Appends the bytes, for which there is room.

@@ -1,0 +1,5 @@
+use Rattle.std.proofs.Common.{◌≤◌}
+use Rattle.bench.proofs.unstuff_rounds.Given as goal
+
+abbrev pub invariant-loop : goal.invariant-loop
+invariant-loop l = l.found ≤ l.counter

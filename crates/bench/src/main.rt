@@ -1,0 +1,77 @@
+//! How many megabytes a second are taken: mail data by the unstuffer, and lines by the cutter. With no word it does each once and prints
+//! what came out, which doesn't vary. With the word `measure` it does each many times and prints the rates.
+#![tactic(auto)]
+
+mod sample;
+mod work;
+
+use crate::sample::data;
+use crate::work::{line_count, text_len};
+use std::alloc::Global;
+use std::time::{CpuClock, Duration};
+use std::{env, io};
+
+/// How many lines a message has: about a megabyte.
+const LINES: usize = 14_000;
+
+/// How often each is done where it is measured.
+const ROUNDS: u64 = 256;
+
+/// Megabytes a second, of so many bytes that were taken in each round.
+fn rate(bytes: usize, took: Duration) -> u128 {
+    bytes as u128 * ROUNDS as u128 / took.as_micros().max(1)
+}
+
+/// How many rounds found this text.
+fn unstuff_rounds(alloc: Global, wire: &[u8], len: usize) -> u64 {
+    let mut found = 0;
+    for _ in 0..ROUNDS {
+        if text_len(alloc, wire) == len {
+            found += 1;
+        }
+    }
+    found
+}
+
+/// How many rounds found so many lines.
+fn cut_rounds(alloc: Global, wire: &[u8], lines: usize) -> u64 {
+    let mut found = 0;
+    for _ in 0..ROUNDS {
+        if line_count(alloc, wire) == lines {
+            found += 1;
+        }
+    }
+    found
+}
+
+/// Measures both by the processor's time, so that others on the machine count for less, and prints the rates.
+fn measure(rt: &HostRuntime, wire: &[u8], len: usize, lines: usize) -> io::Result<()> {
+    let start = rt.thread_cpu_time()?;
+    let texts = unstuff_rounds(rt.alloc(), wire, len);
+    let between = rt.thread_cpu_time()?;
+    let cuts = cut_rounds(rt.alloc(), wire, lines);
+    let end = rt.thread_cpu_time()?;
+    let unstuffed = rate(wire.len(), between.saturating_sub(start));
+    let cut = rate(wire.len(), end.saturating_sub(between));
+    println!(rt; "unstuffer: {unstuffed} MB/s, {texts} rounds of {ROUNDS} right")?;
+    println!(rt; "cutter: {cut} MB/s, {cuts} rounds of {ROUNDS} right")?;
+    Ok(())
+}
+
+fn main(rt: HostRuntime) -> io::Result<()> {
+    let alloc = rt.alloc();
+    let wire = data(alloc, LINES)?;
+    let len = text_len(alloc, wire.as_slice());
+    let lines = line_count(alloc, wire.as_slice());
+    let words = env::args(&rt)?.collect::<Vec<String>>(alloc)?;
+    match words.get(1) {
+        Some(word) if word.as_str() == "measure" => measure(&rt, wire.as_slice(), len, lines),
+        _ => {
+            println!(rt;
+                "bench: {} bytes, a text of {len} bytes, {lines} lines",
+                wire.len()
+            )?;
+            Ok(())
+        }
+    }
+}

@@ -1,0 +1,136 @@
+//! Data and their texts by the published rules (RFC 5321, section 4.5.2): the text is what stands before the line of one dot, without
+//! the first dot of each line that begins with one. Pieces of several sizes, by runs and byte by byte.
+
+use crate::{Outcome, Progress, Unstuffer, stuff};
+use std::alloc::{AllocError, Global};
+
+// The two ways in which data are taken.
+#[derive(Clone, Copy)]
+enum Form {
+    Runs,
+    Bytes,
+}
+
+// What comes of data in pieces of this size, and the text where there is one. After it stands how many bytes were used.
+fn unstuff(
+    alloc: Global,
+    max: usize,
+    wire: &[u8],
+    size: usize,
+    form: Form,
+) -> (Option<Outcome>, Option<Vec<u8>>, usize) {
+    let mut unstuffer = Unstuffer::new(alloc, max);
+    let mut rest = wire;
+    for _ in 0..wire.len() {
+        let piece = &rest[..size.min(rest.len())];
+        let taken = match form {
+            Form::Runs => unstuffer.take(piece),
+            Form::Bytes => unstuffer.take_by_bytes(piece),
+        };
+        rest = &rest[taken.used..];
+        let at = wire.len().saturating_sub(rest.len());
+        match taken.what {
+            Progress::More => {}
+            Progress::Done(Outcome::Ok) => {
+                return (Some(Outcome::Ok), Some(unstuffer.text()), at);
+            }
+            Progress::Done(outcome) => return (Some(outcome), None, at),
+        }
+    }
+    (None, None, wire.len())
+}
+
+// Whether the data at the front of these bytes have this text, and no byte behind them was used.
+fn has_text(
+    alloc: Global,
+    wire: &[u8],
+    behind: usize,
+    text: &[u8],
+    size: usize,
+    form: Form,
+) -> bool {
+    let (outcome, found, used) = unstuff(alloc, 1_000, wire, size, form);
+    let Some(found) = found else {
+        return false;
+    };
+    outcome == Some(Outcome::Ok)
+        && found.as_slice() == text
+        && used == wire.len().saturating_sub(behind)
+}
+
+// The same in pieces of several sizes, both ways.
+fn always_has_text(alloc: Global, wire: &[u8], behind: usize, text: &[u8]) -> bool {
+    [1, 2, 3, 5, 100, 1_000].iter().all(|size| {
+        has_text(alloc, wire, behind, text, *size, Form::Runs)
+            && has_text(alloc, wire, behind, text, *size, Form::Bytes)
+    })
+}
+
+#[test]
+fn no_lines(rt: HostRuntime) {
+    assert!(rt; always_has_text(rt.alloc(), b".\r\n", 0, b""));
+}
+
+#[test]
+fn dots_come_off(rt: HostRuntime) {
+    let alloc = rt.alloc();
+    assert!(rt; always_has_text(alloc, b"..\r\n.\r\n", 0, b".\r\n"));
+    assert!(rt; always_has_text(alloc, b".x\r\n.\r\n", 0, b"x\r\n"));
+    assert!(rt; always_has_text(alloc, b"x.\r\n.\r\n", 0, b"x.\r\n"));
+    assert!(rt;
+        always_has_text(
+            alloc,
+            b"..\r\n.x\r\nx.\r\n.\r\nQUIT\r\n",
+            6,
+            b".\r\nx\r\nx.\r\n"
+        )
+    );
+}
+
+#[test]
+fn only_crlf_ends_a_line(rt: HostRuntime) {
+    let alloc = rt.alloc();
+    let lf = b"a\n.\r\n\n.\nb\r\n.\r\n";
+    assert!(rt; always_has_text(alloc, lf, 0, b"a\n.\r\n\n.\nb\r\n"));
+    let cr = b"\r.\r\n.\r\r\n\r\r.\r\n.\r\n";
+    assert!(rt; always_has_text(alloc, cr, 0, b"\r.\r\n\r\r\n\r\r.\r\n"));
+}
+
+// Lines that are longer than what is searched at once.
+#[test]
+fn long_lines(rt: HostRuntime) {
+    let wire =
+        b"..23456789012345678901234567890123456789012345678901234567890123456789\r234567890123456789\r\n0123456789.\r\n.\r\n";
+    assert!(rt; always_has_text(rt.alloc(), wire, 0, &wire[1..wire.len() - 3]));
+}
+
+#[test]
+fn outcomes(rt: HostRuntime) {
+    let cases = [
+        (3, b".\r\n".as_slice(), Some(Outcome::Ok)),
+        (3, b"a\r\n.\r\n".as_slice(), Some(Outcome::Ok)),
+        (3, b"hi\r\n.\r\n".as_slice(), Some(Outcome::TooBig)),
+        (3, b"\0\r\n.\r\n".as_slice(), Some(Outcome::Nul)),
+        (3, b"\0hi\r\n.\r\n".as_slice(), Some(Outcome::Nul)),
+        (3, b"hi\0\r\n.\r\n".as_slice(), Some(Outcome::Nul)),
+        (5, b"hi\0\r\n.\r\n".as_slice(), Some(Outcome::Nul)),
+        (5, b"hi you\r\n.\r\n".as_slice(), Some(Outcome::TooBig)),
+        (3, b"hi\r\n.\r".as_slice(), None),
+    ];
+    for (max, wire, want) in cases {
+        let (runs, _, _) = unstuff(rt.alloc(), max, wire, 2, Form::Runs);
+        let (long_runs, _, _) = unstuff(rt.alloc(), max, wire, 100, Form::Runs);
+        let (bytes, _, _) = unstuff(rt.alloc(), max, wire, 2, Form::Bytes);
+        assert_eq!(rt; runs, want);
+        assert_eq!(rt; long_runs, want);
+        assert_eq!(rt; bytes, want);
+    }
+}
+
+#[test]
+fn dots_go_on(rt: HostRuntime) -> Result<(), AllocError> {
+    let mut wire = vec![in rt.alloc(); b'>']?;
+    stuff(b".x\r\nab\r\n.\r\n", &mut wire)?;
+    assert_eq!(rt; wire.as_slice(), b">..x\r\nab\r\n..\r\n".as_slice());
+    Ok(())
+}
