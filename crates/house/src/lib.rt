@@ -12,6 +12,8 @@ mod run;
 mod script;
 mod settle;
 mod tail;
+#[cfg(test)]
+mod tests;
 
 pub use config::{Config, ConfigFault};
 pub use event::{Event, HouseFault};

@@ -173,22 +173,59 @@ fn mailboxes_of<'a>(alloc: Global, matches: &ArgMatches<'a>) -> Result<Vec<&'a [
     Ok(words)
 }
 
-// The settings that the options and words of `script` come to.
-fn settings_of<'a>(alloc: Global, matches: &ArgMatches<'a>) -> Result<Config, Refused<'a>>
+// The settings with the names that were given.
+fn with_names<'a>(
+    alloc: Global,
+    matches: &ArgMatches<'a>,
+    mut config: Config,
+) -> Result<Config, Refused<'a>>
+    requires { IsInRange config }
     ensures { IfOk result IsInRange }
 {
-    let words = mailboxes_of(alloc, matches)?;
-    let mut config = Config::new(alloc, &words)?;
     config.host = given_name(alloc, matches, "host", config.host)?;
     config.domain = given_name(alloc, matches, "domain", config.domain)?;
+    Ok(config)
+}
+
+// The settings with the sizes that were given.
+fn with_sizes<'a>(matches: &ArgMatches<'a>, mut config: Config) -> Result<Config, Refused<'a>>
+    requires { IsInRange config }
+    ensures { IfOk result IsInRange }
+{
     config.shards = given(matches, SHARDS, 1)? as u8;
     config.depth = given(matches, DEPTH, 64)? as usize;
     config.ring = given(matches, RING, 2048)? as usize;
     config.messages = given(matches, MESSAGES, 1024)? as usize;
     config.max_message = given(matches, MAX_MESSAGE, 1_048_576)? as usize;
+    Ok(config)
+}
+
+// The settings with the UIDs that were given.
+fn with_uids<'a>(matches: &ArgMatches<'a>, mut config: Config) -> Result<Config, Refused<'a>>
+    requires { IsInRange config }
+    ensures { IfOk result IsInRange }
+{
     config.uidvalidity = given(matches, UIDVALIDITY, 1)? as u32;
     config.first_uid = given(matches, FIRST_UID, 1)? as u32;
     Ok(config)
+}
+
+// The settings that stand where no option is given, with the mailboxes of these words.
+fn standing<'a>(alloc: Global, matches: &ArgMatches<'a>) -> Result<Config, Refused<'a>>
+    ensures { IfOk result IsInRange }
+{
+    let words = mailboxes_of(alloc, matches)?;
+    Ok(Config::new(alloc, &words)?)
+}
+
+// The settings that the options and words of `script` come to.
+fn settings_of<'a>(alloc: Global, matches: &ArgMatches<'a>) -> Result<Config, Refused<'a>>
+    ensures { IfOk result IsInRange }
+{
+    let standing = standing(alloc, matches)?;
+    let named = with_names(alloc, matches, standing)?;
+    let sized = with_sizes(matches, named)?;
+    with_uids(matches, sized)
 }
 
 /// The settings that these words ask for, the first of which is the program's name: `script`, options, mailboxes. Each number is in

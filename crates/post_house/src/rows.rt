@@ -327,7 +327,7 @@ L1 555 5.5.4 Parameter not recognised\n",
     status: 0,
 };
 
-const NOOP_LF_QUIT: Case = Case {
+const NOOP_QUIT: Case = Case {
     words: &[
         "post_house",
         "script",
@@ -470,6 +470,92 @@ const NO_MAILBOX: Case = Case {
     status: 2,
 };
 
+// A transaction with one recipient more than it may have: they are all the same.
+fn too_many_recipients(alloc: Global) -> Result<(Vec<u8>, Vec<u8>), AllocError> {
+    let mut input = Vec::from_slice(alloc, b"L1 LHLO c.example\nL1 MAIL FROM:<s@a.example>\n")?;
+    let mut output = Vec::from_slice(
+        alloc,
+        b"L1 220 mx.example.org LMTP ready\nL1 250-mx.example.org\nL1 250-PIPELINING\n\
+L1 250-ENHANCEDSTATUSCODES\nL1 250 8BITMIME\nL1 250 2.1.0 Sender OK\n",
+    )?;
+    for _ in 0..100 {
+        input.extend_from_slice(b"L1 RCPT TO:<alice@example.org>\n")?;
+        output.extend_from_slice(b"L1 250 2.1.5 Recipient OK\n")?;
+    }
+    input.extend_from_slice(b"L1 RCPT TO:<alice@example.org>\nL1 RSET\n")?;
+    output.extend_from_slice(b"L1 452 4.5.3 Too many recipients\nL1 250 2.0.0 OK\n")?;
+    Ok((input, output))
+}
+
+#[test]
+fn the_recipient_past_the_last(rt: HostRuntime) -> Result<(), AllocError> {
+    let (input, output) = too_many_recipients(rt.alloc())?;
+    let ended = run_on(rt.alloc(), FIRST_MESSAGE.words, &input);
+    assert_eq!(rt; ended.status, 0);
+    assert_eq!(rt; ended.output.as_slice(), output.as_slice());
+    Ok(())
+}
+
+// Bytes of connection 1 as a line of the script, in hexadecimal digits.
+fn push_hex(piece: &[u8], script: &mut Vec<u8>) -> Result<(), AllocError> {
+    if piece.is_empty() {
+        return Ok(());
+    }
+    script.extend_from_slice(b"L1x ")?;
+    for byte in piece {
+        for digit in [byte / 16, byte % 16] {
+            script.push(if digit < 10 {
+                b'0' + digit
+            } else {
+                b'a' + (digit - 10)
+            })?;
+        }
+    }
+    script.extend_from_slice(b"\n")
+}
+
+// What a peer sends in the case of paths and folders, and in that of a NOOP with a QUIT.
+const PATHS_BYTES: &[u8] =
+    b"LHLO c.example\r\nmail from: <>\r\nRCPT TO:<Alice+work@EXAMPLE.ORG>\r\n\
+RCPT TO:<@r.example:bob@example.org>\r\nRCPT TO:<alice@b.example>\r\nRSET\r\nMAIL FROM:<s@a.example> SIZE=5\r\n";
+
+const NOOP_QUIT_BYTES: &[u8] = b"NOOP\r\nQUIT\r\n";
+
+// The script in which these bytes come in two pieces, of which the first has so many.
+fn in_two(alloc: Global, bytes: &[u8], first: usize) -> Result<Vec<u8>, AllocError> {
+    let mut script = Vec::new(alloc);
+    let first = first.min(bytes.len());
+    push_hex(&bytes[..first], &mut script)?;
+    push_hex(&bytes[first..], &mut script)?;
+    Ok(script)
+}
+
+// The script in which they come one by one.
+fn one_by_one(alloc: Global, bytes: &[u8]) -> Result<Vec<u8>, AllocError> {
+    let mut script = Vec::new(alloc);
+    for byte in bytes {
+        push_hex(&[*byte], &mut script)?;
+    }
+    Ok(script)
+}
+
+#[test]
+fn pieces_of_any_size_say_the_same(rt: HostRuntime) -> Result<(), AllocError> {
+    let alloc = rt.alloc();
+    for (case, bytes) in [
+        (PATHS_AND_FOLDERS, PATHS_BYTES),
+        (NOOP_QUIT, NOOP_QUIT_BYTES),
+    ] {
+        let ended = run_on(alloc, case.words, &one_by_one(alloc, bytes)?);
+        assert_eq!(rt; ended.output.as_slice(), case.output);
+        for first in 0..bytes.len() {
+            let ended = run_on(alloc, case.words, &in_two(alloc, bytes, first)?);
+            assert_eq!(rt; ended.output.as_slice(), case.output);
+        }
+    }
+    Ok(())
+}
+
 const CASES: &[Case] = &[
     FIRST_MESSAGE,
     TWO_RECIPIENTS_ONE_UNKNOWN,
@@ -478,7 +564,7 @@ const CASES: &[Case] = &[
     VANISH_IN_DATA,
     MAILBOX_FULL,
     PATHS_AND_FOLDERS,
-    NOOP_LF_QUIT,
+    NOOP_QUIT,
     BAD_ARGUMENTS,
     LOCAL_PART_LENGTH,
     HOLD_AND_FREE,

@@ -1,6 +1,8 @@
 //! The program on command lines whose status is known without a run.
 
+use crate::arguments::config_of;
 use crate::command;
+use clap::Error;
 use line_io::Watched;
 use std::alloc::Global;
 
@@ -145,4 +147,36 @@ fn help_is_no_fault(rt: HostRuntime) {
     let ended = run_of(rt.alloc(), &["post_house", "script", "--help"]);
     assert_eq!(rt; ended.status, 0);
     assert!(rt; !ended.output.is_empty() && ended.faults.is_empty());
+}
+
+#[test]
+fn each_option_reaches_its_setting(rt: HostRuntime) -> Result<(), Error> {
+    let words = [
+        "post_house",
+        "script",
+        "--host=mail.b.example",
+        "--domain=b.example",
+        "--shards=3",
+        "--depth=4",
+        "--ring=50",
+        "--messages=6",
+        "--max-message=7",
+        "--uidvalidity=8",
+        "--first-uid=9",
+        "alice",
+        "alice/Work",
+    ];
+    let config = config_of(rt.alloc(), words.as_slice())?;
+    assert_eq!(rt; config.host.as_slice(), b"mail.b.example".as_slice());
+    assert_eq!(rt; config.domain.as_slice(), b"b.example".as_slice());
+    assert_eq!(rt; config.shards, 3);
+    assert_eq!(rt; config.depth, 4);
+    assert_eq!(rt; config.ring, 50);
+    assert_eq!(rt; config.messages, 6);
+    assert_eq!(rt; config.max_message, 7);
+    assert_eq!(rt; config.uidvalidity, 8);
+    assert_eq!(rt; config.first_uid, 9);
+    assert_eq!(rt; config.mailboxes.len(), 2);
+    assert_eq!(rt; config.mailboxes[1].as_slice(), b"alice/Work".as_slice());
+    Ok(())
 }
