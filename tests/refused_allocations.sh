@@ -13,7 +13,7 @@ case $# in
     program=$top/crates/post_house/out/post_house
     (cd "$top/crates/post_house" && rt run -- --help) > /dev/null
     ;;
-*) program=$1 ;;
+*) program=$(CDPATH= cd -- "$(dirname -- "$1")" && pwd)/$(basename -- "$1") ;;
 esac
 room=$(mktemp -d)
 trap 'rm -rf "$room"' EXIT
@@ -55,7 +55,14 @@ void *realloc(void *old, size_t size) {
     return refuse() ? NULL : next(old, size);
 }
 C
-"${CC:-cc}" -O1 -shared -fPIC -o "$room/refuse.so" "$room/refuse.c" -ldl
+compiler=
+for name in ${CC:-} cc gcc clang; do
+    if command -v "$name" > /dev/null; then
+        compiler=$name
+        break
+    fi
+done
+"${compiler:?there is no C compiler}" -O1 -shared -fPIC -o "$room/refuse.so" "$room/refuse.c" -ldl
 
 words='script --depth 2 --ring 16 --messages 8 --uidvalidity 7 alice bob'
 input=$top/crates/post_house/stdin

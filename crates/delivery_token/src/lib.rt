@@ -128,20 +128,21 @@ mod tests {
         Ok(())
     }
 
-    fn log_of_three(alloc: Global) -> Result<WorkerLog, AllocError> {
+    fn log_of_four(alloc: Global) -> Result<WorkerLog, AllocError> {
         let mut log = WorkerLog::new(alloc, 1);
-        log.reserve(3)?;
+        log.reserve(4)?;
         log.note(key(1, 0, 0, 0), 4, Verdict::Stored { uid: 7 });
         log.note(key(1, 0, 0, 1), 4, Verdict::Refused(Refusal::Full));
         log.note(key(1, 0, 0, 2), 5, Verdict::Stored { uid: 7 });
+        log.note(key(1, 0, 0, 3), 4, Verdict::Stored { uid: 8 });
         Ok(log)
     }
 
     #[test]
     fn a_log_tells_what_was_stored_in_a_mailbox(rt: HostRuntime) -> Result<(), AllocError> {
-        let log = log_of_three(rt.alloc())?;
+        let log = log_of_four(rt.alloc())?;
         let stored = log.stored_in(rt.alloc(), 4)?;
-        assert!(rt; stored.as_slice() == &[(key(1, 0, 0, 0), 7)][..]);
+        assert!(rt; stored.as_slice() == &[(key(1, 0, 0, 0), 7), (key(1, 0, 0, 3), 8)][..]);
         Ok(())
     }
 }

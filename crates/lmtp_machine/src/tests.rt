@@ -197,3 +197,67 @@ fn what_is_submitted(rt: HostRuntime) -> Result<(), DirectoryFault> {
     );
     Ok(())
 }
+
+// The text that is submitted where these bytes follow DATA.
+fn text_of(alloc: Global, data: &[u8]) -> Result<Vec<u8>, DirectoryFault> {
+    let directory = house(alloc)?;
+    let limits = Limits {
+        host: b"mx.example.org",
+        max_message: 100,
+    };
+    let mut machine = LmtpMachine::new(alloc, 0, 0, limits)?;
+    let mut out = Vec::new(alloc);
+    for piece in [
+        b"LHLO c.example\r\n".as_slice(),
+        b"MAIL FROM:<s@a.example>\r\n",
+        b"RCPT TO:<bob@example.org>\r\n",
+        b"DATA\r\n",
+    ] {
+        let _fed = hear(alloc, &mut machine, &directory, piece, STORED, &mut out)?;
+    }
+    let fed = machine.feed(data, &directory, &mut out)?;
+    match fed.what {
+        What::Submit => Ok(Vec::from_slice(alloc, machine.submission().text.as_slice())?),
+        _ => Ok(Vec::new(alloc)),
+    }
+}
+
+#[test]
+fn texts_of_messages(rt: HostRuntime) -> Result<(), DirectoryFault> {
+    let cases = [
+        (b".\r\n".as_slice(), b"".as_slice(), 28),
+        (b"..\r\n..x\r\nx.\r\n.\r\n", b".\r\n.x\r\nx.\r\n", 39),
+        (b"..\r\n.x\r\nx.\r\n.\r\n", b".\r\nx\r\nx.\r\n", 38),
+        (b"a\n.\r\n\n.\nb\r\n.\r\n", b"a\n.\r\n\n.\nb\r\n", 39),
+    ];
+    for (data, lines, size) in cases {
+        let mut want = Vec::from_slice(rt.alloc(), b"Return-Path: <s@a.example>\r\n")?;
+        want.extend_from_slice(lines)?;
+        let text = text_of(rt.alloc(), data)?;
+        assert_eq!(rt; text.as_slice(), want.as_slice());
+        assert_eq!(rt; text.len(), size);
+    }
+    Ok(())
+}
+
+#[test]
+fn each_refusal_has_its_reply(rt: HostRuntime) -> Result<(), DirectoryFault> {
+    let cases = [
+        (Refusal::Full, b"452 4.3.1 Shard full\r\n".as_slice()),
+        (Refusal::MailboxFull, b"452 4.2.2 Mailbox full\r\n"),
+        (Refusal::NoMemory, b"451 4.3.0 Out of memory\r\n"),
+        (Refusal::UidSpent, b"554 5.2.0 No UID left\r\n"),
+    ];
+    let bytes =
+        b"LHLO c.example\r\nMAIL FROM:<s@a.example>\r\nRCPT TO:<alice@example.org>\r\nDATA\r\nhi\r\n.\r\n";
+    for (refusal, reply) in cases {
+        let out = converse(rt.alloc(), 100, Verdict::Refused(refusal), bytes, 1000)?;
+        let mut want = Vec::from_slice(rt.alloc(), GREETED)?;
+        want.extend_from_slice(
+            b"250 2.1.0 Sender OK\r\n250 2.1.5 Recipient OK\r\n354 Start mail input\r\n",
+        )?;
+        want.extend_from_slice(reply)?;
+        assert_eq!(rt; out.as_slice(), want.as_slice());
+    }
+    Ok(())
+}

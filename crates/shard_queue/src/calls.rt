@@ -111,6 +111,28 @@ mod tests {
     }
 
     #[test]
+    fn two_producers_share_a_lane(rt: HostRuntime) -> Result<(), AllocError> {
+        let mut lane = PlainLane::new(rt.alloc(), 2, 2)?;
+        if lane.is_live(0) {
+            assert!(rt; lane.put(0, b'a').is_ok());
+        }
+        if lane.is_live(1) {
+            assert!(rt; lane.put(1, b'b').is_ok());
+        }
+        if lane.is_live(0) {
+            assert!(rt; matches!(lane.end(0), Err(Full(()))));
+        }
+        assert!(rt; matches!(lane.take(), Taken::Item(0, b'a')));
+        if lane.is_live(0) {
+            assert!(rt; lane.end(0).is_ok());
+        }
+        assert!(rt; matches!(lane.take(), Taken::Item(1, b'b')));
+        assert!(rt; matches!(lane.take(), Taken::End(0)));
+        assert!(rt; matches!(lane.take(), Taken::Empty));
+        Ok(())
+    }
+
+    #[test]
     fn a_full_lane_hands_the_item_back(rt: HostRuntime) -> Result<(), AllocError> {
         let mut lane = PlainLane::new(rt.alloc(), 1, 1)?;
         if lane.is_live(0) {
