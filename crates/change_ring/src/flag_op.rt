@@ -54,3 +54,36 @@ impl Flags {
             || self.draft != other.draft
     }
 }
+
+#[cfg(test)]
+mod tests {
+    use super::*;
+
+    const NONE: Flags = Flags {
+        answered: false,
+        flagged: false,
+        deleted: false,
+        seen: false,
+        draft: false,
+    };
+
+    #[test]
+    fn flags_are_set_inserted_and_removed(rt: HostRuntime) {
+        let seen = Flags { seen: true, ..NONE };
+        let deleted = Flags {
+            deleted: true,
+            ..NONE
+        };
+        let both = Flags {
+            seen: true,
+            deleted: true,
+            ..NONE
+        };
+        assert_eq!(rt; FlagOp::Set(deleted).after(seen), deleted);
+        assert_eq!(rt; FlagOp::Insert(deleted).after(seen), both);
+        assert_eq!(rt; FlagOp::Insert(deleted).after(both), both);
+        assert_eq!(rt; FlagOp::Remove(deleted).after(both), seen);
+        assert_eq!(rt; FlagOp::Remove(deleted).after(seen), seen);
+        assert!(rt; both.differ_from(seen) && !both.differ_from(both));
+    }
+}
