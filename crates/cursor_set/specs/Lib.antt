@@ -1,0 +1,4 @@
+pub mod Cursors
+pub mod Legal
+pub mod Lines
+pub mod Opened

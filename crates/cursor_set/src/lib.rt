@@ -1,0 +1,10 @@
+//! The cursors of a mailbox's clients, and the lines that show them changes (RFC 9051, 7.4 and
+//! 7.5). Which changes a mailbox has is told in `change_ring`.
+#![tactic(auto)]
+
+pub use set::{CursorSeat, CursorSet, FeedFault, NoMemory, Stranger};
+
+mod lines;
+mod set;
+#[cfg(test)]
+mod tests;
