@@ -1,1 +1,3 @@
 pub mod StandsLaws
+pub mod MessageLaws
+pub mod Seats

@@ -1,8 +1,11 @@
 -- A mailbox as contracts see it: all that it has now, and nothing of what it dropped.
-use Rattle.std.specs.Prelude.{◌≡◌, ℕ, ◌+◌, nat_le, ◌||◌, Bool, List, length, map}
+use Rattle.std.specs.Prelude.{◌≡◌, ℕ, ◌+◌, ◌==◌, nat_le, ◌||◌, ◌&&◌, not, Bool, List, [], ◌∷◌, length, map, filter, Option, Some, None, if◌then◌else◌}
 use Rattle.change_ring.specs.declared.change.Flags.{Flags}
+use Rattle.change_ring.specs.declared.flag_op.FlagOp.{FlagOp}
 use Rattle.change_ring.specs.Log.{Row}
+use Rattle.change_ring.specs.Logged.{flags_after}
 use Rattle.change_ring.specs.Window.{Window, total}
+use Rattle.cursor_set.specs.Cursors.{Cursors}
 use Rattle.delivery_token.specs.declared.CopyKey.{CopyKey}
 
 -- a message that is kept
@@ -11,8 +14,8 @@ pub record Message : Type 0 where
   pub flags : Flags
   pub text : List ℕ
 
--- its number and UIDVALIDITY, the first UID, how many messages may be there, the messages, the last changes, and the copies that were
--- accepted, each with its UID
+-- its number and UIDVALIDITY, the first UID, how many messages may be there, the messages, the last changes, the copies that were
+-- accepted, each with its UID, and the clients' cursors
 pub record Mail : Type 0 where
   pub number : ℕ
   pub uidvalidity : ℕ
@@ -21,6 +24,7 @@ pub record Mail : Type 0 where
   pub messages : List Message
   pub window : Window
   pub accepted : List (CopyKey × ℕ)
+  pub cursors : Cursors
 
 -- the UID of the next message
 abbrev pub next_uid : Mail → ℕ
@@ -45,6 +49,27 @@ pub record SameMailbox (old new : Mail) : Type 0 where
 abbrev pub row_of : Message → Row
 row_of m = record { uid = m.uid; flags = m.flags }
 
+-- the messages as a client sees them
+abbrev pub rows : Mail → List Row
+rows m = map row_of m.messages
+
+-- the messages' UIDs
+abbrev pub uids_of : List Message → List ℕ
+uids_of messages = map (λ (m : Message). m.uid) messages
+
 -- the UIDs that were given out
 abbrev pub accepted_uids : Mail → List ℕ
 accepted_uids m = map (λ (a : CopyKey × ℕ). a.1) m.accepted
+
+-- the message of a UID
+abbrev pub message_with : ℕ → List Message → Option Message
+message_with uid [] = None
+message_with uid (m ∷ ms) = if m.uid == uid then Some m else message_with uid ms
+
+-- the messages after an operation on the flags of the one that has this UID
+abbrev pub flagged : ℕ → FlagOp → List Message → List Message
+flagged uid op messages = map (λ (m : Message). if m.uid == uid then record m { flags = flags_after op m.flags } else m) messages
+
+-- the messages that are left where those go that are marked as deleted and pass the test
+abbrev pub remaining : (ℕ → Bool) → List Message → List Message
+remaining test messages = filter (λ (m : Message). not (m.flags.deleted && test m.uid)) messages

@@ -1,19 +1,45 @@
 -- What a mailbox, which keeps no log, says of its log.
-use Rattle.std.specs.Prelude.{◌≡◌, List, [], length, map}
+use Rattle.std.specs.Prelude.{◌≡◌, ℕ, ◌≤◌, List, [], ◌++◌, length, map, take, drop, Some}
 use Rattle.std.specs.List.{range_with_len}
+use Rattle.std.specs.List.Sorted.{IsStrictlyIncreasing}
 use Rattle.change_ring.specs.declared.change.Change.{Change}
-use Rattle.change_ring.specs.Log.{rows_of, added, FitsView}
-use Rattle.change_ring.specs.Window.{IsWindowOf}
-use Rattle.mailbox.specs.Mail.{Mail, row_of, accepted_uids}
+use Rattle.change_ring.specs.Log.{rows_of, view_at, replay, added, FitsView}
+use Rattle.change_ring.specs.Window.{IsWindowOf, changes_from, total}
+use Rattle.cursor_set.specs.Cursors.{Open, in_slot}
+use Rattle.mailbox.specs.Mail.{Mail, row_of, uids_of, accepted_uids}
 
--- the mailbox is as this log leaves it: its messages, its window and the UIDs that it gave out are the log's
+-- A cursor's client was shown the first changes of the log, up to the cursor's number. Of one that fell behind the window nothing is said.
+pub record IsShown (base : ℕ) (log : List Change) (o : Open) : Type 0 where
+  pub within : o.at ≤ length log
+  pub view : base ≤ o.at → o.view ≡ view_at log o.at
+
+-- the mailbox is as this log leaves it: its messages, its window, the UIDs that it gave out and what its clients count are the log's
 pub record Stands (m : Mail) (log : List Change) : Type 0 where
   pub there : FitsView [] log
   pub messages : map row_of m.messages ≡ rows_of log
   pub window : IsWindowOf m.window log
   pub accepted : accepted_uids m ≡ added log
   pub numbered : accepted_uids m ≡ range_with_len m.first_uid (length m.accepted)
+  pub cursors : (slot : ℕ) (o : Open) → in_slot m.cursors slot ≡ Some o → IsShown m.window.base log o
 
 -- it stands for some log, whose first changes nobody knows
 abbrev pub IsSound : Mail → Type 0
 IsSound m = (log : List Change) × Stands m log
+
+-- the next n changes of the log from a number on
+abbrev pub next_of : List Change → ℕ → ℕ → List Change
+next_of log at n = take n (drop at log)
+
+-- What every mailbox keeps, whatever was called, and so each lock around one.
+pub record IsKept (m : Mail) : Type 0 where
+  -- where the window still has what a client is to be shown, its view with these changes replayed is the messages' UIDs
+  pub views : (slot : ℕ) (o : Open) → in_slot m.cursors slot ≡ Some o → m.window.base ≤ o.at → replay o.view (changes_from o.at m.window) ≡ uids_of m.messages
+  -- no cursor is past the end of the log
+  pub within : (slot : ℕ) (o : Open) → in_slot m.cursors slot ≡ Some o → o.at ≤ total m.window
+  pub rising : IsStrictlyIncreasing (uids_of m.messages)
+  -- the copies that were accepted have the UIDs from the first one on, with no gap
+  pub numbered : accepted_uids m ≡ range_with_len m.first_uid (length m.accepted)
+  -- the window's added messages are the last that were accepted
+  pub last : (earlier : List ℕ) × (accepted_uids m ≡ earlier ++ added m.window.changes)
+  -- its clients' seats carry its number, so that a seat of another mailbox is a stranger
+  pub seats : m.cursors.number ≡ m.number

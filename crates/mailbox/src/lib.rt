@@ -1,7 +1,15 @@
-//! One mailbox: its messages, its last changes and the copies that it accepted. Lanes, verdicts and
-//! clients stand in other crates.
+//! One mailbox: its messages, its last changes, the copies that it accepted, and its clients'
+//! cursors. Lanes, verdicts and commands stand in other crates.
 #![tactic(auto)]
 
+mod clients;
+mod laws;
+mod logging;
 mod mailbox;
+mod removal;
+#[cfg(test)]
+mod tests;
 
+pub use clients::{MailFault, Opening, Row};
+pub use laws::every_mailbox_keeps;
 pub use mailbox::{Limits, Mailbox, Receipt, Status};

@@ -1,16 +1,17 @@
-//! The mailbox. Each call that changes it is one event on every log for which it stands; the log
-//! itself is kept nowhere.
+//! The mailbox, and what is delivered to it. Each call that changes it is one event on every log for
+//! which it stands; the log itself is kept nowhere. What its clients do is told in `clients`.
 
-ghost use Rattle.std.specs.Prelude.{◌≡◌, ◌+◌, ◌<◌, ◌↔◌, [], ◌∷◌, ◌++◌, length, map, true, false, Err, OnOk, OnErr, IfOk};
+ghost use Rattle.std.specs.Prelude.{◌≡◌, ◌+◌, ◌<◌, ◌↔◌, [], ◌∷◌, ◌++◌, length, map, max, true, false, Err, OnOk, OnErr, IfOk};
 ghost use Rattle.change_ring.specs.Log.{no_flags};
-ghost use Rattle.change_ring.specs.Window.{MayDrop};
 ghost use Rattle.mailbox.specs.Counts.{unseen_count, deleted_count, bytes_in_all};
-ghost use Rattle.mailbox.specs.Events.{Logs};
+ghost use Rattle.mailbox.specs.Events.{Logs, Moves};
 ghost use Rattle.mailbox.specs.Mail.{SameMailbox, next_uid, is_spent, is_full};
 ghost use Rattle.mailbox.specs.Seen.{message_of};
 ghost use Rattle.mailbox.specs.Stands.{Stands};
 
+use crate::logging::log_change;
 use change_ring::{Change, ChangeRing, Flags};
+use cursor_set::CursorSet;
 use delivery_token::{CopyKey, Job, Refusal, Text};
 use std::alloc::{AllocError, Global};
 use std::marker::Model;
@@ -22,6 +23,9 @@ pub struct Limits {
     pub messages: usize,
     /// So many of the last changes are kept; not 0.
     pub ring: usize,
+    /// So many are kept at most, where a client is still to be shown them; where it is less than
+    /// `ring`, as 0 is, no more are kept than that.
+    pub ring_max: usize,
 }
 
 /// That a copy was delivered: to which mailbox, under which UID.
@@ -51,23 +55,24 @@ pub struct Status {
 }
 
 #[derive(Drop)]
-struct Message {
-    uid: u32,
-    flags: Flags,
-    text: Text,
+pub(crate) struct Message {
+    pub(crate) uid: u32,
+    pub(crate) flags: Flags,
+    pub(crate) text: Text,
 }
 
 /// A mailbox.
 #[derive(Drop)]
 pub struct Mailbox {
     number: u8,
-    uidvalidity: u32,
+    pub(crate) uidvalidity: u32,
     first_uid: u32,
-    next: u32,
+    pub(crate) next: u32,
     limit: usize,
-    messages: Vec<Message>,
-    ring: ChangeRing,
+    pub(crate) messages: Vec<Message>,
+    pub(crate) ring: ChangeRing,
     accepted: Vec<(CopyKey, u32)>,
+    pub(crate) cursors: CursorSet,
 }
 
 impl Model for Mailbox {
@@ -81,7 +86,7 @@ impl Model for Mailbox {
 
     ghost view = { mail_of };
 
-    ghost invariant = { λ b. (b.next ≡ next_uid (mail_of b)) × (length b.messages.items ≤ b.limit) × IsSound (mail_of b) };
+    ghost invariant = { λ b. (b.next ≡ next_uid (mail_of b)) × (length b.messages.items ≤ b.limit) × IsSound (mail_of b) × (b.cursors.number ≡ b.number) };
 }
 
 impl Receipt {
@@ -116,7 +121,7 @@ impl Receipt {
 
 impl Mailbox {
     /// The empty mailbox of this number, at the start of its log. Its messages get the UIDs from
-    /// `first_uid` on. An error where memory is refused.
+    /// `first_uid` on, and it has no client. An error where memory is refused.
     pub fn new(
         alloc: Global,
         number: u8,
@@ -127,9 +132,11 @@ impl Mailbox {
         requires { 0 < limits.ring }
         ensures stands { IfOk result (λ m. Stands m []) }
         ensures settings { IfOk result (λ m. (m.number ≡ number) × (m.uidvalidity ≡ uidvalidity) × (m.first_uid ≡ first_uid) × (m.limit ≡ limits.messages)) }
-        ensures empty { IfOk result (λ m. (m.messages ≡ []) × (m.accepted ≡ []) × (m.window.base ≡ 0) × (m.window.capacity ≡ limits.ring)) }
+        ensures empty { IfOk result (λ m. (m.messages ≡ []) × (m.accepted ≡ []) × (m.cursors ≡ record { number = number; next = 0; slots = [] })) }
+        ensures window { IfOk result (λ m. m.window ≡ record { base = 0; changes = []; capacity = limits.ring; max = max limits.ring limits.ring_max }) }
     {
-        let ring = ChangeRing::new(alloc, limits.ring, limits.ring)?;
+        let most = limits.ring.max(limits.ring_max);
+        let ring = ChangeRing::new(alloc, limits.ring, most)?;
         Ok(Mailbox {
             number,
             uidvalidity,
@@ -139,6 +146,7 @@ impl Mailbox {
             messages: Vec::new(alloc),
             ring,
             accepted: Vec::new(alloc),
+            cursors: CursorSet::new(alloc, number),
         })
     }
 
@@ -164,7 +172,8 @@ impl Mailbox {
         ensures logged { OnOk result (Logs self.old self.new (Change.Add (next_uid self.old) ∷ [])) }
         ensures accepted { OnOk result (self.new.accepted ≡ self.old.accepted ++ (job.now.key, next_uid self.old) ∷ []) }
         ensures message { OnOk result (self.new.messages ≡ self.old.messages ++ record { uid = next_uid self.old; flags = no_flags; text = job.now.text } ∷ []) }
-        ensures window { OnOk result (MayDrop self.old.window self.new.window) }
+        ensures window { OnOk result (Moves self.old.cursors self.old.window self.new.window (Change.Add (next_uid self.old) ∷ [])) }
+        ensures cursors { OnOk result (self.new.cursors ≡ self.old.cursors) }
         ensures same { OnOk result (SameMailbox self.old self.new) }
         ensures receipt { IfOk result (λ r. r ≡ record { mailbox = self.old.number; key = job.now.key; uid = next_uid self.old; place = length self.old.accepted }) }
     {
@@ -185,8 +194,7 @@ impl Mailbox {
         let Ok(()) = self.accepted.reserve(1) else {
             return Err(Refusal::NoMemory);
         };
-        let keep_from = self.ring.total();
-        let Ok(_) = self.ring.push(Change::Add(uid), keep_from) else {
+        let Ok(()) = log_change(&mut self.ring, &self.cursors, Change::Add(uid)) else {
             return Err(Refusal::UidSpent);
         };
         self.messages.push_reserved(Message {
@@ -272,70 +280,4 @@ fn bytes_of(messages: &[Message]) -> u128
         bytes += message.text.as_slice().len() as u128;
     }
     bytes
-}
-
-#[cfg(test)]
-mod tests {
-    use super::*;
-
-    fn job(alloc: Global, recipient: u8, bytes: &[u8]) -> Result<Job, AllocError> {
-        Ok(Job {
-            key: CopyKey {
-                seat: 2,
-                serial: 5,
-                message: 0,
-                recipient,
-            },
-            mailbox: 3,
-            text: Text::new(Vec::from_slice(alloc, bytes)?),
-        })
-    }
-
-    #[test]
-    fn two_copies_fill_a_mailbox(rt: HostRuntime) -> Result<(), AllocError> {
-        let alloc = rt.alloc();
-        let limits = Limits {
-            messages: 2,
-            ring: 4,
-        };
-        let mut mailbox = Mailbox::new(alloc, 3, 77, 10, limits)?;
-        let first = job(alloc, 0, b"one\r\n")?;
-        let second = job(alloc, 1, b"three\r\n")?;
-        let receipt = mailbox.deliver(&first);
-        let told = receipt.map(|r| (r.mailbox(), r.key(), r.uid(), r.place()));
-        assert_eq!(rt; told, Ok((3, first.key, 10, 0)));
-        let told = mailbox.deliver(&second).map(|r| (r.uid(), r.place()));
-        assert_eq!(rt; told, Ok((11, 1)));
-        let told = mailbox.deliver(&second).map(|r| r.uid());
-        assert_eq!(rt; told, Err(Refusal::MailboxFull));
-        let status = Status {
-            messages: 2,
-            uidnext: 12,
-            uidvalidity: 77,
-            unseen: 2,
-            deleted: 0,
-            size: 12,
-        };
-        assert_eq!(rt; mailbox.status(), status);
-        assert!(rt; mailbox.accepted() == &[(first.key, 10), (second.key, 11)][..]);
-        let (base, older, newer) = mailbox.tail();
-        assert_eq!(rt; base, 0);
-        assert!(rt; older == &[Change::Add(10), Change::Add(11)][..]);
-        assert!(rt; newer.is_empty());
-        Ok(())
-    }
-
-    #[test]
-    fn a_mailbox_without_uids_refuses_first_for_that(rt: HostRuntime) -> Result<(), AllocError> {
-        let alloc = rt.alloc();
-        let limits = Limits {
-            messages: 0,
-            ring: 1,
-        };
-        let mut mailbox = Mailbox::new(alloc, 0, 1, u32::MAX, limits)?;
-        let copy = job(alloc, 0, b"hi\r\n")?;
-        let told = mailbox.deliver(&copy).map(|r| r.uid());
-        assert_eq!(rt; told, Err(Refusal::UidSpent));
-        Ok(())
-    }
 }

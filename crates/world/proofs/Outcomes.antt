@@ -7,7 +7,8 @@ use Rattle.change_ring.specs.declared.change.Change.{Change}
 use Rattle.change_ring.specs.declared.change.Change.TheVariants.{Add}
 use Rattle.change_ring.specs.Log.{rows_of}
 use Rattle.change_ring.specs.Logged.{flags_logged, removals, seen_logged, removals_if}
-use Rattle.world.specs.World.{Config, World, Box, Session, Empty, Taken, Event, Put, PutEnd, Take, Deliver, Answer, Hear, Enter, Status, Read, Store, Expunge, Feed, Leave, Step, Allowed, put_joins, put_full, put_no_memory, end_joins, end_full, TakeStep, takes, take_empty, DeliverStep, delivers, deliver_spent, deliver_full, deliver_no_memory, answers, answer_full, hears_one, enters, enter_no_memory, MailStep, mails, mail_lapped, mail_spent, LeaveStep, leaves, leave_spent, Logs, BaseAfter, reply_room, pending, next_uid, most_changes, last_uid}
+use Rattle.change_ring.specs.Window.{BaseAfter}
+use Rattle.world.specs.World.{Config, World, Box, Session, Empty, Taken, Event, Put, PutEnd, Take, Deliver, Answer, Hear, Enter, Status, Read, Store, Expunge, Feed, Leave, Step, Allowed, put_joins, put_full, put_no_memory, end_joins, end_full, TakeStep, takes, take_empty, DeliverStep, delivers, deliver_spent, deliver_full, deliver_no_memory, answers, answer_full, hears_one, enters, enter_no_memory, MailStep, mails, mail_lapped, mail_spent, LeaveStep, leaves, leave_spent, Logs, reply_room, pending, next_uid, most_changes, last_uid}
 
 base_stays : (ring total base : ℕ) (cs : List Change) → BaseAfter ring total base cs base
 base_stays ring total base [] = refl

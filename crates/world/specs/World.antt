@@ -13,6 +13,7 @@ use Rattle.delivery_token.specs.declared.Verdict.TheVariants.{Stored, Refused}
 use Rattle.delivery_token.specs.declared.log.Noted.{Noted}
 use Rattle.change_ring.specs.declared.flag_op.FlagOp.{FlagOp}
 use Rattle.change_ring.specs.Log.{rows_of}
+use Rattle.change_ring.specs.Window.{BaseAfter}
 use Rattle.change_ring.specs.declared.change.Change.{Change}
 use Rattle.change_ring.specs.declared.change.Change.TheVariants.{Add}
 use Rattle.change_ring.specs.Logged.{flags_logged, seen_logged, removals, removals_if}
@@ -157,12 +158,6 @@ pub data TakeStep (w : World) (s : ℕ) (v : World) : Type 0 where
 -- the next message's UID
 abbrev pub next_uid : Config → Box → ℕ
 next_uid k b = k.first_uid + length b.accepted
-
--- From a window of `total` changes less its first `base`, more changes may leave this base: each raises it by one or leaves it,
--- and raises it only where the window already held as many as the ring.
-abbrev pub BaseAfter : ℕ → ℕ → ℕ → List Change → ℕ → Type 0
-BaseAfter ring total base [] new = new ≡ base
-BaseAfter ring total base (c ∷ cs) new = BaseAfter ring (suc total) base cs new ⊎ ((ring ≤ total - base) × BaseAfter ring (suc total) (suc base) cs new)
 
 -- the mailbox after these changes and these accepted copies
 pub record Logs (k : Config) (old : Box) (changes : List Change) (copies : List (Job × ℕ)) (new : Box) : Type 0 where

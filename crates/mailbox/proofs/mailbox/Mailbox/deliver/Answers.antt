@@ -1,9 +1,10 @@
 use Rattle.std.proofs.Common.{◌+◌, ℕ, List, [], ◌∷◌, ◌++◌, ap, subst, ◌∙◌, length, arith, map, refl, length-append}
 use Rattle.std.proofs.lemmas.List.{map-append}
-use Rattle.std.specs.Prelude.{option_to_list}
 use Rattle.change_ring.specs.declared.change.Change.{Change}
 use Rattle.change_ring.specs.declared.change.Change.TheVariants.{Add}
 use Rattle.change_ring.specs.Log.{no_flags}
+use Rattle.change_ring.specs.Window.{total}
+use Rattle.change_ring.proofs.WindowLaws.{BaseAfter-rises}
 use Rattle.mailbox.specs.Mail.{Mail, next_uid}
 use Rattle.mailbox.specs.Stands.{Stands}
 use Rattle.mailbox.specs.Seen.{message_of, mail_of}
@@ -12,16 +13,17 @@ use Rattle.mailbox.proofs.mailbox.Mailbox.deliver.Goals as goal
 
 -- the mailbox as it is left
 abbrev after : goal.After-result-1 → Mail
-after c = mail_of (record c.self.inside { next = c.self.inside.next + 1; messages = c.push_reserved.new.self; ring = c.push.new.self; accepted = c.push_reserved-2.new.self })
+after c = mail_of (record c.self.inside { next = c.self.inside.next + 1; messages = c.push_reserved.new.self; ring = c.log_change.new.ring; accepted = c.push_reserved-2.new.self })
 
 -- it stands for the longer log
 delivered : (c : goal.After-result-1) (log : List Change) → Stands (mail_of c.self.inside) log → Stands (after c) (log ++ Add c.self.inside.next ∷ [])
 delivered c log s =
     let b = c.self.inside in
     let one = ap (map message_of) (c.push_reserved.ensures.items ∙ ap (λ xs. xs ++ record { uid = b.next; flags = no_flags; text = c.in-Ok.text } ∷ []) c.reserve.ensures.items) ∙ map-append message_of b.messages.items _ in
-    Stands-deliver (mail_of b) (after c) log c.args.job.now.key b.next c.in-Ok.text (option_to_list c.in-Ok-push.field-0) c.self.invariant.0
-    one c.in-Ok-push.ensures.window c.in-Ok-push.ensures.base
-    (c.push_reserved-2.ensures.items ∙ ap (λ xs. xs ++ (c.args.job.now.key, b.next) ∷ []) c.reserve-2.ensures.items) refl s
+    let moves = c.in-Ok-log_change.ensures.moves in
+    Stands-deliver (mail_of b) (after c) log c.args.job.now.key b.next c.in-Ok.text c.self.invariant.0
+    one c.in-Ok-log_change.ensures.goes_on (BaseAfter-rises b.ring.capacity (total b.ring) b.ring.base (Add b.next ∷ []) c.log_change.new.ring.base moves.base)
+    (c.push_reserved-2.ensures.items ∙ ap (λ xs. xs ++ (c.args.job.now.key, b.next) ∷ []) c.reserve-2.ensures.items) refl refl s
 
 pub invariant_of-self-2 : goal.invariant_of-self-2
 invariant_of-self-2 c =
@@ -29,8 +31,12 @@ invariant_of-self-2 c =
     let longer = ap length c.push_reserved-2.ensures.items ∙ length-append c.reserve-2.new.self.items ((c.args.job.now.key, b.next) ∷ []) in
     let kept = ap length c.reserve-2.ensures.items in
     let more = ap length c.push_reserved.ensures.items ∙ length-append c.reserve.new.self.items (_ ∷ []) in
-    let same = ap length c.reserve.ensures.items in
-    (omega (arith, c.self.invariant.0, longer, kept), omega (arith, more, same, b.messages.ok.0, c.len.ensures, c.if-len-self.false), (c.self.invariant.2.0 ++ Add b.next ∷ [], delivered c c.self.invariant.2.0 c.self.invariant.2.1))
+    let same = ap length c.reserve.ensures.items in (
+      omega (arith, c.self.invariant.0, longer, kept),
+      omega (arith, more, same, b.messages.ok.0, c.len.ensures, c.if-len-self.false),
+      (c.self.invariant.2.0 ++ Add b.next ∷ [], delivered c c.self.invariant.2.0 c.self.invariant.2.1),
+      c.self.invariant.3,
+    )
 
 pub returns-clause-logged : goal.returns-clause-logged
 returns-clause-logged c =

@@ -1,0 +1,30 @@
+-- What a seat that has a cursor carries.
+use Rattle.std.proofs.Common.{◌≡◌, ℕ, Bool, true, false, ◌==◌, ◌&&◌, Option, Some, None, sym, ap, ◌∙◌, refl}
+use Rattle.std.specs.Prelude.{if◌then◌else◌}
+use Rattle.std.proofs.lemmas.Bool.{eqb-true}
+use Rattle.cursor_set.specs.Cursors.{Cursors, Open, Seat, held, if_of, in_slot}
+
+if_some : (b : Bool) (x : Option Open) (o : Open) → (if b then x else None) ≡ Some o → (b ≡ true) × (x ≡ Some o)
+if_some true x o e = (refl, e)
+if_some false x o e = cc
+
+both : (a b : Bool) → (a && b) ≡ true → (a ≡ true) × (b ≡ true)
+both true b e = (refl, e)
+both false b e = cc
+
+same_open : {o p : Open} → Some o ≡ Some p → o ≡ p
+same_open e = cc
+
+at_of : (seat : Seat) (x : Option Open) (o : Open) → if_of seat x ≡ Some o → o.at ≡ seat.at
+at_of seat None o e = cc
+at_of seat (Some y) o e =
+    let h = if_some ((y.serial == seat.serial) && (y.at == seat.at)) (Some y) o e in
+    ap (λ (p : Open). p.at) (sym (same_open h.1)) ∙ eqb-true y.at seat.at (both (y.serial == seat.serial) (y.at == seat.at) h.0).1
+
+-- it carries the cursor's number
+pub held_at : (s : Cursors) (seat : Seat) (o : Open) → held s seat ≡ Some o → o.at ≡ seat.at
+held_at s seat o e = at_of seat (in_slot s seat.slot) o (if_some (s.number == seat.number) (if_of seat (in_slot s seat.slot)) o e).1
+
+pub held_some : (x : Option Open) → (x ≡ None → ⊥) → (o : Open) × (x ≡ Some o)
+held_some None h = absurd (h refl)
+held_some (Some o) h = (o, refl)

@@ -1,0 +1,39 @@
+use Rattle.std.proofs.Common.{rules, ◌≡◌, ℕ, List, Some, ap, subst, sym, ◌∙◌, map}
+use Rattle.change_ring.specs.Window.{total}
+use Rattle.cursor_set.specs.Cursors.{Updates}
+use Rattle.mailbox.specs.Mail.{Mail, uids_of}
+use Rattle.mailbox.specs.Stands.{Stands}
+use Rattle.mailbox.specs.declared.mailbox.Message as kept
+use Rattle.mailbox.specs.Seen.{mail_of, message_of}
+use Rattle.mailbox.proofs.MessageLaws.{uids_kept}
+use Rattle.mailbox.proofs.StandsLaws.{Stands-enter}
+use Rattle.mailbox.proofs.mailbox.Mailbox.open_cursor.Goals as goal
+
+-- the cursor is at the end, and its client counts the messages that are there
+entered : (c : goal.After-drop-uids-2) → Updates c.self.inside.cursors c.enter.new.self c.in-Ok-enter.seat.slot
+    (Some (record { serial = c.self.inside.cursors.next; at = total c.self.inside.ring; view = uids_of (map message_of c.self.inside.messages.items) }))
+entered c =
+    let b = c.self.inside in
+    let new = c.enter.new.self in
+    let slot = c.in-Ok-enter.seat.slot in
+    let view : c.deref-2.result.now ≡ uids_of (map message_of b.messages.items) =
+    c.deref-2.ensures.value ∙ c.in-Ok.ensures ∙ ap (map (λ (m : kept.Message). m.uid)) c.deref.ensures.value ∙ uids_kept b.messages.items in
+    subst (λ (v : List ℕ). Updates b.cursors new slot (Some (record { serial = b.cursors.next; at = total b.ring; view = v }))) view
+    (subst (λ (k : ℕ). Updates b.cursors new slot (Some (record { serial = b.cursors.next; at = k; view = c.deref-2.result.now }))) c.total-at.ensures.total c.in-Ok-enter.ensures.opened)
+
+pub invariant_of-self-2 : goal.invariant_of-self-2
+invariant_of-self-2 c =
+    let log = c.self.invariant.2.0 in (
+      c.self.invariant.0,
+      c.self.invariant.1,
+      (log, Stands-enter (mail_of c.self.inside) c.enter.new.self log c.in-Ok-enter.seat.slot c.self.inside.cursors.next c.self.invariant.2.1 (entered c)),
+      search rules,
+    )
+
+pub returns-clause-logged : goal.returns-clause-logged
+returns-clause-logged c = λ log s.
+    Stands-enter (mail_of c.self.inside) c.enter.new.self log c.in-Ok-enter.seat.slot c.self.inside.cursors.next (subst (λ (m : Mail). Stands m log) (sym c.self.view_is) s) (entered c)
+
+pub returns-clause-opened : goal.returns-clause-opened
+returns-clause-opened c =
+    subst (λ (m : Mail). Updates m.cursors c.enter.new.self c.in-Ok-enter.seat.slot (Some (record { serial = m.cursors.next; at = total m.window; view = uids_of m.messages }))) c.self.view_is (entered c)

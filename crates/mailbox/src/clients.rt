@@ -1,0 +1,354 @@
+//! What a mailbox's clients do: each holds a cursor, is shown changes by it, reads messages and sets
+//! their flags. Which messages go, and how a client leaves, is told in `removal`.
+
+ghost use Rattle.std.specs.Prelude.{◌≡◌, ◌≢◌, ◌+◌, ◌-◌, ◌^◌, ◌<◌, ◌≤◌, ◌↔◌, ◌⊎◌, ℕ, List, [], ◌∷◌, ◌++◌, length, map, min, All, Some, None, Err, OnOk, OnErr, IfOk, IfErr, IfSome, IfNone, IsErr, IsTrue, option_map, slice_get, if◌then◌else◌};
+ghost use Rattle.std.specs.List.Sorted.{IsStrictlyIncreasing};
+ghost use Rattle.change_ring.specs.Log.{view_at};
+ghost use Rattle.change_ring.specs.Logged.{flags_logged, seen_logged};
+ghost use Rattle.change_ring.specs.Window.{total};
+ghost use Rattle.cursor_set.specs.Cursors.{Updates, after_showing, held, in_slot, next_changes};
+ghost use Rattle.cursor_set.specs.Lines.{lines};
+ghost use Rattle.mailbox.specs.Events.{IsCurrent, IsLapped, IsStranger, IsTooMany, KeepsLog, Logs, Moves, seen_after, was_logged};
+ghost use Rattle.mailbox.specs.Mail.{Message as Kept, flagged, message_with, next_uid, rows, uids_of};
+ghost use Rattle.mailbox.specs.Seen.{message_of};
+ghost use Rattle.mailbox.specs.Stands.{Stands, next_of};
+
+use crate::logging::log_change;
+use crate::mailbox::{Mailbox, Message};
+use change_ring::{Change, FlagOp, Flags, Spent};
+use cursor_set::{CursorSeat, FeedFault, NoMemory, Stranger};
+use delivery_token::Text;
+use std::alloc::{AllocError, Global};
+
+/// Why a client's call did nothing.
+#[derive(Clone, Copy, Debug, PartialEq, Eq)]
+pub enum MailFault {
+    /// The seat is of another mailbox, or its slot doesn't hold its cursor.
+    Stranger,
+    /// The change that the client is to be shown next was overwritten.
+    Lapped,
+    /// The log has no room for what the call would log: it numbers 2^62 changes.
+    Spent,
+    /// Memory was refused.
+    NoMemory,
+}
+
+/// A message as it was read.
+#[derive(Drop)]
+pub struct Row {
+    pub uid: u32,
+    /// Its flags, after \Seen was set where that was asked for.
+    pub flags: Flags,
+    /// Whether this read set \Seen.
+    pub newly_seen: bool,
+    pub text: Text,
+}
+
+/// What a mailbox had as a client opened its cursor (RFC 9051, 6.3.2).
+#[derive(Clone, Copy, Debug, PartialEq, Eq)]
+pub struct Opening {
+    /// How many messages were there.
+    pub count: usize,
+    /// The UID of the next message.
+    pub uidnext: u32,
+    /// The mailbox's UIDVALIDITY.
+    pub uidvalidity: u32,
+}
+
+// Setting \Seen.
+const MARK: FlagOp = FlagOp::Insert(Flags {
+    answered: false,
+    flagged: false,
+    deleted: false,
+    seen: true,
+    draft: false,
+});
+
+// Where the message of a UID stands. The UIDs rise, so it is found by halving.
+fn find(messages: &[Message], uid: u32) -> Option<usize>
+    requires { IsStrictlyIncreasing (map (λ m. m.uid) messages.now) }
+    ensures found { IfSome result (λ k. IfSome (slice_get messages.now k) (λ m. m.uid ≡ uid)) }
+    ensures within { IfSome result (λ k. k < length messages.now) }
+    ensures none { IfNone result (All (λ m. m.uid ≢ uid) messages.now) }
+{
+    let place = messages.partition_point(|message| message.uid < uid);
+    match messages.get(place) {
+        Some(message) if message.uid == uid => Some(place),
+        _ => None,
+    }
+}
+
+// The UIDs of messages.
+fn uids_in(alloc: Global, messages: &[Message]) -> Result<Vec<u32>, AllocError>
+    ensures { IfOk result (λ uids. uids.items ≡ map (λ m. m.uid) messages.now) }
+{
+    messages.iter().map(|message| message.uid).collect(alloc)
+}
+
+impl Mailbox {
+    /// Whether a cursor can be opened: a serial is left for it. It takes no memory.
+    pub fn can_open(&self) -> bool
+        ensures { IsTrue result ↔ (self.now.cursors.next < 2 ^ 64 - 1) }
+    {
+        self.cursors.can_open()
+    }
+
+    /// Opens a cursor for a client at the end of the log: the client counts the messages that are
+    /// there, and is to be shown what happens from now on (RFC 9051, 6.3.2). NoMemory where memory is
+    /// refused; nothing is then changed.
+    pub fn open_cursor(&mut self) -> Result<(CursorSeat, Opening), NoMemory>
+        requires { self.old.cursors.next < 2 ^ 64 - 1 }
+        ensures err { OnErr result (self.new ≡ self.old) }
+        ensures logged { KeepsLog self.old self.new }
+        ensures rest { self.new ≡ record self.old { cursors = self.new.cursors } }
+
+        // The seat is new, and its slot was vacant.
+        ensures seat { IfOk result (λ r. r.0 ≡ record { number = self.old.number; slot = r.0.slot; serial = self.old.cursors.next; at = total self.old.window }) }
+        ensures vacant { IfOk result (λ r. in_slot self.old.cursors r.0.slot ≡ None) }
+        ensures opened { IfOk result (λ r. Updates self.old.cursors self.new.cursors r.0.slot
+            (Some (record { serial = self.old.cursors.next; at = total self.old.window; view = uids_of self.old.messages }))) }
+        ensures next { OnOk result (self.new.cursors.next ≡ self.old.cursors.next + 1) }
+        ensures opening { IfOk result (λ r. r.1 ≡ record { count = length self.old.messages; uidnext = next_uid self.old; uidvalidity = self.old.uidvalidity }) }
+    {
+        let alloc = *self.messages.allocator();
+        let Ok(uids) = uids_in(alloc, &self.messages) else {
+            return Err(NoMemory);
+        };
+        let at = self.ring.total();
+        let Ok(seat) = self.cursors.enter(&uids, at) else {
+            return Err(NoMemory);
+        };
+        let opening = Opening {
+            count: self.messages.len(),
+            uidnext: self.next,
+            uidvalidity: self.uidvalidity,
+        };
+        Ok((seat, opening))
+    }
+
+    /// The UIDs that a client counts, in their order: what it was shown of the log. Stranger where
+    /// the seat has no cursor here. It takes no memory.
+    pub fn view(&self, seat: &CursorSeat) -> Result<&[u32], Stranger>
+        ensures stranger { IsErr result ↔ IsStranger self.now seat.now }
+        ensures shown { IfOk result (λ view. option_map (λ o. o.view) (held self.now.cursors seat.now) ≡ Some view.now) }
+    {
+        self.cursors.view(seat)
+    }
+
+    /// Shows a client its next changes, at most `limit`, as `CursorSet::feed` does: a line for each
+    /// behind `out` (RFC 9051, 7.4 and 7.5), and answers how many. Nothing is logged. Stranger where
+    /// the seat has no cursor here; else Lapped where the next change was overwritten; else NoMemory
+    /// where memory is refused. After each the mailbox, the seat and `out` are unchanged.
+    pub fn feed(
+        &mut self,
+        seat: &mut CursorSeat,
+        limit: usize,
+        out: &mut Vec<u8>,
+    ) -> Result<usize, FeedFault>
+        ensures stranger { (result ≡ Err FeedFault.Stranger) ↔ IsStranger self.old seat.old }
+        ensures lapped { (result ≡ Err FeedFault.Lapped) ↔ IsLapped self.old seat.old }
+        ensures memory { (result ≡ Err FeedFault.NoMemory) → 0 < min limit (total self.old.window - seat.old.at) }
+        ensures err { OnErr result ((self.new ≡ self.old) × (seat.new ≡ seat.old) × (out.new.items ≡ out.old.items)) }
+
+        // The next changes of each log for which the mailbox stands.
+        ensures count { IfOk result (λ n. n ≡ min limit (total self.old.window - seat.old.at)) }
+        ensures shown { IfOk result (λ n. (log : List Change) → Stands self.old log →
+            out.new.items ≡ out.old.items ++ lines (view_at log seat.old.at) (next_of log seat.old.at n)) }
+        ensures seat { IfOk result (λ n. seat.new ≡ record seat.old { at = seat.old.at + n }) }
+        ensures logged { KeepsLog self.old self.new }
+        ensures rest { self.new ≡ record self.old { cursors = self.new.cursors } }
+        ensures moved { IfOk result (λ n. Updates self.old.cursors self.new.cursors seat.old.slot
+            (option_map (after_showing (next_changes self.old.window seat.old.at n)) (held self.old.cursors seat.old))) }
+        ensures next { self.new.cursors.next ≡ self.old.cursors.next }
+    {
+        let count = self.cursors.feed(&self.ring, seat, limit, out)?;
+        Ok(count)
+    }
+
+    // Whether a seat may look at the messages and change them.
+    pub(crate) fn admit(&self, seat: &CursorSeat) -> Result<(), MailFault>
+        ensures stranger { (result ≡ Err MailFault.Stranger) ↔ IsStranger self.now seat.now }
+        ensures lapped { (result ≡ Err MailFault.Lapped) ↔ IsLapped self.now seat.now }
+        ensures admitted { OnOk result (IsCurrent self.now seat.now) }
+        ensures only { IfErr result (λ fault. (fault ≡ MailFault.Stranger) ⊎ (fault ≡ MailFault.Lapped)) }
+        ensures small { total self.now.window ≤ 2 ^ 62 }
+    {
+        // Read for its bound: no log has more than 2^62 changes.
+        let _total = self.ring.total();
+        let Ok(_view) = self.cursors.view(seat) else {
+            return Err(MailFault::Stranger);
+        };
+        if seat.at() < self.ring.base() {
+            return Err(MailFault::Lapped);
+        }
+        Ok(())
+    }
+
+    // Where the message of a UID stands.
+    fn place_of(&self, uid: u32) -> Option<usize>
+        ensures found { IfSome result (λ k. IfSome (slice_get self.now.messages k) (λ (m : Kept). m.uid ≡ uid)) }
+        ensures within { IfSome result (λ k. k < length self.now.messages) }
+        ensures none { IfNone result (All (λ (m : Kept). m.uid ≢ uid) self.now.messages) }
+    {
+        find(&self.messages, uid)
+    }
+
+    // The message at a place, which has this UID.
+    fn message_at(&self, place: usize, uid: u32) -> &Message
+        requires within { place < length self.now.messages }
+        requires there { IfSome (slice_get self.now.messages place) (λ (m : Kept). m.uid ≡ uid) }
+        ensures { message_with uid self.now.messages ≡ Some (message_of result.now) }
+    {
+        &self.messages[place]
+    }
+
+    // Sets the flags of the message at a place, and logs that where they become others: answers
+    // whether they did. Spent where the log has no room for it; nothing is then changed.
+    fn set_flags(&mut self, place: usize, uid: u32, op: FlagOp) -> Result<bool, Spent>
+        requires within { place < length self.old.messages }
+        requires there { IfSome (slice_get self.old.messages place) (λ (m : Kept). m.uid ≡ uid) }
+        requires small { total self.old.window ≤ 2 ^ 62 }
+        ensures spent { IsErr result ↔ IsTooMany self.old (flags_logged (rows self.old) uid op) }
+        ensures err { OnErr result (self.new ≡ self.old) }
+        ensures logged { OnOk result (Logs self.old self.new (flags_logged (rows self.old) uid op)) }
+        ensures window { OnOk result (Moves self.old.cursors self.old.window self.new.window (flags_logged (rows self.old) uid op)) }
+        ensures messages { OnOk result (self.new.messages ≡ flagged uid op self.old.messages) }
+        ensures rest { self.new ≡ record self.old { messages = self.new.messages; window = self.new.window } }
+        ensures changed { IfOk result (λ changed. was_logged (flags_logged (rows self.old) uid op) ≡ changed) }
+        ensures there { OnOk result ((place < length self.new.messages) × IfSome (slice_get self.new.messages place) (λ (m : Kept). m.uid ≡ uid)) }
+    {
+        let old = self.messages[place].flags;
+        let flags = op.after(old);
+        if !old.differ_from(flags) {
+            return Ok(false);
+        }
+        let Ok(()) = log_change(&mut self.ring, &self.cursors, Change::Flags(uid, flags)) else {
+            return Err(Spent);
+        };
+        self.messages[place].flags = flags;
+        Ok(true)
+    }
+
+    /// Changes the flags of the message of a UID (RFC 9051, 6.4.6), and answers them as they are
+    /// then; None where no message has the UID. It is logged where they become others. Stranger,
+    /// Lapped or Spent, in this order; nothing is then changed. It takes no memory.
+    pub fn store(
+        &mut self,
+        seat: &CursorSeat,
+        uid: u32,
+        op: FlagOp,
+    ) -> Result<Option<Flags>, MailFault>
+        ensures stranger { (result ≡ Err MailFault.Stranger) ↔ IsStranger self.old seat.now }
+        ensures lapped { (result ≡ Err MailFault.Lapped) ↔ IsLapped self.old seat.now }
+        ensures spent { (result ≡ Err MailFault.Spent) ↔ (IsCurrent self.old seat.now × IsTooMany self.old (flags_logged (rows self.old) uid op)) }
+        ensures memory { result ≢ Err MailFault.NoMemory }
+        ensures err { OnErr result (self.new ≡ self.old) }
+
+        ensures logged { OnOk result (Logs self.old self.new (flags_logged (rows self.old) uid op)) }
+        ensures window { OnOk result (Moves self.old.cursors self.old.window self.new.window (flags_logged (rows self.old) uid op)) }
+        ensures messages { OnOk result (self.new.messages ≡ flagged uid op self.old.messages) }
+        ensures rest { self.new ≡ record self.old { messages = self.new.messages; window = self.new.window } }
+        ensures flags { IfOk result (λ flags. flags ≡ option_map (λ m. m.flags) (message_with uid self.new.messages)) }
+    {
+        self.admit(seat)?;
+        let Some(place) = self.place_of(uid) else {
+            return Ok(None);
+        };
+        let Ok(_changed) = self.set_flags(place, uid, op) else {
+            return Err(MailFault::Spent);
+        };
+        Ok(Some(self.message_at(place, uid).flags))
+    }
+
+    // Whether setting \Seen, where that is asked for, is more than the log has room for.
+    fn cannot_mark(&self, place: usize, uid: u32, mark_seen: bool) -> bool
+        requires within { place < length self.now.messages }
+        requires there { IfSome (slice_get self.now.messages place) (λ (m : Kept). m.uid ≡ uid) }
+        requires small { total self.now.window ≤ 2 ^ 62 }
+        ensures { IsTrue result ↔ IsTooMany self.now (seen_logged mark_seen (rows self.now) uid) }
+    {
+        if !mark_seen {
+            return false;
+        }
+        let flags = self.message_at(place, uid).flags;
+        if !flags.differ_from(MARK.after(flags)) {
+            return false;
+        }
+        self.ring.total() >= 1 << 62
+    }
+
+    // Sets \Seen, where that is asked for: answers whether that changed the flags.
+    fn mark(&mut self, place: usize, uid: u32, mark_seen: bool) -> Result<bool, Spent>
+        requires within { place < length self.old.messages }
+        requires there { IfSome (slice_get self.old.messages place) (λ (m : Kept). m.uid ≡ uid) }
+        requires small { total self.old.window ≤ 2 ^ 62 }
+        ensures spent { IsErr result ↔ IsTooMany self.old (seen_logged mark_seen (rows self.old) uid) }
+        ensures err { OnErr result (self.new ≡ self.old) }
+        ensures logged { OnOk result (Logs self.old self.new (seen_logged mark_seen (rows self.old) uid)) }
+        ensures window { OnOk result (Moves self.old.cursors self.old.window self.new.window (seen_logged mark_seen (rows self.old) uid)) }
+        ensures messages { OnOk result (self.new.messages ≡ seen_after mark_seen uid self.old.messages) }
+        ensures rest { self.new ≡ record self.old { messages = self.new.messages; window = self.new.window } }
+        ensures changed { IfOk result (λ changed. was_logged (seen_logged mark_seen (rows self.old) uid) ≡ changed) }
+        ensures there { OnOk result ((place < length self.new.messages) × IfSome (slice_get self.new.messages place) (λ (m : Kept). m.uid ≡ uid)) }
+    {
+        if !mark_seen {
+            return Ok(false);
+        }
+        self.set_flags(place, uid, MARK)
+    }
+
+    /// Reads the message of a UID, with a copy of its text; where `mark_seen`, it has \Seen from now
+    /// on (RFC 9051, 6.4.5), which is logged where it had not. None where no message has the UID.
+    /// Stranger, Lapped, Spent or NoMemory, in this order; nothing is then changed.
+    pub fn read(
+        &mut self,
+        seat: &CursorSeat,
+        uid: u32,
+        mark_seen: bool,
+    ) -> Result<Option<Row>, MailFault>
+        ensures stranger { (result ≡ Err MailFault.Stranger) ↔ IsStranger self.old seat.now }
+        ensures lapped { (result ≡ Err MailFault.Lapped) ↔ IsLapped self.old seat.now }
+        ensures spent { (result ≡ Err MailFault.Spent) ↔ (IsCurrent self.old seat.now × IsTooMany self.old (seen_logged mark_seen (rows self.old) uid)) }
+        ensures err { OnErr result (self.new ≡ self.old) }
+
+        ensures logged { OnOk result (Logs self.old self.new (seen_logged mark_seen (rows self.old) uid)) }
+        ensures window { OnOk result (Moves self.old.cursors self.old.window self.new.window (seen_logged mark_seen (rows self.old) uid)) }
+        ensures messages { OnOk result (self.new.messages ≡ seen_after mark_seen uid self.old.messages) }
+        ensures rest { self.new ≡ record self.old { messages = self.new.messages; window = self.new.window } }
+        ensures row { IfOk result (λ row. row ≡ option_map (λ m. record {
+            uid = m.uid; flags = m.flags; newly_seen = was_logged (seen_logged mark_seen (rows self.old) uid); text = m.text }) (message_with uid self.new.messages)) }
+    {
+        self.admit(seat)?;
+        let Some(place) = self.place_of(uid) else {
+            return Ok(None);
+        };
+        let Ok(text) = self.message_at(place, uid).text.copy() else {
+            return Err(self.refuse_copy(place, uid, mark_seen));
+        };
+        let Ok(newly_seen) = self.mark(place, uid, mark_seen) else {
+            return Err(MailFault::Spent);
+        };
+        let flags = self.message_at(place, uid).flags;
+        Ok(Some(Row {
+            uid,
+            flags,
+            newly_seen,
+            text,
+        }))
+    }
+
+    // Why a message isn't read whose text could not be copied: a log without room comes first.
+    fn refuse_copy(&self, place: usize, uid: u32, mark_seen: bool) -> MailFault
+        requires within { place < length self.now.messages }
+        requires there { IfSome (slice_get self.now.messages place) (λ (m : Kept). m.uid ≡ uid) }
+        requires small { total self.now.window ≤ 2 ^ 62 }
+        ensures spent { (result ≡ MailFault.Spent) ↔ IsTooMany self.now (seen_logged mark_seen (rows self.now) uid) }
+        ensures only { (result ≡ MailFault.Spent) ⊎ (result ≡ MailFault.NoMemory) }
+    {
+        if self.cannot_mark(place, uid, mark_seen) {
+            MailFault::Spent
+        } else {
+            MailFault::NoMemory
+        }
+    }
+}

@@ -1,0 +1,12 @@
+//! What holds of every mailbox, as the contract of a function that anybody may call.
+
+ghost use Rattle.mailbox.specs.Stands.{IsKept};
+
+use crate::mailbox::Mailbox;
+
+/// What the type keeps: a lock around a mailbox keeps it too.
+pub fn every_mailbox_keeps(mailbox: &Mailbox)
+    ensures { IsKept mailbox.now }
+{
+    let _ = &mailbox.messages;
+}
