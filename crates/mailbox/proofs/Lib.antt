@@ -1,3 +1,4 @@
 pub mod StandsLaws
 pub mod MessageLaws
+pub mod RemovalLaws
 pub mod Seats

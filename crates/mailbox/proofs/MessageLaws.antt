@@ -1,5 +1,5 @@
 -- What an operation on one message's flags does to the messages, whose UIDs rise.
-use Rattle.std.proofs.Common.{◌≡◌, subst, ◌≢◌, ℕ, zero, suc, ◌+◌, ◌<◌, ltb, Bool, true, false, ◌==◌, ◌||◌, not, List, [], ◌∷◌, ◌++◌, length, get_or, set, map, Option, Some, None, All, Contains, refl, sym, ap, ap₂, ◌∙◌, inl, inr, arith, eq-eqb}
+use Rattle.std.proofs.Common.{◌≡◌, subst, ◌≢◌, ℕ, zero, suc, ◌<◌, ltb, Bool, true, false, ◌==◌, ◌||◌, List, [], ◌∷◌, length, get_or, set, map, Some, None, All, Contains, refl, sym, ap, ◌∙◌, inl, inr, arith, eq-eqb}
 use Rattle.std.specs.Prelude.{if◌then◌else◌, option_map, slice_get, IfSome}
 use Rattle.std.specs.List.{AllByRecursion}
 use Rattle.std.specs.List.Sorted.{IsStrictlyIncreasing, IsNonDecreasingBy, IsPartitionPoint}
@@ -9,10 +9,9 @@ use Rattle.std.proofs.lemmas.Bool.{ltb-true, ltb-false, cases_lt}
 use Rattle.std.proofs.Math.ListN.{get_or-map}
 use Rattle.std.proofs.lemmas.Bool.Decides.{eqb_tells}
 use Rattle.change_ring.specs.declared.change.Flags.{Flags}
-use Rattle.change_ring.specs.declared.change.Change.{Change}
 use Rattle.change_ring.specs.declared.change.Change.TheVariants.{Flags as SetFlags}
 use Rattle.change_ring.specs.declared.flag_op.FlagOp.{FlagOp}
-use Rattle.change_ring.specs.Log.{Row, FitsView, with_flags, rows_after, added}
+use Rattle.change_ring.specs.Log.{Row, FitsView, with_flags, rows_after}
 use Rattle.mailbox.specs.Events.{mark, seen_after}
 use Rattle.change_ring.specs.Logged.{seen_logged, differ, flags_differ, flags_after, flags_logged, new_flags}
 use Rattle.cursor_set.proofs.Places.{Rises, Rises-from}

@@ -2,16 +2,16 @@
 use Rattle.std.proofs.Common.{◌≡◌, ℕ, zero, suc, ◌+◌, ◌-◌, ◌<◌, ◌≤◌, List, [], ◌∷◌, ◌++◌, length, map, take, drop, get_or, Option, Some, None, append-nil, refl, sym, ap, ap₂, ◌∙◌, inl, inr, subst, arith, length-append}
 use Rattle.std.specs.List.{range_with_len, AllByRecursion}
 use Rattle.std.specs.List.Sorted.{IsStrictlyIncreasing}
-use Rattle.std.proofs.lemmas.List.{take_all, take-append-le, take-append-drop, map-append}
+use Rattle.std.proofs.lemmas.List.{take_all, take-append-le, map-append}
 use Rattle.std.proofs.lemmas.Bool.{cases_eq}
 use Rattle.std.proofs.Math.Seq.{take-add}
 use Rattle.change_ring.specs.declared.change.Change.{Change}
 use Rattle.change_ring.specs.declared.change.Change.TheVariants.{Add}
-use Rattle.change_ring.specs.Log.{Row, IsLegalLog, no_flags, Names, FitsView, rows_after, replay, view_at, added}
-use Rattle.change_ring.specs.Window.{Window, IsWindowOf, BaseAfter, changes_from, total}
+use Rattle.change_ring.specs.Log.{Row, IsLegalLog, no_flags, FitsView, rows_after, replay, view_at, added}
+use Rattle.change_ring.specs.Window.{Window, changes_from, total}
 use Rattle.change_ring.proofs.LogLaws.{FitsView-append, rows_after-append, added-append, replay-append, uids-rows_after}
 use Rattle.change_ring.proofs.RangeLaws.{range-push}
-use Rattle.change_ring.proofs.WindowLaws.{BaseAfter-rises, changes_from-log}
+use Rattle.change_ring.proofs.WindowLaws.{changes_from-log}
 use Rattle.cursor_set.specs.Cursors.{Cursors, Open, Updates, after_showing, in_slot, next_changes}
 use Rattle.cursor_set.specs.Legal.{IsLegalOn}
 use Rattle.cursor_set.specs.Lines.{lines}

@@ -3,3 +3,4 @@ pub mod Stands
 pub mod Seen
 pub mod Events
 pub mod Counts
+pub mod Choices

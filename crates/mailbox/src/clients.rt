@@ -171,6 +171,7 @@ impl Mailbox {
         ensures lapped { (result ≡ Err MailFault.Lapped) ↔ IsLapped self.now seat.now }
         ensures admitted { OnOk result (IsCurrent self.now seat.now) }
         ensures only { IfErr result (λ fault. (fault ≡ MailFault.Stranger) ⊎ (fault ≡ MailFault.Lapped)) }
+        ensures within { OnOk result (seat.now.at ≤ total self.now.window) }
         ensures small { total self.now.window ≤ 2 ^ 62 }
     {
         // Read for its bound: no log has more than 2^62 changes.
@@ -316,7 +317,11 @@ impl Mailbox {
         ensures messages { OnOk result (self.new.messages ≡ seen_after mark_seen uid self.old.messages) }
         ensures rest { self.new ≡ record self.old { messages = self.new.messages; window = self.new.window } }
         ensures row { IfOk result (λ row. row ≡ option_map (λ m. record {
-            uid = m.uid; flags = m.flags; newly_seen = was_logged (seen_logged mark_seen (rows self.old) uid); text = m.text }) (message_with uid self.new.messages)) }
+          uid = m.uid;
+          flags = m.flags;
+          newly_seen = was_logged (seen_logged mark_seen (rows self.old) uid);
+          text = m.text;
+        }) (message_with uid self.new.messages)) }
     {
         self.admit(seat)?;
         let Some(place) = self.place_of(uid) else {

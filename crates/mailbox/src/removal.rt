@@ -1,1 +1,244 @@
-//! Which messages go.
+//! Which messages go: those with \Deleted, at an expunge or as a client leaves. All of a call's
+//! removals are one event: they are logged in the order of the UIDs, and taken out in one pass.
+
+ghost use Rattle.std.specs.Prelude.{◌≡◌, ◌≢◌, ◌+◌, ◌^◌, ◌≤◌, ◌<◌, ◌↔◌, ◌⊎◌, ◌==◌, not, ℕ, Bool, true, List, [], ◌∷◌, ◌++◌, length, map, filter, count_by, None, Some, Err, OnOk, OnErr, IfOk, IfErr, IsTrue, option_map, drop, IsSome, if◌then◌else◌};
+ghost use Rattle.std.specs.List.Sorted.{IsNonDecreasing};
+ghost use Rattle.std.specs.List.{list_any};
+ghost use Rattle.change_ring.specs.Log.{view_at};
+ghost use Rattle.change_ring.specs.Logged.{removals, removals_if};
+ghost use Rattle.change_ring.specs.Window.{changes_from, total};
+ghost use Rattle.cursor_set.specs.Cursors.{Updates, after_showing, held};
+ghost use Rattle.cursor_set.specs.Lines.{lines};
+ghost use Rattle.mailbox.specs.Choices.{IsFound, passes, is_taken};
+ghost use Rattle.mailbox.specs.Events.{GoesOn, IsCurrent, IsLapped, IsStranger, IsTooMany, KeepsLog, Logs, Moves, in_set};
+ghost use Rattle.mailbox.specs.Mail.{Message as Kept, remaining, row_of, rows};
+ghost use Rattle.mailbox.specs.Seen.{message_of};
+ghost use Rattle.mailbox.specs.Stands.{Stands};
+
+use crate::clients::MailFault;
+use crate::logging::log_change;
+use crate::mailbox::{Mailbox, Message};
+use change_ring::{Change, ChangeRing};
+use cursor_set::{CursorSeat, CursorSet, FeedFault};
+
+// Which messages with \Deleted may go.
+#[derive(Clone, Copy)]
+enum Choice<'a> {
+    // all
+    Any,
+    // those with these UIDs, which do not fall, so that each is found by halving
+    Rising(&'a [u32]),
+    // those with these UIDs, in whatever order
+    Listed(&'a [u32]),
+}
+
+// A set's choice: a set that rises, as a resolved one does, is searched by halving.
+fn choice_of(set: Option<&[u32]>) -> Choice<'_>
+    ensures test { passes result ≡ in_set (option_map (λ uids. uids.now) set.entry) }
+    ensures found { IsFound result }
+{
+    match set {
+        None => Choice::Any,
+        Some(uids) => {
+            if uids.is_sorted() {
+                Choice::Rising(uids)
+            } else {
+                Choice::Listed(uids)
+            }
+        }
+    }
+}
+
+// Whether these UIDs, which do not fall, have one.
+fn has_rising(uids: &[u32], uid: u32) -> bool
+    requires { IsNonDecreasing uids.now }
+    ensures { result ≡ list_any (λ u. u == uid) uids.now }
+{
+    uids.binary_search(&uid).is_ok()
+}
+
+// Whether a message goes: it has \Deleted, and the choice has its UID.
+fn goes(message: &Message, choice: Choice) -> bool
+    requires { IsFound choice }
+    ensures { result ≡ is_taken (passes choice.entry) (message_of message.now) }
+{
+    if !message.flags.deleted {
+        return false;
+    }
+    match choice {
+        Choice::Any => true,
+        Choice::Rising(uids) => has_rising(uids, message.uid),
+        Choice::Listed(uids) => uids.contains(&message.uid),
+    }
+}
+
+// How many of the messages go.
+fn count_taken(messages: &[Message], choice: Choice) -> usize
+    requires { IsFound choice }
+    ensures { result ≡ count_by (is_taken (passes choice.entry)) (map message_of messages.now) }
+{
+    messages.iter().filter(|m| goes(m, choice)).count()
+}
+
+// Logs that messages are gone, those that go, in their order.
+fn log_removals(ring: &mut ChangeRing, cursors: &CursorSet, messages: &[Message], choice: Choice)
+    requires found { IsFound choice }
+    requires room { total ring.old + length (removals (passes choice) (map row_of (map message_of messages.now))) ≤ 2 ^ 62 }
+    ensures goes_on { GoesOn ring.old ring.new (removals (passes choice.entry) (map row_of (map message_of messages.now))) }
+    ensures moves { Moves cursors.now ring.old ring.new (removals (passes choice.entry) (map row_of (map message_of messages.now))) }
+{
+    for message in messages {
+        if goes(message, choice) {
+            let _ = log_change(ring, cursors, Change::Gone(message.uid));
+        }
+    }
+}
+
+impl Mailbox {
+    // Whether the log has room for so many changes more.
+    fn has_room(&self, count: usize) -> bool
+        ensures { IsTrue result ↔ (total self.now.window + count ≤ 2 ^ 62) }
+    {
+        let left = (1 << 62) - self.ring.total();
+        count as u64 <= left
+    }
+
+    // How many messages go.
+    fn count_removals(&self, choice: Choice) -> usize
+        requires { IsFound choice }
+        ensures { result ≡ length (removals (passes choice.entry) (rows self.now)) }
+    {
+        count_taken(&self.messages, choice)
+    }
+
+    // Takes out the messages that go.
+    fn remove(&mut self, choice: Choice)
+        requires found { IsFound choice }
+        requires room { total self.old.window + length (removals (passes choice) (rows self.old)) ≤ 2 ^ 62 }
+        ensures logged { Logs self.old self.new (removals (passes choice.entry) (rows self.old)) }
+        ensures window { Moves self.old.cursors self.old.window self.new.window (removals (passes choice.entry) (rows self.old)) }
+        ensures messages { self.new.messages ≡ remaining (passes choice.entry) self.old.messages }
+        ensures rest { self.new ≡ record self.old { messages = self.new.messages; window = self.new.window } }
+    {
+        log_removals(&mut self.ring, &self.cursors, &self.messages, choice);
+        self.messages.retain(|message| !goes(message, choice));
+    }
+
+    /// Shows a client all that is pending, then removes the messages that have \Deleted, of a set
+    /// of UIDs where there is one (RFC 9051, 6.4.3 and 6.4.9): answers how many went. They are
+    /// logged in the order of their UIDs, and the client is to be shown them later. Stranger,
+    /// Lapped, Spent or NoMemory, in this order; the mailbox, the seat and `out` are then unchanged.
+    /// The set may have UIDs in any order, and such as no message has; one that rises costs least.
+    pub fn expunge(
+        &mut self,
+        seat: &mut CursorSeat,
+        set: Option<&[u32]>,
+        out: &mut Vec<u8>,
+    ) -> Result<usize, MailFault>
+        ensures stranger { (result ≡ Err MailFault.Stranger) ↔ IsStranger self.old seat.old }
+        ensures lapped { (result ≡ Err MailFault.Lapped) ↔ IsLapped self.old seat.old }
+        ensures spent { (result ≡ Err MailFault.Spent) ↔ (IsCurrent self.old seat.old × IsTooMany self.old (removals (in_set (option_map (λ uids. uids.now) set.entry)) (rows self.old))) }
+        ensures memory { (result ≡ Err MailFault.NoMemory) → seat.old.at < total self.old.window }
+        ensures err { OnErr result ((self.new ≡ self.old) × (seat.new ≡ seat.old) × (out.new.items ≡ out.old.items)) }
+
+        // All that was pending is shown, and nothing of what goes now.
+        ensures shown { OnOk result ((log : List Change) → Stands self.old log →
+            out.new.items ≡ out.old.items ++ lines (view_at log seat.old.at) (drop seat.old.at log)) }
+        ensures seat { OnOk result (seat.new ≡ record seat.old { at = total self.old.window }) }
+        ensures moved { OnOk result (Updates self.old.cursors self.new.cursors seat.old.slot
+            (option_map (after_showing (changes_from seat.old.at self.old.window)) (held self.old.cursors seat.old))) }
+
+        ensures logged { OnOk result (Logs self.old self.new (removals (in_set (option_map (λ uids. uids.now) set.entry)) (rows self.old))) }
+        ensures window { OnOk result (Moves self.new.cursors self.old.window self.new.window (removals (in_set (option_map (λ uids. uids.now) set.entry)) (rows self.old))) }
+        ensures messages { OnOk result (self.new.messages ≡ remaining (in_set (option_map (λ uids. uids.now) set.entry)) self.old.messages) }
+        ensures rest { OnOk result (self.new ≡ record self.old { messages = self.new.messages; window = self.new.window; cursors = self.new.cursors }) }
+        ensures next { self.new.cursors.next ≡ self.old.cursors.next }
+        ensures count { IfOk result (λ n. n ≡ length (removals (in_set (option_map (λ uids. uids.now) set.entry)) (rows self.old))) }
+    {
+        self.admit(seat)?;
+        let choice = choice_of(set);
+        let count = self.count_removals(choice);
+        if !self.has_room(count) {
+            return Err(MailFault::Spent);
+        }
+        let Ok(_shown) = self.feed(seat, usize::MAX, out) else {
+            return Err(MailFault::NoMemory);
+        };
+        self.remove(choice);
+        Ok(count)
+    }
+
+    // Closes a cursor. A seat that has none here is handed back.
+    fn close(&mut self, seat: CursorSeat) -> Result<(), CursorSeat>
+        ensures logged { KeepsLog self.old self.new }
+        ensures rest { self.new ≡ record self.old { cursors = self.new.cursors } }
+        ensures closed { OnOk result (Updates self.old.cursors self.new.cursors seat.slot None) }
+        ensures held { OnOk result (IsSome (held self.old.cursors seat)) }
+        ensures next { self.new.cursors.next ≡ self.old.cursors.next }
+        ensures stranger { IfErr result (λ back. (back ≡ seat) × IsStranger self.old seat × (self.new ≡ self.old)) }
+    {
+        self.cursors.close(seat)
+    }
+
+    // How many messages go as a client leaves.
+    fn count_leaving(&self, remove: bool) -> usize
+        ensures { result ≡ length (removals_if remove (rows self.now)) }
+    {
+        if remove {
+            self.count_removals(Choice::Any)
+        } else {
+            0
+        }
+    }
+
+    // Takes out the messages that go as a client leaves.
+    fn remove_leaving(&mut self, remove: bool)
+        requires room { total self.old.window + length (removals_if remove (rows self.old)) ≤ 2 ^ 62 }
+        ensures logged { Logs self.old self.new (removals_if remove (rows self.old)) }
+        ensures window { Moves self.old.cursors self.old.window self.new.window (removals_if remove (rows self.old)) }
+        ensures messages { self.new.messages ≡ (if remove then remaining (λ uid. true) self.old.messages else self.old.messages) }
+        ensures rest { self.new ≡ record self.old { messages = self.new.messages; window = self.new.window } }
+    {
+        if remove {
+            self.remove(Choice::Any);
+        }
+    }
+
+    /// Closes a client's cursor; where `remove`, every message that has \Deleted goes with it (RFC
+    /// 9051, 6.4.1 and 6.4.2), logged in the order of the UIDs: answers how many went. The client
+    /// may have fallen behind the window. What goes is kept for other clients alone: the cursor is
+    /// closed first.
+    ///
+    /// Stranger where the seat has no cursor here, else Spent where the log has no room for the
+    /// removals; the seat is then handed back and the mailbox unchanged. It takes no memory.
+    pub fn close_cursor(
+        &mut self,
+        seat: CursorSeat,
+        remove: bool,
+    ) -> Result<usize, (CursorSeat, MailFault)>
+        ensures stranger { (result ≡ Err (seat, MailFault.Stranger)) ↔ IsStranger self.old seat }
+        ensures spent { (result ≡ Err (seat, MailFault.Spent)) ↔ (IsSome (held self.old.cursors seat) × IsTooMany self.old (removals_if remove (rows self.old))) }
+        ensures only { IfErr result (λ e. (e.0 ≡ seat) × ((e.1 ≡ MailFault.Stranger) ⊎ (e.1 ≡ MailFault.Spent)) × (self.new ≡ self.old)) }
+
+        ensures logged { OnOk result (Logs self.old self.new (removals_if remove (rows self.old))) }
+        ensures window { OnOk result (Moves self.new.cursors self.old.window self.new.window (removals_if remove (rows self.old))) }
+        ensures messages { OnOk result (self.new.messages ≡ (if remove then remaining (λ uid. true) self.old.messages else self.old.messages)) }
+        ensures closed { OnOk result (Updates self.old.cursors self.new.cursors seat.slot None) }
+        ensures rest { OnOk result (self.new ≡ record self.old { messages = self.new.messages; window = self.new.window; cursors = self.new.cursors }) }
+        ensures next { self.new.cursors.next ≡ self.old.cursors.next }
+        ensures count { IfOk result (λ n. n ≡ length (removals_if remove (rows self.old))) }
+    {
+        if self.cursors.view(&seat).is_err() {
+            return Err((seat, MailFault::Stranger));
+        }
+        let count = self.count_leaving(remove);
+        if !self.has_room(count) {
+            return Err((seat, MailFault::Spent));
+        }
+        if let Err(seat) = self.close(seat) {
+            return Err((seat, MailFault::Stranger));
+        }
+        self.remove_leaving(remove);
+        Ok(count)
+    }
+}

@@ -1,4 +1,4 @@
-use Rattle.std.proofs.Common.{ℕ, List, [], ◌++◌, take, drop, sym, ap, ap₂, ◌∙◌, subst, arith}
+use Rattle.std.proofs.Common.{List, [], ◌++◌, take, drop, sym, ap, ap₂, ◌∙◌, subst, arith}
 use Rattle.std.proofs.lemmas.List.{take-append-drop}
 use Rattle.change_ring.specs.declared.change.Change.{Change}
 use Rattle.change_ring.specs.Log.{added, replay}
@@ -24,7 +24,7 @@ returns c =
       last = (
         added (take m.window.base log),
         s.accepted ∙ ap added (sym (take-append-drop m.window.base log)) ∙ added-append (take m.window.base log) (drop m.window.base log)
-        ∙ ap (λ (cs : List Change). added (take m.window.base log) ++ added cs) s.window.rest,
+            ∙ ap (λ (cs : List Change). added (take m.window.base log) ++ added cs) s.window.rest,
       );
       seats = c.mailbox.invariant.3;
     })

@@ -1,9 +1,8 @@
-use Rattle.std.proofs.Common.{rules, ◌≡◌, ◌≤◌, ap, sym, ◌∙◌, length, arith, leb-true, le-leb}
+use Rattle.std.proofs.Common.{ap, arith, leb-true, le-leb}
 use Rattle.change_ring.specs.Window.{total}
 use Rattle.mailbox.specs.Mail.{Mail}
 use Rattle.mailbox.specs.Seen.{message_of}
 use Rattle.mailbox.proofs.MessageLaws.{count_seen}
-use Rattle.std.specs.Prelude.{if◌then◌else◌}
 use Rattle.mailbox.proofs.mailbox.Mailbox.cannot_mark.Goals as goal
 
 pub returns-then-not-differ_from : goal.returns-then-not-differ_from

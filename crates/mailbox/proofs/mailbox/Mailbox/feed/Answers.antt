@@ -1,4 +1,4 @@
-use Rattle.std.proofs.Common.{rules, ◌≡◌, ◌<◌, ◌≤◌, ◌+◌, ◌-◌, ℕ, List, ◌++◌, Ok, Err, Some, IsSome, is_some, min, ap, subst, sym, ◌∙◌, inl, inr, arith, length, take, length-take, length-drop}
+use Rattle.std.proofs.Common.{rules, ◌≡◌, ◌≤◌, ◌-◌, ℕ, List, ◌++◌, Ok, Err, Some, IsSome, is_some, ap, subst, sym, ◌∙◌, inl, inr, arith, length, length-take, length-drop}
 use Rattle.std.proofs.lemmas.Bool.{cases_lt}
 use Rattle.change_ring.specs.Log.{view_at}
 use Rattle.change_ring.specs.Window.{total, changes_from}

@@ -1,8 +1,8 @@
-use Rattle.std.proofs.Common.{rules, ◌≡◌, ℕ, List, Bool, true, false, Option, Some, ap, subst, sym, length, arith, ◌∙◌, map}
+use Rattle.std.proofs.Common.{rules, ap, subst, sym, length, arith}
 use Rattle.std.specs.Prelude.{option_map}
-use Rattle.change_ring.specs.Logged.{flags_logged, seen_logged}
-use Rattle.mailbox.specs.Events.{Moves, mark, seen_after}
-use Rattle.mailbox.specs.Mail.{Message, message_with, row_of, rows}
+use Rattle.change_ring.specs.Logged.{seen_logged}
+use Rattle.mailbox.specs.Events.{Moves}
+use Rattle.mailbox.specs.Mail.{Message, rows}
 use Rattle.mailbox.specs.Seen.{message_of}
 use Rattle.mailbox.proofs.MessageLaws.{seen_none, seen_after_none, text_after, with_none, with_uid}
 use Rattle.mailbox.proofs.StandsLaws.{Logs-nothing, Moves-nothing}

@@ -1,5 +1,5 @@
-use Rattle.std.proofs.Common.{rules, ◌≡◌, ◌<◌, ◌+◌, ◌^◌, ℕ, List, [], ◌∷◌, ◌++◌, Bool, true, false, length, map, set, get_or, ap, subst, sym, ◌∙◌, refl, arith, zero, suc, length-set, ◌≢◌}
-use Rattle.std.specs.Prelude.{slice_get, IfSome, Option, if◌then◌else◌, ◌==◌}
+use Rattle.std.proofs.Common.{rules, ◌≡◌, ◌<◌, ◌^◌, ℕ, List, [], ◌∷◌, ◌++◌, Bool, true, false, length, map, set, get_or, ap, subst, sym, ◌∙◌, refl, arith, zero, suc, length-set, ◌≢◌}
+use Rattle.std.specs.Prelude.{slice_get, IfSome, if◌then◌else◌, ◌==◌}
 use Rattle.std.proofs.lemmas.List.{length-map}
 use Rattle.std.specs.List.Sorted.{IsStrictlyIncreasing}
 use Rattle.change_ring.specs.declared.change.Change.{Change}
@@ -11,7 +11,7 @@ use Rattle.change_ring.specs.Window.{total}
 use Rattle.change_ring.proofs.WindowLaws.{BaseAfter-rises}
 use Rattle.cursor_set.proofs.Places.{Rises-from}
 use Rattle.mailbox.specs.declared.mailbox.Message as kept
-use Rattle.mailbox.specs.Events.{IsTooMany, Moves, was_logged}
+use Rattle.mailbox.specs.Events.{Moves, was_logged}
 use Rattle.mailbox.specs.Mail.{Mail, Message, flagged, row_of, rows, uids_of}
 use Rattle.mailbox.specs.Seen.{mail_of, message_of}
 use Rattle.mailbox.specs.declared.mailbox.Mailbox.TheInside.{Inside as kept_mail}

@@ -1,6 +1,6 @@
-use Rattle.std.proofs.Common.{rules, ap, subst, sym, length, arith, ◌∙◌, map}
+use Rattle.std.proofs.Common.{ap, subst, sym, length, arith}
 use Rattle.mailbox.specs.Events.{Moves}
-use Rattle.mailbox.specs.Mail.{rows, message_with, Message}
+use Rattle.mailbox.specs.Mail.{rows, Message}
 use Rattle.std.specs.Prelude.{option_map}
 use Rattle.mailbox.proofs.MessageLaws.{logged_none, flagged_none, with_none}
 use Rattle.mailbox.proofs.StandsLaws.{Logs-nothing, Moves-nothing}

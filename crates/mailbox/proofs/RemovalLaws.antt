@@ -1,0 +1,194 @@
+-- What removing messages does to the messages, to the log and to the window.
+use Rattle.std.proofs.Common.{◌≡◌, ◌≢◌, ℕ, zero, suc, ◌+◌, ◌<◌, ◌≤◌, Bool, true, false, cond, ◌==◌, List, [], ◌∷◌, ◌++◌, length, get_or, map, filter, Contains, refl, sym, ap, ◌∙◌, inl, inr, subst, arith, eq-eqb, append_assoc, append-nil, length-append}
+use Rattle.std.specs.Prelude.{count_by, ◌&&◌}
+use Rattle.std.specs.List.{AllByRecursion, list_any}
+use Rattle.std.proofs.lemmas.Bool.Decides.{eqb_tells}
+use Rattle.std.proofs.lemmas.Bool.{cases_lt}
+use Rattle.std.proofs.lemmas.List.{length-map}
+use Rattle.std.proofs.lemmas.List.Sums.{length-filter}
+use Rattle.change_ring.specs.declared.change.Change.{Change}
+use Rattle.change_ring.specs.declared.change.Change.TheVariants.{Gone}
+use Rattle.change_ring.specs.Log.{Row, FitsView, without, without_row, rows_after, added}
+use Rattle.change_ring.specs.Logged.{removals}
+use Rattle.change_ring.specs.Window.{Window, IsWindowOf, BaseAfter, total}
+use Rattle.change_ring.proofs.WindowLaws.{BaseAfter-append, BaseAfter-less, BaseAfter-rises}
+use Rattle.cursor_set.specs.Cursors.{Cursors}
+use Rattle.cursor_set.proofs.Places.{Rises}
+use Rattle.mailbox.specs.Choices.{is_taken}
+use Rattle.mailbox.specs.Events.{GoesOn, Moves}
+use Rattle.mailbox.specs.Mail.{Message, row_of, uids_of, remaining}
+
+-- ---- a list of UIDs has one
+
+pub any_at : (uid : ℕ) (xs : List ℕ) (i : ℕ) → i < length xs → get_or xs i 0 ≡ uid → list_any (λ u. u == uid) xs ≡ true
+any_at uid [] i l e = absurd (omega (arith, l))
+any_at uid (x ∷ xs) zero l e = rw (eq-eqb x uid e) refl
+any_at uid (x ∷ xs) (suc i) l e = elim (eqb_tells x uid) [
+  | inl t ↦ rw t.0 refl
+  | inr t ↦ rw t.0 (any_at uid xs i (omega (arith, l)) e)
+]
+
+pub any_none : (uid : ℕ) (xs : List ℕ) → ((i : ℕ) → i < length xs → get_or xs i 0 ≢ uid) → list_any (λ u. u == uid) xs ≡ false
+any_none uid [] h = refl
+any_none uid (x ∷ xs) h = elim (eqb_tells x uid) [
+  | inl t ↦ absurd (h 0 (omega arith) t.1)
+  | inr t ↦ rw t.0 (any_none uid xs (λ i l. h (suc i) (omega (arith, l))))
+]
+
+-- ---- messages that stand before and behind one, where the UIDs rise
+
+all_middle : (P : ℕ → Type 0) (ks : List Message) (r : Message) (rs : List Message) → AllByRecursion P (uids_of (ks ++ r ∷ rs)) → P r.uid
+all_middle P [] r rs h = h.0
+all_middle P (k ∷ ks) r rs h = all_middle P ks r rs h.1
+
+all_others : (P : ℕ → Type 0) (ks : List Message) (r : Message) (rs : List Message) → AllByRecursion P (uids_of (ks ++ r ∷ rs)) → AllByRecursion P (uids_of (ks ++ rs))
+all_others P [] r rs h = h.1
+all_others P (k ∷ ks) r rs h = (h.0, all_others P ks r rs h.1)
+
+others_rise : (ks : List Message) (r : Message) (rs : List Message) → Rises (uids_of (ks ++ r ∷ rs)) → Rises (uids_of (ks ++ rs))
+others_rise [] r rs h = h.1
+others_rise (k ∷ ks) r rs h = (all_others (λ u. k.uid < u) ks r rs h.0, others_rise ks r rs h.1)
+
+eqb_less : (a b : ℕ) → a < b → (a == b) ≡ false
+eqb_less a b l = elim (eqb_tells a b) [
+  | inl t ↦ absurd (omega (arith, t.1))
+  | inr t ↦ t.0
+]
+
+without_middle : (ks : List Message) (r : Message) (rs : List Message) → Rises (uids_of (ks ++ r ∷ rs)) → without r.uid (uids_of (ks ++ r ∷ rs)) ≡ uids_of (ks ++ rs)
+without_middle [] r rs h = rw (eq-eqb r.uid r.uid refl) refl
+without_middle (k ∷ ks) r rs h = rw (eqb_less k.uid r.uid (all_middle (λ u. k.uid < u) ks r rs h.0)) (ap (λ (us : List ℕ). k.uid ∷ us) (without_middle ks r rs h.1))
+
+rows_middle : (ks : List Message) (r : Message) (rs : List Message) → Rises (uids_of (ks ++ r ∷ rs)) → without_row r.uid (map row_of (ks ++ r ∷ rs)) ≡ map row_of (ks ++ rs)
+rows_middle [] r rs h = rw (eq-eqb r.uid r.uid refl) refl
+rows_middle (k ∷ ks) r rs h = rw (eqb_less k.uid r.uid (all_middle (λ u. k.uid < u) ks r rs h.0)) (ap (λ (xs : List Row). row_of k ∷ xs) (rows_middle ks r rs h.1))
+
+there_middle : (ks : List Message) (r : Message) (rs : List Message) → Contains (uids_of (ks ++ r ∷ rs)) r.uid
+there_middle [] r rs = (0, omega arith, refl)
+there_middle (k ∷ ks) r rs =
+    let rest = there_middle ks r rs in
+    (suc rest.0, omega (arith, rest.1), rest.2)
+
+-- ---- removing one message after another
+
+module _ (test : ℕ → Bool) where
+  -- what is logged of some messages
+  abbrev pub gone_of : List Message → List Change
+  gone_of ms = removals test (map row_of ms)
+
+  pub gone_yes : (m : Message) (ms : List Message) → is_taken test m ≡ true → gone_of (m ∷ ms) ≡ Gone m.uid ∷ gone_of ms
+  gone_yes m ms e = rw e refl
+
+  pub gone_no : (m : Message) (ms : List Message) → is_taken test m ≡ false → gone_of (m ∷ ms) ≡ gone_of ms
+  gone_no m ms e = rw e refl
+
+  left_yes : (m : Message) (ms : List Message) → is_taken test m ≡ true → remaining test (m ∷ ms) ≡ remaining test ms
+  left_yes m ms e = rw e refl
+
+  left_no : (m : Message) (ms : List Message) → is_taken test m ≡ false → remaining test (m ∷ ms) ≡ m ∷ remaining test ms
+  left_no m ms e = rw e refl
+
+  pub rows_removed : (ks ms : List Message) → Rises (uids_of (ks ++ ms)) → rows_after (map row_of (ks ++ ms)) (gone_of ms) ≡ map row_of (ks ++ remaining test ms)
+  rows_removed ks [] up = refl
+  rows_removed ks (m ∷ ms) up = by_case (is_taken test m) refl (rows_removed ks ms (others_rise ks m ms up)) (λ here. rows_removed (ks ++ m ∷ []) ms here)
+    where
+      by_case : (b : Bool) → is_taken test m ≡ b → rows_after (map row_of (ks ++ ms)) (gone_of ms) ≡ map row_of (ks ++ remaining test ms) →
+          (Rises (uids_of ((ks ++ m ∷ []) ++ ms)) → rows_after (map row_of ((ks ++ m ∷ []) ++ ms)) (gone_of ms) ≡ map row_of ((ks ++ m ∷ []) ++ remaining test ms)) →
+          rows_after (map row_of (ks ++ m ∷ ms)) (gone_of (m ∷ ms)) ≡ map row_of (ks ++ remaining test (m ∷ ms))
+      by_case true e out stays =
+          ap (rows_after (map row_of (ks ++ m ∷ ms))) (gone_yes m ms e) ∙ ap (λ (xs : List Row). rows_after xs (gone_of ms)) (rows_middle ks m ms up) ∙ out
+          ∙ ap (λ (xs : List Message). map row_of (ks ++ xs)) (sym (left_yes m ms e))
+      by_case false e out stays =
+          ap (rows_after (map row_of (ks ++ m ∷ ms))) (gone_no m ms e) ∙ ap (λ (xs : List Message). rows_after (map row_of xs) (gone_of ms)) (sym (append_assoc ks (m ∷ []) ms))
+          ∙ stays (subst (λ (xs : List Message). Rises (uids_of xs)) (sym (append_assoc ks (m ∷ []) ms)) up)
+          ∙ ap (map row_of) (append_assoc ks (m ∷ []) (remaining test ms)) ∙ ap (λ (xs : List Message). map row_of (ks ++ xs)) (sym (left_no m ms e))
+
+  pub removals_fit : (ks ms : List Message) → Rises (uids_of (ks ++ ms)) → FitsView (uids_of (ks ++ ms)) (gone_of ms)
+  removals_fit ks [] up = tt
+  removals_fit ks (m ∷ ms) up = by_case (is_taken test m) refl (removals_fit ks ms (others_rise ks m ms up)) (λ here. removals_fit (ks ++ m ∷ []) ms here)
+    where
+      by_case : (b : Bool) → is_taken test m ≡ b → FitsView (uids_of (ks ++ ms)) (gone_of ms) →
+          (Rises (uids_of ((ks ++ m ∷ []) ++ ms)) → FitsView (uids_of ((ks ++ m ∷ []) ++ ms)) (gone_of ms)) → FitsView (uids_of (ks ++ m ∷ ms)) (gone_of (m ∷ ms))
+      by_case true e out stays =
+          subst (FitsView (uids_of (ks ++ m ∷ ms))) (sym (gone_yes m ms e))
+          (there_middle ks m ms, subst (λ (us : List ℕ). FitsView us (gone_of ms)) (sym (without_middle ks m ms up)) out)
+      by_case false e out stays =
+          subst (FitsView (uids_of (ks ++ m ∷ ms))) (sym (gone_no m ms e))
+          (subst (λ (xs : List Message). FitsView (uids_of xs) (gone_of ms)) (append_assoc ks (m ∷ []) ms)
+          (stays (subst (λ (xs : List Message). Rises (uids_of xs)) (sym (append_assoc ks (m ∷ []) ms)) up)))
+
+  pub gone_adds : (ms : List Message) → added (gone_of ms) ≡ []
+  gone_adds [] = refl
+  gone_adds (m ∷ ms) = by_case (is_taken test m) refl (gone_adds ms)
+    where
+      by_case : (b : Bool) → is_taken test m ≡ b → added (gone_of ms) ≡ [] → added (gone_of (m ∷ ms)) ≡ []
+      by_case true e h = ap added (gone_yes m ms e) ∙ h
+      by_case false e h = ap added (gone_no m ms e) ∙ h
+
+  -- how many messages go
+  length_rows : (ms : List Message) → length (filter (λ (r : Row). r.flags.deleted && test r.uid) (map row_of ms)) ≡ length (filter (is_taken test) ms)
+  length_rows [] = refl
+  length_rows (m ∷ ms) = by_case (is_taken test m) (length_rows ms)
+    where
+      by_case : (b : Bool) → length (filter (λ (r : Row). r.flags.deleted && test r.uid) (map row_of ms)) ≡ length (filter (is_taken test) ms) →
+          length (cond b (row_of m ∷ filter (λ (r : Row). r.flags.deleted && test r.uid) (map row_of ms)) (filter (λ (r : Row). r.flags.deleted && test r.uid) (map row_of ms)))
+          ≡ length (cond b (m ∷ filter (is_taken test) ms) (filter (is_taken test) ms))
+      by_case true h = ap suc h
+      by_case false h = h
+
+  pub gone_count : (ms : List Message) → count_by (is_taken test) ms ≡ length (gone_of ms)
+  gone_count ms =
+      sym (length-filter (is_taken test) ms) ∙ sym (length_rows ms) ∙ sym (length-map (filter (λ (r : Row). r.flags.deleted && test r.uid) (map row_of ms)) (λ (r : Row). Gone r.uid))
+
+-- ---- changes on changes
+
+pub GoesOn-append : (old middle new : Window) (cs ds : List Change) → GoesOn old middle cs → GoesOn middle new ds → GoesOn old new (cs ++ ds)
+GoesOn-append old middle new cs ds first second = λ log is. subst (IsWindowOf new) (append_assoc log cs ds) (second (log ++ cs) (first log is))
+
+pub Moves-append : (cursors : Cursors) (old middle new : Window) (cs ds : List Change) → Moves cursors old middle cs → Moves cursors middle new ds → Moves cursors old new (cs ++ ds)
+Moves-append cursors old middle new cs ds first second =
+    let low = BaseAfter-rises old.capacity (total old) old.base cs middle.base first.base in
+    let high = BaseAfter-rises middle.capacity (total middle) middle.base ds new.base second.base in
+    let less = BaseAfter-less middle.capacity old.capacity (total middle) middle.base ds new.base first.grows second.base in
+    record {
+      logged = omega (arith, first.logged, second.logged, length-append cs ds);
+      base = BaseAfter-append old.capacity (total old) old.base cs ds middle.base new.base first.base (subst (λ (t : ℕ). BaseAfter old.capacity t middle.base ds new.base) first.logged less);
+      grows = omega (arith, first.grows, second.grows);
+      wanted = λ more. elim (cases_lt old.capacity middle.capacity) [
+        | inl now ↦ let w = first.wanted now in (w.0, w.1, w.2, omega (arith, w.3, high))
+        | inr not_yet ↦ let w = second.wanted (omega (arith, more, not_yet)) in (w.0, w.1, omega (arith, low, w.2), w.3)
+      ];
+      max = second.max ∙ first.max;
+    }
+
+-- some of all these changes are logged, and some are left
+pub record IsLogging (cursors : Cursors) (old new : Window) (all left : List Change) : Type 0 where
+  pub done : List Change
+  pub split : done ++ left ≡ all
+  pub goes_on : GoesOn old new done
+  pub moves : Moves cursors old new done
+
+pub none_logged : (cursors : Cursors) (w : Window) (all : List Change) → IsLogging cursors w w all all
+none_logged cursors w all = record {
+  done = [];
+  split = refl;
+  goes_on = λ log is. subst (IsWindowOf w) (sym (append-nil log)) is;
+  moves = record { logged = omega arith; base = refl; grows = omega arith; wanted = λ l. absurd (omega (arith, l)); max = refl };
+}
+
+pub one_logged : (cursors : Cursors) (old middle new : Window) (all left : List Change) (c : Change) → IsLogging cursors old middle all (c ∷ left) →
+    GoesOn middle new (c ∷ []) → Moves cursors middle new (c ∷ []) → IsLogging cursors old new all left
+one_logged cursors old middle new all left c h goes moves = record {
+  done = h.done ++ c ∷ [];
+  split = append_assoc h.done (c ∷ []) left ∙ h.split;
+  goes_on = GoesOn-append old middle new h.done (c ∷ []) h.goes_on goes;
+  moves = Moves-append cursors old middle new h.done (c ∷ []) h.moves moves;
+}
+
+pub room_left : (cursors : Cursors) (old middle : Window) (all left : List Change) (c : Change) (most : ℕ) → IsLogging cursors old middle all (c ∷ left) → total old + length all ≤ most → total middle < most
+room_left cursors old middle all left c most h room = omega (arith, room, h.moves.logged, ap length h.split, length-append h.done (c ∷ left))
+
+pub all_logged : (cursors : Cursors) (old new : Window) (all : List Change) → IsLogging cursors old new all [] → GoesOn old new all × Moves cursors old new all
+all_logged cursors old new all h =
+    let e : h.done ≡ all = sym (append-nil h.done) ∙ h.split in
+    (subst (GoesOn old new) e h.goes_on, subst (Moves cursors old new) e h.moves)
