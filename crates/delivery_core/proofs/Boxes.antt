@@ -10,9 +10,9 @@ use Rattle.delivery_token.specs.declared.Refusal.{Refusal}
 use Rattle.delivery_token.specs.declared.Refusal.TheVariants.{Full, MailboxFull, NoMemory, UidSpent}
 use Rattle.change_ring.specs.declared.change.Change.TheVariants.{Add}
 use Rattle.change_ring.specs.Log.{rows_of, no_flags}
-use Rattle.change_ring.specs.Window.{total, MayDrop}
+use Rattle.change_ring.specs.Window.{total}
 use Rattle.mailbox.specs.Mail.{Mail, SameMailbox, next_uid as mail_uid, is_spent, is_full as mail_full, row_of}
-use Rattle.mailbox.specs.Events.{Logs as MailLogs}
+use Rattle.mailbox.specs.Events.{Logs as MailLogs, Moves}
 use Rattle.mailbox.specs.declared.mailbox.Receipt.{Receipt}
 use Rattle.world.specs.World.{Config, Box, HasUid, IsSpent, is_full, next_uid}
 use Rattle.world.specs.Law.{IsPart, pair_of, pairs}
@@ -53,12 +53,13 @@ full k b w S e = omega (arith, leb-true _ _ e, same_rows k b w S, S.messages)
 has_place : (k : Config) (b : Mail) (w : Box) → StandsForBox k b w → mail_full b ≡ false → length (rows_of w.log) < k.messages
 has_place k b w S e = omega (arith, leb-false _ _ e, same_rows k b w S, S.messages)
 
-base_after : (k : Config) (b new : Mail) (w : Box) → StandsForBox k b w → MayDrop b.window new.window → (new.window.base ≡ w.base) ⊎ ((k.ring ≤ length w.log - w.base) × (new.window.base ≡ suc w.base))
-base_after k b new w S d = go (cases_lt b.window.base new.window.base)
+base_after : (k : Config) (b new : Mail) (w : Box) (uid : ℕ) → StandsForBox k b w → Moves b.cursors b.window new.window (Add uid ∷ []) → (new.window.base ≡ w.base) ⊎ ((k.ring ≤ length w.log - w.base) × (new.window.base ≡ suc w.base))
+base_after k b new w uid S d = go d.base
   where
-    go : (b.window.base < new.window.base) ⊎ (new.window.base ≤ b.window.base) → (new.window.base ≡ w.base) ⊎ ((k.ring ≤ length w.log - w.base) × (new.window.base ≡ suc w.base))
-    go (inl up) = inr (omega (arith, S.log.window.long, S.base, S.ring, d.full up), omega (arith, d.one, S.base))
-    go (inr same) = inl (omega (arith, d.kept, S.base))
+    go : (new.window.base ≡ b.window.base) ⊎ ((b.window.capacity ≤ total b.window - b.window.base) × (new.window.base ≡ suc b.window.base))
+        → (new.window.base ≡ w.base) ⊎ ((k.ring ≤ length w.log - w.base) × (new.window.base ≡ suc w.base))
+    go (inl same) = inl (omega (arith, same, S.base))
+    go (inr up) = inr (omega (arith, S.log.window.long, S.base, S.ring, up.0), omega (arith, up.1, S.base))
 
 -- where a mailbox neither said that it has no UID nor that it has no place, it has both
 open_of : (old : Mail) (A B : Type 0) → (A → ⊥) → (B → ⊥) → A ↔ (is_spent old ≡ true) → B ↔ ((is_spent old ≡ false) × (mail_full old ≡ true)) → (is_spent old ≡ false) × (mail_full old ≡ false)
@@ -73,14 +74,14 @@ open_of old A B na nb spends fills = go (is_spent old) (mail_full old) spends fi
 stored : (k : Config) (old new : Mail) (w : Box) (c : Job) (uid : ℕ) → StandsForBox k old w → (is_spent old ≡ false) × (mail_full old ≡ false)
     → MailLogs old new (Add (mail_uid old) ∷ []) → new.accepted ≡ old.accepted ++ (c.key, mail_uid old) ∷ []
     → new.messages ≡ old.messages ++ record { uid = mail_uid old; flags = no_flags; text = c.text } ∷ []
-    → MayDrop old.window new.window → SameMailbox old new → uid ≡ mail_uid old → BoxDelivers k w c (Stored uid) new
+    → Moves old.cursors old.window new.window (Add (mail_uid old) ∷ []) → SameMailbox old new → uid ≡ mail_uid old → BoxDelivers k w c (Stored uid) new
 stored k old new w c uid S room logs accepts messages drops stays is =
     let n : mail_uid old ≡ next_uid k w = same_uid k old w S in
     let has : HasUid k w = has_uid k old w S room.0 in
     stores
     (record { log = w.log ++ Add (next_uid k w) ∷ []; base = new.window.base; accepted = w.accepted ++ (c, next_uid k w) ∷ [] })
     has (has_place k old w S room.1)
-    (record { room = omega (arith, has.1); log = refl; base = base_after k old new w S drops; accepted = refl })
+    (record { room = omega (arith, has.1); log = refl; base = base_after k old new w (mail_uid old) S drops; accepted = refl })
     (ap Stored (is ∙ n))
     (record {
       log = rw n at (logs w.log S.log);
@@ -99,7 +100,7 @@ pub box_delivers : (k : Config) (old new : Mail) (w : Box) (c : Job) (r : Result
     → (r ≡ Err UidSpent) ↔ (is_spent old ≡ true) → (r ≡ Err MailboxFull) ↔ ((is_spent old ≡ false) × (mail_full old ≡ true)) → (r ≡ Err Full → ⊥)
     → OnErr r (new ≡ old) → OnOk r (MailLogs old new (Add (mail_uid old) ∷ [])) → OnOk r (new.accepted ≡ old.accepted ++ (c.key, mail_uid old) ∷ [])
     → OnOk r (new.messages ≡ old.messages ++ record { uid = mail_uid old; flags = no_flags; text = c.text } ∷ [])
-    → OnOk r (MayDrop old.window new.window) → OnOk r (SameMailbox old new) → IfOk r (λ x. x ≡ record { mailbox = old.number; key = c.key; uid = mail_uid old; place = length old.accepted })
+    → OnOk r (Moves old.cursors old.window new.window (Add (mail_uid old) ∷ [])) → OnOk r (SameMailbox old new) → IfOk r (λ x. x ≡ record { mailbox = old.number; key = c.key; uid = mail_uid old; place = length old.accepted })
     → BoxDelivers k w c (verdict_of r) new
 box_delivers k old new w c (Ok x) S spends fills queued same logs accepts messages drops stays uid = stored k old new w c x.uid S (open_of old _ _ (λ e. cc) (λ e. cc) spends fills) logs accepts messages drops stays (ap (λ y. y.uid) uid)
 box_delivers k old new w c (Err UidSpent) S spends fills queued same logs accepts messages drops stays uid = has_no_uid (spent k old w S (spends.0 refl)) refl (rw same S)

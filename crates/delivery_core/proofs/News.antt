@@ -19,12 +19,12 @@ lane_new l count room producers e is = rw is (record {
   live = λ p d h. All-replicate (λ live. has_end {A = ℕ} [] ≡ not live) producers true refl p d h;
 })
 
-pub new_stands : (k : Config) (h : Held) (seats shards mailboxes depth uidvalidity : ℕ) → k.seats ≡ seats → k.shards ≡ shards → k.mailboxes ≡ mailboxes → k.depth ≡ depth
+pub new_stands : (k : Config) (h : Held) (seats shards mailboxes depth uidvalidity most : ℕ) → k.seats ≡ seats → k.shards ≡ shards → k.mailboxes ≡ mailboxes → k.depth ≡ depth
     → length h.lanes ≡ shards → EachAt (λ i l. l ≡ new_lane depth seats) h.lanes → length h.hands ≡ shards → EachAt (λ i x. x ≡ Empty) h.hands
     → length h.replies ≡ seats → EachAt (λ i l. l ≡ new_lane 128 shards) h.replies → length h.heard ≡ seats → EachAt (λ i b. b.notes ≡ []) h.heard
-    → length h.boxes ≡ mailboxes → EachAt (λ i b. IsNewBox i uidvalidity k.first_uid k.messages k.ring b) h.boxes → length h.next ≡ seats → EachAt (λ p y. y ≡ first_key p) h.next
+    → length h.boxes ≡ mailboxes → EachAt (λ i b. IsNewBox i uidvalidity k.first_uid k.messages k.ring most b) h.boxes → length h.next ≡ seats → EachAt (λ p y. y ≡ first_key p) h.next
     → StandsFor k h empty_world
-new_stands k h seats shards mailboxes depth uidvalidity ks kh km kd a1 a2 b1 b2 c1 c2 d1 d2 e1 e2 f1 f2 = record {
+new_stands k h seats shards mailboxes depth uidvalidity most ks kh km kd a1 a2 b1 b2 c1 c2 d1 d2 e1 e2 f1 f2 = record {
   reached = ([], refl);
   shards = a1 ∙ sym kh;
   in_hands = b1 ∙ sym kh;
@@ -36,7 +36,7 @@ new_stands k h seats shards mailboxes depth uidvalidity ks kh km kd a1 a2 b1 b2 
   hands = b2;
   replies = λ i d l. lane_new _ k.shards reply_room shards (sym kh) (c2 i d l);
   heard = d2;
-  boxes = λ i d l. let b : IsNewBox i uidvalidity k.first_uid k.messages k.ring _ = e2 i d l in
-      record { log = b.log; base = b.base; accepted = b.accepted; texts = subst (λ ms. IsPart (map text_of ms) []) (sym b.empty) none; first_uid = b.first; messages = b.limit; ring = b.capacity };
+  boxes = λ i d l. let b : IsNewBox i uidvalidity k.first_uid k.messages k.ring most _ = e2 i d l in
+      record { log = b.log; base = ap (λ w. w.base) b.window; accepted = b.accepted; texts = subst (λ ms. IsPart (map text_of ms) []) (sym b.empty) none; first_uid = b.first; messages = b.limit; ring = omega (arith, ap (λ w. w.capacity) b.window) };
   next = λ p d l. rw (f2 p d l) (record { own = refl; sent = λ t j e m. absurd (omega arith); heard = λ j e m. absurd (omega arith) });
 }

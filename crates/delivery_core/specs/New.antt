@@ -1,5 +1,5 @@
 -- What a new delivery side is made of.
-use Rattle.std.specs.Prelude.{◌≡◌, ℕ, ◌≤◌, true, [], replicate}
+use Rattle.std.specs.Prelude.{◌≡◌, ℕ, true, [], replicate}
 use Rattle.delivery_token.specs.declared.CopyKey.{CopyKey}
 use Rattle.shard_queue.specs.Waits.{Waits}
 use Rattle.mailbox.specs.Mail.{Mail}
@@ -13,14 +13,14 @@ new_lane capacity producers = record { capacity = capacity; live = replicate pro
 abbrev pub first_key : ℕ → CopyKey
 first_key p = record { seat = p; serial = 0; message = 0; recipient = 0 }
 
--- a mailbox with nothing in it, of this number and these settings
-pub record IsNewBox (number uidvalidity first_uid messages ring : ℕ) (b : Mail) : Type 0 where
+-- a mailbox with nothing in it and no client, of this number and these settings; its window may grow up to `most`
+pub record IsNewBox (number uidvalidity first_uid messages ring most : ℕ) (b : Mail) : Type 0 where
   pub at : b.number ≡ number
   pub validity : b.uidvalidity ≡ uidvalidity
   pub log : Stands b []
-  pub base : b.window.base ≡ 0
   pub empty : b.messages ≡ []
   pub accepted : b.accepted ≡ []
   pub first : b.first_uid ≡ first_uid
   pub limit : b.limit ≡ messages
-  pub capacity : ring ≤ b.window.capacity
+  pub window : b.window ≡ record { base = 0; changes = []; capacity = ring; max = most }
+  pub clients : b.cursors ≡ record { number = number; next = 0; slots = [] }

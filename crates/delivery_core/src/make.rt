@@ -1,7 +1,7 @@
 //! The parts of a new delivery side, each made of as many as the settings say. What they do later is
 //! told in `steps`.
 
-ghost use Rattle.std.specs.Prelude.{◌≡◌, ◌<◌, [], length, replicate, true, IfOk};
+ghost use Rattle.std.specs.Prelude.{max, ◌≡◌, ◌<◌, [], length, replicate, true, IfOk};
 ghost use Rattle.mailbox.specs.Stands.{Stands};
 ghost use Rattle.delivery_core.specs.Stands.{EachAt};
 ghost use Rattle.delivery_core.specs.New.{first_key, new_lane, IsNewBox};
@@ -75,7 +75,7 @@ pub fn new_boxes(
 ) -> Result<Vec<Mailbox>, AllocError>
     requires { 0 < limits.ring }
     ensures count { IfOk result (λ v. length v.items ≡ count) }
-    ensures each { IfOk result (λ v. EachAt (λ m b. IsNewBox m uidvalidity first_uid limits.messages limits.ring b) v.items) }
+    ensures each { IfOk result (λ v. EachAt (λ m b. IsNewBox m uidvalidity first_uid limits.messages limits.ring (max limits.ring limits.ring_max) b) v.items) }
 {
     let mut boxes = Vec::new(alloc);
     for number in 0..count {

@@ -1,7 +1,7 @@
 //! Lanes, hands, reply lanes, heard verdicts and mailboxes, on one thread. Each call is one event of
 //! the world. No connection, no session and no output stands here.
 
-ghost use Rattle.std.specs.Prelude.{◌≡◌, ℕ, ◌⊎◌, ◌%◌, ◌+◌, ◌++◌, ◌<◌, ◌≤◌, ◌↔◌, [], ◌∷◌, length, OnOk, OnErr, Err, IfOk, IfSome, IsSome, IsTrue, option_map, slice_index_or, slice_set};
+ghost use Rattle.std.specs.Prelude.{max, ◌≡◌, ℕ, ◌⊎◌, ◌%◌, ◌+◌, ◌++◌, ◌<◌, ◌≤◌, ◌↔◌, [], ◌∷◌, length, OnOk, OnErr, Err, IfOk, IfSome, IsSome, IsTrue, option_map, slice_index_or, slice_set};
 ghost use Rattle.world.specs.World.{Answer, Box, Config, Deliver, Hear, Put, PutEnd, Take, empty_world, in_hand};
 ghost use Rattle.shard_queue.specs.Plain.{MayPutMore, taken_entry};
 ghost use Rattle.delivery_core.specs.Changes.{Hears, SameCounts, heard_at_once};
@@ -141,7 +141,7 @@ impl DeliveryCore {
         ensures seats { IfOk result (λ h. length h.replies ≡ settings.seats) }
         ensures shards { IfOk result (λ h. length h.lanes ≡ settings.shards) }
         ensures mailboxes { IfOk result (λ h. length h.boxes ≡ settings.mailboxes) }
-        ensures boxes { IfOk result (λ h. EachAt (λ m b. IsNewBox m settings.uidvalidity settings.first_uid settings.limits.messages settings.limits.ring b) h.boxes) }
+        ensures boxes { IfOk result (λ h. EachAt (λ m b. IsNewBox m settings.uidvalidity settings.first_uid settings.limits.messages settings.limits.ring (max settings.limits.ring settings.limits.ring_max) b) h.boxes) }
         ensures next { IfOk result (λ h. (p : ℕ) (d : CopyKey) → p < settings.seats → slice_index_or h.next p d ≡ first_key p) }
     {
         Ok(DeliveryCore {
@@ -440,6 +440,7 @@ mod tests {
         limits: Limits {
             messages: 8,
             ring: 16,
+            ring_max: 0,
         },
     };
 
