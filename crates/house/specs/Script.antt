@@ -9,6 +9,7 @@ use Rattle.hex.specs.declared.error.FromHexError.{FromHexError}
 use Rattle.change_ring.specs.declared.change.Change.{Change}
 use Rattle.change_ring.specs.declared.change.Change.TheVariants.{Add, Gone, Flags as SetFlags}
 use Rattle.change_ring.specs.declared.change.Flags.{Flags}
+use Rattle.cursor_set.specs.Lines.{flag_words, spaced}
 use Rattle.world.specs.World.{Box}
 use Rattle.envelope.specs.Names.{number_of}
 use Rattle.line_io.specs.Wire.{crlf}
@@ -156,18 +157,6 @@ abbrev pub script_of : List ℕ → List ScriptLine
 script_of input = map (λ piece. asked (line_of piece)) (pieces input)
 
 -- ---- what is printed of a mailbox
-
-abbrev pub flag_words : Flags → List (List ℕ)
-flag_words f =
-    (if f.answered then codes "\\Answered" ∷ [] else []) ++ (if f.flagged then codes "\\Flagged" ∷ [] else [])
-    ++ (if f.deleted then codes "\\Deleted" ∷ [] else [])
-    ++ (if f.seen then codes "\\Seen" ∷ [] else []) ++ (if f.draft then codes "\\Draft" ∷ [] else [])
-
--- the words with a space between two
-abbrev pub spaced : List (List ℕ) → List ℕ
-spaced [] = []
-spaced (w ∷ []) = w
-spaced (w ∷ v ∷ ws) = w ++ 32 ∷ spaced (v ∷ ws)
 
 abbrev pub change_text : Change → List ℕ
 change_text (Add uid) = codes "add " ++ decimal uid

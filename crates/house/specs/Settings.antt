@@ -1,5 +1,5 @@
 -- The settings of a house: those that stand where none are given, their ranges, what may be wrong with them, and what they settle.
-use Rattle.std.specs.Prelude.{◌≡◌, ℕ, ◌*◌, ◌<◌, ◌≤◌, Bool, true, false, nat_lt, List, [], ◌∷◌, length, map, codes, Option, Some, None, Result, Ok, Err}
+use Rattle.std.specs.Prelude.{◌≡◌, ℕ, ◌*◌, ◌<◌, ◌≤◌, ◌==◌, ◌&&◌, ◌||◌, not, Bool, true, false, nat_lt, List, [], ◌∷◌, length, map, codes, Option, Some, None, Result, Ok, Err}
 use Rattle.envelope.specs.Directory.{Home}
 use Rattle.envelope.specs.Names.{home_of, words_read}
 use Rattle.envelope.specs.declared.directory.DirectoryFault.{DirectoryFault}
@@ -25,6 +25,7 @@ pub record IsDefault (c : Config) (words : List (List ℕ)) : Type 0 where
   pub shards : c.shards ≡ 1
   pub depth : c.depth ≡ 64
   pub ring : c.ring ≡ 2048
+  pub ring_max : c.ring_max ≡ 0
   pub messages : c.messages ≡ 1024
   pub max_message : c.max_message ≡ 1048576
   pub uidvalidity : c.uidvalidity ≡ 1
@@ -41,6 +42,7 @@ pub record IsInRange (c : Config) : Type 0 where
   pub shards : IsFrom 1 8 c.shards
   pub depth : IsFrom 1 1024 c.depth
   pub ring : IsFrom 16 65536 c.ring
+  pub ring_max : IsFrom 0 65536 c.ring_max
   pub messages : IsFrom 1 32768 c.messages
   pub max_message : IsFrom 1 16777216 c.max_message
   pub uidvalidity : IsFrom 1 4294967295 c.uidvalidity
@@ -55,18 +57,18 @@ fault_named names.BadName = BadName
 fault_named names.Twice = Twice
 fault_named names.NoMemory = NoMemory
 
--- the ring is to keep two changes for each message
-abbrev pub is_ring_short : Config → Bool
-is_ring_short c = nat_lt c.ring (2 * c.messages)
+-- the ring is to keep two changes for each message, and where it may grow, its most is not to be less than it
+abbrev pub is_ring_wrong : Config → Bool
+is_ring_wrong c = nat_lt c.ring (2 * c.messages) || (not (c.ring_max == 0) && nat_lt c.ring_max c.ring)
 
-abbrev pub names_then_ring : Result (List Home) DirectoryFault → (is_short : Bool) → Option ConfigFault
-names_then_ring (Err fault) is_short = Some (fault_named fault)
+abbrev pub names_then_ring : Result (List Home) DirectoryFault → (is_wrong : Bool) → Option ConfigFault
+names_then_ring (Err fault) is_wrong = Some (fault_named fault)
 names_then_ring (Ok homes) true = Some Ring
 names_then_ring (Ok homes) false = None
 
 -- what is wrong: too many words, the host's name, the domain's, the words one by one, and the ring last
 abbrev pub config_fault : Config → Option ConfigFault
-config_fault c = names_then_ring (words_read (c.host.items ∷ c.domain.items ∷ []) (words_of c)) (is_ring_short c)
+config_fault c = names_then_ring (words_read (c.host.items ∷ c.domain.items ∷ []) (words_of c)) (is_ring_wrong c)
 
 -- ---- what the settings settle
 

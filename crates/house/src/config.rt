@@ -24,6 +24,9 @@ pub struct Config {
     pub depth: usize,
     /// So many of its last changes each mailbox keeps, 16 to 65536, and at least two for each message.
     pub ring: usize,
+    /// So many of its last changes each mailbox keeps at most, where a client is still to be shown them, up to 65536; 0 where it
+    /// keeps no more than `ring`, else not less than that.
+    pub ring_max: usize,
     /// So many messages each mailbox may hold, 1 to 32768.
     pub messages: usize,
     /// The most bytes of a message's data, 1 to 16777216.
@@ -43,7 +46,7 @@ pub enum ConfigFault {
     BadName,
     /// A word names the mailbox of an earlier one, in upper or lower case.
     Twice,
-    /// The ring keeps fewer than two changes for each message.
+    /// The ring keeps fewer than two changes for each message, or may keep at most fewer than it keeps.
     Ring,
     /// Memory was refused.
     NoMemory,
@@ -111,6 +114,7 @@ impl Config {
             shards: 1,
             depth: 64,
             ring: 2048,
+            ring_max: 0,
             messages: 1024,
             max_message: 1_048_576,
             uidvalidity: 1,

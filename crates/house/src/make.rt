@@ -1,9 +1,11 @@
 //! The making of a house from its settings: its parts, each as large as the settings say. What it does then is told in `house`.
 
-ghost use Rattle.std.specs.Prelude.{◌≡◌, ◌≢◌, ◌<◌, ◌≤◌, ◌⊎◌, ℕ, List, [], ◌∷◌, length, map, IfOk, IfErr, IfSome, IsOk, IsOkUnless, Ok, Err, None, replicate};
+ghost use Rattle.std.specs.Prelude.{◌≡◌, ◌≢◌, ◌<◌, ◌≤◌, ◌⊎◌, ℕ, List, [], ◌∷◌, length, map, max, IfOk, IfErr, IfSome, IsOk, IsOkUnless, Ok, Err, None, replicate};
+ghost use Rattle.delivery_core.specs.New.{IsNewBox};
+ghost use Rattle.delivery_core.specs.Stands.{EachAt};
 ghost use Rattle.envelope.specs.Names.{texts, words_read};
 ghost use Rattle.house.specs.Scene.{empty_scene};
-ghost use Rattle.house.specs.Settings.{IsInRange, config_fault, fault_named, seats, setup_of, words_of};
+ghost use Rattle.house.specs.Settings.{IsInRange, config_fault, fault_named, is_ring_wrong, seats, setup_of, words_of};
 ghost use Rattle.house.specs.Stands.{StandsFor};
 
 use crate::caller::Caller;
@@ -57,6 +59,14 @@ fn directory_of(alloc: Global, config: &Config) -> Result<Directory, ConfigFault
     }
 }
 
+// Whether the settings' window is too small, or its most too little.
+fn is_ring_wrong(config: &Config) -> bool
+    requires { IsInRange config.now }
+    ensures { result ≡ is_ring_wrong config.now }
+{
+    config.ring < 2 * config.messages || (config.ring_max != 0 && config.ring_max < config.ring)
+}
+
 // At each seat nobody.
 fn empty_places(alloc: Global) -> Result<Vec<Option<Caller>>, AllocError>
     ensures { IfOk result (λ v. v.items ≡ replicate SEATS None) }
@@ -73,17 +83,20 @@ impl House {
     ///
     /// Errors, the first that holds: `TooMany` for more than 64 mailboxes; `BadName` for the host, then for the domain; then the fault
     /// of the first word that has one, `BadName` if it is spelled wrong or its user has no word before it, `Twice` if it names an
-    /// earlier one's mailbox in upper or lower case; `Ring` where the ring keeps fewer than two changes for each message. In place of
-    /// any of them, and where nothing else is wrong, `NoMemory` if memory is refused.
+    /// earlier one's mailbox in upper or lower case; `Ring` where the ring keeps fewer than two changes for each message, or its most
+    /// is not 0 and is less than it. In place of any of them, and where nothing else is wrong, `NoMemory` if memory is refused.
     pub fn new(alloc: Global, config: &Config) -> Result<House, ConfigFault>
         requires { IsInRange config.now }
         ensures stands { IfOk result (λ h. StandsFor (setup_of config.now) h empty_scene) }
         ensures fault { IfSome (config_fault config.now) (λ fault. (result ≡ Err fault) ⊎ (result ≡ Err ConfigFault.NoMemory)) }
+        // Each mailbox is empty, with the settings' UIDs, room and window.
+        ensures mailboxes { IfOk result (λ h. EachAt (λ m b. IsNewBox m config.now.uidvalidity config.now.first_uid config.now.messages config.now.ring
+            (max config.now.ring config.now.ring_max) b) h.core.boxes) }
         // Where nothing is wrong.
         ensures made { config_fault config.now ≡ None → IsOkUnless result ConfigFault.NoMemory }
     {
         let directory = directory_of(alloc, config)?;
-        if config.ring < 2 * config.messages {
+        if is_ring_wrong(config) {
             return Err(ConfigFault::Ring);
         }
         let settings = Settings {
@@ -96,6 +109,7 @@ impl House {
             limits: Limits {
                 messages: config.messages,
                 ring: config.ring,
+                ring_max: config.ring_max,
             },
         };
         Ok(House {
@@ -113,20 +127,23 @@ impl House {
 mod tests {
     use super::*;
 
-    // What is wrong with settings of these mailboxes and this ring.
+    // What is wrong with settings of these mailboxes and this ring, which may grow to this.
     fn fault_of(
         alloc: Global,
         words: &[&[u8]],
         host: &[u8],
         ring: usize,
+        ring_max: usize,
     ) -> Result<Option<ConfigFault>, AllocError>
         requires some { 0 < length words.now }
         requires least { 16 ≤ ring }
         requires most { ring ≤ 65536 }
+        requires growth { ring_max ≤ 65536 }
     {
         let mut config = Config::new(alloc, words)?;
         config.host = Vec::from_slice(alloc, host)?;
         config.ring = ring;
+        config.ring_max = ring_max;
         Ok(House::new(alloc, &config).err())
     }
 
@@ -136,21 +153,29 @@ mod tests {
         let twice = [b"alice".as_slice(), b"alice".as_slice()];
         let many = [b"*".as_slice(); 65];
         let alloc = rt.alloc();
-        assert_eq!(rt; fault_of(alloc, &good, b"mx.example.org", 2048)?, None);
+        assert_eq!(rt; fault_of(alloc, &good, b"mx.example.org", 2048, 0)?, None);
         assert_eq!(rt;
-            fault_of(alloc, &good, b"mx.example.org", 2047)?,
+            fault_of(alloc, &good, b"mx.example.org", 2047, 0)?,
             Some(ConfigFault::Ring)
         );
         assert_eq!(rt;
-            fault_of(alloc, &twice, b"mx.example.org", 16)?,
+            fault_of(alloc, &good, b"mx.example.org", 2048, 2047)?,
+            Some(ConfigFault::Ring)
+        );
+        assert_eq!(rt;
+            fault_of(alloc, &good, b"mx.example.org", 2048, 2048)?,
+            None
+        );
+        assert_eq!(rt;
+            fault_of(alloc, &twice, b"mx.example.org", 16, 0)?,
             Some(ConfigFault::Twice)
         );
         assert_eq!(rt;
-            fault_of(alloc, &twice, b"", 16)?,
+            fault_of(alloc, &twice, b"", 16, 0)?,
             Some(ConfigFault::BadName)
         );
         assert_eq!(rt;
-            fault_of(alloc, &many, b"", 16)?,
+            fault_of(alloc, &many, b"", 16, 0)?,
             Some(ConfigFault::TooMany)
         );
         Ok(())

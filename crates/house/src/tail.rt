@@ -5,7 +5,8 @@ ghost use Rattle.std.specs.Io.{StartsWith};
 ghost use Rattle.envelope.specs.Names.{number_of};
 ghost use Rattle.house.specs.Scene.{Scene, Setup};
 ghost use Rattle.house.specs.Stands.{StandsFor};
-ghost use Rattle.house.specs.Script.{PrintsWindow, change_text, flag_words, spaced, tail_line, tail_text};
+ghost use Rattle.cursor_set.specs.Lines.{flag_words, spaced};
+ghost use Rattle.house.specs.Script.{PrintsWindow, change_text, tail_line, tail_text};
 
 use crate::event::HouseFault;
 use crate::house::House;

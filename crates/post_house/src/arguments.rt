@@ -40,6 +40,13 @@ const RING: Number = Number {
     most: 65_536,
 };
 
+const RING_MAX: Number = Number {
+    name: "ring-max",
+    help: "Changes that each mailbox keeps at most, for clients that fall behind; 0 for no more than --ring",
+    least: 0,
+    most: 65_536,
+};
+
 const MESSAGES: Number = Number {
     name: "messages",
     help: "Messages that each mailbox may hold",
@@ -115,6 +122,7 @@ fn command_line<'a>(alloc: Global) -> Result<Command<'a>, AllocError> {
         .arg(option(alloc, SHARDS))?
         .arg(option(alloc, DEPTH))?
         .arg(option(alloc, RING))?
+        .arg(option(alloc, RING_MAX))?
         .arg(option(alloc, MESSAGES))?
         .arg(option(alloc, MAX_MESSAGE))?
         .arg(option(alloc, UIDVALIDITY))?
@@ -194,9 +202,18 @@ fn with_sizes<'a>(matches: &ArgMatches<'a>, mut config: Config) -> Result<Config
 {
     config.shards = given(matches, SHARDS, 1)? as u8;
     config.depth = given(matches, DEPTH, 64)? as usize;
-    config.ring = given(matches, RING, 2048)? as usize;
     config.messages = given(matches, MESSAGES, 1024)? as usize;
     config.max_message = given(matches, MAX_MESSAGE, 1_048_576)? as usize;
+    Ok(config)
+}
+
+// The settings with the windows' sizes that were given.
+fn with_windows<'a>(matches: &ArgMatches<'a>, mut config: Config) -> Result<Config, Refused<'a>>
+    requires { IsInRange config }
+    ensures { IfOk result IsInRange }
+{
+    config.ring = given(matches, RING, 2048)? as usize;
+    config.ring_max = given(matches, RING_MAX, 0)? as usize;
     Ok(config)
 }
 
@@ -225,7 +242,8 @@ fn settings_of<'a>(alloc: Global, matches: &ArgMatches<'a>) -> Result<Config, Re
     let standing = standing(alloc, matches)?;
     let named = with_names(alloc, matches, standing)?;
     let sized = with_sizes(matches, named)?;
-    with_uids(matches, sized)
+    let windowed = with_windows(matches, sized)?;
+    with_uids(matches, windowed)
 }
 
 /// The settings that these words ask for, the first of which is the program's name: `script`, options, mailboxes. Each number is in

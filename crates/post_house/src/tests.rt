@@ -118,6 +118,15 @@ fn words_and_options_in_any_order(rt: HostRuntime) {
             "alice",
         ]
         .as_slice(),
+        [
+            "post_house",
+            "script",
+            "--ring=32",
+            "--messages=9",
+            "--ring-max=31",
+            "alice",
+        ]
+        .as_slice(),
     ];
     for words in short {
         let ended = run_of(rt.alloc(), words);
@@ -159,6 +168,7 @@ fn each_option_reaches_its_setting(rt: HostRuntime) -> Result<(), Error> {
         "--shards=3",
         "--depth=4",
         "--ring=50",
+        "--ring-max=60",
         "--messages=6",
         "--max-message=7",
         "--uidvalidity=8",
@@ -172,6 +182,7 @@ fn each_option_reaches_its_setting(rt: HostRuntime) -> Result<(), Error> {
     assert_eq!(rt; config.shards, 3);
     assert_eq!(rt; config.depth, 4);
     assert_eq!(rt; config.ring, 50);
+    assert_eq!(rt; config.ring_max, 60);
     assert_eq!(rt; config.messages, 6);
     assert_eq!(rt; config.max_message, 7);
     assert_eq!(rt; config.uidvalidity, 8);
