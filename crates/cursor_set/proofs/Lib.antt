@@ -1,3 +1,4 @@
+pub mod GapLaws
 pub mod LeastLaws
 pub mod LegalLaws
 pub mod Numbers
