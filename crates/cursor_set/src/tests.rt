@@ -55,7 +55,8 @@ fn feed_each(
     text: &mut Vec<u8>,
 ) -> Result<Vec<usize>, AllocError>
     requires base { ring.now.base ≡ 0 }
-    requires known { (o : Open) → held set.old seat.old ≡ Some o → (seat.old.at ≤ total ring.now) × IsLegalOn o.view (changes_from seat.old.at ring.now) }
+    requires known { (o : Open) → held set.old seat.old ≡ Some o →
+        (seat.old.at ≤ total ring.now) × IsLegalOn o.view (changes_from seat.old.at ring.now) }
 {
     let mut counts = Vec::new(alloc);
     for limit in limits {
