@@ -1,7 +1,10 @@
+pub mod GapLaws
+pub mod KnownLaws
 pub mod LeastLaws
 pub mod LegalLaws
 pub mod Numbers
 pub mod OpenedLemmas
 pub mod Places
+pub mod RunLaws
 pub mod ShowLaws
 pub mod WindowParts

@@ -58,6 +58,11 @@ pub Rises-first : (xs zs : List ℕ) → Rises (xs ++ zs) → Rises xs
 Rises-first [] zs h = tt
 Rises-first (x ∷ xs) zs h = (all-first (λ y. x < y) xs zs h.0, Rises-first xs zs h.1)
 
+-- and the last part
+pub Rises-last : (xs zs : List ℕ) → Rises (xs ++ zs) → Rises zs
+Rises-last [] zs h = h
+Rises-last (x ∷ xs) zs h = Rises-last xs zs h.1
+
 -- ---- places
 
 place_if : (b : Bool) (n : ℕ) → (b ≡ true → ⊥) → (if b then 1 else n) ≡ n
@@ -105,16 +110,14 @@ not_falling view up i j l m = elim (cases_lt i j) [
   | inr high ↦ let same : i ≡ j = omega arith in rw same (omega arith)
 ]
 
--- what a search by halving says of a message's place
-pub searched_place : (view : List ℕ) (uid : ℕ) (r : Result ℕ ℕ) → IsBinarySearchResult (λ y. nat_cmp y uid) view r → IsStrictlyIncreasing view →
-    MatchResult r (λ k. place uid view ≡ k + 1) (λ k. Contains view uid → ⊥)
-searched_place view uid (Ok k) h up =
-    let found = searched view uid (Ok k) h (λ i j l m. not_falling view up i j l m) in
-    place_at uid view k (Rises-from view up) found.0 found.1
-searched_place view uid (Err k) h up = λ there.
-    let gap = searched view uid (Err k) h (λ i j l m. not_falling view up i j l m) in
-    let here : get_or view there.0 0 ≡ uid = get_or_default view there.0 0 uid there.1 ∙ there.2 in
+-- what a search by halving says of a rising list
+pub searched_at : (xs : List ℕ) (uid : ℕ) (r : Result ℕ ℕ) → IsBinarySearchResult (λ y. nat_cmp y uid) xs r → IsStrictlyIncreasing xs →
+    MatchResult r (λ k. (k < length xs) × (get_or xs k 0 ≡ uid)) (λ k. Contains xs uid → ⊥)
+searched_at xs uid (Ok k) h up = searched xs uid (Ok k) h (λ i j l m. not_falling xs up i j l m)
+searched_at xs uid (Err k) h up = λ there.
+    let gap = searched xs uid (Err k) h (λ i j l m. not_falling xs up i j l m) in
+    let here : get_or xs there.0 0 ≡ uid = get_or_default xs there.0 0 uid there.1 ∙ there.2 in
     elim (cases_lt there.0 k) [
-      | inl low ↦ let less : get_or view there.0 0 < uid = gap.1 there.0 low in absurd (omega (arith, less, here))
-      | inr high ↦ let more : uid < get_or view there.0 0 = gap.2 there.0 (omega arith) there.1 in absurd (omega (arith, more, here))
+      | inl low ↦ let less : get_or xs there.0 0 < uid = gap.1 there.0 low in absurd (omega (arith, less, here))
+      | inr high ↦ let more : uid < get_or xs there.0 0 = gap.2 there.0 (omega arith) there.1 in absurd (omega (arith, more, here))
     ]

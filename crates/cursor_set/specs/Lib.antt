@@ -1,4 +1,5 @@
 pub mod Cursors
+pub mod Gap
 pub mod Legal
 pub mod Lines
 pub mod Opened

@@ -4,6 +4,7 @@
 
 pub use set::{CursorSeat, CursorSet, FeedFault, NoMemory, Stranger};
 
+mod gap;
 mod lines;
 mod set;
 #[cfg(test)]

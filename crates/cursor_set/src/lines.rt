@@ -1,12 +1,14 @@
 //! The lines that show changes to a client, written in room that was reserved, and what the client
 //! counts after them. Which changes are shown, and to whom, is told in `set`.
 
-ghost use Rattle.std.specs.Prelude.{◌≡◌, ◌+◌, ◌*◌, ◌<◌, ◌≤◌, [], ◌++◌, length, ◌∷◌, not, ◌&&◌, if◌then◌else◌, codes, decimal, vec_len, vec_capacity, Contains};
+ghost use Rattle.std.specs.Prelude.{◌≡◌, ◌+◌, ◌*◌, ◌<◌, ◌≤◌, [], ◌++◌, length, ◌∷◌, not, ◌&&◌, if◌then◌else◌, codes, decimal, vec_len, vec_capacity};
 ghost use Rattle.std.specs.List.Sorted.{IsStrictlyIncreasing};
-ghost use Rattle.change_ring.specs.Log.{Names, shown, replay, without};
+ghost use Rattle.change_ring.specs.Log.{Names, shown, replay};
+ghost use Rattle.cursor_set.specs.Gap.{counted, IsGapOf};
 ghost use Rattle.cursor_set.specs.Legal.{IsLegalOn};
-ghost use Rattle.cursor_set.specs.Lines.{flag_words, spaced, place, fetch_line, line, lines};
+ghost use Rattle.cursor_set.specs.Lines.{flag_words, spaced, fetch_line, line, lines};
 
+use crate::gap::Gap;
 use change_ring::{Change, Flags};
 use itoa::Buffer;
 
@@ -94,44 +96,18 @@ fn put_fetch(number: usize, uid: u32, flags: Flags, out: &mut Vec<u8>)
     put(b"))\r\n", out);
 }
 
-// The place of a message that is there, counted from 1. The UIDs rise, so it is found by halving.
-fn place_of(view: &[u32], uid: u32) -> usize
-    requires there { Contains view.now uid }
-    requires rising { IsStrictlyIncreasing view.now }
-    ensures place { result ≡ place uid view.now }
-    ensures some { 0 < result }
-    ensures within { result ≤ length view.now }
-{
-    match view.binary_search(&uid) {
-        Ok(index) => index + 1,
-        Err(_) => 0,
-    }
-}
-
-// Takes a message out of the view, and says where it was.
-#[tactic(auto, using(crate::proofs::Places::remove_place))]
-fn take_out(view: &mut Vec<u32>, uid: u32) -> usize
-    requires there { Contains view.old.items uid }
-    requires rising { IsStrictlyIncreasing view.old.items }
-    ensures place { result ≡ place uid view.old.items }
-    ensures view { view.new.items ≡ without uid view.old.items }
-    ensures len { vec_len view.new ≤ vec_len view.old }
-    ensures capacity { vec_capacity view.old ≤ vec_capacity view.new }
-{
-    let place = place_of(view, uid);
-    view.remove(place - 1);
-    place
-}
-
 // Shows one change: its line, and the view after it.
-fn show_change(change: Change, view: &mut Vec<u32>, out: &mut Vec<u8>)
-    requires there { Names view.old.items change }
-    requires rising { IsStrictlyIncreasing view.old.items }
+#[tactic(auto, using(crate::proofs::Places::remove_place))]
+fn show_change(change: Change, gap: Gap, view: &mut Vec<u32>, out: &mut Vec<u8>) -> Gap
+    requires gap { IsGapOf gap view.old.items }
+    requires there { Names (counted gap view.old.items) change }
+    requires rising { IsStrictlyIncreasing (counted gap view.old.items) }
     requires view_room { vec_len view.old + 1 ≤ vec_capacity view.old }
     requires out_room { vec_len out.old + LINE_ROOM ≤ vec_capacity out.old }
 
-    ensures view { view.new.items ≡ shown view.old.items change }
-    ensures text { out.new.items ≡ out.old.items ++ line view.old.items change }
+    ensures gap { IsGapOf result view.new.items }
+    ensures view { counted result view.new.items ≡ shown (counted gap view.old.items) change }
+    ensures text { out.new.items ≡ out.old.items ++ line (counted gap view.old.items) change }
 
     ensures view_len { vec_len view.new ≤ vec_len view.old + 1 }
     ensures view_capacity { vec_capacity view.old ≤ vec_capacity view.new }
@@ -141,17 +117,23 @@ fn show_change(change: Change, view: &mut Vec<u32>, out: &mut Vec<u8>)
     match change {
         Change::Add(uid) => {
             view.push_reserved(uid);
-            put_numbered(view.len(), b" EXISTS\r\n", out);
+            put_numbered(gap.count(view), b" EXISTS\r\n", out);
+            gap
         }
         Change::Gone(uid) => {
-            let place = take_out(view, uid);
+            let place = gap.place(view, uid);
             put_numbered(place, b" EXPUNGE\r\n", out);
+            gap.without(view, place - 1)
         }
-        Change::Flags(uid, flags) => put_fetch(place_of(view, uid), uid, flags, out),
+        Change::Flags(uid, flags) => {
+            put_fetch(gap.place(view, uid), uid, flags, out);
+            gap
+        }
     }
 }
 
-/// Shows changes: their lines, and the view after them.
+/// Shows changes: their lines, and the view after them. What is taken out leaves a gap until the
+/// last change was shown, so that the view's tail isn't moved for each.
 #[tactic(auto, using(crate::proofs::LegalLaws::legal_rises, crate::proofs::LegalLaws::legal_step))]
 pub fn show_changes(changes: &[Change], view: &mut Vec<u32>, out: &mut Vec<u8>)
     requires legal { IsLegalOn view.old.items changes.now }
@@ -166,7 +148,9 @@ pub fn show_changes(changes: &[Change], view: &mut Vec<u32>, out: &mut Vec<u8>)
     ensures out_len { vec_len out.new ≤ vec_len out.old + length changes.now * LINE_ROOM }
     ensures out_capacity { vec_capacity out.old ≤ vec_capacity out.new }
 {
+    let mut gap = Gap::none();
     for change in changes {
-        show_change(*change, view, out);
+        gap = show_change(*change, gap, view, out);
     }
+    gap.close(view);
 }

@@ -1,6 +1,7 @@
 use Rattle.std.proofs.Common.{◌≡◌, ◌+◌, ◌*◌, ◌≤◌, ◌++◌, drop}
 use Rattle.std.specs.Prelude.{vec_len, vec_capacity}
 use Rattle.change_ring.specs.Log.{replay}
+use Rattle.cursor_set.specs.Gap.{counted, IsGapOf}
 use Rattle.cursor_set.specs.Legal.{IsLegalOn}
 use Rattle.cursor_set.specs.Lines.{lines}
 use Rattle.cursor_set.proofs.lines.show_changes.Given as goal
@@ -8,9 +9,10 @@ use Rattle.cursor_set.proofs.lines.show_changes.Given as goal
 -- the view and the text so far, with what is left, give those of all the changes, and there is room for what is left
 abbrev pub invariant-loop-change : goal.invariant-loop-change
 invariant-loop-change l = record {
-  legal : IsLegalOn l.view.items (drop l.change-index l.changes);
-  view : replay l.view.items (drop l.change-index l.changes) ≡ replay l.fn.view.items l.changes;
-  text : l.out.items ++ lines l.view.items (drop l.change-index l.changes) ≡ l.fn.out.items ++ lines l.fn.view.items l.changes;
+  gap : IsGapOf l.gap l.view.items;
+  legal : IsLegalOn (counted l.gap l.view.items) (drop l.change-index l.changes);
+  view : replay (counted l.gap l.view.items) (drop l.change-index l.changes) ≡ replay l.fn.view.items l.changes;
+  text : l.out.items ++ lines (counted l.gap l.view.items) (drop l.change-index l.changes) ≡ l.fn.out.items ++ lines l.fn.view.items l.changes;
   view_len : vec_len l.view ≤ vec_len l.fn.view + l.change-index;
   view_capacity : vec_capacity l.fn.view ≤ vec_capacity l.view;
   out_len : vec_len l.out ≤ vec_len l.fn.out + l.change-index * 107;
