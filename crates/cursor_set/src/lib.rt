@@ -2,6 +2,7 @@
 //! 7.5). Which changes a mailbox has is told in `change_ring`.
 #![tactic(auto)]
 
+pub use lines::{FLAGS_ROOM, put_flags};
 pub use set::{CursorSeat, CursorSet, FeedFault, NoMemory, Stranger};
 
 mod gap;

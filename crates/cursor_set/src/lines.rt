@@ -56,8 +56,12 @@ fn put_flag(set: bool, word: &[u8], first: bool, out: &mut Vec<u8>) -> bool
     false
 }
 
-// Writes the names of the flags that are set, with a space between two.
-fn put_flags(flags: Flags, out: &mut Vec<u8>)
+/// Room for the names of all five flags.
+pub const FLAGS_ROOM: usize = 41;
+
+/// Writes the names of the flags that are set, with a space between two, behind `out`, which has room
+/// for them (RFC 9051, 2.3.2).
+pub fn put_flags(flags: Flags, out: &mut Vec<u8>)
     requires { vec_len out.old + 41 ≤ vec_capacity out.old }
     ensures items { out.new.items ≡ out.old.items ++ spaced (flag_words flags) }
     ensures len { vec_len out.new ≤ vec_len out.old + 41 }

@@ -20,6 +20,7 @@ some_mail = record {
   messages = [];
   window = record { base = 0; changes = []; capacity = 0; max = 0 };
   accepted = [];
+  cursors = record { number = 0; next = 0; slots = [] };
 }
 
 pub window_printed : (k : Setup) (s : Scene) (h : State) (core : Held) (directory : Directory) (word : List ℕ) (m base : ℕ) (changes : List Change) (old new : List ℕ)

@@ -12,36 +12,18 @@ use crate::event::HouseFault;
 use crate::house::House;
 use crate::print::append_parts;
 use change_ring::{Change, Flags};
+use cursor_set::{FLAGS_ROOM, put_flags};
 use itoa::Buffer;
 use std::alloc::AllocError;
-
-// A flag's word, which has a space before it, as it is printed: without the space where no flag before it is set.
-fn flag_part(is_set: bool, has_earlier: bool, word: &[u8]) -> &[u8]
-    ensures { result.now ≡ (if is_set then (if has_earlier then word.now else drop 1 word.now) else []) }
-{
-    if !is_set {
-        &word[word.len()..]
-    } else if has_earlier || word.is_empty() {
-        word
-    } else {
-        &word[1..]
-    }
-}
 
 // Prints the words of the flags that are set, or nothing.
 fn print_flags(flags: Flags, out: &mut Vec<u8>) -> Result<(), AllocError>
     ensures ok { OnOk result (out.new.items ≡ out.old.items ++ spaced (flag_words flags)) }
     ensures err { OnErr result (out.new.items ≡ out.old.items) }
 {
-    let before_deleted = flags.answered || flags.flagged;
-    let before_seen = before_deleted || flags.deleted;
-    let before_draft = before_seen || flags.seen;
-    let answered = flag_part(flags.answered, false, b" \\Answered");
-    let flagged = flag_part(flags.flagged, flags.answered, b" \\Flagged");
-    let deleted = flag_part(flags.deleted, before_deleted, b" \\Deleted");
-    let seen = flag_part(flags.seen, before_seen, b" \\Seen");
-    let draft = flag_part(flags.draft, before_draft, b" \\Draft");
-    append_parts(&[answered, flagged, deleted, seen, draft], out)
+    out.reserve(FLAGS_ROOM)?;
+    put_flags(flags, out);
+    Ok(())
 }
 
 // Prints a change of a message's flags, or a part of the line.
