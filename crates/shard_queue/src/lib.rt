@@ -3,8 +3,16 @@
 #![tactic(auto)]
 
 mod calls;
+mod ends;
 mod lane;
 mod laws;
+mod queue;
+mod reply;
+mod shared;
 
+pub use ends::ReplyChannel;
 pub use lane::{Entry, Full, PlainLane, Taken};
 pub use laws::each_lane_is_a_merge;
+pub use queue::{Closed, ConsumerSeat, Ended, NotAll, ProducerSeat, ShardQueue};
+pub use reply::{ReceiverSeat, ReplyClosed, ReplyNotAll, SenderEnded, SenderSeat};
+pub use shared::{Merge, View};
