@@ -7,8 +7,8 @@ use Rattle.crossbeam_queue.proofs.Lists.{at_set, set_else}
 use Rattle.shard_queue.specs.declared.lane.Entry.{Entry}
 use Rattle.shard_queue.specs.declared.shared.View.{View}
 use Rattle.shard_queue.specs.declared.shared.View.TheVariants.{Consumer, Producer, Spent}
-use Rattle.shard_queue.specs.Lane.{producer, has_end, Lane, empty_lane, put, took, IsMerge}
-use Rattle.shard_queue.specs.Shared.{consumer, sender, spent, Sits, KnowsHeard, Knows, IsShared, IsSharedBy, Saw, putting, Takes, hiring, hired, heard_out}
+use Rattle.shard_queue.specs.Lane.{producer, of, has_end, Lane, EndsLast, empty_lane, put, took, IsMerge}
+use Rattle.shard_queue.specs.Shared.{consumer, sender, spent, Sits, KnowsHeard, Knows, IsShared, IsSharedBy, SeatsMerge, Saw, putting, Takes, hiring, hired, heard_out}
 use Rattle.shard_queue.proofs.AtLaws.{at_cases}
 use Rattle.shard_queue.proofs.LaneLaws.{empty_merge, merge_put, merge_took, front_known}
 
@@ -197,3 +197,14 @@ module _ {T : Type 0} where
   -- what a seat learns
   pub learns : (place : ℕ) (v : View T) → Learns IsSharedBy place v (Saw v)
   learns place v waiting seats h at = (h.0, h.1, h.2.waits, h.2.merge, (h.2.known place v at).1)
+
+  -- what all seats together know
+  pub seats_merge : (waiting : List (Entry T)) (seats : List (View T)) → IsSharedBy waiting seats → SeatsMerge waiting seats
+  seats_merge waiting seats h producers got heard at p =
+      let s = h.2 in
+      let taker = (s.known 0 (consumer producers got heard) at).1 in
+      let all : of p (got ++ waiting) ≡ h.1.sent p = ap (λ es. of p (es ++ waiting)) taker.1 ∙ ap (λ es. of p (h.1.got ++ es)) (sym s.waits) ∙ s.merge.each p in (
+        (λ sent there. all ∙ sym (s.known (suc p) (sender p sent) there).1),
+        (λ big. all ∙ s.merge.known p (let d = taker.0 in omega arith)),
+        subst EndsLast (sym all) (s.merge.legal p),
+      )

@@ -1,11 +1,11 @@
 -- A lane that threads share. Each seat knows a part of it; the rule is that there is one lane of which all that is true, and that it is a merge.
-use Rattle.std.specs.Prelude.{◌≡◌, ℕ, suc, ◌<◌, true, List, [], ◌∷◌, ◌++◌, length, Option, Some, None, ⊤}
+use Rattle.std.specs.Prelude.{◌≡◌, ℕ, suc, ◌<◌, ◌≤◌, true, List, [], ◌∷◌, ◌++◌, length, Option, Some, None, ⊤}
 use mathlib.Core.Option.{some}
 use lib.ListN.{get_elem?}
 use Rattle.shard_queue.specs.declared.lane.Entry.{Entry}
 use Rattle.shard_queue.specs.declared.shared.View.{View}
 use Rattle.shard_queue.specs.declared.shared.View.TheVariants as views
-use Rattle.shard_queue.specs.Lane.{producer, has_end, Lane, IsMerge}
+use Rattle.shard_queue.specs.Lane.{producer, of, has_end, Lane, EndsLast, IsMerge}
 
 module _ {T : Type 0} where
   -- a consumer that has taken `got`, of a lane with so many producers; `heard` is the producer that was heard out last, and what it sent
@@ -53,6 +53,12 @@ module _ {T : Type 0} where
   -- the rule: there is such a lane
   abbrev pub IsSharedBy : List (Entry T) → List (View T) → Type 0
   IsSharedBy waiting seats = (producers : ℕ) × (l : Lane T) × IsShared producers l waiting seats
+
+  -- what the consumer has taken and then what waits is, of each producer, what its seat has sent; each entry is a producer's, and nothing follows an end
+  abbrev pub SeatsMerge : List (Entry T) → List (View T) → Type 0
+  SeatsMerge waiting seats = (producers : ℕ) (got : List (Entry T)) (heard : Option (ℕ × List (Entry T))) → get_elem? seats 0 ≡ some (consumer producers got heard)
+      → (p : ℕ) → ((sent : List (Entry T)) → get_elem? seats (suc p) ≡ some (sender p sent) → of p (got ++ waiting) ≡ sent)
+      × (producers ≤ p → of p (got ++ waiting) ≡ []) × EndsLast (of p (got ++ waiting))
 
   -- what a seat learns at one moment, when these entries wait
   abbrev pub Saw : View T → List (Entry T) → Type 0

@@ -16,6 +16,6 @@ mod shared;
 
 pub use ends::ReplyChannel;
 pub use lane::{Entry, Full, PlainLane, Taken};
-pub use laws::each_lane_is_a_merge;
+pub use laws::{each_lane_is_a_merge, shared_lanes_merge};
 pub use queue::{Closed, ConsumerSeat, Ended, NotAll, ProducerSeat, ShardQueue};
 pub use reply::{ReceiverSeat, ReplyClosed, ReplyNotAll, SenderEnded, SenderSeat};

@@ -63,7 +63,7 @@ pub struct NotAll<T> {
 impl<T> ProducerSeat<T> {
     /// The producer's number, from 0.
     pub fn number(&self) -> u8
-        ensures { result ≡ self.now.number }
+        ensures { result ≡ number_of self.now }
     {
         self.number
     }
@@ -72,7 +72,7 @@ impl<T> ProducerSeat<T> {
 impl<T> Ended<T> {
     /// The number of the producer that has ended.
     pub fn number(&self) -> u8
-        ensures { result ≡ self.now.number }
+        ensures { result ≡ ended_number self.now }
     {
         self.number
     }
@@ -116,10 +116,10 @@ impl<T: Drop> ShardQueue<T> {
         item: T,
     ) -> Result<(), Full<T>>
         requires seat { IsProducer self.now seat.old }
-        ensures seat { IsProducer self.now seat.new × (seat.new.number ≡ seat.old.number) }
+        ensures seat { IsProducer self.now seat.new × (number_of seat.new ≡ number_of seat.old) }
         ensures put { MatchResult result
-            (λ _. sent seat.new ≡ sent seat.old ++ entries.Item seat.old.number item ∷ [])
-            (λ back. (back.0 ≡ item) × (sent seat.new ≡ sent seat.old) × WasFull (capacity_of self.now) seat.old.number (sent seat.old)) }
+            (λ _. sent seat.new ≡ sent seat.old ++ entries.Item (number_of seat.old) item ∷ [])
+            (λ back. (back.0 ≡ item) × (sent seat.new ≡ sent seat.old) × WasFull (capacity_of self.now) (number_of seat.old) (sent seat.old)) }
     {
         let put = Entry::Item(seat.number, item);
         match self.queue.push_as::<Put, R>(rt, &mut seat.pass, put) {
@@ -137,8 +137,8 @@ impl<T: Drop> ShardQueue<T> {
         seat: ProducerSeat<T>,
     ) -> Result<Ended<T>, ProducerSeat<T>>
         requires seat { IsProducer self.now seat }
-        ensures ended { IfOk result (λ e. IsEnded self.now e × (e.number ≡ seat.number) × (said e ≡ sent seat ++ entries.End seat.number ∷ [])) }
-        ensures full { IfErr result (λ s. IsProducer self.now s × (s.number ≡ seat.number) × (sent s ≡ sent seat) × WasFull (capacity_of self.now) seat.number (sent seat)) }
+        ensures ended { IfOk result (λ e. IsEnded self.now e × (ended_number e ≡ number_of seat) × (said e ≡ sent seat ++ entries.End (number_of seat) ∷ [])) }
+        ensures full { IfErr result (λ s. IsProducer self.now s × (number_of s ≡ number_of seat) × (sent s ≡ sent seat) × WasFull (capacity_of self.now) (number_of seat) (sent seat)) }
     {
         let ProducerSeat { mut pass, number } = seat;
         match self
@@ -177,7 +177,7 @@ impl<T: Drop> ShardQueue<T> {
         requires seat { IsConsumer self seat }
         requires ended { All (IsEnded self) ended.items }
         ensures history { IfOk result (λ c. history c ≡ got seat) }
-        ensures each { IfOk result (λ _. All (λ e. said e ≡ of e.number (got seat)) ended.items) }
+        ensures each { IfOk result (λ _. All (λ e. said e ≡ of (ended_number e) (got seat)) ended.items) }
         ensures all { IfOk result (λ _. IsAll ended_number (producers_of self) ended.items (got seat)) }
         ensures whole { IfOk result (λ _. IsWhole (producers_of self) (capacity_of self) (got seat)) }
         ensures back { IfErr result (λ n. (n.queue ≡ self) × (n.ended ≡ ended) × (n.seat ≡ seat) × IsNotAll ended_number (producers_of self) ended.items (got seat)) }

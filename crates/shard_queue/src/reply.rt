@@ -58,7 +58,7 @@ pub struct ReplyNotAll<T: Drop> {
 impl<T> SenderSeat<T> {
     /// The sender's number, from 0.
     pub fn number(&self) -> u8
-        ensures { result ≡ self.now.number }
+        ensures { result ≡ sender_number self.now }
     {
         self.number
     }
@@ -67,7 +67,7 @@ impl<T> SenderSeat<T> {
 impl<T> SenderEnded<T> {
     /// The number of the sender that has ended.
     pub fn number(&self) -> u8
-        ensures { result ≡ self.now.number }
+        ensures { result ≡ sender_ended_number self.now }
     {
         self.number
     }
@@ -110,10 +110,10 @@ impl<T: Drop> ReplyChannel<T> {
     /// more than before.
     pub fn send_as<R: Wait>(&self, rt: &R, seat: &mut SenderSeat<T>, item: T) -> Result<(), Full<T>>
         requires seat { IsSender self.now seat.old }
-        ensures seat { IsSender self.now seat.new × (seat.new.number ≡ seat.old.number) }
+        ensures seat { IsSender self.now seat.new × (sender_number seat.new ≡ sender_number seat.old) }
         ensures sent { MatchResult result
-            (λ _. sent_on seat.new ≡ sent_on seat.old ++ entries.Item seat.old.number item ∷ [])
-            (λ back. (back.0 ≡ item) × (sent_on seat.new ≡ sent_on seat.old) × WasFull (room_of self.now) seat.old.number (sent_on seat.old)) }
+            (λ _. sent_on seat.new ≡ sent_on seat.old ++ entries.Item (sender_number seat.old) item ∷ [])
+            (λ back. (back.0 ≡ item) × (sent_on seat.new ≡ sent_on seat.old) × WasFull (room_of self.now) (sender_number seat.old) (sent_on seat.old)) }
     {
         let mut entry = Entry::Item(seat.number, item);
         // Both ends are here, so nobody is ever told that the other is gone. No clause of the channel
@@ -136,8 +136,8 @@ impl<T: Drop> ReplyChannel<T> {
         seat: SenderSeat<T>,
     ) -> Result<SenderEnded<T>, SenderSeat<T>>
         requires seat { IsSender self.now seat }
-        ensures ended { IfOk result (λ e. IsSenderEnded self.now e × (e.number ≡ seat.number) × (said_on e ≡ sent_on seat ++ entries.End seat.number ∷ [])) }
-        ensures full { IfErr result (λ s. IsSender self.now s × (s.number ≡ seat.number) × (sent_on s ≡ sent_on seat) × WasFull (room_of self.now) seat.number (sent_on seat)) }
+        ensures ended { IfOk result (λ e. IsSenderEnded self.now e × (sender_ended_number e ≡ sender_number seat) × (said_on e ≡ sent_on seat ++ entries.End (sender_number seat) ∷ [])) }
+        ensures full { IfErr result (λ s. IsSender self.now s × (sender_number s ≡ sender_number seat) × (sent_on s ≡ sent_on seat) × WasFull (room_of self.now) (sender_number seat) (sent_on seat)) }
     {
         let SenderSeat { mut pass, number } = seat;
         // As in `send_as`: whoever were told that the other end is gone would try again.
@@ -185,7 +185,7 @@ impl<T: Drop> ReplyChannel<T> {
         requires seat { IsReceiver self seat }
         requires ended { All (IsSenderEnded self) ended.items }
         ensures history { IfOk result (λ c. reply_history c ≡ received seat) }
-        ensures each { IfOk result (λ _. All (λ e. said_on e ≡ of e.number (received seat)) ended.items) }
+        ensures each { IfOk result (λ _. All (λ e. said_on e ≡ of (sender_ended_number e) (received seat)) ended.items) }
         ensures all { IfOk result (λ _. IsAll sender_ended_number (senders_of self) ended.items (received seat)) }
         ensures whole { IfOk result (λ _. IsWhole (senders_of self) (room_of self) (received seat)) }
         ensures back { IfErr result (λ n. (n.channel ≡ self) × (n.ended ≡ ended) × (n.seat ≡ seat) × IsNotAll sender_ended_number (senders_of self) ended.items (received seat)) }
