@@ -43,12 +43,12 @@ module _ {T : Type 0} where
 
   -- the seat of a sender of this channel that may send more
   abbrev pub IsSender : ReplyChannel T → SenderSeat T → Type 0
-  IsSender c s = IsSeatAt (sends_on c.sender) s.pass × (view s.pass ≡ sender s.number (sent_on s)) × (has_end (sent_on s) ≡ false)
+  IsSender c s = IsSeatAt (sends_on c.sender) s.pass × (view s.pass ≡ sender c.senders s.number (sent_on s)) × (has_end (sent_on s) ≡ false)
 
   -- what is left of such a seat after its end
   abbrev pub IsSenderEnded : ReplyChannel T → SenderEnded T → Type 0
-  IsSenderEnded c s = IsSeatAt (sends_on c.sender) s.pass × (view s.pass ≡ sender s.number (said_on s)) × (has_end (said_on s) ≡ true)
+  IsSenderEnded c s = IsSeatAt (sends_on c.sender) s.pass × (view s.pass ≡ sender c.senders s.number (said_on s)) × (has_end (said_on s) ≡ true)
 
   -- the seat of this channel's receiver
   abbrev pub IsReceiver : ReplyChannel T → ReceiverSeat T → Type 0
-  IsReceiver c s = IsSeatAt (sends_on c.sender) s.pass × (view s.pass ≡ consumer c.senders (received s) None) × AreMarks c.senders s.ended (received s)
+  IsReceiver c s = IsSeatAt (sends_on c.sender) s.pass × (view s.pass ≡ consumer c.senders c.senders (received s) None) × AreMarks c.senders s.ended (received s)

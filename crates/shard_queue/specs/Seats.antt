@@ -17,8 +17,8 @@ numbers k (suc n) = k ∷ numbers (suc k) n
 
 module _ {T : Type 0} where
   -- at one moment as many entries waited as there is room for, and this producer had sent these
-  abbrev pub WasFull : ℕ → ℕ → List (Entry T) → Type 0
-  WasFull room p sent = (producers : ℕ) × (l : Lane T) × IsMerge producers room l × (length l.waiting ≡ room) × (l.sent p ≡ sent)
+  abbrev pub WasFull : ℕ → ℕ → ℕ → List (Entry T) → Type 0
+  WasFull producers room p sent = (l : Lane T) × IsMerge producers room l × (length l.waiting ≡ room) × (l.sent p ≡ sent)
 
   -- at one moment nothing waited, and these had been taken
   abbrev pub WasEmpty : ℕ → ℕ → List (Entry T) → Type 0
@@ -58,12 +58,12 @@ module _ {T : Type 0} where
 
   -- the seat of a producer of this queue that may put more
   abbrev pub IsProducer : ShardQueue T → ProducerSeat T → Type 0
-  IsProducer q s = IsPassOf q.queue s.pass × (view s.pass ≡ sender s.number (sent s)) × (has_end (sent s) ≡ false)
+  IsProducer q s = IsPassOf q.queue s.pass × (view s.pass ≡ sender q.producers s.number (sent s)) × (has_end (sent s) ≡ false)
 
   -- what is left of such a seat after its end
   abbrev pub IsEnded : ShardQueue T → Ended T → Type 0
-  IsEnded q s = IsPassOf q.queue s.pass × (view s.pass ≡ sender s.number (said s)) × (has_end (said s) ≡ true)
+  IsEnded q s = IsPassOf q.queue s.pass × (view s.pass ≡ sender q.producers s.number (said s)) × (has_end (said s) ≡ true)
 
   -- the seat of this queue's consumer
   abbrev pub IsConsumer : ShardQueue T → ConsumerSeat T → Type 0
-  IsConsumer q s = IsPassOf q.queue s.pass × (view s.pass ≡ consumer q.producers (got s) None) × AreMarks q.producers s.ended (got s)
+  IsConsumer q s = IsPassOf q.queue s.pass × (view s.pass ≡ consumer q.producers q.producers (got s) None) × AreMarks q.producers s.ended (got s)

@@ -12,7 +12,7 @@ ghost use Rattle.shard_queue.specs.Closing.{IsAll, IsNotAll, IsWhole, HasAllEnds
 ghost use Rattle.shard_queue.specs.Seats.{IsProducer, IsEnded, IsConsumer, sent, said, got, history, capacity_of, producers_of, number_of, ended_number, numbers, WasFull, WasEmpty};
 
 use crate::lane::{Entry, Full, Taken};
-use crate::shared::{HearOut, Hire, Merge, Put, Take, View, no_marks};
+use crate::shared::{Announce, HearOut, Hire, Merge, Put, Take, View, no_marks};
 use crossbeam_queue::{Pass, RuledArrayQueue};
 use std::alloc::{AllocError, Global};
 use std::sync::Wait;
@@ -95,8 +95,9 @@ impl<T: Drop> ShardQueue<T> {
     {
         let (queue, mut pass) = Lane::ruled(alloc, capacity)?;
         let mut seats = Vec::with_capacity(alloc, usize::from(producers))?;
+        announce(&queue, &mut pass, producers);
         for p in 0..producers {
-            seats.push_reserved(hire(&queue, &mut pass, p));
+            seats.push_reserved(hire(&queue, producers, &mut pass, p));
         }
         let queue = ShardQueue { queue, producers };
         let seat = ConsumerSeat {
@@ -119,7 +120,7 @@ impl<T: Drop> ShardQueue<T> {
         ensures seat { IsProducer self.now seat.new × (number_of seat.new ≡ number_of seat.old) }
         ensures put { MatchResult result
             (λ _. sent seat.new ≡ sent seat.old ++ entries.Item (number_of seat.old) item ∷ [])
-            (λ back. (back.0 ≡ item) × (sent seat.new ≡ sent seat.old) × WasFull (capacity_of self.now) (number_of seat.old) (sent seat.old)) }
+            (λ back. (back.0 ≡ item) × (sent seat.new ≡ sent seat.old) × WasFull (producers_of self.now) (capacity_of self.now) (number_of seat.old) (sent seat.old)) }
     {
         let put = Entry::Item(seat.number, item);
         match self.queue.push_as::<Put, R>(rt, &mut seat.pass, put) {
@@ -138,7 +139,7 @@ impl<T: Drop> ShardQueue<T> {
     ) -> Result<Ended<T>, ProducerSeat<T>>
         requires seat { IsProducer self.now seat }
         ensures ended { IfOk result (λ e. IsEnded self.now e × (ended_number e ≡ number_of seat) × (said e ≡ sent seat ++ entries.End (number_of seat) ∷ [])) }
-        ensures full { IfErr result (λ s. IsProducer self.now s × (number_of s ≡ number_of seat) × (sent s ≡ sent seat) × WasFull (capacity_of self.now) (number_of seat) (sent seat)) }
+        ensures full { IfErr result (λ s. IsProducer self.now s × (number_of s ≡ number_of seat) × (sent s ≡ sent seat) × WasFull (producers_of self.now) (capacity_of self.now) (number_of seat) (sent seat)) }
     {
         let ProducerSeat { mut pass, number } = seat;
         match self
@@ -248,11 +249,26 @@ fn has_ended<T>(ended: &[Ended<T>], number: u8) -> bool
     ended.iter().any(|e| e.number == number)
 }
 
-// The seat of one more producer.
-fn hire<T>(queue: &Lane<T>, pass: &mut Pass<Entry<T>, View<T>>, number: u8) -> ProducerSeat<T>
-    requires { IsPassOf queue.now pass.old × (view pass.old ≡ consumer number [] None) }
-    ensures pass { IsPassOf queue.now pass.new × (view pass.new ≡ consumer (number + 1) [] None) }
-    ensures seat { IsPassOf queue.now result.pass × (view result.pass ≡ sender number []) × (result.number ≡ number) }
+// How many producers there will be, so that each of their seats knows it.
+fn announce<T>(queue: &Lane<T>, pass: &mut Pass<Entry<T>, View<T>>, producers: u8)
+    requires { IsPassOf queue.now pass.old × (view pass.old ≡ consumer 0 0 [] None) }
+    ensures { IsPassOf queue.now pass.new × (view pass.new ≡ consumer producers 0 [] None) }
+{
+    for _ in 0..producers {
+        queue.another::<Announce>(pass);
+    }
+}
+
+// The seat of the next producer.
+fn hire<T>(
+    queue: &Lane<T>,
+    producers: u8,
+    pass: &mut Pass<Entry<T>, View<T>>,
+    number: u8,
+) -> ProducerSeat<T>
+    requires { IsPassOf queue.now pass.old × (view pass.old ≡ consumer producers number [] None) × (number < producers) }
+    ensures pass { IsPassOf queue.now pass.new × (view pass.new ≡ consumer producers (number + 1) [] None) }
+    ensures seat { IsPassOf queue.now result.pass × (view result.pass ≡ sender producers number []) × (result.number ≡ number) }
 {
     let pass = queue.another::<Hire>(pass);
     ProducerSeat { pass, number }
@@ -261,7 +277,7 @@ fn hire<T>(queue: &Lane<T>, pass: &mut Pass<Entry<T>, View<T>>, number: u8) -> P
 // Hears a producer out: what it has sent is what was taken of it.
 fn hear_out<T>(queue: &Lane<T>, producers: u8, pass: &mut Pass<Entry<T>, View<T>>, ended: Ended<T>)
     requires pass { IsPassOf queue.now pass.old × HasAllEnds producers (view pass.old) }
-    requires ended { IsPassOf queue.now ended.pass × (view ended.pass ≡ sender ended.number (said ended)) × (has_end (said ended) ≡ true) }
+    requires ended { IsPassOf queue.now ended.pass × (view ended.pass ≡ sender producers ended.number (said ended)) × (has_end (said ended) ≡ true) }
     ensures pass { IsPassOf queue.now pass.new × HasAllEnds producers (view pass.new) × (list_of (view pass.new) ≡ list_of (view pass.old)) }
     ensures said { said ended ≡ of ended.number (list_of (view pass.old)) }
 {
@@ -280,7 +296,7 @@ fn hear_all_out<T>(
     mut ended: Vec<Ended<T>>,
 )
     requires pass { IsPassOf queue.now pass.old × HasAllEnds producers (view pass.old) }
-    requires ended { All (λ e. IsPassOf queue.now e.pass × (view e.pass ≡ sender e.number (said e)) × (has_end (said e) ≡ true)) ended.items }
+    requires ended { All (λ e. IsPassOf queue.now e.pass × (view e.pass ≡ sender producers e.number (said e)) × (has_end (said e) ≡ true)) ended.items }
     ensures pass { IsPassOf queue.now pass.new × HasAllEnds producers (view pass.new) × (list_of (view pass.new) ≡ list_of (view pass.old)) }
     ensures said { All (λ e. said e ≡ of e.number (list_of (view pass.old))) ended.items }
 {

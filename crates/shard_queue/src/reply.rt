@@ -14,7 +14,7 @@ ghost use Rattle.shard_queue.specs.Reply.{IsSender, IsSenderEnded, IsReceiver, s
 
 use crate::ends::ReplyChannel;
 use crate::lane::{Entry, Full};
-use crate::shared::{HearOut, Hire, Merge, Put, Take, View, no_marks};
+use crate::shared::{Announce, HearOut, Hire, Merge, Put, Take, View, no_marks};
 use crossbeam_channel::{Pass, RuledSender, TrySendError, bounded_with};
 use std::alloc::{AllocError, Global};
 use std::sync::Wait;
@@ -90,8 +90,9 @@ impl<T: Drop> ReplyChannel<T> {
     {
         let (sender, receiver, mut pass) = bounded_with(alloc, capacity)?;
         let mut seats = Vec::with_capacity(alloc, usize::from(senders))?;
+        announce(&sender, &mut pass, senders);
         for p in 0..senders {
-            seats.push_reserved(hire(&sender, &mut pass, p));
+            seats.push_reserved(hire(&sender, senders, &mut pass, p));
         }
         let channel = ReplyChannel {
             sender,
@@ -113,7 +114,7 @@ impl<T: Drop> ReplyChannel<T> {
         ensures seat { IsSender self.now seat.new × (sender_number seat.new ≡ sender_number seat.old) }
         ensures sent { MatchResult result
             (λ _. sent_on seat.new ≡ sent_on seat.old ++ entries.Item (sender_number seat.old) item ∷ [])
-            (λ back. (back.0 ≡ item) × (sent_on seat.new ≡ sent_on seat.old) × WasFull (room_of self.now) (sender_number seat.old) (sent_on seat.old)) }
+            (λ back. (back.0 ≡ item) × (sent_on seat.new ≡ sent_on seat.old) × WasFull (senders_of self.now) (room_of self.now) (sender_number seat.old) (sent_on seat.old)) }
     {
         let mut entry = Entry::Item(seat.number, item);
         // Both ends are here, so nobody is ever told that the other is gone. No clause of the channel
@@ -137,7 +138,7 @@ impl<T: Drop> ReplyChannel<T> {
     ) -> Result<SenderEnded<T>, SenderSeat<T>>
         requires seat { IsSender self.now seat }
         ensures ended { IfOk result (λ e. IsSenderEnded self.now e × (sender_ended_number e ≡ sender_number seat) × (said_on e ≡ sent_on seat ++ entries.End (sender_number seat) ∷ [])) }
-        ensures full { IfErr result (λ s. IsSender self.now s × (sender_number s ≡ sender_number seat) × (sent_on s ≡ sent_on seat) × WasFull (room_of self.now) (sender_number seat) (sent_on seat)) }
+        ensures full { IfErr result (λ s. IsSender self.now s × (sender_number s ≡ sender_number seat) × (sent_on s ≡ sent_on seat) × WasFull (senders_of self.now) (room_of self.now) (sender_number seat) (sent_on seat)) }
     {
         let SenderSeat { mut pass, number } = seat;
         // As in `send_as`: whoever were told that the other end is gone would try again.
@@ -260,11 +261,26 @@ fn has_ended<T>(ended: &[SenderEnded<T>], number: u8) -> bool
     ended.iter().any(|e| e.number == number)
 }
 
-// The seat of one more sender.
-fn hire<T: Drop>(ends: &Sends<T>, pass: &mut Pass<Entry<T>, View<T>>, number: u8) -> SenderSeat<T>
-    requires { IsSeatAt (sends_on ends.now) pass.old × (view pass.old ≡ consumer number [] None) }
-    ensures pass { IsSeatAt (sends_on ends.now) pass.new × (view pass.new ≡ consumer (number + 1) [] None) }
-    ensures seat { IsSeatAt (sends_on ends.now) result.pass × (view result.pass ≡ sender number []) × (result.number ≡ number) }
+// How many senders there will be, so that each of their seats knows it.
+fn announce<T: Drop>(ends: &Sends<T>, pass: &mut Pass<Entry<T>, View<T>>, senders: u8)
+    requires { IsSeatAt (sends_on ends.now) pass.old × (view pass.old ≡ consumer 0 0 [] None) }
+    ensures { IsSeatAt (sends_on ends.now) pass.new × (view pass.new ≡ consumer senders 0 [] None) }
+{
+    for _ in 0..senders {
+        ends.another::<Announce>(pass);
+    }
+}
+
+// The seat of the next sender.
+fn hire<T: Drop>(
+    ends: &Sends<T>,
+    senders: u8,
+    pass: &mut Pass<Entry<T>, View<T>>,
+    number: u8,
+) -> SenderSeat<T>
+    requires { IsSeatAt (sends_on ends.now) pass.old × (view pass.old ≡ consumer senders number [] None) × (number < senders) }
+    ensures pass { IsSeatAt (sends_on ends.now) pass.new × (view pass.new ≡ consumer senders (number + 1) [] None) }
+    ensures seat { IsSeatAt (sends_on ends.now) result.pass × (view result.pass ≡ sender senders number []) × (result.number ≡ number) }
 {
     let pass = ends.another::<Hire>(pass);
     SenderSeat { pass, number }
@@ -278,7 +294,7 @@ fn hear_out<T: Drop>(
     ended: SenderEnded<T>,
 )
     requires pass { IsSeatAt (sends_on ends.now) pass.old × HasAllEnds senders (view pass.old) }
-    requires ended { IsSeatAt (sends_on ends.now) ended.pass × (view ended.pass ≡ sender ended.number (said_on ended)) × (has_end (said_on ended) ≡ true) }
+    requires ended { IsSeatAt (sends_on ends.now) ended.pass × (view ended.pass ≡ sender senders ended.number (said_on ended)) × (has_end (said_on ended) ≡ true) }
     ensures pass { IsSeatAt (sends_on ends.now) pass.new × HasAllEnds senders (view pass.new) × (list_of (view pass.new) ≡ list_of (view pass.old)) }
     ensures said { said_on ended ≡ of ended.number (list_of (view pass.old)) }
 {
@@ -297,7 +313,7 @@ fn hear_all_out<T: Drop>(
     mut ended: Vec<SenderEnded<T>>,
 )
     requires pass { IsSeatAt (sends_on ends.now) pass.old × HasAllEnds senders (view pass.old) }
-    requires ended { All (λ e. IsSeatAt (sends_on ends.now) e.pass × (view e.pass ≡ sender e.number (said_on e)) × (has_end (said_on e) ≡ true)) ended.items }
+    requires ended { All (λ e. IsSeatAt (sends_on ends.now) e.pass × (view e.pass ≡ sender senders e.number (said_on e)) × (has_end (said_on e) ≡ true)) ended.items }
     ensures pass { IsSeatAt (sends_on ends.now) pass.new × HasAllEnds senders (view pass.new) × (list_of (view pass.new) ≡ list_of (view pass.old)) }
     ensures said { All (λ e. said_on e ≡ of e.number (list_of (view pass.old))) ended.items }
 {

@@ -12,12 +12,12 @@ use std::collections::LinkedList;
 
 /// What a seat knows of its lane. No value of it is ever made: seats carry it for contracts alone.
 pub enum View<T> {
-    /// The consumer's: how many producers there are, what was taken, and, while the lane is closed, the
-    /// producer that was heard out last with all that it has sent.
-    Consumer(u64, LinkedList<Entry<T>>, Option<(u64, LinkedList<Entry<T>>)>),
-    /// A producer's: its number, and what it has sent.
-    Producer(u64, LinkedList<Entry<T>>),
-    /// Of a producer that was heard out.
+    /// The consumer's: how many producers there are, how many of them have their seats, what was taken,
+    /// and, while the lane is closed, the producer that was heard out last with all that it has sent.
+    Consumer(u64, u64, LinkedList<Entry<T>>, Option<(u64, LinkedList<Entry<T>>)>),
+    /// A producer's: how many producers there are, its number, and what it has sent.
+    Producer(u64, u64, LinkedList<Entry<T>>),
+    /// Of a producer that was heard out, or of no use.
     Spent,
 }
 
@@ -30,7 +30,7 @@ impl<T> Protocol<Entry<T>, View<T>> for Merge {
 
     ghost holds = { IsSharedBy };
 
-    ghost first = { consumer 0 [] None };
+    ghost first = { consumer 0 0 [] None };
 }
 
 impl<T> ChannelProtocol<Entry<T>, View<T>> for Merge {
@@ -39,10 +39,21 @@ impl<T> ChannelProtocol<Entry<T>, View<T>> for Merge {
 
     ghost holds = { IsSharedBy };
 
-    ghost first = { consumer 0 [] None };
+    ghost first = { consumer 0 0 [] None };
 }
 
-/// The consumer's seat makes the seat of one more producer.
+/// The consumer's seat learns that there will be one more producer. This makes a seat of no use.
+pub struct Announce;
+
+impl<T> Split<View<T>> for Announce {
+    ghost use Rattle.shard_queue.specs.Shared.{announcing, announced};
+
+    ghost left = { announcing };
+
+    ghost right = { announced };
+}
+
+/// The consumer's seat makes the seat of the next producer.
 pub struct Hire;
 
 impl<T> Split<View<T>> for Hire {

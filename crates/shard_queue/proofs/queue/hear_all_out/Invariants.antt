@@ -10,7 +10,7 @@ use Rattle.shard_queue.proofs.queue.hear_all_out.Given as goal
 abbrev pub invariant-loop-e : goal.invariant-loop-e
 invariant-loop-e g l =
     IsPassOf l.queue l.pass × HasAllEnds l.fn.producers (view l.pass) × (list_of (view l.pass) ≡ list_of (view l.fn.pass))
-    × All (λ e. IsPassOf l.queue e.pass × (view e.pass ≡ sender e.number (said e)) × (has_end (said e) ≡ true)) l.ended.items
+    × All (λ e. IsPassOf l.queue e.pass × (view e.pass ≡ sender l.fn.producers e.number (said e)) × (has_end (said e) ≡ true)) l.ended.items
     × ((done : List (Ended g.row.T.Denot)) × (l.fn.ended.items ≡ l.ended.items ++ done) × All (λ e. said e ≡ of e.number (list_of (view l.fn.pass))) done)
 
 abbrev pub decreases-loop-e : goal.decreases-loop-e

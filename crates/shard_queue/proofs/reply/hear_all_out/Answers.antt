@@ -11,7 +11,7 @@ use Rattle.shard_queue.proofs.reply.hear_all_out.Goals as goal
 
 pub loop-e-preserved : goal.loop-e-preserved
 loop-e-preserved g c =
-    let Q : SenderEnded g.row.T.Denot → Type 0 = λ e. IsSeatAt (sends_on c.args.ends.now) e.pass × (view e.pass ≡ sender e.number (said_on e)) × (has_end (said_on e) ≡ true) in
+    let Q : SenderEnded g.row.T.Denot → Type 0 = λ e. IsSeatAt (sends_on c.args.ends.now) e.pass × (view e.pass ≡ sender c.args.senders e.number (said_on e)) × (has_end (said_on e) ≡ true) in
     let P : SenderEnded g.row.T.Denot → Type 0 = λ e. said_on e ≡ of e.number (list_of (view c.args.pass.now)) in
     let i = c.loop-e.invariant in
     let items = c.in-Some.ensures.items in
