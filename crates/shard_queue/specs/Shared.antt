@@ -8,7 +8,8 @@ use Rattle.shard_queue.specs.declared.shared.View.TheVariants as views
 use Rattle.shard_queue.specs.Lane.{producer, of, has_end, Lane, EndsLast, IsMerge}
 
 module _ {T : Type 0} where
-  -- a consumer that has taken `got`, of a lane with so many producers, of which so many have their seats; `heard` is the producer that was heard out last, and what it sent
+  -- a consumer that has taken `got`, of a lane with so many producers, of which so many have their seats; `heard` is the producer that was heard out last
+  -- with what it sent
   abbrev pub consumer : ℕ → ℕ → List (Entry T) → Option (ℕ × List (Entry T)) → View T
   consumer producers made got heard = views.Consumer producers made got heard
 
@@ -58,7 +59,8 @@ module _ {T : Type 0} where
 
   -- what the consumer has taken and then what waits is, of each producer, what its seat has sent; each entry is a producer's, and nothing follows an end
   abbrev pub SeatsMerge : List (Entry T) → List (View T) → Type 0
-  SeatsMerge waiting seats = (producers made : ℕ) (got : List (Entry T)) (heard : Option (ℕ × List (Entry T))) → get_elem? seats 0 ≡ some (consumer producers made got heard)
+  SeatsMerge waiting seats = (producers made : ℕ) (got : List (Entry T)) (heard : Option (ℕ × List (Entry T)))
+      → get_elem? seats 0 ≡ some (consumer producers made got heard)
       → (p : ℕ) → ((place : ℕ) (sent : List (Entry T)) → get_elem? seats place ≡ some (sender producers p sent) → of p (got ++ waiting) ≡ sent)
       × (producers ≤ p → of p (got ++ waiting) ≡ []) × EndsLast (of p (got ++ waiting))
 

@@ -120,7 +120,8 @@ impl<T: Drop> ShardQueue<T> {
         ensures seat { IsProducer self.now seat.new × (number_of seat.new ≡ number_of seat.old) }
         ensures put { MatchResult result
             (λ _. sent seat.new ≡ sent seat.old ++ entries.Item (number_of seat.old) item ∷ [])
-            (λ back. (back.0 ≡ item) × (sent seat.new ≡ sent seat.old) × WasFull (producers_of self.now) (capacity_of self.now) (number_of seat.old) (sent seat.old)) }
+            (λ back. (back.0 ≡ item) × (sent seat.new ≡ sent seat.old)
+            × WasFull (producers_of self.now) (capacity_of self.now) (number_of seat.old) (sent seat.old)) }
     {
         let put = Entry::Item(seat.number, item);
         match self.queue.push_as::<Put, R>(rt, &mut seat.pass, put) {
@@ -138,8 +139,10 @@ impl<T: Drop> ShardQueue<T> {
         seat: ProducerSeat<T>,
     ) -> Result<Ended<T>, ProducerSeat<T>>
         requires seat { IsProducer self.now seat }
-        ensures ended { IfOk result (λ e. IsEnded self.now e × (ended_number e ≡ number_of seat) × (said e ≡ sent seat ++ entries.End (number_of seat) ∷ [])) }
-        ensures full { IfErr result (λ s. IsProducer self.now s × (number_of s ≡ number_of seat) × (sent s ≡ sent seat) × WasFull (producers_of self.now) (capacity_of self.now) (number_of seat) (sent seat)) }
+        ensures ended { IfOk result (λ e. IsEnded self.now e × (ended_number e ≡ number_of seat)
+            × (said e ≡ sent seat ++ entries.End (number_of seat) ∷ [])) }
+        ensures full { IfErr result (λ s. IsProducer self.now s × (number_of s ≡ number_of seat) × (sent s ≡ sent seat)
+            × WasFull (producers_of self.now) (capacity_of self.now) (number_of seat) (sent seat)) }
     {
         let ProducerSeat { mut pass, number } = seat;
         match self
@@ -181,7 +184,8 @@ impl<T: Drop> ShardQueue<T> {
         ensures each { IfOk result (λ _. All (λ e. said e ≡ of (ended_number e) (got seat)) ended.items) }
         ensures all { IfOk result (λ _. IsAll ended_number (producers_of self) ended.items (got seat)) }
         ensures whole { IfOk result (λ _. IsWhole (producers_of self) (capacity_of self) (got seat)) }
-        ensures back { IfErr result (λ n. (n.queue ≡ self) × (n.ended ≡ ended) × (n.seat ≡ seat) × IsNotAll ended_number (producers_of self) ended.items (got seat)) }
+        ensures back { IfErr result (λ n. (n.queue ≡ self) × (n.ended ≡ ended) × (n.seat ≡ seat)
+            × IsNotAll ended_number (producers_of self) ended.items (got seat)) }
     {
         if !self.are_all(ended.as_slice(), &seat) {
             return Err(NotAll {

@@ -114,7 +114,8 @@ impl<T: Drop> ReplyChannel<T> {
         ensures seat { IsSender self.now seat.new × (sender_number seat.new ≡ sender_number seat.old) }
         ensures sent { MatchResult result
             (λ _. sent_on seat.new ≡ sent_on seat.old ++ entries.Item (sender_number seat.old) item ∷ [])
-            (λ back. (back.0 ≡ item) × (sent_on seat.new ≡ sent_on seat.old) × WasFull (senders_of self.now) (room_of self.now) (sender_number seat.old) (sent_on seat.old)) }
+            (λ back. (back.0 ≡ item) × (sent_on seat.new ≡ sent_on seat.old)
+            × WasFull (senders_of self.now) (room_of self.now) (sender_number seat.old) (sent_on seat.old)) }
     {
         let mut entry = Entry::Item(seat.number, item);
         // Both ends are here, so nobody is ever told that the other is gone. No clause of the channel
@@ -137,8 +138,10 @@ impl<T: Drop> ReplyChannel<T> {
         seat: SenderSeat<T>,
     ) -> Result<SenderEnded<T>, SenderSeat<T>>
         requires seat { IsSender self.now seat }
-        ensures ended { IfOk result (λ e. IsSenderEnded self.now e × (sender_ended_number e ≡ sender_number seat) × (said_on e ≡ sent_on seat ++ entries.End (sender_number seat) ∷ [])) }
-        ensures full { IfErr result (λ s. IsSender self.now s × (sender_number s ≡ sender_number seat) × (sent_on s ≡ sent_on seat) × WasFull (senders_of self.now) (room_of self.now) (sender_number seat) (sent_on seat)) }
+        ensures ended { IfOk result (λ e. IsSenderEnded self.now e × (sender_ended_number e ≡ sender_number seat)
+            × (said_on e ≡ sent_on seat ++ entries.End (sender_number seat) ∷ [])) }
+        ensures full { IfErr result (λ s. IsSender self.now s × (sender_number s ≡ sender_number seat) × (sent_on s ≡ sent_on seat)
+            × WasFull (senders_of self.now) (room_of self.now) (sender_number seat) (sent_on seat)) }
     {
         let SenderSeat { mut pass, number } = seat;
         // As in `send_as`: whoever were told that the other end is gone would try again.
@@ -189,7 +192,8 @@ impl<T: Drop> ReplyChannel<T> {
         ensures each { IfOk result (λ _. All (λ e. said_on e ≡ of (sender_ended_number e) (received seat)) ended.items) }
         ensures all { IfOk result (λ _. IsAll sender_ended_number (senders_of self) ended.items (received seat)) }
         ensures whole { IfOk result (λ _. IsWhole (senders_of self) (room_of self) (received seat)) }
-        ensures back { IfErr result (λ n. (n.channel ≡ self) × (n.ended ≡ ended) × (n.seat ≡ seat) × IsNotAll sender_ended_number (senders_of self) ended.items (received seat)) }
+        ensures back { IfErr result (λ n. (n.channel ≡ self) × (n.ended ≡ ended) × (n.seat ≡ seat)
+            × IsNotAll sender_ended_number (senders_of self) ended.items (received seat)) }
     {
         if !self.are_all(ended.as_slice(), &seat) {
             return Err(ReplyNotAll {
