@@ -80,7 +80,7 @@ closed_is_empty n room l m closed = go l.waiting refl
     go (e ∷ es) h = absurd (no_nil [] e (of (producer e) es)
         (sym (of_own (producer e) e es refl) ∙ (ap (of (producer e)) (sym h) ∙ closed_waits_none n room l m (producer e) (closed (producer e) (front_known n room l e es m h)))))
 
-has_end_more : {A : Type 0} (xs ys : List (Entry A)) → has_end xs ≡ true → has_end (xs ++ ys) ≡ true
+pub has_end_more : {A : Type 0} (xs ys : List (Entry A)) → has_end xs ≡ true → has_end (xs ++ ys) ≡ true
 has_end_more [] ys h = absurd (cc)
 has_end_more (Item p x ∷ xs) ys h = has_end_more xs ys h
 has_end_more (End p ∷ xs) ys h = refl

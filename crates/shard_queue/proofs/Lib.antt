@@ -1,2 +1,4 @@
 pub mod AtLaws
 pub mod LaneLaws
+pub mod SharedLaws
+pub mod ClosingLaws

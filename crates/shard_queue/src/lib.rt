@@ -3,8 +3,19 @@
 #![tactic(auto)]
 
 mod calls;
+mod ends;
 mod lane;
 mod laws;
+mod queue;
+#[cfg(test)]
+mod queue_tests;
+mod reply;
+#[cfg(test)]
+mod reply_tests;
+mod shared;
 
+pub use ends::ReplyChannel;
 pub use lane::{Entry, Full, PlainLane, Taken};
-pub use laws::each_lane_is_a_merge;
+pub use laws::{each_lane_is_a_merge, shared_lanes_merge};
+pub use queue::{Closed, ConsumerSeat, Ended, NotAll, ProducerSeat, ShardQueue};
+pub use reply::{ReceiverSeat, ReplyClosed, ReplyNotAll, SenderEnded, SenderSeat};

@@ -1,0 +1,69 @@
+-- What contracts see of a shard queue and of its seats.
+use Rattle.std.specs.Prelude.{◌≡◌, ℕ, ◌<◌, Bool, true, false, zero, suc, List, [], ◌∷◌, length, slice_index_or, None}
+use Rattle.crossbeam_queue.specs.Passes.{view, IsPassOf, ruled_capacity}
+use Rattle.shard_queue.specs.declared.lane.Entry.{Entry}
+use Rattle.shard_queue.specs.declared.queue.ShardQueue.{ShardQueue}
+use Rattle.shard_queue.specs.declared.queue.ProducerSeat.{ProducerSeat}
+use Rattle.shard_queue.specs.declared.queue.Ended.{Ended}
+use Rattle.shard_queue.specs.declared.queue.ConsumerSeat.{ConsumerSeat}
+use Rattle.shard_queue.specs.declared.queue.Closed.{Closed}
+use Rattle.shard_queue.specs.Lane.{of, has_end, Lane, IsMerge}
+use Rattle.shard_queue.specs.Shared.{consumer, sender, list_of}
+
+-- n numbers from k on
+abbrev pub numbers : ℕ → ℕ → List ℕ
+numbers k zero = []
+numbers k (suc n) = k ∷ numbers (suc k) n
+
+module _ {T : Type 0} where
+  -- at one moment as many entries waited as there is room for, and this producer had sent these
+  abbrev pub WasFull : ℕ → ℕ → ℕ → List (Entry T) → Type 0
+  WasFull producers room p sent = (l : Lane T) × IsMerge producers room l × (length l.waiting ≡ room) × (l.sent p ≡ sent)
+
+  -- at one moment nothing waited, and these had been taken
+  abbrev pub WasEmpty : ℕ → ℕ → List (Entry T) → Type 0
+  WasEmpty producers room got = (l : Lane T) × IsMerge producers room l × (l.waiting ≡ []) × (l.got ≡ got)
+
+  -- where an end was taken there is a mark, and nowhere else
+  abbrev pub AreMarks : ℕ → List Bool → List (Entry T) → Type 0
+  AreMarks producers marks got = (p : ℕ) → p < producers → slice_index_or marks p false ≡ has_end (of p got)
+
+  -- what the producer of this seat has sent
+  abbrev pub sent : ProducerSeat T → List (Entry T)
+  sent s = list_of (view s.pass)
+
+  -- all that it has sent, its end included
+  abbrev pub said : Ended T → List (Entry T)
+  said s = list_of (view s.pass)
+
+  -- what the consumer has taken
+  abbrev pub got : ConsumerSeat T → List (Entry T)
+  got s = list_of (view s.pass)
+
+  -- all that was taken before the queue was closed
+  abbrev pub history : Closed T → List (Entry T)
+  history c = list_of (view c.pass)
+
+  abbrev pub number_of : ProducerSeat T → ℕ
+  number_of s = s.number
+
+  abbrev pub ended_number : Ended T → ℕ
+  ended_number s = s.number
+
+  abbrev pub capacity_of : ShardQueue T → ℕ
+  capacity_of q = ruled_capacity q.queue
+
+  abbrev pub producers_of : ShardQueue T → ℕ
+  producers_of q = q.producers
+
+  -- the seat of a producer of this queue that may put more
+  abbrev pub IsProducer : ShardQueue T → ProducerSeat T → Type 0
+  IsProducer q s = IsPassOf q.queue s.pass × (view s.pass ≡ sender q.producers s.number (sent s)) × (has_end (sent s) ≡ false)
+
+  -- what is left of such a seat after its end
+  abbrev pub IsEnded : ShardQueue T → Ended T → Type 0
+  IsEnded q s = IsPassOf q.queue s.pass × (view s.pass ≡ sender q.producers s.number (said s)) × (has_end (said s) ≡ true)
+
+  -- the seat of this queue's consumer
+  abbrev pub IsConsumer : ShardQueue T → ConsumerSeat T → Type 0
+  IsConsumer q s = IsPassOf q.queue s.pass × (view s.pass ≡ consumer q.producers q.producers (got s) None) × AreMarks q.producers s.ended (got s)

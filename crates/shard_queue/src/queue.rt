@@ -1,0 +1,311 @@
+//! A lane that threads share: a queue, a seat for each producer and one for the consumer. Whoever
+//! holds a seat acts for it, and no other.
+
+ghost use Rattle.std.specs.Prelude.{◌≡◌, ◌≢◌, ◌⊎◌, ◌↔◌, ◌==◌, ℕ, ◌+◌, ◌<◌, ◌≤◌, ◌++◌, ◌∷◌, [], true, false, Some, None, IfOk, IfErr, MatchResult, MatchOption, vec_len, slice_index_or, map, All, Any};
+ghost use Rattle.std.specs.List.{list_any};
+ghost use Rattle.crossbeam_queue.specs.Passes.{view, IsPassOf};
+ghost use Rattle.shard_queue.specs.declared.lane.Entry.TheVariants as entries;
+ghost use Rattle.shard_queue.specs.Lane.{producer, of, has_end};
+ghost use Rattle.shard_queue.specs.Plain.{taken_entry};
+ghost use Rattle.shard_queue.specs.Shared.{consumer, sender, list_of};
+ghost use Rattle.shard_queue.specs.Closing.{IsAll, IsNotAll, IsWhole, HasAllEnds};
+ghost use Rattle.shard_queue.specs.Seats.{IsProducer, IsEnded, IsConsumer, sent, said, got, history, capacity_of, producers_of, number_of, ended_number, numbers, WasFull, WasEmpty};
+
+use crate::lane::{Entry, Full, Taken};
+use crate::shared::{Announce, HearOut, Hire, Merge, Put, Take, View, no_marks};
+use crossbeam_queue::{Pass, RuledArrayQueue};
+use std::alloc::{AllocError, Global};
+use std::sync::Wait;
+
+type Lane<T> = RuledArrayQueue<Entry<T>, View<T>, Merge>;
+
+/// A lane from up to 255 producers to one consumer, for threads. Between any two atomic steps, what
+/// was taken and then what waits is, of each producer, what it has sent.
+pub struct ShardQueue<T> {
+    queue: Lane<T>,
+    producers: u8,
+}
+
+/// Whoever holds it puts for this producer. It can't be copied, and must be spent: by its end, or by
+/// `abandon`.
+pub struct ProducerSeat<T> {
+    pass: Pass<Entry<T>, View<T>>,
+    number: u8,
+}
+
+/// What is left of a producer's seat after its end. It can't be copied, and must be spent: by `close`
+/// or `abandon`.
+pub struct Ended<T> {
+    pass: Pass<Entry<T>, View<T>>,
+    number: u8,
+}
+
+/// Whoever holds it takes. It can't be copied, and must be spent: by `close` or `abandon`.
+pub struct ConsumerSeat<T> {
+    pass: Pass<Entry<T>, View<T>>,
+    // Of each producer, whether its end was taken.
+    ended: [bool; 256],
+}
+
+/// What is left of a queue whose producers have all ended, and whose entries were all taken.
+#[derive(Drop)]
+pub struct Closed<T> {
+    pass: Pass<Entry<T>, View<T>>,
+}
+
+/// All that `close` was given, unchanged.
+pub struct NotAll<T> {
+    pub queue: ShardQueue<T>,
+    pub ended: Vec<Ended<T>>,
+    pub seat: ConsumerSeat<T>,
+}
+
+impl<T> ProducerSeat<T> {
+    /// The producer's number, from 0.
+    pub fn number(&self) -> u8
+        ensures { result ≡ number_of self.now }
+    {
+        self.number
+    }
+}
+
+impl<T> Ended<T> {
+    /// The number of the producer that has ended.
+    pub fn number(&self) -> u8
+        ensures { result ≡ ended_number self.now }
+    {
+        self.number
+    }
+}
+
+impl<T: Drop> ShardQueue<T> {
+    /// An empty queue with room for `capacity` entries (at least 1), the seats of the producers 0 to
+    /// `producers - 1` in this order, and the consumer's. An error where memory is refused.
+    pub fn new(
+        alloc: Global,
+        capacity: usize,
+        producers: u8,
+    ) -> Result<(ShardQueue<T>, Vec<ProducerSeat<T>>, ConsumerSeat<T>), AllocError>
+        requires { 0 < capacity }
+        ensures queue { IfOk result (λ r. (capacity_of r.0 ≡ capacity) × (producers_of r.0 ≡ producers)) }
+        ensures numbers { IfOk result (λ r. map number_of r.1.items ≡ numbers 0 producers) }
+        ensures len { IfOk result (λ r. vec_len r.1 ≡ producers) }
+        ensures seats { IfOk result (λ r. All (λ s. IsProducer r.0 s × (sent s ≡ [])) r.1.items) }
+        ensures consumer { IfOk result (λ r. IsConsumer r.0 r.2 × (got r.2 ≡ [])) }
+    {
+        let (queue, mut pass) = Lane::ruled(alloc, capacity)?;
+        let mut seats = Vec::with_capacity(alloc, usize::from(producers))?;
+        announce(&queue, &mut pass, producers);
+        for p in 0..producers {
+            seats.push_reserved(hire(&queue, producers, &mut pass, p));
+        }
+        let queue = ShardQueue { queue, producers };
+        let seat = ConsumerSeat {
+            pass,
+            ended: no_marks(),
+        };
+        Ok((queue, seats, seat))
+    }
+
+    /// Puts an item behind all that waits; takes no memory. Full only where at one moment of the call as
+    /// many entries waited as there is room for; the item comes back then, and the producer has sent no
+    /// more than before.
+    pub fn put_as<R: Wait>(
+        &self,
+        rt: &R,
+        seat: &mut ProducerSeat<T>,
+        item: T,
+    ) -> Result<(), Full<T>>
+        requires seat { IsProducer self.now seat.old }
+        ensures seat { IsProducer self.now seat.new × (number_of seat.new ≡ number_of seat.old) }
+        ensures put { MatchResult result
+            (λ _. sent seat.new ≡ sent seat.old ++ entries.Item (number_of seat.old) item ∷ [])
+            (λ back. (back.0 ≡ item) × (sent seat.new ≡ sent seat.old)
+            × WasFull (producers_of self.now) (capacity_of self.now) (number_of seat.old) (sent seat.old)) }
+    {
+        let put = Entry::Item(seat.number, item);
+        match self.queue.push_as::<Put, R>(rt, &mut seat.pass, put) {
+            Ok(()) => Ok(()),
+            Err(Entry::Item(_, back)) => Err(Full(back)),
+            Err(Entry::End(_)) => unreachable!(),
+        }
+    }
+
+    /// Puts the producer's end behind all that waits, after which it can put nothing more; takes no
+    /// memory. Where it was full, as for an item, the seat comes back, and has sent no more than before.
+    pub fn end_as<R: Wait>(
+        &self,
+        rt: &R,
+        seat: ProducerSeat<T>,
+    ) -> Result<Ended<T>, ProducerSeat<T>>
+        requires seat { IsProducer self.now seat }
+        ensures ended { IfOk result (λ e. IsEnded self.now e × (ended_number e ≡ number_of seat)
+            × (said e ≡ sent seat ++ entries.End (number_of seat) ∷ [])) }
+        ensures full { IfErr result (λ s. IsProducer self.now s × (number_of s ≡ number_of seat) × (sent s ≡ sent seat)
+            × WasFull (producers_of self.now) (capacity_of self.now) (number_of seat) (sent seat)) }
+    {
+        let ProducerSeat { mut pass, number } = seat;
+        match self
+            .queue
+            .push_as::<Put, R>(rt, &mut pass, Entry::End(number))
+        {
+            Ok(()) => {}
+            Err(_) => return Err(ProducerSeat { pass, number }),
+        }
+        Ok(Ended { pass, number })
+    }
+
+    /// Takes the first entry that waits, which is of one of the queue's producers; takes no memory.
+    /// Empty only where at one moment of the call nothing waited; nothing was taken then.
+    pub fn take_as<R: Wait>(&self, rt: &R, seat: &mut ConsumerSeat<T>) -> Taken<T>
+        requires seat { IsConsumer self.now seat.old }
+        ensures seat { IsConsumer self.now seat.new }
+        ensures taken { MatchOption (taken_entry result)
+            ((got seat.new ≡ got seat.old) × WasEmpty (producers_of self.now) (capacity_of self.now) (got seat.old))
+            (λ e. (got seat.new ≡ got seat.old ++ e ∷ []) × (producer e < producers_of self.now)) }
+    {
+        match self.queue.pop_as::<Take, R>(rt, &mut seat.pass) {
+            Some(Entry::Item(p, item)) => Taken::Item(p, item),
+            Some(Entry::End(p)) => {
+                seat.ended[usize::from(p)] = true;
+                Taken::End(p)
+            }
+            None => Taken::Empty,
+        }
+    }
+
+    /// Closes a queue of which each producer has ended and each end was taken; takes no memory. What was
+    /// taken of each producer is then all that it has sent. NotAll exactly where an Ended is missing or
+    /// an end wasn't taken; it hands back all that it was given, unchanged.
+    pub fn close(self, ended: Vec<Ended<T>>, seat: ConsumerSeat<T>) -> Result<Closed<T>, NotAll<T>>
+        requires seat { IsConsumer self seat }
+        requires ended { All (IsEnded self) ended.items }
+        ensures history { IfOk result (λ c. history c ≡ got seat) }
+        ensures each { IfOk result (λ _. All (λ e. said e ≡ of (ended_number e) (got seat)) ended.items) }
+        ensures all { IfOk result (λ _. IsAll ended_number (producers_of self) ended.items (got seat)) }
+        ensures whole { IfOk result (λ _. IsWhole (producers_of self) (capacity_of self) (got seat)) }
+        ensures back { IfErr result (λ n. (n.queue ≡ self) × (n.ended ≡ ended) × (n.seat ≡ seat)
+            × IsNotAll ended_number (producers_of self) ended.items (got seat)) }
+    {
+        if !self.are_all(ended.as_slice(), &seat) {
+            return Err(NotAll {
+                queue: self,
+                ended,
+                seat,
+            });
+        }
+        let ConsumerSeat { mut pass, ended: _ } = seat;
+        hear_all_out(&self.queue, self.producers, &mut pass, ended);
+        self.queue.learn_as::<Take>(&mut pass);
+        let ShardQueue {
+            queue,
+            producers: _,
+        } = self;
+        drop(queue);
+        Ok(Closed { pass })
+    }
+
+    /// Spends what is left of a queue that is not to be closed; what waits in it is dropped. It promises
+    /// nothing, and takes no memory.
+    pub fn abandon(
+        self,
+        mut seats: Vec<ProducerSeat<T>>,
+        mut ended: Vec<Ended<T>>,
+        seat: ConsumerSeat<T>,
+    ) {
+        while let Some(one) = seats.pop() {
+            let ProducerSeat { pass: _, number: _ } = one;
+        }
+        seats.destroy_empty();
+        while let Some(one) = ended.pop() {
+            let Ended { pass: _, number: _ } = one;
+        }
+        ended.destroy_empty();
+        let ConsumerSeat { pass: _, ended: _ } = seat;
+        let ShardQueue {
+            queue,
+            producers: _,
+        } = self;
+        drop(queue);
+    }
+
+    // Whether each producer has ended and its end was taken.
+    fn are_all(&self, ended: &[Ended<T>], seat: &ConsumerSeat<T>) -> bool
+        requires { IsConsumer self.now seat.now }
+        ensures all { result ≡ true → IsAll ended_number (producers_of self.now) ended.now (got seat.now) }
+        ensures lacks { result ≡ false → IsNotAll ended_number (producers_of self.now) ended.now (got seat.now) }
+    {
+        for p in 0..self.producers {
+            if !seat.ended[usize::from(p)] {
+                return false;
+            }
+            if !has_ended(ended, p) {
+                return false;
+            }
+        }
+        true
+    }
+}
+
+fn has_ended<T>(ended: &[Ended<T>], number: u8) -> bool
+    ensures { result ≡ list_any (λ e. e.number == number) ended.now }
+{
+    ended.iter().any(|e| e.number == number)
+}
+
+// How many producers there will be, so that each of their seats knows it.
+fn announce<T>(queue: &Lane<T>, pass: &mut Pass<Entry<T>, View<T>>, producers: u8)
+    requires { IsPassOf queue.now pass.old × (view pass.old ≡ consumer 0 0 [] None) }
+    ensures { IsPassOf queue.now pass.new × (view pass.new ≡ consumer producers 0 [] None) }
+{
+    for _ in 0..producers {
+        queue.another::<Announce>(pass);
+    }
+}
+
+// The seat of the next producer.
+fn hire<T>(
+    queue: &Lane<T>,
+    producers: u8,
+    pass: &mut Pass<Entry<T>, View<T>>,
+    number: u8,
+) -> ProducerSeat<T>
+    requires { IsPassOf queue.now pass.old × (view pass.old ≡ consumer producers number [] None) × (number < producers) }
+    ensures pass { IsPassOf queue.now pass.new × (view pass.new ≡ consumer producers (number + 1) [] None) }
+    ensures seat { IsPassOf queue.now result.pass × (view result.pass ≡ sender producers number []) × (result.number ≡ number) }
+{
+    let pass = queue.another::<Hire>(pass);
+    ProducerSeat { pass, number }
+}
+
+// Hears a producer out: what it has sent is what was taken of it.
+fn hear_out<T>(queue: &Lane<T>, producers: u8, pass: &mut Pass<Entry<T>, View<T>>, ended: Ended<T>)
+    requires pass { IsPassOf queue.now pass.old × HasAllEnds producers (view pass.old) }
+    requires ended { IsPassOf queue.now ended.pass × (view ended.pass ≡ sender producers ended.number (said ended)) × (has_end (said ended) ≡ true) }
+    ensures pass { IsPassOf queue.now pass.new × HasAllEnds producers (view pass.new) × (list_of (view pass.new) ≡ list_of (view pass.old)) }
+    ensures said { said ended ≡ of ended.number (list_of (view pass.old)) }
+{
+    let Ended {
+        pass: other,
+        number: _,
+    } = ended;
+    queue.absorb::<HearOut>(pass, other);
+    queue.learn_as::<Take>(pass);
+}
+
+fn hear_all_out<T>(
+    queue: &Lane<T>,
+    producers: u8,
+    pass: &mut Pass<Entry<T>, View<T>>,
+    mut ended: Vec<Ended<T>>,
+)
+    requires pass { IsPassOf queue.now pass.old × HasAllEnds producers (view pass.old) }
+    requires ended { All (λ e. IsPassOf queue.now e.pass × (view e.pass ≡ sender producers e.number (said e)) × (has_end (said e) ≡ true)) ended.items }
+    ensures pass { IsPassOf queue.now pass.new × HasAllEnds producers (view pass.new) × (list_of (view pass.new) ≡ list_of (view pass.old)) }
+    ensures said { All (λ e. said e ≡ of e.number (list_of (view pass.old))) ended.items }
+{
+    while let Some(e) = ended.pop() {
+        hear_out(queue, producers, pass, e);
+    }
+    ended.destroy_empty();
+}

@@ -1,0 +1,328 @@
+//! The calls of a reply channel: a shard queue with the roles exchanged, in which many shards answer
+//! one worker, and the worker may wait.
+
+ghost use Rattle.std.specs.Prelude.{◌≡◌, ◌≢◌, ◌⊎◌, ◌==◌, ℕ, ◌+◌, ◌<◌, ◌≤◌, ◌++◌, ◌∷◌, [], true, false, None, IfOk, IfErr, MatchResult, vec_len, map, All, Any};
+ghost use Rattle.std.specs.List.{list_any};
+ghost use Rattle.crossbeam_channel.specs.Claims.{view, IsSeatAt};
+ghost use Rattle.crossbeam_channel.specs.Ends.{sends_on};
+ghost use Rattle.shard_queue.specs.declared.lane.Entry.TheVariants as entries;
+ghost use Rattle.shard_queue.specs.Lane.{producer, of, has_end};
+ghost use Rattle.shard_queue.specs.Shared.{consumer, sender, list_of};
+ghost use Rattle.shard_queue.specs.Closing.{IsAll, IsNotAll, IsWhole, HasAllEnds};
+ghost use Rattle.shard_queue.specs.Seats.{WasFull, numbers};
+ghost use Rattle.shard_queue.specs.Reply.{IsSender, IsSenderEnded, IsReceiver, sent_on, said_on, received, reply_history, room_of, senders_of, sender_number, sender_ended_number};
+
+use crate::ends::ReplyChannel;
+use crate::lane::{Entry, Full};
+use crate::shared::{Announce, HearOut, Hire, Merge, Put, Take, View, no_marks};
+use crossbeam_channel::{Pass, RuledSender, TrySendError, bounded_with};
+use std::alloc::{AllocError, Global};
+use std::sync::Wait;
+
+type Sends<T> = RuledSender<Entry<T>, View<T>, Merge>;
+
+/// Whoever holds it sends for this sender. It can't be copied, and must be spent: by its end, or by
+/// `abandon`.
+pub struct SenderSeat<T> {
+    pass: Pass<Entry<T>, View<T>>,
+    number: u8,
+}
+
+/// What is left of a sender's seat after its end. It can't be copied, and must be spent: by `close` or
+/// `abandon`.
+pub struct SenderEnded<T> {
+    pass: Pass<Entry<T>, View<T>>,
+    number: u8,
+}
+
+/// Whoever holds it receives. It can't be copied, and must be spent: by `close` or `abandon`.
+pub struct ReceiverSeat<T> {
+    pass: Pass<Entry<T>, View<T>>,
+    // Of each sender, whether its end was received.
+    ended: [bool; 256],
+}
+
+/// What is left of a channel whose senders have all ended, and whose entries were all received.
+#[derive(Drop)]
+pub struct ReplyClosed<T> {
+    pass: Pass<Entry<T>, View<T>>,
+}
+
+/// All that `close` was given, unchanged.
+pub struct ReplyNotAll<T: Drop> {
+    pub channel: ReplyChannel<T>,
+    pub ended: Vec<SenderEnded<T>>,
+    pub seat: ReceiverSeat<T>,
+}
+
+impl<T> SenderSeat<T> {
+    /// The sender's number, from 0.
+    pub fn number(&self) -> u8
+        ensures { result ≡ sender_number self.now }
+    {
+        self.number
+    }
+}
+
+impl<T> SenderEnded<T> {
+    /// The number of the sender that has ended.
+    pub fn number(&self) -> u8
+        ensures { result ≡ sender_ended_number self.now }
+    {
+        self.number
+    }
+}
+
+impl<T: Drop> ReplyChannel<T> {
+    /// An empty channel with room for `capacity` entries (at least 1), the seats of the senders 0 to
+    /// `senders - 1` in this order, and the receiver's. An error where memory is refused.
+    pub fn new(
+        alloc: Global,
+        capacity: usize,
+        senders: u8,
+    ) -> Result<(ReplyChannel<T>, Vec<SenderSeat<T>>, ReceiverSeat<T>), AllocError>
+        requires { 0 < capacity }
+        ensures channel { IfOk result (λ r. (room_of r.0 ≡ capacity) × (senders_of r.0 ≡ senders)) }
+        ensures numbers { IfOk result (λ r. map sender_number r.1.items ≡ numbers 0 senders) }
+        ensures len { IfOk result (λ r. vec_len r.1 ≡ senders) }
+        ensures seats { IfOk result (λ r. All (λ s. IsSender r.0 s × (sent_on s ≡ [])) r.1.items) }
+        ensures receiver { IfOk result (λ r. IsReceiver r.0 r.2 × (received r.2 ≡ [])) }
+    {
+        let (sender, receiver, mut pass) = bounded_with(alloc, capacity)?;
+        let mut seats = Vec::with_capacity(alloc, usize::from(senders))?;
+        announce(&sender, &mut pass, senders);
+        for p in 0..senders {
+            seats.push_reserved(hire(&sender, senders, &mut pass, p));
+        }
+        let channel = ReplyChannel {
+            sender,
+            receiver,
+            senders,
+        };
+        let seat = ReceiverSeat {
+            pass,
+            ended: no_marks(),
+        };
+        Ok((channel, seats, seat))
+    }
+
+    /// Sends an item behind all that waits; takes no memory. Full only where at one moment of the call as
+    /// many entries waited as there is room for; the item comes back then, and the sender has sent no
+    /// more than before.
+    pub fn send_as<R: Wait>(&self, rt: &R, seat: &mut SenderSeat<T>, item: T) -> Result<(), Full<T>>
+        requires seat { IsSender self.now seat.old }
+        ensures seat { IsSender self.now seat.new × (sender_number seat.new ≡ sender_number seat.old) }
+        ensures sent { MatchResult result
+            (λ _. sent_on seat.new ≡ sent_on seat.old ++ entries.Item (sender_number seat.old) item ∷ [])
+            (λ back. (back.0 ≡ item) × (sent_on seat.new ≡ sent_on seat.old)
+            × WasFull (senders_of self.now) (room_of self.now) (sender_number seat.old) (sent_on seat.old)) }
+    {
+        let mut entry = Entry::Item(seat.number, item);
+        // Both ends are here, so nobody is ever told that the other is gone. No clause of the channel
+        // says so: whoever were told would try again.
+        for _ in rt.forever() {
+            match self.sender.try_send_as::<Put, R>(rt, &mut seat.pass, entry) {
+                Ok(()) => return Ok(()),
+                Err(TrySendError::Full(Entry::Item(_, back))) => return Err(Full(back)),
+                Err(e) => entry = e.into_inner(),
+            }
+        }
+        unreachable!()
+    }
+
+    /// Sends the sender's end behind all that waits, after which it can send nothing more; takes no
+    /// memory. Where it was full, as for an item, the seat comes back, and has sent no more than before.
+    pub fn end_as<R: Wait>(
+        &self,
+        rt: &R,
+        seat: SenderSeat<T>,
+    ) -> Result<SenderEnded<T>, SenderSeat<T>>
+        requires seat { IsSender self.now seat }
+        ensures ended { IfOk result (λ e. IsSenderEnded self.now e × (sender_ended_number e ≡ sender_number seat)
+            × (said_on e ≡ sent_on seat ++ entries.End (sender_number seat) ∷ [])) }
+        ensures full { IfErr result (λ s. IsSender self.now s × (sender_number s ≡ sender_number seat) × (sent_on s ≡ sent_on seat)
+            × WasFull (senders_of self.now) (room_of self.now) (sender_number seat) (sent_on seat)) }
+    {
+        let SenderSeat { mut pass, number } = seat;
+        // As in `send_as`: whoever were told that the other end is gone would try again.
+        for _ in rt.forever() {
+            match self
+                .sender
+                .try_send_as::<Put, R>(rt, &mut pass, Entry::End(number))
+            {
+                Ok(()) => return Ok(SenderEnded { pass, number }),
+                Err(TrySendError::Full(_)) => return Err(SenderSeat { pass, number }),
+                Err(_) => {}
+            }
+        }
+        unreachable!()
+    }
+
+    /// Takes the first entry that waits, which is of one of the channel's senders; where nothing waits,
+    /// it waits for an entry. Takes no memory.
+    pub fn recv_as<R: Wait>(&self, rt: &R, seat: &mut ReceiverSeat<T>) -> Entry<T>
+        requires seat { IsReceiver self.now seat.old }
+        ensures seat { IsReceiver self.now seat.new }
+        ensures received { (received seat.new ≡ received seat.old ++ result ∷ []) × (producer result < senders_of self.now) }
+    {
+        for _ in rt.forever() {
+            match self.receiver.recv_as::<Take, R>(rt, &mut seat.pass) {
+                Ok(Entry::Item(p, item)) => return Entry::Item(p, item),
+                Ok(Entry::End(p)) => {
+                    seat.ended[usize::from(p)] = true;
+                    return Entry::End(p);
+                }
+                Err(_) => {}
+            }
+        }
+        unreachable!()
+    }
+
+    /// Closes a channel of which each sender has ended and each end was received; takes no memory. What
+    /// was received of each sender is then all that it has sent. NotAll exactly where an Ended is
+    /// missing or an end wasn't received; it hands back all that it was given, unchanged.
+    pub fn close(
+        self,
+        ended: Vec<SenderEnded<T>>,
+        seat: ReceiverSeat<T>,
+    ) -> Result<ReplyClosed<T>, ReplyNotAll<T>>
+        requires seat { IsReceiver self seat }
+        requires ended { All (IsSenderEnded self) ended.items }
+        ensures history { IfOk result (λ c. reply_history c ≡ received seat) }
+        ensures each { IfOk result (λ _. All (λ e. said_on e ≡ of (sender_ended_number e) (received seat)) ended.items) }
+        ensures all { IfOk result (λ _. IsAll sender_ended_number (senders_of self) ended.items (received seat)) }
+        ensures whole { IfOk result (λ _. IsWhole (senders_of self) (room_of self) (received seat)) }
+        ensures back { IfErr result (λ n. (n.channel ≡ self) × (n.ended ≡ ended) × (n.seat ≡ seat)
+            × IsNotAll sender_ended_number (senders_of self) ended.items (received seat)) }
+    {
+        if !self.are_all(ended.as_slice(), &seat) {
+            return Err(ReplyNotAll {
+                channel: self,
+                ended,
+                seat,
+            });
+        }
+        let ReceiverSeat { mut pass, ended: _ } = seat;
+        hear_all_out(&self.sender, self.senders, &mut pass, ended);
+        self.sender.learn_as::<Take>(&mut pass);
+        let ReplyChannel {
+            sender,
+            receiver,
+            senders: _,
+        } = self;
+        drop(sender);
+        drop(receiver);
+        Ok(ReplyClosed { pass })
+    }
+
+    /// Spends what is left of a channel that is not to be closed; what waits in it is dropped. It promises
+    /// nothing, and takes no memory.
+    pub fn abandon(
+        self,
+        mut seats: Vec<SenderSeat<T>>,
+        mut ended: Vec<SenderEnded<T>>,
+        seat: ReceiverSeat<T>,
+    ) {
+        while let Some(one) = seats.pop() {
+            let SenderSeat { pass: _, number: _ } = one;
+        }
+        seats.destroy_empty();
+        while let Some(one) = ended.pop() {
+            let SenderEnded { pass: _, number: _ } = one;
+        }
+        ended.destroy_empty();
+        let ReceiverSeat { pass: _, ended: _ } = seat;
+        let ReplyChannel {
+            sender,
+            receiver,
+            senders: _,
+        } = self;
+        drop(sender);
+        drop(receiver);
+    }
+
+    // Whether each sender has ended and its end was received.
+    fn are_all(&self, ended: &[SenderEnded<T>], seat: &ReceiverSeat<T>) -> bool
+        requires { IsReceiver self.now seat.now }
+        ensures all { result ≡ true → IsAll sender_ended_number (senders_of self.now) ended.now (received seat.now) }
+        ensures lacks { result ≡ false → IsNotAll sender_ended_number (senders_of self.now) ended.now (received seat.now) }
+    {
+        for p in 0..self.senders {
+            if !seat.ended[usize::from(p)] {
+                return false;
+            }
+            if !has_ended(ended, p) {
+                return false;
+            }
+        }
+        true
+    }
+}
+
+fn has_ended<T>(ended: &[SenderEnded<T>], number: u8) -> bool
+    ensures { result ≡ list_any (λ e. e.number == number) ended.now }
+{
+    ended.iter().any(|e| e.number == number)
+}
+
+// How many senders there will be, so that each of their seats knows it.
+fn announce<T: Drop>(ends: &Sends<T>, pass: &mut Pass<Entry<T>, View<T>>, senders: u8)
+    requires { IsSeatAt (sends_on ends.now) pass.old × (view pass.old ≡ consumer 0 0 [] None) }
+    ensures { IsSeatAt (sends_on ends.now) pass.new × (view pass.new ≡ consumer senders 0 [] None) }
+{
+    for _ in 0..senders {
+        ends.another::<Announce>(pass);
+    }
+}
+
+// The seat of the next sender.
+fn hire<T: Drop>(
+    ends: &Sends<T>,
+    senders: u8,
+    pass: &mut Pass<Entry<T>, View<T>>,
+    number: u8,
+) -> SenderSeat<T>
+    requires { IsSeatAt (sends_on ends.now) pass.old × (view pass.old ≡ consumer senders number [] None) × (number < senders) }
+    ensures pass { IsSeatAt (sends_on ends.now) pass.new × (view pass.new ≡ consumer senders (number + 1) [] None) }
+    ensures seat { IsSeatAt (sends_on ends.now) result.pass × (view result.pass ≡ sender senders number []) × (result.number ≡ number) }
+{
+    let pass = ends.another::<Hire>(pass);
+    SenderSeat { pass, number }
+}
+
+// Hears a sender out: what it has sent is what was received of it.
+fn hear_out<T: Drop>(
+    ends: &Sends<T>,
+    senders: u8,
+    pass: &mut Pass<Entry<T>, View<T>>,
+    ended: SenderEnded<T>,
+)
+    requires pass { IsSeatAt (sends_on ends.now) pass.old × HasAllEnds senders (view pass.old) }
+    requires ended { IsSeatAt (sends_on ends.now) ended.pass × (view ended.pass ≡ sender senders ended.number (said_on ended)) × (has_end (said_on ended) ≡ true) }
+    ensures pass { IsSeatAt (sends_on ends.now) pass.new × HasAllEnds senders (view pass.new) × (list_of (view pass.new) ≡ list_of (view pass.old)) }
+    ensures said { said_on ended ≡ of ended.number (list_of (view pass.old)) }
+{
+    let SenderEnded {
+        pass: other,
+        number: _,
+    } = ended;
+    ends.absorb::<HearOut>(pass, other);
+    ends.learn_as::<Take>(pass);
+}
+
+fn hear_all_out<T: Drop>(
+    ends: &Sends<T>,
+    senders: u8,
+    pass: &mut Pass<Entry<T>, View<T>>,
+    mut ended: Vec<SenderEnded<T>>,
+)
+    requires pass { IsSeatAt (sends_on ends.now) pass.old × HasAllEnds senders (view pass.old) }
+    requires ended { All (λ e. IsSeatAt (sends_on ends.now) e.pass × (view e.pass ≡ sender senders e.number (said_on e)) × (has_end (said_on e) ≡ true)) ended.items }
+    ensures pass { IsSeatAt (sends_on ends.now) pass.new × HasAllEnds senders (view pass.new) × (list_of (view pass.new) ≡ list_of (view pass.old)) }
+    ensures said { All (λ e. said_on e ≡ of e.number (list_of (view pass.old))) ended.items }
+{
+    while let Some(e) = ended.pop() {
+        hear_out(ends, senders, pass, e);
+    }
+    ended.destroy_empty();
+}
