@@ -1,0 +1,48 @@
+-- What is chosen of rising UIDs rises.
+use Rattle.std.proofs.Common.{◌≡◌, ℕ, zero, suc, ◌+◌, ◌<◌, ◌≤◌, Bool, true, false, cond, List, [], ◌∷◌, length, get_or, arith, sym, subst}
+use Rattle.std.specs.List.Sorted.{IsStrictlyIncreasing}
+use Rattle.imap_grammar.specs.Sets.{is_named, at_places}
+use Rattle.imap_grammar.specs.declared.set.SeqRange.{SeqRange}
+
+-- each number is above the one before, and the first is not below this
+abbrev RisesFrom : ℕ → List ℕ → Type 0
+RisesFrom a [] = Unit {0}
+RisesFrom a (x ∷ xs) = (a ≤ x) × RisesFrom (suc x) xs
+
+lower : (a b : ℕ) (xs : List ℕ) → a ≤ b → RisesFrom b xs → RisesFrom a xs
+lower a b [] le h = tt
+lower a b (x ∷ xs) le h = (omega (arith, h.0), h.1)
+
+rises_behind : (x : ℕ) (xs : List ℕ) → IsStrictlyIncreasing (x ∷ xs) → RisesFrom (suc x) xs
+rises_behind x [] h = tt
+rises_behind x (y ∷ ys) h =
+    let first : x < y = h 0 (omega arith) in
+    (omega arith, rises_behind y ys (λ k within. let e : suc k + 1 ≡ suc (k + 1) = omega arith in subst (λ n. get_or (y ∷ ys) k 0 < get_or (x ∷ y ∷ ys) n 0) e (h (suc k) (omega arith))))
+
+rises : (xs : List ℕ) → IsStrictlyIncreasing xs → RisesFrom 0 xs
+rises [] h = tt
+rises (x ∷ xs) h = (omega arith, rises_behind x xs h)
+
+increases : (a : ℕ) (xs : List ℕ) → RisesFrom a xs → IsStrictlyIncreasing xs
+increases a [] h = λ k within. absurd (omega arith)
+increases a (x ∷ []) h = λ k within. absurd (omega arith)
+increases a (x ∷ y ∷ ys) h = at (increases (suc x) (y ∷ ys) h.1)
+  where
+    at : IsStrictlyIncreasing (y ∷ ys) → IsStrictlyIncreasing (x ∷ y ∷ ys)
+    at rest zero within = omega (arith, h.1.0)
+    at rest (suc k) within =
+        let e : suc (k + 1) ≡ suc k + 1 = omega arith in
+        subst (λ n. get_or (y ∷ ys) k 0 < get_or (x ∷ y ∷ ys) n 0) e (rest k (omega arith))
+
+kept : (t : Bool) (a x : ℕ) (xs ys : List ℕ) → a ≤ x → RisesFrom (suc x) ys → RisesFrom a (cond t (x ∷ ys) ys)
+kept true a x xs ys le h = (le, h)
+kept false a x xs ys le h = lower a (suc x) ys (omega arith) h
+
+places_rise : (test : ℕ → Bool) (place a : ℕ) (view : List ℕ) → RisesFrom a view → RisesFrom a (at_places test place view)
+places_rise test place a [] h = tt
+places_rise test place a (x ∷ xs) h =
+    kept (test place) a x xs (at_places test (place + 1) xs) h.0 (places_rise test (place + 1) (suc x) xs h.1)
+
+pub named_rise : (set : List SeqRange) (view uids : List ℕ) → uids ≡ at_places (is_named set (length view)) 1 view → IsStrictlyIncreasing view → IsStrictlyIncreasing uids
+named_rise set view uids e h =
+    subst IsStrictlyIncreasing (sym e) (increases 0 (at_places (is_named set (length view)) 1 view) (places_rise (is_named set (length view)) 1 0 view (rises view h)))

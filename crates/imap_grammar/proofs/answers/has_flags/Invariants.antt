@@ -1,0 +1,11 @@
+use Rattle.std.proofs.Common.{◌≡◌, length}
+use Rattle.std.specs.List.{list_any}
+use Rattle.imap_grammar.specs.Items.{fetch_items_of}
+use Rattle.imap_grammar.specs.Answers.{is_flags}
+use Rattle.imap_grammar.proofs.answers.has_flags.Given as goal
+
+abbrev pub invariant-loop-word : goal.invariant-loop-word
+invariant-loop-word l = list_any is_flags (fetch_items_of l.rest) ≡ list_any is_flags (fetch_items_of l.text)
+
+abbrev pub decreases-loop-word : goal.decreases-loop-word
+decreases-loop-word l = length l.rest

@@ -1,0 +1,27 @@
+-- Classes of bytes, as tests (RFC 9051, 9).
+use Rattle.std.specs.Prelude.{ℕ, Bool, codes, ◌==◌, ◌&&◌, nat_le, not}
+use Rattle.envelope.specs.Bytes.{is_in, is_graphic}
+
+abbrev pub is_tag : ℕ → Bool
+is_tag b = is_graphic b && not (is_in (codes "(){%*\"\\+") b)
+
+abbrev pub is_atom : ℕ → Bool
+is_atom b = is_graphic b && not (is_in (codes "(){%*\"\\") b)
+
+-- of a pattern without quotes
+abbrev pub is_pattern : ℕ → Bool
+is_pattern b = is_graphic b && not (is_in (codes "(){\"\\") b)
+
+abbrev pub is_digit : ℕ → Bool
+is_digit b = nat_le 48 b && nat_le b 57
+
+-- stands in a quoted string behind a backslash alone
+abbrev pub is_special : ℕ → Bool
+is_special b = is_in (codes "\"\\") b
+
+-- stands in a quoted string without a backslash before it
+abbrev pub is_quotable : ℕ → Bool
+is_quotable b = nat_le 32 b && not (b == 127) && not (is_special b)
+
+abbrev pub is_comma : ℕ → Bool
+is_comma b = b == 44

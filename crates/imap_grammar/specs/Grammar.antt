@@ -1,0 +1,222 @@
+-- The command lines of IMAP, as ABNF (RFC 5234) would write them: a rule is the set of the texts that it
+-- spells, and P ⨾ Q is P followed by Q. The words that any such grammar needs are those of LMTP's.
+use Rattle.std.specs.Prelude.{◌≡◌, ℕ, ◌≤◌, Bool, true, false, codes, List, [], ◌∷◌, ◌⊎◌, Result, Ok, Err, Option, Some, None, if◌then◌else◌}
+use Rattle.change_ring.specs.declared.change.Flags.{Flags}
+use Rattle.change_ring.specs.declared.flag_op.FlagOp.{FlagOp}
+use Rattle.change_ring.specs.declared.flag_op.FlagOp.TheVariants.{Set, Insert, Remove}
+use Rattle.envelope.specs.Grammar.{Rule, ◌⨾◌, Exactly, Keyword, Some1, Spaces, Gap, AfterGap, Anything}
+use Rattle.imap_grammar.specs.Bytes.{is_tag, is_atom, is_pattern, is_digit, is_quotable, is_special}
+use Rattle.imap_grammar.specs.Numbers.{number_of}
+use Rattle.imap_grammar.specs.Items.{flags_among}
+use Rattle.imap_grammar.specs.Verbs.{word_of, stands_behind_uid, is_left_out}
+use Rattle.imap_grammar.specs.declared.set.SeqNumber.{SeqNumber}
+use Rattle.imap_grammar.specs.declared.set.SeqNumber.TheVariants.{Number, Star}
+use Rattle.imap_grammar.specs.declared.set.SeqRange.{SeqRange}
+use Rattle.imap_grammar.specs.declared.items.Section.{Section}
+use Rattle.imap_grammar.specs.declared.items.Section.TheVariants.{Whole, Header, Text}
+use Rattle.imap_grammar.specs.declared.items.Span.{Span}
+use Rattle.imap_grammar.specs.declared.items.FetchItem.{FetchItem}
+use Rattle.imap_grammar.specs.declared.items.FetchItem.TheVariants as fetch
+use Rattle.imap_grammar.specs.declared.items.StatusItem.{StatusItem}
+use Rattle.imap_grammar.specs.declared.items.StatusItem.TheVariants as status
+use Rattle.imap_grammar.specs.declared.command.Verb.{Verb}
+use Rattle.imap_grammar.specs.declared.command.Verb.TheVariants as verbs
+use Rattle.imap_grammar.specs.declared.command.Command.{Command}
+use Rattle.imap_grammar.specs.declared.command.Command.TheVariants as say
+use Rattle.imap_grammar.specs.declared.command.ImapFault.{ImapFault}
+use Rattle.imap_grammar.specs.declared.command.ImapFault.TheVariants.{NoTag, Unknown, LeftOut, Arguments}
+
+-- ---- lists
+
+-- each after the separator
+abbrev pub Others : {A : Type 0} → Rule → (A → Rule) → List A → Rule
+Others between P [] = Exactly []
+Others between P (x ∷ xs) = between ⨾ P x ⨾ Others between P xs
+
+-- one or more, with the separator between two of them
+abbrev pub Separated : {A : Type 0} → Rule → (A → Rule) → List A → Rule
+Separated between P [] = λ _. ⊥
+Separated between P (x ∷ xs) = P x ⨾ Others between P xs
+
+abbrev pub Parenthesized : Rule → Rule
+Parenthesized P = Exactly (codes "(") ⨾ P ⨾ Exactly (codes ")")
+
+-- ---- strings and numbers
+
+-- what stands in a quoted string that says this
+pub data Quoted : List ℕ → List ℕ → Type 0 where
+  end : Quoted [] []
+  plain : {b : ℕ} {value text : List ℕ} → is_quotable b ≡ true → Quoted value text → Quoted (b ∷ value) (b ∷ text)
+  escaped : {b : ℕ} {value text : List ℕ} → is_special b ≡ true → Quoted value text → Quoted (b ∷ value) (92 ∷ b ∷ text)
+
+-- this text, of one or more bytes of the class, or a quoted string that says it
+abbrev pub StringOf : (ℕ → Bool) → List ℕ → Rule
+StringOf class value text =
+    (Exactly value text × Some1 class text) ⊎ (Exactly (codes "\"") ⨾ Quoted value ⨾ Exactly (codes "\"")) text
+
+abbrev pub Name : List ℕ → Rule
+Name = StringOf is_atom
+
+abbrev pub Pattern : List ℕ → Rule
+Pattern = StringOf is_pattern
+
+-- decimal digits that say this number
+abbrev pub Digits : ℕ → Rule
+Digits n text = Some1 is_digit text × (number_of text ≡ n)
+
+-- ---- sets
+
+-- a number from 1 on, of 32 bits, with no zero before it
+abbrev pub SeqNumberIs : SeqNumber → Rule
+SeqNumberIs Star = Exactly (codes "*")
+SeqNumberIs (Number n) = λ text. Digits n text × (n ≤ 4294967295) × ((rest : List ℕ) → text ≡ 48 ∷ rest → ⊥)
+
+abbrev pub RangeIs : SeqRange → Rule
+RangeIs range text =
+    (SeqNumberIs range.from text × (range.to ≡ range.from)) ⊎ (SeqNumberIs range.from ⨾ Exactly (codes ":") ⨾ SeqNumberIs range.to) text
+
+abbrev pub SetIs : List SeqRange → Rule
+SetIs = Separated (Exactly (codes ",")) RangeIs
+
+-- ---- items
+
+abbrev pub section_word : Section → List ℕ
+section_word Whole = []
+section_word Header = codes "HEADER"
+section_word Text = codes "TEXT"
+
+-- a number up to the greatest signed one of 64 bits
+abbrev pub Number63 : ℕ → Rule
+Number63 n text = Digits n text × (n ≤ 9223372036854775807)
+
+abbrev pub PartialIs : Option Span → Rule
+PartialIs None = Exactly []
+PartialIs (Some span) =
+    Exactly (codes "<") ⨾ Number63 span.origin ⨾ Exactly (codes ".") ⨾ (λ text. Number63 span.count text × (1 ≤ span.count)) ⨾ Exactly (codes ">")
+
+abbrev pub ItemIs : FetchItem → Rule
+ItemIs fetch.Uid = Keyword (codes "UID")
+ItemIs fetch.Flags = Keyword (codes "FLAGS")
+ItemIs fetch.Size = Keyword (codes "RFC822.SIZE")
+ItemIs (fetch.Body peek section part) =
+    Keyword (if peek then codes "BODY.PEEK[" else codes "BODY[") ⨾ Keyword (section_word section) ⨾ Exactly (codes "]") ⨾ PartialIs part
+
+-- one item, or one or more in parentheses
+abbrev pub ItemsAre : List FetchItem → Rule
+ItemsAre items text = ((item : FetchItem) × (items ≡ item ∷ []) × ItemIs item text) ⊎ Parenthesized (Separated Gap ItemIs items) text
+
+abbrev pub status_word : StatusItem → List ℕ
+status_word status.Messages = codes "MESSAGES"
+status_word status.UidNext = codes "UIDNEXT"
+status_word status.UidValidity = codes "UIDVALIDITY"
+status_word status.Unseen = codes "UNSEEN"
+status_word status.Deleted = codes "DELETED"
+status_word status.Size = codes "SIZE"
+
+abbrev pub StatusItemIs : StatusItem → Rule
+StatusItemIs item = Keyword (status_word item)
+
+-- ---- flags
+
+-- an atom, or one after a backslash
+abbrev pub Flag : Rule
+Flag text = Some1 is_atom text ⊎ (Exactly (codes "\\") ⨾ Some1 is_atom) text
+
+abbrev pub FlagWord : List ℕ → Rule
+FlagWord word text = Exactly word text × Flag word
+
+-- the words of one or more flags, or of none
+abbrev pub FlagWords : List (List ℕ) → Rule
+FlagWords words text = Separated Gap FlagWord words text ⊎ ((words ≡ []) × Exactly [] text)
+
+-- flags in parentheses, and none of them too, or one or more without parentheses
+abbrev pub FlagsAre : Flags → Rule
+FlagsAre flags text = (words : List (List ℕ)) × (flags_among words ≡ flags) × (Separated Gap FlagWord words text ⊎ Parenthesized (FlagWords words) text)
+
+-- the word of the operation, and its flags
+abbrev pub operation_word : FlagOp → List ℕ
+operation_word (Set flags) = codes "FLAGS"
+operation_word (Insert flags) = codes "+FLAGS"
+operation_word (Remove flags) = codes "-FLAGS"
+
+abbrev pub flags_of : FlagOp → Flags
+flags_of (Set flags) = flags
+flags_of (Insert flags) = flags
+flags_of (Remove flags) = flags
+
+abbrev pub ChangeIs : Bool → FlagOp → Rule
+ChangeIs silent change =
+    Keyword (operation_word change) ⨾ Keyword (if silent then codes ".SILENT" else []) ⨾ Gap ⨾ FlagsAre (flags_of change)
+
+-- ---- lines
+
+abbrev pub TagIs : List ℕ → Rule
+TagIs tag text = Exactly tag text × Some1 is_tag text
+
+-- a word, or UID and a word
+abbrev pub VerbWords : Bool → List ℕ → Rule
+VerbWords true word = Keyword (codes "UID") ⨾ Gap ⨾ Keyword word
+VerbWords false word = Keyword word
+
+abbrev pub VerbIs : Verb → Rule
+VerbIs verb = VerbWords (stands_behind_uid verb) (word_of verb)
+
+abbrev pub verb_of : Command → Verb
+verb_of say.Capability = verbs.Capability
+verb_of say.Noop = verbs.Noop
+verb_of say.Logout = verbs.Logout
+verb_of say.Namespace = verbs.Namespace
+verb_of say.Login = verbs.Login
+verb_of say.Authenticate = verbs.Authenticate
+verb_of say.StartTls = verbs.StartTls
+verb_of (say.Select name) = verbs.Select
+verb_of (say.Examine name) = verbs.Examine
+verb_of (say.List reference pattern) = verbs.List
+verb_of (say.Status name items) = verbs.Status
+verb_of say.Close = verbs.Close
+verb_of say.Unselect = verbs.Unselect
+verb_of say.Expunge = verbs.Expunge
+verb_of (say.UidExpunge set) = verbs.UidExpunge
+verb_of (say.Fetch fetch) = if fetch.by_uid then verbs.UidFetch else verbs.Fetch
+verb_of (say.Store store) = if store.by_uid then verbs.UidStore else verbs.Store
+
+-- what follows the verb
+abbrev pub ArgumentsOf : Command → Rule
+ArgumentsOf say.Capability = Exactly []
+ArgumentsOf say.Noop = Exactly []
+ArgumentsOf say.Logout = Exactly []
+ArgumentsOf say.Namespace = Exactly []
+ArgumentsOf say.Login = AfterGap Anything
+ArgumentsOf say.Authenticate = AfterGap Anything
+ArgumentsOf say.StartTls = AfterGap Anything
+ArgumentsOf (say.Select name) = Gap ⨾ Name name
+ArgumentsOf (say.Examine name) = Gap ⨾ Name name
+ArgumentsOf (say.List reference pattern) = Gap ⨾ Name reference ⨾ Gap ⨾ Pattern pattern
+ArgumentsOf (say.Status name items) = Gap ⨾ Name name ⨾ Gap ⨾ Parenthesized (Separated Gap StatusItemIs items)
+ArgumentsOf say.Close = Exactly []
+ArgumentsOf say.Unselect = Exactly []
+ArgumentsOf say.Expunge = Exactly []
+ArgumentsOf (say.UidExpunge set) = Gap ⨾ SetIs set
+ArgumentsOf (say.Fetch fetch) = Gap ⨾ SetIs fetch.set ⨾ Gap ⨾ ItemsAre fetch.items
+ArgumentsOf (say.Store store) = Gap ⨾ SetIs store.set ⨾ Gap ⨾ ChangeIs store.silent store.change
+
+-- a line that is this command under this tag. Spaces at its end say nothing
+abbrev pub Line : List ℕ → Command → Rule
+Line tag command = TagIs tag ⨾ Gap ⨾ VerbIs (verb_of command) ⨾ ArgumentsOf command ⨾ Spaces
+
+-- a line that begins with this tag, and with this verb after it
+abbrev pub BeginsWith : List ℕ → Verb → Rule
+BeginsWith tag verb = TagIs tag ⨾ Gap ⨾ VerbIs verb ⨾ AfterGap Anything
+
+-- why a line is no command. Each next fault says that the line has what the one before it lacks
+abbrev pub IsFault : List ℕ → ImapFault → Type 0
+IsFault line NoTag = (tag : List ℕ) → (TagIs tag ⨾ AfterGap Anything) line → ⊥
+IsFault line (Unknown tag) = (TagIs tag ⨾ AfterGap Anything) line × ((verb : Verb) → BeginsWith tag verb line → ⊥)
+IsFault line (LeftOut tag) = (verb : Verb) × (is_left_out verb ≡ true) × BeginsWith tag verb line
+IsFault line (Arguments tag) =
+    (verb : Verb) × (is_left_out verb ≡ false) × BeginsWith tag verb line × ((command : Command) → Line tag command line → ⊥)
+
+-- what a line is
+abbrev pub Reads : List ℕ → Result (List ℕ × Command) ImapFault → Type 0
+Reads line (Ok read) = Line read.0 read.1 line
+Reads line (Err fault) = IsFault line fault

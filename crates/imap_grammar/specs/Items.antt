@@ -1,0 +1,111 @@
+-- Items of FETCH and STATUS, and flags: how their words are read.
+use Rattle.std.specs.Prelude.{ℕ, Bool, true, false, codes, List, length, Option, Some, None, ◌==◌, ◌&&◌, not, if◌then◌else◌}
+use Rattle.std.specs.List.{list_all, list_any, filter_map}
+use Rattle.std.specs.Str.{str_eq_ignore_ascii_case as is_same}
+use Rattle.change_ring.specs.declared.change.Flags.{Flags}
+use Rattle.envelope.specs.Reading.{◌>>=◌, words, past_byte, past_keyword}
+use Rattle.imap_grammar.specs.Bytes.{is_atom}
+use Rattle.imap_grammar.specs.Cuts.{cut_at}
+use Rattle.imap_grammar.specs.Numbers.{number_up_to}
+use Rattle.imap_grammar.specs.declared.items.Section.{Section}
+use Rattle.imap_grammar.specs.declared.items.Section.TheVariants.{Whole, Header, Text}
+use Rattle.imap_grammar.specs.declared.items.Span.{Span}
+use Rattle.imap_grammar.specs.declared.items.FetchItem.{FetchItem}
+use Rattle.imap_grammar.specs.declared.items.FetchItem.TheVariants as fetch
+use Rattle.imap_grammar.specs.declared.items.StatusItem.{StatusItem}
+use Rattle.imap_grammar.specs.declared.items.StatusItem.TheVariants as status
+
+-- ---- FETCH
+
+abbrev pub section_of : List ℕ → Option Section
+section_of text =
+    if length text == 0 then Some Whole
+    else if is_same text (codes "HEADER") then Some Header
+    else if is_same text (codes "TEXT") then Some Text
+    else None
+
+-- the greatest signed number of 64 bits
+abbrev pub greatest_span : ℕ
+greatest_span = 9223372036854775807
+
+abbrev pub span_between : List ℕ × List ℕ → Option Span
+span_between cut = do
+  origin ← number_up_to greatest_span cut.0
+  count ← number_up_to greatest_span cut.1
+  if count == 0 then None else Some (record { origin = origin; count = count })
+
+-- `<origin.count>`
+abbrev pub span_of : List ℕ → Option Span
+span_of text = do
+  inner ← past_byte 60 text
+  cut ← cut_at 62 inner
+  numbers ← cut_at 46 cut.0
+  if length cut.1 == 0 then span_between numbers else None
+
+abbrev pub partial_of : List ℕ → Option (Option Span)
+partial_of text = if length text == 0 then Some None else (span_of text >>= λ span. Some (Some span))
+
+-- from behind the first bracket
+abbrev pub body_of : Bool → List ℕ → Option FetchItem
+body_of peek text = do
+  cut ← cut_at 93 text
+  section ← section_of cut.0
+  part ← partial_of cut.1
+  Some (fetch.Body peek section part)
+
+abbrev pub body_or_peek : Option (List ℕ) → Option (List ℕ) → Option FetchItem
+body_or_peek (Some rest) other = body_of false rest
+body_or_peek None (Some rest) = body_of true rest
+body_or_peek None None = None
+
+abbrev pub fetch_item_of : List ℕ → Option FetchItem
+fetch_item_of word =
+    if is_same word (codes "UID") then Some fetch.Uid
+    else if is_same word (codes "FLAGS") then Some fetch.Flags
+    else if is_same word (codes "RFC822.SIZE") then Some fetch.Size
+    else body_or_peek (past_keyword (codes "BODY[") word) (past_keyword (codes "BODY.PEEK[") word)
+
+-- the items that the words of a text say
+abbrev pub fetch_items_of : List ℕ → List FetchItem
+fetch_items_of text = filter_map fetch_item_of (words text)
+
+-- ---- STATUS
+
+abbrev pub status_item_of : List ℕ → Option StatusItem
+status_item_of word =
+    if is_same word (codes "MESSAGES") then Some status.Messages
+    else if is_same word (codes "UIDNEXT") then Some status.UidNext
+    else if is_same word (codes "UIDVALIDITY") then Some status.UidValidity
+    else if is_same word (codes "UNSEEN") then Some status.Unseen
+    else if is_same word (codes "DELETED") then Some status.Deleted
+    else if is_same word (codes "SIZE") then Some status.Size
+    else None
+
+abbrev pub status_items_of : List ℕ → List StatusItem
+status_items_of text = filter_map status_item_of (words text)
+
+-- ---- flags
+
+abbrev pub is_word_of : (ℕ → Bool) → List ℕ → Bool
+is_word_of class word = list_all class word && not (length word == 0)
+
+abbrev pub is_flag_after : Option (List ℕ) → List ℕ → Bool
+is_flag_after (Some rest) word = is_word_of is_atom rest
+is_flag_after None word = is_word_of is_atom word
+
+-- an atom, or one after a backslash
+abbrev pub is_flag : List ℕ → Bool
+is_flag word = is_flag_after (past_byte 92 word) word
+
+abbrev pub has_word : List ℕ → List (List ℕ) → Bool
+has_word word words = list_any (is_same word) words
+
+-- the flags among these words; others are ignored
+abbrev pub flags_among : List (List ℕ) → Flags
+flags_among words = record {
+  answered = has_word (codes "\\Answered") words;
+  flagged = has_word (codes "\\Flagged") words;
+  deleted = has_word (codes "\\Deleted") words;
+  seen = has_word (codes "\\Seen") words;
+  draft = has_word (codes "\\Draft") words;
+}

@@ -1,0 +1,12 @@
+pub mod Bytes
+pub mod Numbers
+pub mod Cuts
+pub mod Sets
+pub mod Items
+pub mod Verbs
+pub mod Grammar
+pub mod Reading
+pub mod Answers
+pub mod Joined
+pub mod Globs
+pub mod Rows

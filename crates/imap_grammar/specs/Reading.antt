@@ -1,0 +1,259 @@
+-- Reading a line from left to right. The contract of `read_line` says that this is the one reading that the
+-- grammar allows; nobody has to believe this file.
+use Rattle.std.specs.Prelude.{ℕ, suc, Bool, true, false, codes, List, [], ◌∷◌, length, take, drop, Option, Some, None, is_some, Result, Ok, Err, ◌==◌, ◌&&◌, ◌||◌, not, if◌then◌else◌, ◌-◌, slice_index}
+use Rattle.std.specs.List.{list_all, prefix_len, slice_split}
+use Rattle.std.specs.Option.{option_map}
+use Rattle.std.specs.Str.{str_eq_ignore_ascii_case as is_same}
+use Rattle.change_ring.specs.declared.change.Flags.{Flags}
+use Rattle.change_ring.specs.declared.flag_op.FlagOp.{FlagOp}
+use Rattle.change_ring.specs.declared.flag_op.FlagOp.TheVariants.{Set, Insert, Remove}
+use Rattle.envelope.specs.Bytes.{is_space, is_not_space}
+use Rattle.envelope.specs.Directory.{value_of}
+use Rattle.envelope.specs.Reading.{◌>>=◌, first_is, some_len, words, after_spaces, past_byte}
+use Rattle.imap_grammar.specs.Bytes.{is_tag, is_atom, is_pattern, is_comma, is_quotable, is_special, is_digit}
+use Rattle.imap_grammar.specs.Cuts.{cut_at}
+use Rattle.imap_grammar.specs.Sets.{range_of, ranges_of}
+use Rattle.imap_grammar.specs.Items.{fetch_item_of, fetch_items_of, status_item_of, status_items_of, is_flag, is_word_of, flags_among}
+use Rattle.imap_grammar.specs.Verbs.{word_of, is_left_out}
+use Rattle.imap_grammar.specs.declared.set.SeqRange.{SeqRange}
+use Rattle.imap_grammar.specs.declared.items.FetchItem.{FetchItem}
+use Rattle.imap_grammar.specs.declared.items.StatusItem.{StatusItem}
+use Rattle.imap_grammar.specs.declared.command.Verb.{Verb}
+use Rattle.imap_grammar.specs.declared.command.Verb.TheVariants as verbs
+use Rattle.imap_grammar.specs.declared.command.Command.{Command}
+use Rattle.imap_grammar.specs.declared.command.Command.TheVariants as say
+use Rattle.imap_grammar.specs.declared.command.ImapFault.{ImapFault}
+use Rattle.imap_grammar.specs.declared.command.ImapFault.TheVariants.{NoTag, Unknown, LeftOut, Arguments}
+use Rattle.imap_grammar.specs.declared.arguments.Operation.{Operation}
+use Rattle.imap_grammar.specs.declared.arguments.Operation.TheVariants as operations
+use Rattle.imap_grammar.specs.declared.bytes.Class.{Class}
+use Rattle.imap_grammar.specs.declared.bytes.Class.TheVariants as classes
+
+-- the bytes of a class
+abbrev pub is_of : Class → ℕ → Bool
+is_of classes.Space = is_space
+is_of classes.NotSpace = is_not_space
+is_of classes.Tag = is_tag
+is_of classes.Atom = is_atom
+is_of classes.Pattern = is_pattern
+is_of classes.Digit = is_digit
+
+-- ---- parts at the front, and the bytes after them
+
+abbrev pub past_gap : List ℕ → Option (List ℕ)
+past_gap bytes = if first_is 32 bytes then Some (after_spaces bytes) else None
+
+abbrev pub word_at : List ℕ → List ℕ × List ℕ
+word_at bytes = (take (prefix_len is_not_space bytes) bytes, drop (prefix_len is_not_space bytes) bytes)
+
+-- a quoted string from behind its first quote, and with its last; after a backslash is `escaped`
+abbrev pub quoted_len : Bool → List ℕ → Option ℕ
+quoted_len escaped [] = None
+quoted_len escaped (b ∷ bs) =
+    if escaped then (if is_special b then option_map suc (quoted_len false bs) else None)
+    else if b == 34 then Some 1
+    else if (b == 92) || is_quotable b then option_map suc (quoted_len (b == 92) bs)
+    else None
+
+abbrev pub string_len : (ℕ → Bool) → List ℕ → Option ℕ
+string_len class bytes = if first_is 34 bytes then option_map suc (quoted_len false (drop 1 bytes)) else some_len class bytes
+
+-- a name or a pattern
+abbrev pub string_at : (ℕ → Bool) → List ℕ → Option (List ℕ × List ℕ)
+string_at class bytes = do
+  n ← string_len class bytes
+  Some (value_of (take n bytes), drop n bytes)
+
+-- nothing, or spaces
+abbrev pub is_blank : List ℕ → Bool
+is_blank bytes = list_all is_space bytes
+
+abbrev pub if_end : {A : Type 0} → A → List ℕ → Option A
+if_end x bytes = if is_blank bytes then Some x else None
+
+-- no space stands first or last
+abbrev pub is_tight : List ℕ → Bool
+is_tight text = not (first_is 32 text) && not (slice_index text (length text - 1) == 32)
+
+-- what stands in parentheses, if nothing comes after them
+abbrev pub in_parentheses : List ℕ → Option (List ℕ)
+in_parentheses bytes = do
+  start ← past_byte 40 bytes
+  cut ← cut_at 41 start
+  if is_blank cut.1 && is_tight cut.0 then Some cut.0 else None
+
+-- ---- arguments
+
+abbrev pub set_at : List ℕ → Option (List SeqRange)
+set_at word = if list_all (λ part. is_some (range_of part)) (slice_split is_comma word) then Some (ranges_of word) else None
+
+abbrev pub name_alone : (List ℕ → Command) → List ℕ → Option Command
+name_alone make bytes = do
+  start ← past_gap bytes
+  read ← string_at is_atom start
+  if_end (make read.0) read.1
+
+-- words that are all items, and one at least
+abbrev pub are_items : {A : Type 0} → (List ℕ → Option A) → List (List ℕ) → Bool
+are_items f words = list_all (λ word. is_some (f word)) words && not (length words == 0)
+
+abbrev pub fetch_items_in : List ℕ → Option (List FetchItem)
+fetch_items_in text = if are_items fetch_item_of (words text) then Some (fetch_items_of text) else None
+
+abbrev pub fetch_items_at : List ℕ → Option (List FetchItem)
+fetch_items_at bytes =
+    if first_is 40 bytes
+    then (in_parentheses bytes >>= fetch_items_in)
+    else (if is_blank (word_at bytes).1 then fetch_items_in (word_at bytes).0 else None)
+
+abbrev pub status_items_in : List ℕ → Option (List StatusItem)
+status_items_in text = if are_items status_item_of (words text) then Some (status_items_of text) else None
+
+-- words that are all flags
+abbrev pub flags_in : List ℕ → Option Flags
+flags_in text = if list_all is_flag (words text) then Some (flags_among (words text)) else None
+
+abbrev pub flags_at : List ℕ → Option Flags
+flags_at bytes =
+    if first_is 40 bytes
+    then (in_parentheses bytes >>= flags_in)
+    else (if is_blank bytes then None else flags_in bytes)
+
+-- FLAGS, +FLAGS or -FLAGS, and whether nothing is answered
+abbrev pub operation_of : List ℕ → Option (Operation × Bool)
+operation_of word =
+    if is_same word (codes "FLAGS") then Some (operations.Set, false)
+    else if is_same word (codes "+FLAGS") then Some (operations.Insert, false)
+    else if is_same word (codes "-FLAGS") then Some (operations.Remove, false)
+    else if is_same word (codes "FLAGS.SILENT") then Some (operations.Set, true)
+    else if is_same word (codes "+FLAGS.SILENT") then Some (operations.Insert, true)
+    else if is_same word (codes "-FLAGS.SILENT") then Some (operations.Remove, true)
+    else None
+
+abbrev pub change_with : Operation → Flags → FlagOp
+change_with operations.Set flags = Set flags
+change_with operations.Insert flags = Insert flags
+change_with operations.Remove flags = Remove flags
+
+abbrev pub fetch_at : Bool → List ℕ → Option Command
+fetch_at by_uid bytes = do
+  start ← past_gap bytes
+  set ← set_at (word_at start).0
+  rest ← past_gap (word_at start).1
+  items ← fetch_items_at rest
+  Some (say.Fetch (record { by_uid = by_uid; set = set; items = items }))
+
+abbrev pub store_at : Bool → List ℕ → Option Command
+store_at by_uid bytes = do
+  start ← past_gap bytes
+  set ← set_at (word_at start).0
+  rest ← past_gap (word_at start).1
+  operation ← operation_of (word_at rest).0
+  last ← past_gap (word_at rest).1
+  flags ← flags_at last
+  Some (say.Store (record { by_uid = by_uid; set = set; silent = operation.1; change = change_with operation.0 flags }))
+
+abbrev pub set_alone : List ℕ → Option Command
+set_alone bytes = do
+  start ← past_gap bytes
+  set ← set_at (word_at start).0
+  if_end (say.UidExpunge set) (word_at start).1
+
+abbrev pub list_at : List ℕ → Option Command
+list_at bytes = do
+  start ← past_gap bytes
+  reference ← string_at is_atom start
+  next ← past_gap reference.1
+  pattern ← string_at is_pattern next
+  if_end (say.List reference.0 pattern.0) pattern.1
+
+abbrev pub status_at : List ℕ → Option Command
+status_at bytes = do
+  start ← past_gap bytes
+  name ← string_at is_atom start
+  rest ← past_gap name.1
+  inner ← in_parentheses rest
+  items ← status_items_in inner
+  Some (say.Status name.0 items)
+
+-- what a verb says with what comes after it. What is left out says nothing
+abbrev pub command_at : Verb → List ℕ → Option Command
+command_at verbs.Capability rest = if_end say.Capability rest
+command_at verbs.Noop rest = if_end say.Noop rest
+command_at verbs.Logout rest = if_end say.Logout rest
+command_at verbs.Namespace rest = if_end say.Namespace rest
+command_at verbs.Login rest = Some say.Login
+command_at verbs.Authenticate rest = Some say.Authenticate
+command_at verbs.StartTls rest = Some say.StartTls
+command_at verbs.Select rest = name_alone say.Select rest
+command_at verbs.Examine rest = name_alone say.Examine rest
+command_at verbs.List rest = list_at rest
+command_at verbs.Status rest = status_at rest
+command_at verbs.Close rest = if_end say.Close rest
+command_at verbs.Unselect rest = if_end say.Unselect rest
+command_at verbs.Expunge rest = if_end say.Expunge rest
+command_at verbs.Fetch rest = fetch_at false rest
+command_at verbs.Store rest = store_at false rest
+command_at verbs.UidFetch rest = fetch_at true rest
+command_at verbs.UidStore rest = store_at true rest
+command_at verbs.UidExpunge rest = set_alone rest
+command_at _ rest = None
+
+-- ---- the line
+
+abbrev pub verb_among : List Verb → List ℕ → Option Verb
+verb_among [] word = None
+verb_among (v ∷ vs) word = if is_same word (word_of v) then Some v else verb_among vs word
+
+abbrev pub offered : List Verb
+offered =
+    verbs.Capability ∷ verbs.Noop ∷ verbs.Logout ∷ verbs.Namespace ∷ verbs.Login ∷ verbs.Authenticate ∷ verbs.StartTls ∷ verbs.Select ∷ verbs.Examine
+    ∷ verbs.List ∷ verbs.Status ∷ verbs.Close ∷ verbs.Unselect ∷ verbs.Expunge ∷ verbs.Fetch ∷ verbs.Store ∷ []
+
+abbrev pub left_out : List Verb
+left_out =
+    verbs.Idle ∷ verbs.Append ∷ verbs.Create ∷ verbs.Delete ∷ verbs.Rename ∷ verbs.Subscribe ∷ verbs.Unsubscribe ∷ verbs.Copy ∷ verbs.Move
+    ∷ verbs.Search ∷ verbs.Enable ∷ []
+
+abbrev pub behind_uid : List Verb
+behind_uid = verbs.UidFetch ∷ verbs.UidStore ∷ verbs.UidExpunge ∷ verbs.UidCopy ∷ verbs.UidMove ∷ verbs.UidSearch ∷ []
+
+abbrev pub or_else : {A : Type 0} → Option A → Option A → Option A
+or_else (Some x) other = Some x
+or_else None other = other
+
+-- a verb of one word
+abbrev pub verb_alone : List ℕ → Option Verb
+verb_alone word = or_else (verb_among offered word) (verb_among left_out word)
+
+-- a verb of one word, and what comes after it
+abbrev pub alone_at : List ℕ → Option (Verb × List ℕ)
+alone_at bytes = do
+  verb ← verb_alone (word_at bytes).0
+  Some (verb, (word_at bytes).1)
+
+-- the second word of a verb, and what comes after it
+abbrev pub second_at : List ℕ → Option (Verb × List ℕ)
+second_at bytes = do
+  verb ← verb_among behind_uid (word_at bytes).0
+  Some (verb, (word_at bytes).1)
+
+-- the verb at the front, which may be UID and a second word, and what comes after it
+abbrev pub verb_at : List ℕ → Option (Verb × List ℕ)
+verb_at bytes =
+    if is_same (word_at bytes).0 (codes "UID")
+    then second_at (after_spaces (word_at bytes).1)
+    else alone_at bytes
+
+abbrev pub of_command : List ℕ → Option Command → Result (List ℕ × Command) ImapFault
+of_command tag None = Err (Arguments tag)
+of_command tag (Some command) = Ok (tag, command)
+
+abbrev pub of_verb : List ℕ → Option (Verb × List ℕ) → Result (List ℕ × Command) ImapFault
+of_verb tag None = Err (Unknown tag)
+of_verb tag (Some read) = if is_left_out read.0 then Err (LeftOut tag) else of_command tag (command_at read.0 read.1)
+
+unfoldable pub read : List ℕ → Result (List ℕ × Command) ImapFault
+read line =
+    let first = word_at line in
+    if is_word_of is_tag first.0 then of_verb first.0 (verb_at (after_spaces first.1)) else Err NoTag

@@ -1,0 +1,256 @@
+-- Worked cases: lines and what they are, and what sets name.
+use Rattle.std.specs.Prelude.{◌≡◌, Bool, Bool, codes, [], ◌∷◌, ◌++◌, Ok, Err, true, false, refl, Some, None, Option}
+use Rattle.change_ring.specs.declared.change.Flags.{Flags}
+use Rattle.imap_grammar.specs.declared.items.Section.{Section}
+use Rattle.imap_grammar.specs.declared.items.Span.{Span}
+use Rattle.imap_grammar.specs.declared.items.FetchItem.{FetchItem}
+use Rattle.change_ring.specs.declared.flag_op.FlagOp.TheVariants.{Set, Insert, Remove}
+use Rattle.imap_grammar.specs.Sets.{by_uid, by_place}
+use Rattle.imap_grammar.specs.Reading.{read}
+use Rattle.imap_grammar.specs.declared.set.SeqNumber.{SeqNumber}
+use Rattle.imap_grammar.specs.declared.set.SeqNumber.TheVariants.{Number, Star}
+use Rattle.imap_grammar.specs.declared.set.SeqRange.{SeqRange}
+use Rattle.imap_grammar.specs.declared.items.Section.TheVariants.{Whole, Header, Text}
+use Rattle.imap_grammar.specs.declared.items.FetchItem.TheVariants as fetch
+use Rattle.imap_grammar.specs.declared.items.StatusItem.TheVariants as status
+use Rattle.imap_grammar.specs.declared.command.Command.TheVariants as say
+use Rattle.imap_grammar.specs.declared.command.ImapFault.TheVariants.{NoTag, Unknown, LeftOut, Arguments}
+
+abbrev range : SeqNumber → SeqNumber → SeqRange
+range a b = record { from = a; to = b }
+
+abbrev flags : Bool → Bool → Bool → Bool → Bool → Flags
+flags a b c d e = record { answered = a; flagged = b; deleted = c; seen = d; draft = e }
+
+abbrev body_item : Bool → Section → Option Span → FetchItem
+body_item peek section part = fetch.Body peek section part
+
+noop : read (codes "a1 NOOP") ≡ Ok (codes "a1", say.Noop)
+unfolding read
+noop = refl
+
+spaces : read (codes "a1   noop  ") ≡ Ok (codes "a1", say.Noop)
+unfolding read
+spaces = refl
+
+select_inbox : read (codes "a1 SELECT inbox") ≡ Ok (codes "a1", say.Select (codes "inbox"))
+unfolding read
+select_inbox = refl
+
+fetch_last : read (codes "a2 FETCH * FLAGS") ≡ Ok (codes "a2", say.Fetch (record { by_uid = false; set = range (Star) (Star) ∷ []; items = fetch.Flags ∷ [] }))
+unfolding read
+fetch_last = refl
+
+uid_fetch : read (codes "a3 UID FETCH * FLAGS") ≡ Ok (codes "a3", say.Fetch (record { by_uid = true; set = range (Star) (Star) ∷ []; items = fetch.Flags ∷ [] }))
+unfolding read
+uid_fetch = refl
+
+list_all : read (codes "a4 LIST \"\" %") ≡ Ok (codes "a4", say.List [] (codes "%"))
+unfolding read
+list_all = refl
+
+idle : read (codes "a2 IDLE") ≡ Err (LeftOut (codes "a2"))
+unfolding read
+idle = refl
+
+store_deleted : read (codes "b2 STORE 1:2 +FLAGS (\\Deleted)") ≡ Ok (codes "b2", say.Store (record { by_uid = false; set = range (Number 1) (Number 2) ∷ []; silent = false; change = Insert (flags false false true false false) }))
+unfolding read
+store_deleted = refl
+
+expunge : read (codes "b3 EXPUNGE") ≡ Ok (codes "b3", say.Expunge)
+unfolding read
+expunge = refl
+
+fetch_uid : read (codes "a2 FETCH 1:3 (UID)") ≡ Ok (codes "a2", say.Fetch (record { by_uid = false; set = range (Number 1) (Number 3) ∷ []; items = fetch.Uid ∷ [] }))
+unfolding read
+fetch_uid = refl
+
+store_flagged : read (codes "b2 STORE 1 +FLAGS (\\Flagged)") ≡ Ok (codes "b2", say.Store (record { by_uid = false; set = range (Number 1) (Number 1) ∷ []; silent = false; change = Insert (flags false true false false false) }))
+unfolding read
+store_flagged = refl
+
+silent : read (codes "b2 UID STORE 1 -FLAGS.SILENT (\\Seen)") ≡ Ok (codes "b2", say.Store (record { by_uid = true; set = range (Number 1) (Number 1) ∷ []; silent = true; change = Remove (flags false false false true false) }))
+unfolding read
+silent = refl
+
+status_of : read (codes "a1 STATUS INBOX (UIDNEXT MESSAGES)") ≡ Ok (codes "a1", say.Status (codes "INBOX") (status.UidNext ∷ status.Messages ∷ []))
+unfolding read
+status_of = refl
+
+part_of_text : read (codes "a2 FETCH 1 BODY[TEXT]<1.3>") ≡ Ok (codes "a2", say.Fetch (record { by_uid = false; set = range (Number 1) (Number 1) ∷ []; items = body_item false Text (Some (record { origin = 1; count = 3 })) ∷ [] }))
+unfolding read
+part_of_text = refl
+
+peek : read (codes "a2 fetch 1,3:*,2 (body.peek[] RFC822.SIZE  uid)") ≡ Ok (codes "a2", say.Fetch (record { by_uid = false; set = range (Number 1) (Number 1) ∷ range (Number 3) (Star) ∷ range (Number 2) (Number 2) ∷ []; items = body_item true Whole None ∷ fetch.Size ∷ fetch.Uid ∷ [] }))
+unfolding read
+peek = refl
+
+header : read (codes "a2 FETCH 1 BODY[HEADER]") ≡ Ok (codes "a2", say.Fetch (record { by_uid = false; set = range (Number 1) (Number 1) ∷ []; items = body_item false Header None ∷ [] }))
+unfolding read
+header = refl
+
+examine : read (codes "a1 EXAMINE INBOX") ≡ Ok (codes "a1", say.Examine (codes "INBOX"))
+unfolding read
+examine = refl
+
+store_none : read (codes "a2 STORE 1 FLAGS ()") ≡ Ok (codes "a2", say.Store (record { by_uid = false; set = range (Number 1) (Number 1) ∷ []; silent = false; change = Set (flags false false false false false) }))
+unfolding read
+store_none = refl
+
+store_bare : read (codes "a2 STORE 1 FLAGS \\Seen $x \\Draft") ≡ Ok (codes "a2", say.Store (record { by_uid = false; set = range (Number 1) (Number 1) ∷ []; silent = false; change = Set (flags false false false true true) }))
+unfolding read
+store_bare = refl
+
+close : read (codes "a4 CLOSE") ≡ Ok (codes "a4", say.Close)
+unfolding read
+close = refl
+
+quoted : read (codes "a4 SELECT \"a \\\"b\\\\\"") ≡ Ok (codes "a4", say.Select (codes "a \"b\\"))
+unfolding read
+quoted = refl
+
+uid_expunge : read (codes "x UID EXPUNGE 4:2") ≡ Ok (codes "x", say.UidExpunge (range (Number 4) (Number 2) ∷ []))
+unfolding read
+uid_expunge = refl
+
+login : read (codes "x LOGIN a b") ≡ Ok (codes "x", say.Login)
+unfolding read
+login = refl
+
+none : read (codes "") ≡ Err NoTag
+unfolding read
+none = refl
+
+blank_first : read (codes " a1 NOOP") ≡ Err NoTag
+unfolding read
+blank_first = refl
+
+plus : read (codes "+ NOOP") ≡ Err NoTag
+unfolding read
+plus = refl
+
+tag_alone : read (codes "a1") ≡ Err (Unknown (codes "a1"))
+unfolding read
+tag_alone = refl
+
+no_verb : read (codes "a1 XNOOP") ≡ Err (Unknown (codes "a1"))
+unfolding read
+no_verb = refl
+
+uid_alone : read (codes "a1 UID") ≡ Err (Unknown (codes "a1"))
+unfolding read
+uid_alone = refl
+
+uid_noop : read (codes "a1 UID NOOP") ≡ Err (Unknown (codes "a1"))
+unfolding read
+uid_noop = refl
+
+search : read (codes "a1 UID search (") ≡ Err (LeftOut (codes "a1"))
+unfolding read
+search = refl
+
+append : read (codes "a1 APPEND INBOX {5+}") ≡ Err (LeftOut (codes "a1"))
+unfolding read
+append = refl
+
+noop_more : read (codes "a1 NOOP x") ≡ Err (Arguments (codes "a1"))
+unfolding read
+noop_more = refl
+
+zero : read (codes "a1 FETCH 0 FLAGS") ≡ Err (Arguments (codes "a1"))
+unfolding read
+zero = refl
+
+too_great : read (codes "a1 FETCH 4294967296 FLAGS") ≡ Err (Arguments (codes "a1"))
+unfolding read
+too_great = refl
+
+leading_zero : read (codes "a1 FETCH 01 FLAGS") ≡ Err (Arguments (codes "a1"))
+unfolding read
+leading_zero = refl
+
+no_items : read (codes "a1 FETCH 1 ()") ≡ Err (Arguments (codes "a1"))
+unfolding read
+no_items = refl
+
+loose : read (codes "a1 FETCH 1 ( UID)") ≡ Err (Arguments (codes "a1"))
+unfolding read
+loose = refl
+
+two_bare : read (codes "a1 FETCH 1 UID FLAGS") ≡ Err (Arguments (codes "a1"))
+unfolding read
+two_bare = refl
+
+envelope : read (codes "a1 FETCH 1 ENVELOPE") ≡ Err (Arguments (codes "a1"))
+unfolding read
+envelope = refl
+
+empty_span : read (codes "a1 FETCH 1 BODY[]<0.0>") ≡ Err (Arguments (codes "a1"))
+unfolding read
+empty_span = refl
+
+span_alone : read (codes "a1 FETCH 1 BODY[]<0>") ≡ Err (Arguments (codes "a1"))
+unfolding read
+span_alone = refl
+
+open_quote : read (codes "a1 SELECT \"x") ≡ Err (Arguments (codes "a1"))
+unfolding read
+open_quote = refl
+
+escape : read (codes "a1 SELECT \"\\x\"") ≡ Err (Arguments (codes "a1"))
+unfolding read
+escape = refl
+
+no_pattern : read (codes "a1 LIST \"\"") ≡ Err (Arguments (codes "a1"))
+unfolding read
+no_pattern = refl
+
+empty_part : read (codes "a1 FETCH 1,,2 UID") ≡ Err (Arguments (codes "a1"))
+unfolding read
+empty_part = refl
+
+three : read (codes "a1 FETCH 1:2:3 UID") ≡ Err (Arguments (codes "a1"))
+unfolding read
+three = refl
+
+star_in_name : read (codes "a1 SELECT a*") ≡ Err (Arguments (codes "a1"))
+unfolding read
+star_in_name = refl
+
+status_none : read (codes "a1 STATUS INBOX ()") ≡ Err (Arguments (codes "a1"))
+unfolding read
+status_none = refl
+
+flag_star : read (codes "a1 STORE 1 FLAGS (\\*)") ≡ Err (Arguments (codes "a1"))
+unfolding read
+flag_star = refl
+
+-- a byte below 32 after the verb
+control : read (codes "a1 SELECT x" ++ 7 ∷ []) ≡ Err (Arguments (codes "a1"))
+unfolding read
+control = refl
+
+control_in_login : read (codes "a1 LOGIN " ++ 7 ∷ []) ≡ Ok (codes "a1", say.Login)
+unfolding read
+control_in_login = refl
+
+eight_bits : read (codes "a1 SELECT \"" ++ 200 ∷ 34 ∷ []) ≡ Ok (codes "a1", say.Select (200 ∷ []))
+unfolding read
+eight_bits = refl
+
+-- ---- what sets name
+
+star_of_none : by_place (range Star Star ∷ []) [] ≡ None
+star_of_none = refl
+
+star_of_no_uids : by_uid (range Star Star ∷ []) [] ≡ []
+star_of_no_uids = refl
+
+two_places : by_place (range (Number 3) (Number 2) ∷ range Star Star ∷ []) (4 ∷ 9 ∷ 12 ∷ []) ≡ Some (9 ∷ 12 ∷ [])
+two_places = refl
+
+above : by_place (range (Number 1) (Number 4) ∷ []) (4 ∷ 9 ∷ 12 ∷ []) ≡ None
+above = refl
+
+some_uids : by_uid (range (Number 100) Star ∷ range (Number 1) (Number 5) ∷ []) (4 ∷ 9 ∷ 12 ∷ []) ≡ 4 ∷ 12 ∷ []
+some_uids = refl

@@ -1,0 +1,68 @@
+-- The verbs and their words.
+use Rattle.std.specs.Prelude.{ℕ, Bool, true, false, codes, List}
+use Rattle.imap_grammar.specs.declared.command.Verb.{Verb}
+use Rattle.imap_grammar.specs.declared.command.Verb.TheVariants.{Capability, Noop, Logout, Namespace, Idle, Login, Authenticate, StartTls, Select, Examine, List as ListNames, Status, Close, Unselect, Expunge, Fetch, Store, UidFetch, UidStore, UidExpunge, Append, Create, Delete, Rename, Subscribe, Unsubscribe, Copy, Move, Search, Enable, UidCopy, UidMove, UidSearch}
+
+-- the verb's own word, behind UID where that stands before it
+abbrev pub word_of : Verb → List ℕ
+word_of Capability = codes "CAPABILITY"
+word_of Noop = codes "NOOP"
+word_of Logout = codes "LOGOUT"
+word_of Namespace = codes "NAMESPACE"
+word_of Idle = codes "IDLE"
+word_of Login = codes "LOGIN"
+word_of Authenticate = codes "AUTHENTICATE"
+word_of StartTls = codes "STARTTLS"
+word_of Select = codes "SELECT"
+word_of Examine = codes "EXAMINE"
+word_of ListNames = codes "LIST"
+word_of Status = codes "STATUS"
+word_of Close = codes "CLOSE"
+word_of Unselect = codes "UNSELECT"
+word_of Expunge = codes "EXPUNGE"
+word_of Fetch = codes "FETCH"
+word_of Store = codes "STORE"
+word_of UidFetch = codes "FETCH"
+word_of UidStore = codes "STORE"
+word_of UidExpunge = codes "EXPUNGE"
+word_of Append = codes "APPEND"
+word_of Create = codes "CREATE"
+word_of Delete = codes "DELETE"
+word_of Rename = codes "RENAME"
+word_of Subscribe = codes "SUBSCRIBE"
+word_of Unsubscribe = codes "UNSUBSCRIBE"
+word_of Copy = codes "COPY"
+word_of Move = codes "MOVE"
+word_of Search = codes "SEARCH"
+word_of Enable = codes "ENABLE"
+word_of UidCopy = codes "COPY"
+word_of UidMove = codes "MOVE"
+word_of UidSearch = codes "SEARCH"
+
+-- the verb is UID and a second word
+abbrev pub stands_behind_uid : Verb → Bool
+stands_behind_uid UidFetch = true
+stands_behind_uid UidStore = true
+stands_behind_uid UidExpunge = true
+stands_behind_uid UidCopy = true
+stands_behind_uid UidMove = true
+stands_behind_uid UidSearch = true
+stands_behind_uid _ = false
+
+-- a verb of IMAP that this server doesn't offer
+abbrev pub is_left_out : Verb → Bool
+is_left_out Idle = true
+is_left_out Append = true
+is_left_out Create = true
+is_left_out Delete = true
+is_left_out Rename = true
+is_left_out Subscribe = true
+is_left_out Unsubscribe = true
+is_left_out Copy = true
+is_left_out Move = true
+is_left_out Search = true
+is_left_out Enable = true
+is_left_out UidCopy = true
+is_left_out UidMove = true
+is_left_out UidSearch = true
+is_left_out _ = false

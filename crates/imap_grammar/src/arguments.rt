@@ -1,0 +1,260 @@
+//! What follows the verb, read from left to right. What each function answers is its namesake in
+//! specs/Reading.antt; that file is tied to the grammar by `read_line`.
+
+ghost use Rattle.std.specs.Prelude.{◌≡◌, ◌≤◌, length, false, true, IfSome};
+ghost use Rattle.std.specs.Option.{option_copied, option_map};
+ghost use Rattle.envelope.specs.Reading.{first_is};
+ghost use Rattle.imap_grammar.specs.Reading.{is_of, quoted_len, string_len, string_at, in_parentheses, fetch_items_at, flags_at, operation_of, change_with, name_alone, list_at, status_at, fetch_at, store_at, set_alone, if_end};
+ghost use Rattle.imap_grammar.specs.Bytes.{is_special, is_quotable, is_atom};
+ghost use Rattle.imap_grammar.specs.declared.command.Command.TheVariants as say;
+
+use crate::bytes::{Class, is_blank, is_tight, past_byte, past_gap, run_len, word_at};
+use crate::command::{Command, Fetch, Store};
+use crate::cut::cut_at;
+use crate::items::{FetchItems, StatusItems};
+use crate::name::Name;
+use crate::set::SeqSet;
+use crate::words::flags_in;
+use change_ring::{FlagOp, Flags};
+
+fn is_special(b: u8) -> bool
+    ensures { result ≡ is_special b }
+{
+    b == b'"' || b == b'\\'
+}
+
+fn is_quotable(b: u8) -> bool
+    ensures { result ≡ is_quotable b }
+{
+    32 <= b && b != 127 && !is_special(b)
+}
+
+/// How many bytes a quoted string has from behind its first quote on.
+#[tactic(auto, using(crate::proofs::Steps::quoted_step))]
+fn quoted_len(bytes: &[u8]) -> Option<usize>
+    ensures value { result ≡ quoted_len false bytes.now }
+    ensures bound { IfSome result (λ n. n ≤ length bytes.now) }
+{
+    let mut escaped = false;
+    for (i, b) in bytes.iter().enumerate() {
+        if escaped {
+            if !is_special(*b) {
+                return None;
+            }
+            escaped = false;
+        } else {
+            if *b == b'"' {
+                return Some(i + 1);
+            }
+            if *b != b'\\' && !is_quotable(*b) {
+                return None;
+            }
+            escaped = *b == b'\\';
+        }
+    }
+    None
+}
+
+/// How many bytes a name or a pattern has.
+fn string_len(class: Class, bytes: &[u8]) -> Option<usize>
+    ensures value { result ≡ string_len (is_of class) bytes.now }
+    ensures bound { IfSome result (λ n. n ≤ length bytes.now) }
+{
+    match bytes {
+        [b'"', rest @ ..] => {
+            let n = quoted_len(rest)?;
+            Some(n + 1)
+        }
+        _ => {
+            let n = run_len(class, bytes);
+            if n == 0 { None } else { Some(n) }
+        }
+    }
+}
+
+/// A name or a pattern, and what follows it.
+fn string_at(class: Class, bytes: &[u8]) -> Option<(Name<'_>, &[u8])>
+    ensures { option_map (λ x. (x.0, x.1.now)) result ≡ string_at (is_of class) bytes.now }
+{
+    let (spelled, rest) = bytes.split_at(string_len(class, bytes)?);
+    Some((Name::of(spelled), rest))
+}
+
+/// What stands in parentheses, if nothing but spaces comes after them.
+fn in_parentheses(bytes: &[u8]) -> Option<&[u8]>
+    ensures { option_copied result ≡ in_parentheses bytes.now }
+{
+    let start = past_byte(b'(', bytes)?;
+    let (inner, rest) = cut_at(b')', start)?;
+    if is_blank(rest) && is_tight(inner) {
+        Some(inner)
+    } else {
+        None
+    }
+}
+
+fn begins_list(bytes: &[u8]) -> bool
+    ensures { result ≡ first_is 40 bytes.now }
+{
+    matches!(bytes, [b'(', ..])
+}
+
+/// The items of a FETCH.
+fn fetch_items_at(bytes: &[u8]) -> Option<FetchItems<'_>>
+    ensures { result ≡ fetch_items_at bytes.now }
+{
+    if begins_list(bytes) {
+        let inner = in_parentheses(bytes)?;
+        return FetchItems::of(inner);
+    }
+    let (word, rest) = word_at(bytes);
+    if is_blank(rest) {
+        FetchItems::of(word)
+    } else {
+        None
+    }
+}
+
+/// The flags of a STORE.
+fn flags_at(bytes: &[u8]) -> Option<Flags>
+    ensures { result ≡ flags_at bytes.now }
+{
+    if begins_list(bytes) {
+        let inner = in_parentheses(bytes)?;
+        return flags_in(inner);
+    }
+    if is_blank(bytes) {
+        None
+    } else {
+        flags_in(bytes)
+    }
+}
+
+/// What a STORE does with its flags.
+#[derive(Clone, Copy)]
+pub enum Operation {
+    Set,
+    Insert,
+    Remove,
+}
+
+/// The operation that a word says, and whether nothing is answered.
+fn operation_of(word: &[u8]) -> Option<(Operation, bool)>
+    ensures { result ≡ operation_of word.now }
+{
+    if word.eq_ignore_ascii_case(b"FLAGS") {
+        Some((Operation::Set, false))
+    } else if word.eq_ignore_ascii_case(b"+FLAGS") {
+        Some((Operation::Insert, false))
+    } else if word.eq_ignore_ascii_case(b"-FLAGS") {
+        Some((Operation::Remove, false))
+    } else if word.eq_ignore_ascii_case(b"FLAGS.SILENT") {
+        Some((Operation::Set, true))
+    } else if word.eq_ignore_ascii_case(b"+FLAGS.SILENT") {
+        Some((Operation::Insert, true))
+    } else if word.eq_ignore_ascii_case(b"-FLAGS.SILENT") {
+        Some((Operation::Remove, true))
+    } else {
+        None
+    }
+}
+
+fn change_with(operation: Operation, flags: Flags) -> FlagOp
+    ensures { result ≡ change_with operation flags }
+{
+    match operation {
+        Operation::Set => FlagOp::Set(flags),
+        Operation::Insert => FlagOp::Insert(flags),
+        Operation::Remove => FlagOp::Remove(flags),
+    }
+}
+
+/// The command, if nothing but spaces is left.
+pub fn if_end<'a>(command: Command<'a>, rest: &[u8]) -> Option<Command<'a>>
+    ensures { result ≡ if_end command.entry rest.now }
+{
+    if is_blank(rest) { Some(command) } else { None }
+}
+
+/// What follows SELECT.
+pub fn select(bytes: &[u8]) -> Option<Command<'_>>
+    ensures { result ≡ name_alone say.Select bytes.now }
+{
+    let start = past_gap(bytes)?;
+    let (name, rest) = string_at(Class::Atom, start)?;
+    if_end(Command::Select(name), rest)
+}
+
+/// What follows EXAMINE.
+pub fn examine(bytes: &[u8]) -> Option<Command<'_>>
+    ensures { result ≡ name_alone say.Examine bytes.now }
+{
+    let start = past_gap(bytes)?;
+    let (name, rest) = string_at(Class::Atom, start)?;
+    if_end(Command::Examine(name), rest)
+}
+
+/// What follows LIST.
+pub fn list(bytes: &[u8]) -> Option<Command<'_>>
+    ensures { result ≡ list_at bytes.now }
+{
+    let start = past_gap(bytes)?;
+    let (reference, rest) = string_at(Class::Atom, start)?;
+    let next = past_gap(rest)?;
+    let (pattern, rest) = string_at(Class::Pattern, next)?;
+    if_end(Command::List { reference, pattern }, rest)
+}
+
+/// What follows STATUS.
+pub fn status(bytes: &[u8]) -> Option<Command<'_>>
+    ensures { result ≡ status_at bytes.now }
+{
+    let start = past_gap(bytes)?;
+    let (name, rest) = string_at(Class::Atom, start)?;
+    let rest = past_gap(rest)?;
+    let inner = in_parentheses(rest)?;
+    let items = StatusItems::of(inner)?;
+    Some(Command::Status { name, items })
+}
+
+/// What follows FETCH or UID FETCH.
+pub fn fetch(by_uid: bool, bytes: &[u8]) -> Option<Command<'_>>
+    ensures { result ≡ fetch_at by_uid bytes.now }
+{
+    let start = past_gap(bytes)?;
+    let (word, rest) = word_at(start);
+    let set = SeqSet::of(word)?;
+    let rest = past_gap(rest)?;
+    let items = fetch_items_at(rest)?;
+    Some(Command::Fetch(Fetch { by_uid, set, items }))
+}
+
+/// What follows STORE or UID STORE.
+pub fn store(by_uid: bool, bytes: &[u8]) -> Option<Command<'_>>
+    ensures { result ≡ store_at by_uid bytes.now }
+{
+    let start = past_gap(bytes)?;
+    let (word, rest) = word_at(start);
+    let set = SeqSet::of(word)?;
+    let rest = past_gap(rest)?;
+    let (word, rest) = word_at(rest);
+    let (operation, silent) = operation_of(word)?;
+    let last = past_gap(rest)?;
+    let flags = flags_at(last)?;
+    Some(Command::Store(Store {
+        by_uid,
+        set,
+        silent,
+        change: change_with(operation, flags),
+    }))
+}
+
+/// What follows UID EXPUNGE.
+pub fn uid_expunge(bytes: &[u8]) -> Option<Command<'_>>
+    ensures { result ≡ set_alone bytes.now }
+{
+    let start = past_gap(bytes)?;
+    let (word, rest) = word_at(start);
+    let set = SeqSet::of(word)?;
+    if_end(Command::UidExpunge(set), rest)
+}

@@ -1,0 +1,116 @@
+//! Classes of bytes, and parts at the front of a text that are told by their bytes alone.
+//! What each answers is its namesake in specs/Reading.antt.
+
+ghost use Rattle.std.specs.Prelude.{◌≡◌, ◌≤◌, ◌<◌, length, IfSome};
+ghost use Rattle.std.specs.List.{prefix_len};
+ghost use Rattle.std.specs.Option.{option_copied};
+ghost use Rattle.envelope.specs.Reading.{after_spaces, past_byte, past_keyword};
+ghost use Rattle.imap_grammar.specs.Reading.{is_of, past_gap, word_at, is_blank, is_tight};
+
+/// Classes of bytes (RFC 9051, 9).
+#[derive(Clone, Copy)]
+pub enum Class {
+    Space,
+    NotSpace,
+    Tag,
+    Atom,
+    Pattern,
+    Digit,
+}
+
+/// Whether a byte is of the class.
+pub fn is_of(class: Class, b: u8) -> bool
+    ensures { result ≡ is_of class b }
+{
+    let graphic = 33 <= b && b <= 126;
+    match class {
+        Class::Space => b == b' ',
+        Class::NotSpace => b != b' ',
+        Class::Tag => {
+            graphic && !matches!(b, b'(' | b')' | b'{' | b'%' | b'*' | b'"' | b'\\' | b'+')
+        }
+        Class::Atom => graphic && !matches!(b, b'(' | b')' | b'{' | b'%' | b'*' | b'"' | b'\\'),
+        Class::Pattern => graphic && !matches!(b, b'(' | b')' | b'{' | b'"' | b'\\'),
+        Class::Digit => 48 <= b && b <= 57,
+    }
+}
+
+/// How many bytes at the front are of the class.
+#[tactic(auto, using(envelope::proofs::Steps::prefix_step))]
+pub fn run_len(class: Class, bytes: &[u8]) -> usize
+    ensures value { result ≡ prefix_len (is_of class) bytes.now }
+    ensures bound { result ≤ length bytes.now }
+{
+    for (i, b) in bytes.iter().enumerate() {
+        if !is_of(class, *b) {
+            return i;
+        }
+    }
+    bytes.len()
+}
+
+/// What follows this byte at the front.
+pub fn past_byte(b: u8, bytes: &[u8]) -> Option<&[u8]>
+    ensures value { option_copied result ≡ past_byte b bytes.now }
+    ensures bound { IfSome result (λ rest. length rest.now < length bytes.now) }
+{
+    match bytes {
+        [first, rest @ ..] if *first == b => Some(rest),
+        _ => None,
+    }
+}
+
+/// What follows this word at the front, in upper or lower case.
+#[tactic(auto, using(envelope::proofs::Case::shorter_differs))]
+pub fn past_keyword<'a>(keyword: &[u8], bytes: &'a [u8]) -> Option<&'a [u8]>
+    ensures { option_copied result ≡ past_keyword keyword.now bytes.now }
+{
+    if bytes.len() < keyword.len() {
+        return None;
+    }
+    let (front, rest) = bytes.split_at(keyword.len());
+    if front.eq_ignore_ascii_case(keyword) {
+        Some(rest)
+    } else {
+        None
+    }
+}
+
+/// What follows the spaces at the front, if there are any.
+pub fn after_spaces(bytes: &[u8]) -> &[u8]
+    ensures { result.now ≡ after_spaces bytes.now }
+{
+    &bytes[run_len(Class::Space, bytes)..]
+}
+
+/// What follows the spaces at the front, one at least.
+pub fn past_gap(bytes: &[u8]) -> Option<&[u8]>
+    ensures { option_copied result ≡ past_gap bytes.now }
+{
+    match bytes {
+        [b' ', ..] => Some(after_spaces(bytes)),
+        _ => None,
+    }
+}
+
+/// The bytes up to the first space, and the rest.
+pub fn word_at(bytes: &[u8]) -> (&[u8], &[u8])
+    ensures word { result.0.now ≡ (word_at bytes.now).0 }
+    ensures rest { result.1.now ≡ (word_at bytes.now).1 }
+{
+    bytes.split_at(run_len(Class::NotSpace, bytes))
+}
+
+/// Whether there is nothing but spaces.
+pub fn is_blank(bytes: &[u8]) -> bool
+    ensures { result ≡ is_blank bytes.now }
+{
+    bytes.iter().all(|b| *b == b' ')
+}
+
+/// Whether no space stands first or last.
+pub fn is_tight(text: &[u8]) -> bool
+    ensures { result ≡ is_tight text.now }
+{
+    text.is_empty() || (text[0] != b' ' && text[text.len() - 1] != b' ')
+}

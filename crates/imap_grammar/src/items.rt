@@ -1,0 +1,262 @@
+//! What FETCH and STATUS ask for (RFC 9051, 6.4.5 and 6.3.11).
+
+ghost use Rattle.std.specs.Prelude.{◌≡◌, is_some};
+ghost use Rattle.std.specs.List.{list_all};
+ghost use Rattle.envelope.specs.Reading.{words};
+ghost use Rattle.imap_grammar.specs.Items.{section_of, span_between, span_of, partial_of, body_of, fetch_item_of, status_item_of};
+ghost use Rattle.imap_grammar.specs.Reading.{are_items};
+
+use crate::bytes::{past_byte, past_keyword};
+use crate::cut::cut_at;
+use crate::number::number_up_to;
+use crate::words::count_words;
+use std::marker::Model;
+
+/// A part of a message's text.
+#[derive(Clone, Copy, Debug, PartialEq, Eq)]
+pub enum Section {
+    /// All of it.
+    Whole,
+    /// Up to and with the first empty line.
+    Header,
+    /// What follows that.
+    Text,
+}
+
+/// So many bytes from this one on: `origin` counts from 0, `count` is 1 at least, and both are below 2^63.
+#[derive(Clone, Copy, Debug, PartialEq, Eq)]
+pub struct Span {
+    pub origin: u64,
+    pub count: u64,
+}
+
+/// What FETCH asks of a message.
+#[derive(Clone, Copy, Debug, PartialEq, Eq)]
+pub enum FetchItem {
+    Uid,
+    Flags,
+    Size,
+    Body {
+        /// \Seen isn't set.
+        peek: bool,
+        section: Section,
+        partial: Option<Span>,
+    },
+}
+
+/// What STATUS asks of a mailbox.
+#[derive(Clone, Copy, Debug, PartialEq, Eq)]
+pub enum StatusItem {
+    Messages,
+    UidNext,
+    UidValidity,
+    Unseen,
+    Deleted,
+    Size,
+}
+
+/// The items of a FETCH, as they stand in a line: in contracts the list of them.
+#[derive(Drop)]
+pub struct FetchItems<'a> {
+    spelled: &'a [u8],
+}
+
+impl<'a> Model for FetchItems<'a> {
+    ghost use Rattle.std.specs.Prelude.{List};
+    ghost use Rattle.imap_grammar.specs.declared.items.FetchItem.{FetchItem};
+    ghost use Rattle.imap_grammar.specs.Items.{fetch_items_of};
+
+    ghost Value = { List FetchItem };
+
+    ghost view = { λ s. fetch_items_of s.spelled.now };
+}
+
+/// The items of a STATUS, as they stand in a line: in contracts the list of them.
+#[derive(Drop)]
+pub struct StatusItems<'a> {
+    spelled: &'a [u8],
+}
+
+impl<'a> Model for StatusItems<'a> {
+    ghost use Rattle.std.specs.Prelude.{List};
+    ghost use Rattle.imap_grammar.specs.declared.items.StatusItem.{StatusItem};
+    ghost use Rattle.imap_grammar.specs.Items.{status_items_of};
+
+    ghost Value = { List StatusItem };
+
+    ghost view = { λ s. status_items_of s.spelled.now };
+}
+
+/// The part that a section's word names.
+fn section_of(text: &[u8]) -> Option<Section>
+    ensures { result ≡ section_of text.now }
+{
+    if text.is_empty() {
+        Some(Section::Whole)
+    } else if text.eq_ignore_ascii_case(b"HEADER") {
+        Some(Section::Header)
+    } else if text.eq_ignore_ascii_case(b"TEXT") {
+        Some(Section::Text)
+    } else {
+        None
+    }
+}
+
+const GREATEST: u64 = 9_223_372_036_854_775_807;
+
+/// A span of these two numbers.
+fn span_between(origin: &[u8], count: &[u8]) -> Option<Span>
+    ensures { result ≡ span_between (origin.now, count.now) }
+{
+    let origin = number_up_to(GREATEST, origin)?;
+    let count = number_up_to(GREATEST, count)?;
+    if count == 0 {
+        None
+    } else {
+        Some(Span { origin, count })
+    }
+}
+
+/// The span that `<origin.count>` says.
+fn span_of(text: &[u8]) -> Option<Span>
+    ensures { result ≡ span_of text.now }
+{
+    let inner = past_byte(b'<', text)?;
+    let (numbers, rest) = cut_at(b'>', inner)?;
+    let (origin, count) = cut_at(b'.', numbers)?;
+    if rest.is_empty() {
+        span_between(origin, count)
+    } else {
+        None
+    }
+}
+
+/// A span, or none where nothing stands.
+fn partial_of(text: &[u8]) -> Option<Option<Span>>
+    ensures { result ≡ partial_of text.now }
+{
+    if text.is_empty() {
+        return Some(None);
+    }
+    let span = span_of(text)?;
+    Some(Some(span))
+}
+
+/// What stands behind `BODY[` or `BODY.PEEK[`.
+fn body_of(peek: bool, text: &[u8]) -> Option<FetchItem>
+    ensures { result ≡ body_of peek text.now }
+{
+    let (section, rest) = cut_at(b']', text)?;
+    let section = section_of(section)?;
+    let partial = partial_of(rest)?;
+    Some(FetchItem::Body {
+        peek,
+        section,
+        partial,
+    })
+}
+
+/// The item of FETCH that a word is.
+pub(crate) fn fetch_item(word: &[u8]) -> Option<FetchItem>
+    ensures { result ≡ fetch_item_of word.now }
+{
+    if word.eq_ignore_ascii_case(b"UID") {
+        return Some(FetchItem::Uid);
+    }
+    if word.eq_ignore_ascii_case(b"FLAGS") {
+        return Some(FetchItem::Flags);
+    }
+    if word.eq_ignore_ascii_case(b"RFC822.SIZE") {
+        return Some(FetchItem::Size);
+    }
+    match past_keyword(b"BODY[", word) {
+        Some(rest) => body_of(false, rest),
+        None => match past_keyword(b"BODY.PEEK[", word) {
+            Some(rest) => body_of(true, rest),
+            None => None,
+        },
+    }
+}
+
+/// The item of STATUS that a word is.
+pub(crate) fn status_item(word: &[u8]) -> Option<StatusItem>
+    ensures { result ≡ status_item_of word.now }
+{
+    if word.eq_ignore_ascii_case(b"MESSAGES") {
+        Some(StatusItem::Messages)
+    } else if word.eq_ignore_ascii_case(b"UIDNEXT") {
+        Some(StatusItem::UidNext)
+    } else if word.eq_ignore_ascii_case(b"UIDVALIDITY") {
+        Some(StatusItem::UidValidity)
+    } else if word.eq_ignore_ascii_case(b"UNSEEN") {
+        Some(StatusItem::Unseen)
+    } else if word.eq_ignore_ascii_case(b"DELETED") {
+        Some(StatusItem::Deleted)
+    } else if word.eq_ignore_ascii_case(b"SIZE") {
+        Some(StatusItem::Size)
+    } else {
+        None
+    }
+}
+
+fn all_fetch_items(text: &[u8]) -> bool
+    ensures { result ≡ list_all (λ word. is_some (fetch_item_of word)) (words text.now) }
+{
+    text.split(|b| *b == b' ')
+        .filter(|word| !word.is_empty())
+        .all(|word| fetch_item(word).is_some())
+}
+
+fn all_status_items(text: &[u8]) -> bool
+    ensures { result ≡ list_all (λ word. is_some (status_item_of word)) (words text.now) }
+{
+    text.split(|b| *b == b' ')
+        .filter(|word| !word.is_empty())
+        .all(|word| status_item(word).is_some())
+}
+
+impl<'a> FetchItems<'a> {
+    ghost use Rattle.imap_grammar.specs.Items.{fetch_items_of};
+    ghost use Rattle.imap_grammar.specs.Reading.{fetch_items_in};
+
+    /// The words as they stand in the line.
+    pub(crate) fn spelled(&self) -> &[u8]
+        ensures { self.now ≡ fetch_items_of result.now }
+    {
+        self.spelled
+    }
+
+    /// The items that the words of a text say, one at least.
+    pub(crate) fn of(text: &'a [u8]) -> Option<FetchItems<'a>>
+        ensures { result ≡ fetch_items_in text.now }
+    {
+        if all_fetch_items(text) && count_words(text) != 0 {
+            Some(FetchItems { spelled: text })
+        } else {
+            None
+        }
+    }
+}
+
+impl<'a> StatusItems<'a> {
+    ghost use Rattle.imap_grammar.specs.Items.{status_items_of};
+    ghost use Rattle.imap_grammar.specs.Reading.{status_items_in};
+
+    /// The words as they stand in the line.
+    pub(crate) fn spelled(&self) -> &[u8]
+        ensures { self.now ≡ status_items_of result.now }
+    {
+        self.spelled
+    }
+
+    /// The items that the words of a text say, one at least.
+    pub(crate) fn of(text: &'a [u8]) -> Option<StatusItems<'a>>
+        ensures { result ≡ status_items_in text.now }
+    {
+        if all_status_items(text) && count_words(text) != 0 {
+            Some(StatusItems { spelled: text })
+        } else {
+            None
+        }
+    }
+}

@@ -1,0 +1,31 @@
+//! The lines of IMAP: commands as a client's line spells them, and the answers that tell of messages
+//! and mailboxes. A line is told as what the written grammar of specs/Grammar.antt says of it.
+//! Sessions, mailboxes and what is answered when are for the crates above.
+#![tactic(auto)]
+
+mod answers;
+mod arguments;
+mod bytes;
+mod command;
+mod cut;
+mod items;
+mod laws;
+mod list;
+mod name;
+mod number;
+mod print;
+mod ranges;
+mod reading;
+mod set;
+#[cfg(test)]
+mod tests;
+mod words;
+
+pub use answers::{MessageRow, write_row, write_status};
+pub use command::{Command, Fetch, ImapFault, Store, Tag, Verb};
+pub use items::{FetchItem, FetchItems, Section, Span, StatusItem, StatusItems};
+pub use laws::patterns_match_what_they_stand_for;
+pub use list::write_list;
+pub use name::Name;
+pub use reading::read_line;
+pub use set::{SeqNumber, SeqRange, SeqSet, SetFault};

@@ -1,0 +1,28 @@
+//! Numbers, as digits say them.
+
+ghost use Rattle.std.specs.Prelude.{◌≡◌, ◌≤◌, IfSome};
+ghost use Rattle.imap_grammar.specs.Numbers.{number_up_to};
+
+use crate::bytes::{Class, is_of};
+
+/// The number that one digit or more say, if it is at most this.
+#[tactic(auto, using(crate::proofs::Numbers::number_step, crate::proofs::Numbers::digits_step, crate::proofs::Numbers::too_great))]
+pub fn number_up_to(most: u64, text: &[u8]) -> Option<u64>
+    ensures value { result ≡ number_up_to most text.now }
+    ensures bound { IfSome result (λ n. n ≤ most) }
+{
+    if text.is_empty() {
+        return None;
+    }
+    let mut n: u128 = 0;
+    for b in text {
+        if !is_of(Class::Digit, *b) {
+            return None;
+        }
+        n = n * 10 + (*b - b'0') as u128;
+        if n > most as u128 {
+            return None;
+        }
+    }
+    Some(n as u64)
+}

@@ -1,0 +1,144 @@
+//! Sets of messages (RFC 9051, 9: sequence-set), and which messages of a view they name.
+
+ghost use Rattle.std.specs.Prelude.{◌≡◌, is_some};
+ghost use Rattle.std.specs.List.{list_all, slice_split};
+ghost use Rattle.imap_grammar.specs.Bytes.{is_comma};
+ghost use Rattle.imap_grammar.specs.Sets.{seq_number_of, range_of, ranges_of};
+
+use crate::bytes::past_byte;
+use crate::cut::cut_at;
+use crate::number::number_up_to;
+use crate::ranges::{is_one_too_high, places_in, ranges_in, uids_in};
+use std::alloc::{AllocError, Global};
+use std::marker::Model;
+
+/// Why a set names no messages.
+#[derive(Clone, Copy, Debug, PartialEq, Eq)]
+pub enum SetFault {
+    /// A message that it names isn't there.
+    TooHigh,
+    /// Memory was refused.
+    NoMemory,
+}
+
+impl From<AllocError> for SetFault {
+    ghost use Rattle.imap_grammar.specs.declared.set.SetFault.{SetFault};
+
+    ghost from_gives = { λ _ fault. fault ≡ SetFault.NoMemory };
+
+    fn from(_error: AllocError) -> SetFault {
+        SetFault::NoMemory
+    }
+}
+
+/// A number of a message or a UID, or `*`, the greatest there is.
+#[derive(Clone, Copy, Debug, PartialEq, Eq)]
+pub enum SeqNumber {
+    Number(u32),
+    Star,
+}
+
+/// All numbers between two, in either order.
+#[derive(Clone, Copy, Debug, PartialEq, Eq)]
+pub struct SeqRange {
+    pub from: SeqNumber,
+    pub to: SeqNumber,
+}
+
+/// A set of messages, as it stands in a line: in contracts the ranges that it says.
+#[derive(Drop)]
+pub struct SeqSet<'a> {
+    spelled: &'a [u8],
+}
+
+impl<'a> Model for SeqSet<'a> {
+    ghost use Rattle.std.specs.Prelude.{List};
+    ghost use Rattle.imap_grammar.specs.declared.set.SeqRange.{SeqRange};
+    ghost use Rattle.imap_grammar.specs.Sets.{ranges_of};
+
+    ghost Value = { List SeqRange };
+
+    ghost view = { λ s. ranges_of s.spelled.now };
+}
+
+const GREATEST: u64 = 4_294_967_295;
+
+/// A number in a set, or `*`.
+fn seq_number(text: &[u8]) -> Option<SeqNumber>
+    ensures { result ≡ seq_number_of text.now }
+{
+    match text {
+        [b'*'] => Some(SeqNumber::Star),
+        [b'0', ..] => None,
+        _ => match number_up_to(GREATEST, text) {
+            None => None,
+            Some(n) => Some(SeqNumber::Number(n as u32)),
+        },
+    }
+}
+
+/// A range of a set.
+pub(crate) fn range_in(text: &[u8]) -> Option<SeqRange>
+    ensures { result ≡ range_of text.now }
+{
+    match cut_at(b':', text) {
+        None => {
+            let n = seq_number(text)?;
+            Some(SeqRange { from: n, to: n })
+        }
+        Some((first, last)) => {
+            let from = seq_number(first)?;
+            let to = seq_number(last)?;
+            Some(SeqRange { from, to })
+        }
+    }
+}
+
+/// Whether each part between commas is a range.
+fn are_ranges(text: &[u8]) -> bool
+    ensures { result ≡ list_all (λ part. is_some (range_of part)) (slice_split is_comma text.now) }
+{
+    text.split(|b| *b == b',')
+        .all(|part| range_in(part).is_some())
+}
+
+impl<'a> SeqSet<'a> {
+    ghost use Rattle.std.specs.Prelude.{Some, None, IfOk, Err, ◌↔◌};
+    ghost use Rattle.std.specs.List.Sorted.{IsStrictlyIncreasing};
+    ghost use Rattle.imap_grammar.specs.Sets.{named_in};
+    ghost use Rattle.imap_grammar.specs.declared.set.SetFault.{SetFault};
+    ghost use Rattle.imap_grammar.specs.Reading.{set_at};
+
+    /// The set that a word says.
+    pub(crate) fn of(word: &'a [u8]) -> Option<SeqSet<'a>>
+        ensures { result ≡ set_at word.now }
+    {
+        if are_ranges(word) {
+            Some(SeqSet { spelled: word })
+        } else {
+            None
+        }
+    }
+    /// The UIDs of the messages of a view that the set names, each once, in the view's order. By
+    /// place a number is a message's place in the view, counted from 1, and `*` the last place; by UID
+    /// what isn't in the view is passed over, and `*` is the view's last UID (RFC 9051, 9: seq-number).
+    ///
+    /// Errors, in this order: `TooHigh` exactly where a number by place is above the view's length, or
+    /// `*` is said of an empty view; `NoMemory` where memory was refused.
+    pub fn resolve(&self, alloc: Global, view: &[u32], by_uid: bool) -> Result<Vec<u32>, SetFault>
+        ensures found { IfOk result (λ uids. named_in by_uid self.now view.now ≡ Some uids.items) }
+        ensures too_high { (result ≡ Err SetFault.TooHigh) ↔ (named_in by_uid self.now view.now ≡ None) }
+        // In a view whose UIDs rise.
+        ensures rising { IsStrictlyIncreasing view.now → IfOk result (λ uids. IsStrictlyIncreasing uids.items) }
+    {
+        if by_uid {
+            let ranges = ranges_in(alloc, self.spelled)?;
+            return Ok(uids_in(alloc, &ranges, view)?);
+        }
+        if is_one_too_high(self.spelled, view.len()) {
+            return Err(SetFault::TooHigh);
+        }
+        let ranges = ranges_in(alloc, self.spelled)?;
+        Ok(places_in(alloc, &ranges, view)?)
+    }
+}
