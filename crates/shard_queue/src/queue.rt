@@ -207,20 +207,9 @@ impl<T: Drop> ShardQueue<T> {
 
     /// Spends what is left of a queue that is not to be closed; what waits in it is dropped. It promises
     /// nothing, and takes no memory.
-    pub fn abandon(
-        self,
-        mut seats: Vec<ProducerSeat<T>>,
-        mut ended: Vec<Ended<T>>,
-        seat: ConsumerSeat<T>,
-    ) {
-        while let Some(one) = seats.pop() {
-            let ProducerSeat { pass: _, number: _ } = one;
-        }
-        seats.destroy_empty();
-        while let Some(one) = ended.pop() {
-            let Ended { pass: _, number: _ } = one;
-        }
-        ended.destroy_empty();
+    pub fn abandon(self, seats: Vec<ProducerSeat<T>>, ended: Vec<Ended<T>>, seat: ConsumerSeat<T>) {
+        spend_seats(seats);
+        spend_ended(ended);
         let ConsumerSeat { pass: _, ended: _ } = seat;
         let ShardQueue {
             queue,
@@ -306,6 +295,20 @@ fn hear_all_out<T>(
 {
     while let Some(e) = ended.pop() {
         hear_out(queue, producers, pass, e);
+    }
+    ended.destroy_empty();
+}
+
+fn spend_seats<T>(mut seats: Vec<ProducerSeat<T>>) {
+    while let Some(one) = seats.pop() {
+        let ProducerSeat { pass: _, number: _ } = one;
+    }
+    seats.destroy_empty();
+}
+
+fn spend_ended<T>(mut ended: Vec<Ended<T>>) {
+    while let Some(one) = ended.pop() {
+        let Ended { pass: _, number: _ } = one;
     }
     ended.destroy_empty();
 }

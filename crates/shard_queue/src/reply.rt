@@ -219,18 +219,12 @@ impl<T: Drop> ReplyChannel<T> {
     /// nothing, and takes no memory.
     pub fn abandon(
         self,
-        mut seats: Vec<SenderSeat<T>>,
-        mut ended: Vec<SenderEnded<T>>,
+        seats: Vec<SenderSeat<T>>,
+        ended: Vec<SenderEnded<T>>,
         seat: ReceiverSeat<T>,
     ) {
-        while let Some(one) = seats.pop() {
-            let SenderSeat { pass: _, number: _ } = one;
-        }
-        seats.destroy_empty();
-        while let Some(one) = ended.pop() {
-            let SenderEnded { pass: _, number: _ } = one;
-        }
-        ended.destroy_empty();
+        spend_seats(seats);
+        spend_ended(ended);
         let ReceiverSeat { pass: _, ended: _ } = seat;
         let ReplyChannel {
             sender,
@@ -323,6 +317,20 @@ fn hear_all_out<T: Drop>(
 {
     while let Some(e) = ended.pop() {
         hear_out(ends, senders, pass, e);
+    }
+    ended.destroy_empty();
+}
+
+fn spend_seats<T>(mut seats: Vec<SenderSeat<T>>) {
+    while let Some(one) = seats.pop() {
+        let SenderSeat { pass: _, number: _ } = one;
+    }
+    seats.destroy_empty();
+}
+
+fn spend_ended<T>(mut ended: Vec<SenderEnded<T>>) {
+    while let Some(one) = ended.pop() {
+        let SenderEnded { pass: _, number: _ } = one;
     }
     ended.destroy_empty();
 }
