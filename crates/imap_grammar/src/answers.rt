@@ -1,7 +1,7 @@
 //! The answers that tell of a message and of a mailbox's numbers (RFC 9051, 7.5.2 and 7.3.4), with the
 //! bytes that specs/Answers.antt gives. Who is answered what and when is told above.
 
-ghost use Rattle.std.specs.Prelude.{◌≡◌, ◌++◌, ◌≤◌, length, take, drop, codes, decimal, List, ℕ, map, OnOk, OnErr, IfOk, IfSome, IfNone, ◌∷◌, [], ◌&&◌, ◌==◌, if◌then◌else◌, true, not, is_some, option_to_list};
+ghost use Rattle.std.specs.Prelude.{◌≡◌, ◌++◌, ◌≤◌, length, take, drop, codes, decimal, List, ℕ, map, OnOk, OnErr, IfOk, IfSome, IfNone, ◌∷◌, [], ◌&&◌, ◌==◌, if◌then◌else◌, true, not, is_some, option_to_list, vec_capacity};
 ghost use Rattle.std.specs.Io.{StartsWith};
 ghost use Rattle.std.specs.List.{filter_map, list_any};
 ghost use Rattle.envelope.specs.Reading.{words};
@@ -96,6 +96,7 @@ fn section_word(section: Section) -> &'static [u8]
 fn write_whole(word: &[u8], bytes: &[u8], out: &mut Vec<u8>) -> Result<(), AllocError>
     ensures ok { OnOk result (out.new.items ≡ out.old.items ++ (codes "BODY[" ++ word.now ++ codes "]" ++ codes " " ++ literal bytes.now)) }
     ensures err { OnErr result (out.new.items ≡ out.old.items) }
+    ensures room { vec_capacity out.old ≤ vec_capacity out.new }
 {
     let mut digits = Buffer::new();
     let count = digits.format(bytes.len()).as_bytes();
@@ -119,8 +120,10 @@ fn write_partial(
     bytes: &[u8],
     out: &mut Vec<u8>,
 ) -> Result<(), AllocError>
-    ensures ok { OnOk result (out.new.items ≡ out.old.items ++ (codes "BODY[" ++ word.now ++ codes "]" ++ (codes "<" ++ decimal origin ++ codes ">") ++ codes " " ++ literal bytes.now)) }
+    ensures ok { OnOk result (out.new.items ≡ out.old.items
+        ++ (codes "BODY[" ++ word.now ++ codes "]" ++ (codes "<" ++ decimal origin ++ codes ">") ++ codes " " ++ literal bytes.now)) }
     ensures err { OnErr result (out.new.items ≡ out.old.items) }
+    ensures room { vec_capacity out.old ≤ vec_capacity out.new }
 {
     let mut digits = Buffer::new();
     let mut more_digits = Buffer::new();
@@ -150,6 +153,7 @@ fn write_body(
 ) -> Result<(), AllocError>
     ensures ok { OnOk result (out.new.items ≡ out.old.items ++ body_text which partial text.now) }
     ensures err { OnErr result (out.new.items ≡ out.old.items) }
+    ensures room { vec_capacity out.old ≤ vec_capacity out.new }
 {
     let whole = section_of(which, text);
     match partial {
@@ -162,6 +166,7 @@ fn write_body(
 fn write_number(word: &[u8], number: u128, out: &mut Vec<u8>) -> Result<(), AllocError>
     ensures ok { OnOk result (out.new.items ≡ out.old.items ++ (word.now ++ decimal number)) }
     ensures err { OnErr result (out.new.items ≡ out.old.items) }
+    ensures room { vec_capacity out.old ≤ vec_capacity out.new }
 {
     let mut digits = Buffer::new();
     append_parts(&[word, digits.format(number).as_bytes()], out)
@@ -171,6 +176,7 @@ fn write_number(word: &[u8], number: u128, out: &mut Vec<u8>) -> Result<(), Allo
 fn write_item(row: &MessageRow<'_>, item: FetchItem, out: &mut Vec<u8>) -> Result<(), AllocError>
     ensures ok { OnOk result (out.new.items ≡ out.old.items ++ item_text row.now item) }
     ensures err { OnErr result (out.new.items ≡ out.old.items) }
+    ensures room { vec_capacity out.old ≤ vec_capacity out.new }
 {
     match item {
         FetchItem::Uid => write_number(b"UID ", u128::from(row.uid), out),
@@ -188,6 +194,7 @@ fn write_item(row: &MessageRow<'_>, item: FetchItem, out: &mut Vec<u8>) -> Resul
 fn write_space(first: bool, out: &mut Vec<u8>) -> Result<(), AllocError>
     ensures ok { OnOk result (out.new.items ≡ out.old.items ++ lead first []) }
     ensures err { OnErr result (out.new.items ≡ out.old.items) }
+    ensures room { vec_capacity out.old ≤ vec_capacity out.new }
 {
     if first {
         return Ok(());
@@ -206,6 +213,7 @@ fn put_item(
     ensures ok { OnOk result (out.new.items ≡ out.old.items ++ joined first (map (item_text row.now) (option_to_list (fetch_item_of word.now)))) }
     ensures first { IfOk result (λ f. f ≡ (first && not (is_some (fetch_item_of word.now)))) }
     ensures err { OnErr result (StartsWith out.new.items out.old.items) }
+    ensures room { vec_capacity out.old ≤ vec_capacity out.new }
 {
     let Some(item) = fetch_item(word) else {
         return Ok(first);
@@ -226,6 +234,7 @@ fn put_items(
     ensures ok { OnOk result (out.new.items ≡ out.old.items ++ joined first (map (item_text row.now) (fetch_items_of text.now))) }
     ensures first { IfOk result (λ f. f ≡ (first && is_none (fetch_items_of text.now))) }
     ensures err { OnErr result (StartsWith out.new.items out.old.items) }
+    ensures room { vec_capacity out.old ≤ vec_capacity out.new }
 {
     let mut bare = first;
     let mut rest = text;
@@ -316,6 +325,7 @@ fn put_uid(
     ensures ok { OnOk result (out.new.items ≡ out.old.items ++ joined true (map (item_text row.now) (uid_first by_uid (fetch_items_of text.now)))) }
     ensures first { IfOk result (λ f. f ≡ is_none (uid_first by_uid (fetch_items_of text.now))) }
     ensures err { OnErr result (out.new.items ≡ out.old.items) }
+    ensures room { vec_capacity out.old ≤ vec_capacity out.new }
 {
     if by_uid && !has_uid(text) {
         write_item(row, FetchItem::Uid, out)?;
@@ -331,8 +341,10 @@ fn put_flags(
     text: &[u8],
     out: &mut Vec<u8>,
 ) -> Result<(), AllocError>
-    ensures ok { OnOk result (out.new.items ≡ out.old.items ++ joined first (map (item_text row.now) (flags_last row.now.newly_seen (fetch_items_of text.now)))) }
+    ensures ok { OnOk result (out.new.items ≡ out.old.items
+        ++ joined first (map (item_text row.now) (flags_last row.now.newly_seen (fetch_items_of text.now)))) }
     ensures err { OnErr result (StartsWith out.new.items out.old.items) }
+    ensures room { vec_capacity out.old ≤ vec_capacity out.new }
 {
     if row.newly_seen && !has_flags(text) {
         write_space(first, out)?;
@@ -348,8 +360,10 @@ fn put_answered(
     text: &[u8],
     out: &mut Vec<u8>,
 ) -> Result<(), AllocError>
-    ensures ok { OnOk result (out.new.items ≡ out.old.items ++ spaced (map (item_text row.now) (answered by_uid row.now.newly_seen (fetch_items_of text.now)))) }
+    ensures ok { OnOk result (out.new.items ≡ out.old.items
+        ++ spaced (map (item_text row.now) (answered by_uid row.now.newly_seen (fetch_items_of text.now)))) }
     ensures err { OnErr result (StartsWith out.new.items out.old.items) }
+    ensures room { vec_capacity out.old ≤ vec_capacity out.new }
 {
     let bare = put_uid(by_uid, row, text, out)?;
     let bare = put_items(bare, row, text, out)?;
@@ -367,6 +381,7 @@ fn put_row(
 ) -> Result<(), AllocError>
     ensures ok { OnOk result (out.new.items ≡ out.old.items ++ row_answer place by_uid (fetch_items_of text.now) row.now) }
     ensures err { OnErr result (StartsWith out.new.items out.old.items) }
+    ensures room { vec_capacity out.old ≤ vec_capacity out.new }
 {
     let mut digits = Buffer::new();
     let number = digits.format(place).as_bytes();
@@ -389,6 +404,7 @@ pub fn write_row(
 ) -> Result<(), AllocError>
     ensures ok { OnOk result (out.new.items ≡ out.old.items ++ row_answer place by_uid items.now row.now) }
     ensures err { OnErr result (out.new.items ≡ out.old.items) }
+    ensures room { vec_capacity out.old ≤ vec_capacity out.new }
 {
     let before = out.len();
     let Ok(()) = put_row(place, by_uid, items.spelled(), row, out) else {
@@ -428,6 +444,7 @@ fn status_number(status: &Status, item: StatusItem) -> u128
 fn write_status_item(status: &Status, item: StatusItem, out: &mut Vec<u8>) -> Result<(), AllocError>
     ensures ok { OnOk result (out.new.items ≡ out.old.items ++ status_text status.now item) }
     ensures err { OnErr result (out.new.items ≡ out.old.items) }
+    ensures room { vec_capacity out.old ≤ vec_capacity out.new }
 {
     let mut digits = Buffer::new();
     let number = digits.format(status_number(status, item)).as_bytes();
@@ -445,6 +462,7 @@ fn put_status_item(
     ensures ok { OnOk result (out.new.items ≡ out.old.items ++ joined first (map (status_text status.now) (option_to_list (status_item_of word.now)))) }
     ensures first { IfOk result (λ f. f ≡ (first && not (is_some (status_item_of word.now)))) }
     ensures err { OnErr result (StartsWith out.new.items out.old.items) }
+    ensures room { vec_capacity out.old ≤ vec_capacity out.new }
 {
     let Some(item) = status_item(word) else {
         return Ok(first);
@@ -459,6 +477,7 @@ fn put_status_item(
 fn put_status_items(status: &Status, text: &[u8], out: &mut Vec<u8>) -> Result<(), AllocError>
     ensures ok { OnOk result (out.new.items ≡ out.old.items ++ spaced (map (status_text status.now) (status_items_of text.now))) }
     ensures err { OnErr result (StartsWith out.new.items out.old.items) }
+    ensures room { vec_capacity out.old ≤ vec_capacity out.new }
 {
     let mut bare = true;
     let mut rest = text;
@@ -478,6 +497,7 @@ fn put_status(
 ) -> Result<(), AllocError>
     ensures ok { OnOk result (out.new.items ≡ out.old.items ++ status_answer name.now (status_items_of text.now) status.now) }
     ensures err { OnErr result (StartsWith out.new.items out.old.items) }
+    ensures room { vec_capacity out.old ≤ vec_capacity out.new }
 {
     append_parts(&[b"* STATUS ".as_slice(), name, b" (".as_slice()], out)?;
     put_status_items(status, text, out)?;
@@ -496,6 +516,7 @@ pub fn write_status(
 ) -> Result<(), AllocError>
     ensures ok { OnOk result (out.new.items ≡ out.old.items ++ status_answer name.now items.now status.now) }
     ensures err { OnErr result (out.new.items ≡ out.old.items) }
+    ensures room { vec_capacity out.old ≤ vec_capacity out.new }
 {
     let before = out.len();
     let Ok(()) = put_status(name, items.spelled(), status, out) else {

@@ -1,4 +1,5 @@
-//! Texts, cut at a byte.
+//! Texts, cut at the first of some byte. What stands on either side is read elsewhere.
+//! The definition is specs/Cuts.antt.
 
 ghost use Rattle.std.specs.Prelude.{◌≡◌, ◌<◌, ◌==◌, length, IfSome, position};
 ghost use Rattle.std.specs.Option.{option_map};

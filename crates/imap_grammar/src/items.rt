@@ -1,4 +1,5 @@
-//! What FETCH and STATUS ask for (RFC 9051, 6.4.5 and 6.3.11).
+//! What FETCH and STATUS ask for (RFC 9051, 6.4.5 and 6.3.11): the items, and how their words are read.
+//! How they are answered is told in `answers`.
 
 ghost use Rattle.std.specs.Prelude.{◌≡◌, is_some};
 ghost use Rattle.std.specs.List.{list_all};

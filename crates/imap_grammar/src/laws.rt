@@ -1,4 +1,5 @@
-//! What follows from the definitions, for readers and for proofs above. No code runs here.
+//! What follows from the definitions, for readers and for proofs above.
+//! No code runs here.
 
 ghost use Rattle.std.specs.Prelude.{◌≡◌, ℕ, List, true};
 ghost use Rattle.imap_grammar.specs.Answers.{Glob, matches};

@@ -1,6 +1,7 @@
 //! The answer to LIST (RFC 9051, 6.3.9 and 7.3.1), and which names a pattern stands for.
+//! Which names there are is the caller's matter.
 
-ghost use Rattle.std.specs.Prelude.{◌≡◌, ◌+◌, ◌<◌, ◌≤◌, ◌++◌, length, drop, IfOk, OnOk, OnErr, [], List, ℕ, map, flat_map};
+ghost use Rattle.std.specs.Prelude.{◌≡◌, ◌+◌, ◌<◌, ◌≤◌, ◌++◌, length, drop, IfOk, OnOk, OnErr, [], List, ℕ, map, flat_map, vec_capacity};
 ghost use Rattle.std.specs.Io.{StartsWith};
 ghost use Rattle.imap_grammar.specs.Answers.{matches, is_listed, listed, asks_for_root, list_answer, name_answer};
 ghost use Rattle.imap_grammar.specs.Globs.{is_wild, at_byte, Reached};
@@ -103,6 +104,7 @@ fn one_text(alloc: Global, first: &[u8], second: &[u8]) -> Result<Vec<u8>, Alloc
 fn write_name(name: &[u8], out: &mut Vec<u8>) -> Result<(), AllocError>
     ensures ok { OnOk result (out.new.items ≡ out.old.items ++ name_answer name.now) }
     ensures err { OnErr result (out.new.items ≡ out.old.items) }
+    ensures room { vec_capacity out.old ≤ vec_capacity out.new }
 {
     append_parts(
         &[b"* LIST () \"/\" ".as_slice(), name, b"\r\n".as_slice()],
@@ -115,6 +117,7 @@ fn write_name(name: &[u8], out: &mut Vec<u8>) -> Result<(), AllocError>
 fn put_name(alloc: Global, pattern: &[u8], name: &[u8], out: &mut Vec<u8>) -> Result<(), AllocError>
     ensures ok { OnOk result (out.new.items ≡ out.old.items ++ listed pattern.now name.now) }
     ensures err { OnErr result (StartsWith out.new.items out.old.items) }
+    ensures room { vec_capacity out.old ≤ vec_capacity out.new }
 {
     let listed = is_listed(alloc, pattern, name)?;
     if !listed {
@@ -133,6 +136,7 @@ fn put_names(
 ) -> Result<(), AllocError>
     ensures ok { OnOk result (out.new.items ≡ out.old.items ++ flat_map (λ name. listed pattern.now name.now) names.now) }
     ensures err { OnErr result (StartsWith out.new.items out.old.items) }
+    ensures room { vec_capacity out.old ≤ vec_capacity out.new }
 {
     for name in names {
         put_name(alloc, pattern, name, out)?;
@@ -156,6 +160,7 @@ fn put_list(
 ) -> Result<(), AllocError>
     ensures ok { OnOk result (out.new.items ≡ out.old.items ++ list_answer reference.now pattern.now (map (λ name. name.now) names.now)) }
     ensures err { OnErr result (StartsWith out.new.items out.old.items) }
+    ensures room { vec_capacity out.old ≤ vec_capacity out.new }
 {
     if asks_for_root(reference, pattern) {
         return append_parts(&[b"* LIST (\\Noselect) \"/\" \"\"\r\n".as_slice()], out);
@@ -179,6 +184,7 @@ pub fn write_list(
 ) -> Result<(), AllocError>
     ensures ok { OnOk result (out.new.items ≡ out.old.items ++ list_answer reference.now pattern.now (map (λ name. name.now) names.now)) }
     ensures err { OnErr result (out.new.items ≡ out.old.items) }
+    ensures room { vec_capacity out.old ≤ vec_capacity out.new }
 {
     let before = out.len();
     let reference = reference.to_bytes(alloc)?;

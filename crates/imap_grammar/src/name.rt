@@ -1,4 +1,5 @@
-//! Names of mailboxes, and patterns of names.
+//! Names of mailboxes, and patterns of names, as they stand in a line and as what they say.
+//! Whether a mailbox has that name is told above.
 
 ghost use Rattle.std.specs.Prelude.{◌≡◌, IfOk, false};
 ghost use Rattle.envelope.specs.Directory.{value_of, unquoted};

@@ -1,4 +1,5 @@
-//! Numbers, as digits say them.
+//! Numbers, as digits say them, up to a greatest one.
+//! Which numbers may stand where is told in `set` and `items`.
 
 ghost use Rattle.std.specs.Prelude.{◌≡◌, ◌≤◌, IfSome};
 ghost use Rattle.imap_grammar.specs.Numbers.{number_up_to};

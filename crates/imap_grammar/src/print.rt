@@ -1,6 +1,7 @@
 //! Bytes, appended all or none, and the parts that answers are made of.
+//! No answer as a whole stands here.
 
-ghost use Rattle.std.specs.Prelude.{◌≡◌, ◌++◌, [], drop, flat_map, if◌then◌else◌, OnOk, OnErr};
+ghost use Rattle.std.specs.Prelude.{◌≡◌, ◌++◌, [], drop, flat_map, if◌then◌else◌, OnOk, OnErr, ◌≤◌, vec_capacity};
 ghost use Rattle.cursor_set.specs.Lines.{flag_words, spaced};
 ghost use Rattle.imap_grammar.specs.Answers.{flags_text};
 
@@ -11,6 +12,7 @@ use std::alloc::AllocError;
 pub fn append_parts(parts: &[&[u8]], out: &mut Vec<u8>) -> Result<(), AllocError>
     ensures ok { OnOk result (out.new.items ≡ out.old.items ++ flat_map (λ part. part.now) parts.now) }
     ensures err { OnErr result (out.new.items ≡ out.old.items) }
+    ensures room { vec_capacity out.old ≤ vec_capacity out.new }
 {
     let before = out.len();
     for part in parts {
@@ -40,6 +42,7 @@ fn flag_part(is_set: bool, has_earlier: bool, word: &[u8]) -> &[u8]
 pub fn write_flags(flags: Flags, out: &mut Vec<u8>) -> Result<(), AllocError>
     ensures ok { OnOk result (out.new.items ≡ out.old.items ++ flags_text flags) }
     ensures err { OnErr result (out.new.items ≡ out.old.items) }
+    ensures room { vec_capacity out.old ≤ vec_capacity out.new }
 {
     let before_deleted = flags.answered || flags.flagged;
     let before_seen = before_deleted || flags.deleted;

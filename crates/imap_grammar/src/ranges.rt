@@ -1,4 +1,5 @@
-//! Which messages ranges name: each is tested by its number, and none is looked up.
+//! Which messages of a view ranges name: each is tested by its number, and none is looked up.
+//! How a set is called and what it refuses is told in `set`.
 
 ghost use Rattle.std.specs.Prelude.{◌≡◌, ℕ, ◌-◌, ◌++◌, List, IfOk, OnOk, OnErr, Some, None, length, slice_index, option_to_list};
 ghost use Rattle.imap_grammar.specs.Sets.{range_of, ranges_of, numeric, is_between, is_named, is_above, is_too_high, by_uid, at_places, last_uid};

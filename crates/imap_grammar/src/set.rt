@@ -1,4 +1,5 @@
-//! Sets of messages (RFC 9051, 9: sequence-set), and which messages of a view they name.
+//! Sets of messages (RFC 9051, 9: sequence-set): how they are read, and which messages of a view they name.
+//! The work on ranges is done in `ranges`.
 
 ghost use Rattle.std.specs.Prelude.{◌≡◌, is_some};
 ghost use Rattle.std.specs.List.{list_all, slice_split};

@@ -1,4 +1,5 @@
 //! The words of a text, cut at its spaces, and the flags among them (RFC 9051, 2.3.2).
+//! Where a list of words may stand is told in `arguments`.
 
 ghost use Rattle.std.specs.Prelude.{◌≡◌, ◌<◌, ◌∷◌, [], IfSome, IfNone, length, Some, None, if◌then◌else◌};
 ghost use Rattle.std.specs.List.{list_all};

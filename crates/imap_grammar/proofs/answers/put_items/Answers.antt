@@ -1,3 +1,4 @@
+use Rattle.std.proofs.Common.{arith}
 use Rattle.std.proofs.Common.{Bool, ap, sym, ◌∙◌}
 use Rattle.std.specs.Prelude.{◌&&◌}
 use Rattle.imap_grammar.specs.Items.{fetch_item_of, fetch_items_of}
@@ -15,4 +16,5 @@ loop-word-preserved c = record {
       ∙ sym (first_step fetch_item_of c.loop-word.bare c.loop-word.rest.now c.in-Some.word.now c.in-Some.others.now c.in-Some.ensures.first)
       ∙ c.loop-word.invariant.first;
   front = starts_more _ c.loop-word.out.items c.put_item.new.out.items _ c.loop-word.invariant.front c.in_ok-bare.ensures.ok;
+  room = omega (arith, c.loop-word.invariant.room, c.in_ok-bare.ensures.room);
 }

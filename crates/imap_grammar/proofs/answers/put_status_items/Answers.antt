@@ -11,10 +11,12 @@ loop-word-preserved c = record {
   so_far = put_step status_item_of (status_text c.args.status.now) c.loop-word.bare c.in_ok-bare.bare c.loop-word.rest.now c.in-Some.word.now c.in-Some.others.now c.loop-word.out.items c.put_status_item.new.out.items _
       c.in-Some.ensures.first c.in_ok-bare.ensures.ok c.in_ok-bare.ensures.first c.loop-word.invariant.so_far;
   front = starts_more _ c.loop-word.out.items c.put_status_item.new.out.items _ c.loop-word.invariant.front c.in_ok-bare.ensures.ok;
+  room = omega (arith, c.loop-word.invariant.room, c.in_ok-bare.ensures.room);
 }
 
 pub loop-word-init : goal.loop-word-init
 loop-word-init c = record {
   so_far = ap (λ (l : List ℕ). c.args.out.now.items ++ l) (sym (spaced_joined (map (status_text c.args.status.now) (status_items_of c.args.text.now))));
   front = take_all (length c.args.out.now.items) c.args.out.now.items (omega arith);
+  room = omega arith;
 }

@@ -1,3 +1,5 @@
+use Rattle.std.specs.Prelude.{◌≤◌}
+use Rattle.std.specs.Prelude.{vec_capacity}
 use Rattle.std.proofs.Common.{◌≡◌, ◌++◌, flat_map, take}
 use Rattle.std.specs.Io.{StartsWith}
 use Rattle.imap_grammar.specs.Answers.{listed}
@@ -7,4 +9,5 @@ abbrev pub invariant-loop-name : goal.invariant-loop-name
 invariant-loop-name l = record {
   so_far : l.out.items ≡ l.initial.out.items ++ flat_map (λ name. listed l.pattern name.now) (take l.name-index l.names);
   front : StartsWith l.out.items l.initial.out.items;
+  room : vec_capacity l.initial.out ≤ vec_capacity l.out;
 }
