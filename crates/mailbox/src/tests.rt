@@ -95,12 +95,7 @@ fn a_mailbox_without_uids_refuses_first_for_that(rt: HostRuntime) -> Result<(), 
 }
 
 // A mailbox of this number with so many messages, whose UIDs begin at 1.
-fn filled(
-    alloc: Global,
-    number: u8,
-    limits: Limits,
-    messages: u32,
-) -> Result<Mailbox, AllocError>
+fn filled(alloc: Global, number: u8, limits: Limits, messages: u32) -> Result<Mailbox, AllocError>
     requires { 0 < limits.ring }
 {
     let mut mailbox = Mailbox::new(alloc, number, 7, 1, limits)?;
@@ -233,10 +228,19 @@ fn a_seat_of_another_mailbox_is_a_stranger(rt: HostRuntime) -> Result<(), AllocE
     let before = other.status();
     let mut out = Vec::new(rt.alloc());
     assert_eq!(rt; other.view(&seat), Err(Stranger));
-    assert_eq!(rt; other.feed(&mut seat, 64, &mut out), Err(FeedFault::Stranger));
+    assert_eq!(rt;
+        other.feed(&mut seat, 64, &mut out),
+        Err(FeedFault::Stranger)
+    );
     assert!(rt; matches!(other.read(&seat, 1, true), Err(MailFault::Stranger)));
-    assert_eq!(rt; other.store(&seat, 1, FlagOp::Set(DELETED)), Err(MailFault::Stranger));
-    assert_eq!(rt; other.expunge(&mut seat, None, &mut out), Err(MailFault::Stranger));
+    assert_eq!(rt;
+        other.store(&seat, 1, FlagOp::Set(DELETED)),
+        Err(MailFault::Stranger)
+    );
+    assert_eq!(rt;
+        other.expunge(&mut seat, None, &mut out),
+        Err(MailFault::Stranger)
+    );
     let Err((seat, fault)) = other.close_cursor(seat, true) else {
         return Err(AllocError);
     };
@@ -294,7 +298,10 @@ fn a_window_grows_for_a_client_that_falls_behind(rt: HostRuntime) -> Result<(), 
     assert_eq!(rt; mailbox.store(&seat, 1, FlagOp::Set(SEEN)), Ok(Some(SEEN)));
     assert_eq!(rt; kept(&mailbox), (9, 32));
     assert!(rt; matches!(mailbox.read(&behind, 1, false), Err(MailFault::Lapped)));
-    assert_eq!(rt; mailbox.store(&behind, 1, FlagOp::Set(NONE)), Err(MailFault::Lapped));
+    assert_eq!(rt;
+        mailbox.store(&behind, 1, FlagOp::Set(NONE)),
+        Err(MailFault::Lapped)
+    );
     assert!(rt; matches!(mailbox.close_cursor(behind, true), Ok(0)));
     assert!(rt; mailbox.close_cursor(seat, false).is_ok());
     Ok(())
