@@ -11,9 +11,10 @@ use Rattle.delivery_token.specs.declared.CopyKey.{CopyKey}
 use Rattle.delivery_core.specs.declared.steps.Fault.{Fault}
 use Rattle.delivery_core.specs.declared.steps.Fault.TheVariants as faults
 use Rattle.world.specs.World as world
-use Rattle.house.specs.Line.{Line}
+use Rattle.callers.specs.Line.{Line}
 use Rattle.house.specs.State.{State}
-use Rattle.house.specs.Scene.{Caller, HasEnded, Moves, Scene, Setup, with_world}
+use Rattle.callers.specs.Caller.{Caller, Setup}
+use Rattle.house.specs.Scene.{HasEnded, Moves, Scene, with_world}
 use Rattle.house.specs.Stands.{StandsFor, StandsForOne}
 use Rattle.house.proofs.Worldly.{idles, moves}
 

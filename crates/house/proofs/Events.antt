@@ -8,15 +8,16 @@ use Rattle.delivery_token.specs.declared.CopyKey.{CopyKey}
 use Rattle.delivery_token.specs.declared.log.Noted.{Noted}
 use Rattle.envelope.specs.Directory.{Directory}
 use Rattle.delivery_core.specs.New.{first_key}
-use Rattle.house.specs.Line.{Line}
+use Rattle.callers.specs.Line.{Line}
 use Rattle.house.specs.State.{State}
-use Rattle.house.specs.Scene.{BytesPlay, Caller, Scene, Setup, VanishPlay, goes_on, greeted, more_waits, most_serials, opens, unread, with_caller}
-use Rattle.house.specs.Taking.{with_more, with_nobody_there}
-use Rattle.house.specs.CallerStands.{IsOf, StandsForCaller}
+use Rattle.callers.specs.Caller.{Caller, Setup, greeted, more_waits, unread}
+use Rattle.house.specs.Scene.{BytesPlay, Scene, VanishPlay, goes_on, most_serials, opens, with_caller}
+use Rattle.callers.specs.Taking.{with_more, with_nobody_there}
+use Rattle.callers.specs.CallerStands.{IsOf, StandsForCaller}
 use Rattle.house.specs.Stands.{StandsFor, StandsForOne}
 use Rattle.house.specs.Steps.{PlaceWentOn, StandsForMaybe, is_unread}
-use Rattle.house.proofs.Arrivals.{more_stands}
-use Rattle.house.proofs.Callers.{unread_stands}
+use Rattle.callers.proofs.Arrivals.{more_stands}
+use Rattle.callers.proofs.Callers.{unread_stands}
 use Rattle.house.proofs.Ended.{ended_nowhere}
 use Rattle.house.proofs.Places.{after_going, at_there}
 use Rattle.delivery_core.specs.Held.{has_ended}

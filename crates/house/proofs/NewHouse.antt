@@ -11,7 +11,7 @@ use Rattle.envelope.specs.Names.{is_name, home_of, words_read, first_fault, home
 use Rattle.envelope.specs.declared.directory.DirectoryFault.{DirectoryFault}
 use Rattle.envelope.specs.declared.directory.DirectoryFault.TheVariants.{TooMany, BadName}
 use Rattle.house.specs.declared.config.Config.{Config}
-use Rattle.house.specs.Line.{Line}
+use Rattle.callers.specs.Line.{Line}
 use Rattle.house.specs.State.{State}
 use Rattle.house.specs.Scene.{empty_scene}
 use Rattle.house.specs.Settings.{seats, setup_of, words_of}

@@ -13,11 +13,12 @@ use Rattle.delivery_core.specs.Stands as core
 use Rattle.delivery_core.proofs.Follow.{get_or-any}
 use Rattle.lmtp_machine.specs.declared.connection.What.{What}
 use Rattle.lmtp_machine.specs.Dialogue.{Answered, Submission}
-use Rattle.house.specs.Line.{Line}
+use Rattle.callers.specs.Line.{Line}
 use Rattle.house.specs.State.{State}
-use Rattle.house.specs.Talk.{Talk}
-use Rattle.house.specs.Scene.{Caller, GoesOn, Leaves, Proceeds, Scene, Setup, answers, copies_of, fades, goes, lingers, meets, stalls, stays, talks, waits, works}
-use Rattle.house.specs.CallerStands.{StandsForCaller}
+use Rattle.callers.specs.Talk.{Talk}
+use Rattle.callers.specs.Caller.{Caller, GoesOn, Leaves, Proceeds, Setup, answers, copies_of, fades, goes, lingers, meets, stalls, stays, talks, waits, works}
+use Rattle.house.specs.Scene.{Scene}
+use Rattle.callers.specs.CallerStands.{StandsForCaller}
 use Rattle.house.specs.Stands.{StandsFor, StandsForOne, StandsForSeat}
 use Rattle.house.specs.Steps.{PlaceWentOn, StandsForMaybe}
 use Rattle.house.proofs.Seats.{heard_is, seat_kept}

@@ -8,9 +8,10 @@ use Rattle.world.specs.World.{Config, World, Step, Steps}
 use Rattle.world.specs.World as world
 use Rattle.delivery_core.specs.Held.{Held, notes_of}
 use Rattle.delivery_core.specs.Stands as core
-use Rattle.house.specs.Line.{Line}
+use Rattle.callers.specs.Line.{Line}
 use Rattle.house.specs.State.{State}
-use Rattle.house.specs.Scene.{Caller, Scene, Setup, with_world}
+use Rattle.callers.specs.Caller.{Caller, Setup}
+use Rattle.house.specs.Scene.{Scene, with_world}
 use Rattle.house.specs.Stands.{StandsFor, StandsForOne, StandsForSeat}
 
 -- what the world says that a seat has heard is what it noted

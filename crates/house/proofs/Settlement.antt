@@ -10,13 +10,14 @@ use Rattle.lmtp_machine.specs.Dialogue.{Submission}
 use Rattle.delivery_token.specs.declared.log.Noted.{Noted}
 use Rattle.house.specs.declared.event.Event.{Event}
 use Rattle.house.specs.declared.event.Event.TheVariants.{Bytes, Vanish, Put, Take, Deliver, Answer, Hear, End}
-use Rattle.house.specs.Talk.{Talk}
-use Rattle.house.specs.Scene.{BytesPlay, Caller, GoesOn, HasNothing, HearPlay, Leaves, Plays, Proceeds, PutPlay, Scene, Setup, Talks, VanishPlay, seat_of, opens, goes_on, goes, stays, works, waits, answers, stalls, talks, lingers, fades, unread}
+use Rattle.callers.specs.Talk.{Talk}
+use Rattle.callers.specs.Caller.{Caller, GoesOn, Leaves, Proceeds, Setup, Talks, goes, stays, works, waits, answers, stalls, talks, lingers, fades, unread}
+use Rattle.house.specs.Scene.{BytesPlay, HasNothing, HearPlay, Plays, PutPlay, Scene, VanishPlay, seat_of, opens, goes_on}
 use Rattle.house.specs.Settling.{Happened, InTurn, Settles, Tries, Visit, Visits, happens, in_a_row, passes, round}
 use Rattle.house.specs.Settled.{HappenedFrom, SettledFrom, is_held}
 use Rattle.house.specs.Stands.{StandsFor, StandsForOne}
 use Rattle.house.specs.Steps.{Follows, FollowsInPart, IsBusy, IsEmptySeat, IsNoSeat, IsNobody, Led}
-use Rattle.house.specs.Line.{Line}
+use Rattle.callers.specs.Line.{Line}
 use Rattle.envelope.specs.Directory.{Directory}
 use Rattle.delivery_token.specs.declared.CopyKey.{CopyKey}
 use Rattle.delivery_core.specs.New.{first_key}

@@ -6,9 +6,10 @@ use Rattle.delivery_core.specs.Held.{Held}
 use Rattle.envelope.specs.Directory.{Directory}
 use Rattle.envelope.specs.Names.{number_of}
 use Rattle.house.specs.State.{State}
-use Rattle.house.specs.Scene.{Scene, Setup}
+use Rattle.callers.specs.Caller.{Setup}
+use Rattle.house.specs.Scene.{Scene}
 use Rattle.house.specs.Stands.{StandsFor}
-use Rattle.house.specs.Script.{PrintsWindow, tail_text}
+use Rattle.house.specs.Window.{PrintsWindow, tail_text}
 
 -- some mailbox
 abbrev pub some_mail : Mail

@@ -16,17 +16,18 @@ use Rattle.delivery_core.specs.Changes.{Hears, heard_at_once}
 use Rattle.delivery_core.specs.New.{first_key}
 use Rattle.delivery_core.specs.Puts.{AtLeast, IsNextKey, past}
 use Rattle.delivery_core.specs.Stands as core
-use Rattle.house.specs.Line.{Line}
+use Rattle.callers.specs.Line.{Line}
 use Rattle.house.specs.State.{State}
 use Rattle.lmtp_machine.specs.Dialogue.{Submission}
-use Rattle.house.specs.Scene.{Caller, HearPlay, PutPlay, Scene, Setup, copies_of, with_caller, with_world}
-use Rattle.house.specs.Taking.{HearsSlot, due, heard_verdict, noted_put}
-use Rattle.house.specs.CallerStands.{IsOf, StandsForCaller}
+use Rattle.callers.specs.Caller.{Caller, Setup, copies_of}
+use Rattle.house.specs.Scene.{HearPlay, PutPlay, Scene, with_caller, with_world}
+use Rattle.callers.specs.Taking.{HearsSlot, due, heard_verdict, noted_put}
+use Rattle.callers.specs.CallerStands.{IsOf, StandsForCaller}
 use Rattle.house.specs.Stands.{StandsFor}
 use Rattle.house.specs.Steps.{MayNotPut, PlaceWentOn, PutsNext, StandsForMaybe}
 use Rattle.house.proofs.Events.{IsAt, at_seat}
 use Rattle.house.proofs.Places.{after_going}
-use Rattle.house.proofs.Putting.{heard_stands, next_copy, put_stands}
+use Rattle.callers.proofs.Putting.{heard_stands, next_copy, put_stands}
 use Rattle.house.proofs.Seats.{heard_is, one_step}
 
 -- what may be put

@@ -1,15 +1,11 @@
 -- How much is left to do before nothing moves: bytes that wait to be taken, copies that are to be put, and what the delivery side has before it.
-use Rattle.std.specs.Prelude.{ℕ, ◌+◌, ◌*◌, ◌<◌, length, Option, Some, None, sum_by}
+use Rattle.std.specs.Prelude.{ℕ, ◌+◌, ◌<◌, Option, Some, None, sum_by}
 use Rattle.delivery_core.specs.Load.{load}
 use Rattle.house.specs.declared.event.Event.{Event}
 use Rattle.house.specs.declared.event.Event.TheVariants.{Bytes, Vanish, Put, Take, Deliver, Answer, Hear, End}
-use Rattle.house.specs.Line.{Line}
+use Rattle.callers.specs.Line.{Line}
 use Rattle.house.specs.State.{State}
-use Rattle.house.specs.Taking.{due}
-
--- a byte that waits may end the data of a message for 100 recipients, and each copy is put, taken, delivered, answered and heard
-abbrev pub line_effort : Line → ℕ
-line_effort h = 501 * length h.waits + 5 * length (due h)
+use Rattle.callers.specs.Taking.{line_effort}
 
 abbrev pub place_effort : Option Line → ℕ
 place_effort None = 0

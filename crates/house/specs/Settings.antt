@@ -7,7 +7,7 @@ use Rattle.envelope.specs.declared.directory.DirectoryFault.TheVariants as names
 use Rattle.house.specs.declared.config.Config.{Config}
 use Rattle.house.specs.declared.config.ConfigFault.{ConfigFault}
 use Rattle.house.specs.declared.config.ConfigFault.TheVariants.{TooMany, BadName, Twice, Ring, NoMemory}
-use Rattle.house.specs.Scene.{Setup}
+use Rattle.callers.specs.Caller.{Setup}
 
 -- so many connections may stand at a time
 abbrev pub seats : ℕ
@@ -83,6 +83,7 @@ setup_of c = record {
     messages = c.messages;
     ring = c.ring;
     first_uid = c.first_uid;
+    uidvalidity = c.uidvalidity;
   };
   directory = record { domains = c.domain.items ∷ []; homes = map home_of (words_of c); shards = c.shards };
   host = c.host.items;

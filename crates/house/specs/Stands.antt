@@ -4,10 +4,11 @@ use Rattle.delivery_token.specs.declared.CopyKey.{CopyKey}
 use Rattle.delivery_token.specs.declared.log.Noted.{Noted}
 use Rattle.delivery_core.specs.Puts.{AtLeast}
 use Rattle.delivery_core.specs.Stands as core
-use Rattle.house.specs.Line.{Line}
+use Rattle.callers.specs.Line.{Line}
 use Rattle.house.specs.State.{State}
-use Rattle.house.specs.Scene.{Setup, Scene, Caller}
-use Rattle.house.specs.CallerStands.{StandsForCaller}
+use Rattle.callers.specs.Caller.{Setup, Caller}
+use Rattle.house.specs.Scene.{Scene}
+use Rattle.callers.specs.CallerStands.{StandsForCaller}
 
 -- who stands at a seat
 abbrev pub StandsForOne : Setup → ℕ → CopyKey → List Noted → ℕ → Option Line → Option Caller → Type 0

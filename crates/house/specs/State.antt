@@ -2,7 +2,7 @@
 use Rattle.std.specs.Prelude.{ℕ, List, Option}
 use Rattle.envelope.specs.Directory.{Directory}
 use Rattle.delivery_core.specs.Held.{Held}
-use Rattle.house.specs.Line.{Line}
+use Rattle.callers.specs.Line.{Line}
 
 -- the delivery core; who stands at each seat, and the serial of the seat's next connection; and what is settled
 pub record State : Type 0 where

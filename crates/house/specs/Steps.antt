@@ -16,11 +16,12 @@ use Rattle.delivery_core.specs.declared.steps.Fault.{Fault}
 use Rattle.delivery_core.specs.declared.steps.Fault.TheVariants as faults
 use Rattle.house.specs.declared.event.HouseFault.{HouseFault}
 use Rattle.house.specs.declared.event.HouseFault.TheVariants as house_faults
-use Rattle.house.specs.Line.{Line}
-use Rattle.house.specs.Taking.{due}
+use Rattle.callers.specs.Line.{Line}
+use Rattle.callers.specs.Taking.{due}
 use Rattle.house.specs.State.{State}
-use Rattle.house.specs.Scene.{Setup, Scene, Caller, HasNothing, Plays, Proceeds, most_serials, seat_of}
-use Rattle.house.specs.CallerStands.{StandsForCaller}
+use Rattle.callers.specs.Caller.{Setup, Caller, Proceeds}
+use Rattle.house.specs.Scene.{Scene, HasNothing, Plays, most_serials, seat_of}
+use Rattle.callers.specs.CallerStands.{StandsForCaller}
 use Rattle.house.specs.Stands.{StandsFor}
 
 -- there is no such connection: they are numbered from 1

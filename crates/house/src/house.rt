@@ -3,13 +3,14 @@
 
 ghost use Rattle.std.specs.Prelude.{true, false, ◌≡◌, ◌≢◌, ◌≤◌, ◌<◌, ◌+◌, ◌⊎◌, ◌↔◌, ℕ, List, [], length, None, Some, Err, OnOk, OnErr, IfOk, IfErr, IfNone, IfSome, IsSome, IsSomeAnd, MatchOption, option_map};
 ghost use Rattle.delivery_core.specs.Puts.{AtLeast};
-ghost use Rattle.house.specs.Line.{Line};
-ghost use Rattle.house.specs.Taking.{HearsSlot, due, heard_verdict, noted_put, with_more, with_nobody_there};
+ghost use Rattle.callers.specs.Line.{Line};
+ghost use Rattle.callers.specs.Taking.{HearsSlot, due, heard_verdict, noted_put, with_more, with_nobody_there};
 ghost use Rattle.delivery_token.specs.declared.CopyKey.{CopyKey};
 ghost use Rattle.delivery_token.specs.declared.log.Noted.{Noted};
-ghost use Rattle.house.specs.CallerStands.{IsOf, StandsForCaller};
+ghost use Rattle.callers.specs.CallerStands.{IsOf, StandsForCaller};
+ghost use Rattle.callers.specs.Caller as spec;
 ghost use Rattle.house.specs.Scene as scene;
-ghost use Rattle.house.specs.Scene.{Setup, greeted, more_waits};
+ghost use Rattle.callers.specs.Caller.{Setup, greeted, more_waits};
 ghost use Rattle.house.specs.Stands.{StandsFor};
 ghost use Rattle.house.specs.Effort.{MakesLess, place_effort};
 ghost use Rattle.delivery_core.specs.Load.{load};
@@ -17,8 +18,8 @@ ghost use Rattle.std.specs.Borrow.{Bor};
 ghost use Rattle.house.specs.Steps.{Follows, FollowsInPart, IsIdle, HasSeat, IsBusy, IsEmptySeat, IsNoSeat, IsNobody, IsRead, IsVacant, Led, MayNotPut, PlaceWentOn, PutsNext, StandsForMaybe, fault_of, is_unread};
 ghost use Rattle.house.specs.declared.event.Event.TheVariants as events;
 
-use crate::caller::Caller;
 use crate::event::{Event, HouseFault};
+use callers::Caller;
 use delivery_core::{DeliveryCore, Fault};
 use delivery_token::{Noted, Refusal, Verdict};
 use envelope::Directory;
@@ -63,9 +64,9 @@ fn go_on_at(
     out: &mut Vec<u8>,
 ) -> Result<(), AllocError>
     ensures less { place_effort place.new ≤ place_effort place.old }
-    ensures ok { OnOk result ((k : Setup) (seat : ℕ) (next : CopyKey) (heard : List Noted) (b : scene.Caller) → IsOf k number seat directory.now → StandsForMaybe k seat next heard place.old (Some b) →
+    ensures ok { OnOk result ((k : Setup) (seat : ℕ) (next : CopyKey) (heard : List Noted) (b : spec.Caller) → IsOf k number seat directory.now → StandsForMaybe k seat next heard place.old (Some b) →
         PlaceWentOn k true seat next heard b place.new out.old.items out.new.items) }
-    ensures err { OnErr result ((k : Setup) (seat : ℕ) (next : CopyKey) (heard : List Noted) (b : scene.Caller) → IsOf k number seat directory.now → StandsForMaybe k seat next heard place.old (Some b) →
+    ensures err { OnErr result ((k : Setup) (seat : ℕ) (next : CopyKey) (heard : List Noted) (b : spec.Caller) → IsOf k number seat directory.now → StandsForMaybe k seat next heard place.old (Some b) →
         PlaceWentOn k false seat next heard b place.new out.old.items out.new.items) }
 {
     let Some(caller) = place else {

@@ -8,9 +8,9 @@ ghost use Rattle.house.specs.Scene.{empty_scene};
 ghost use Rattle.house.specs.Settings.{IsInRange, config_fault, fault_named, is_ring_wrong, seats, setup_of, words_of};
 ghost use Rattle.house.specs.Stands.{StandsFor};
 
-use crate::caller::Caller;
 use crate::config::{Config, ConfigFault};
 use crate::house::House;
+use callers::Caller;
 use delivery_core::{DeliveryCore, Settings};
 use envelope::{Directory, is_name};
 use mailbox::Limits;
@@ -103,6 +103,7 @@ impl House {
             seats: SEATS,
             shards: config.shards,
             mailboxes: directory.mailboxes() as u8,
+            sessions: 0,
             depth: config.depth,
             uidvalidity: config.uidvalidity,
             first_uid: config.first_uid,

@@ -3,17 +3,18 @@
 ghost use Rattle.std.specs.Prelude.{◌≡◌, ◌≢◌, ◌↔◌, None, Err, ◌++◌, ◌+◌, List, [], length, drop, if◌then◌else◌, OnOk, OnErr, decimal, flat_map};
 ghost use Rattle.std.specs.Io.{StartsWith};
 ghost use Rattle.envelope.specs.Names.{number_of};
-ghost use Rattle.house.specs.Scene.{Scene, Setup};
+ghost use Rattle.callers.specs.Caller.{Setup};
+ghost use Rattle.house.specs.Scene.{Scene};
 ghost use Rattle.house.specs.Stands.{StandsFor};
 ghost use Rattle.cursor_set.specs.Lines.{flag_words, spaced};
-ghost use Rattle.house.specs.Script.{PrintsWindow, change_text, tail_line, tail_text};
+ghost use Rattle.house.specs.Window.{PrintsWindow, change_text, tail_line, tail_text};
 
 use crate::event::HouseFault;
 use crate::house::House;
-use crate::print::append_parts;
 use change_ring::{Change, Flags};
 use cursor_set::{FLAGS_ROOM, put_flags};
 use itoa::Buffer;
+use line_io::append_parts;
 use std::alloc::AllocError;
 
 // Prints the words of the flags that are set, or nothing.

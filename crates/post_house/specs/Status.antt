@@ -4,8 +4,8 @@ use Rattle.house.specs.declared.config.ConfigFault.{ConfigFault}
 use Rattle.house.specs.declared.config.ConfigFault.TheVariants as config_faults
 use Rattle.post_house.specs.declared.failure.Failure.{Failure}
 use Rattle.post_house.specs.declared.failure.Failure.TheVariants.{Config, Device, NoMemory}
-use Rattle.house.specs.declared.run.RunFault.{RunFault}
-use Rattle.house.specs.declared.run.RunFault.TheVariants as run_faults
+use Rattle.script.specs.declared.run.RunFault.{RunFault}
+use Rattle.script.specs.declared.run.RunFault.TheVariants as run_faults
 
 -- all went well, the command line, the settings, a device, memory
 abbrev pub IsStatus : ℕ → Type 0

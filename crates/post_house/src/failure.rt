@@ -3,7 +3,8 @@
 ghost use Rattle.std.specs.Prelude.{◌≡◌};
 ghost use Rattle.post_house.specs.Status.{config_failure, run_failure, status_of};
 
-use house::{ConfigFault, RunFault};
+use house::ConfigFault;
+use script::RunFault;
 use std::fmt;
 
 /// Why the program fails.

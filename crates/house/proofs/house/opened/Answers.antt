@@ -1,8 +1,8 @@
 use Rattle.std.proofs.Common.{sym, subst}
-use Rattle.house.specs.Line.{Line}
-use Rattle.house.specs.CallerStands.{StandsForCaller}
-use Rattle.house.specs.Scene.{greeted, more_waits}
-use Rattle.house.proofs.Arrivals.{more_stands}
+use Rattle.callers.specs.Line.{Line}
+use Rattle.callers.specs.CallerStands.{StandsForCaller}
+use Rattle.callers.specs.Caller.{greeted, more_waits}
+use Rattle.callers.proofs.Arrivals.{more_stands}
 use Rattle.house.proofs.house.opened.Goals as goal
 
 pub returns : goal.returns

@@ -1,6 +1,6 @@
 use Rattle.std.proofs.Common.{◌≡◌, ◌++◌, flat_map, take}
 use Rattle.std.specs.Io.{StartsWith}
-use Rattle.house.specs.Script.{change_text, tail_line}
+use Rattle.house.specs.Window.{change_text, tail_line}
 use Rattle.house.proofs.tail.print_changes.Given as goal
 
 abbrev pub invariant-loop-change : goal.invariant-loop-change

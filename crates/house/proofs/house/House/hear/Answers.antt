@@ -3,7 +3,7 @@ use Rattle.std.specs.Option.{is_some}
 use Rattle.world.specs.World as world
 use Rattle.delivery_core.specs.Stands as core
 use Rattle.delivery_core.proofs.Follow.{get_or-any}
-use Rattle.house.specs.Line.{Line}
+use Rattle.callers.specs.Line.{Line}
 use Rattle.house.specs.State.{State}
 use Rattle.house.specs.Scene.{HearPlay, seat_of}
 use Rattle.house.specs.Stands.{StandsFor}

@@ -1,5 +1,6 @@
 use Rattle.house.specs.Effort.{effort}
-use Rattle.house.specs.Scene.{Scene, Setup}
+use Rattle.callers.specs.Caller.{Setup}
+use Rattle.house.specs.Scene.{Scene}
 use Rattle.house.specs.Settled.{is_held}
 use Rattle.house.specs.Stands.{StandsFor}
 use Rattle.house.specs.Trying.{Went}

@@ -1,0 +1,28 @@
+-- Bytes that come for a caller.
+use Rattle.std.proofs.Common.{ℕ, ◌++◌, List, ap}
+use Rattle.delivery_token.specs.declared.CopyKey.{CopyKey}
+use Rattle.delivery_token.specs.declared.log.Noted.{Noted}
+use Rattle.callers.specs.Line.{Line}
+use Rattle.callers.specs.Caller.{Caller, Setup, more_waits}
+use Rattle.callers.specs.Taking.{with_more}
+use Rattle.callers.specs.CallerStands.{StandsForCaller}
+
+pub more_stands : (k : Setup) (seat : ℕ) (next : CopyKey) (heard : List Noted) (h : Line) (b : Caller) (piece : List ℕ) → StandsForCaller k seat next heard h b
+    → StandsForCaller k seat next heard (with_more piece h) (more_waits b piece)
+more_stands k seat next heard h b piece s = record {
+  serial = s.serial;
+  gone = s.gone;
+  setting = s.setting;
+  host = s.host;
+  machine = s.machine;
+  waits = ap (λ (l : List ℕ). l ++ piece) s.waits;
+  unsaid = s.unsaid;
+  pending = s.pending;
+  to_put = s.to_put;
+  verdicts = s.verdicts;
+  awaited = s.awaited;
+  kept = s.kept;
+  message = s.message;
+  numbered = s.numbered;
+  ahead = s.ahead;
+}

@@ -1,0 +1,7 @@
+pub mod Copies
+pub mod Slots
+pub mod Working
+pub mod Callers
+pub mod Putting
+pub mod Efforts
+pub mod Arrivals

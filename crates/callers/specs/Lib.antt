@@ -1,0 +1,7 @@
+pub mod Talk
+pub mod Line
+pub mod Few
+pub mod Caller
+pub mod Taking
+pub mod CallerStands
+pub mod CallerSteps

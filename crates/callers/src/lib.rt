@@ -1,0 +1,7 @@
+//! Those who talk to a house: a connection at its seat, with what came for it, what it said, and how that is printed. Lanes and mailboxes
+//! are the house's matter.
+#![tactic(auto)]
+
+mod caller;
+
+pub use caller::Caller;

@@ -1,0 +1,376 @@
+-- From what the house promises of its calls to what a run promises of a line, of a turn and of all its turns.
+use Rattle.std.proofs.Common.{◌≡◌, ℕ, zero, suc, ◌+◌, ◌*◌, ◌<◌, ◌≤◌, ◌⊎◌, inl, inr, List, [], ◌∷◌, ◌++◌, length, take, get_or, set, length-set, refl, sym, ap, ◌∙◌, subst, arith, append_assoc, append-nil, length-append, Option, Some, None, Result, Ok, Err}
+use Rattle.std.proofs.Math.Seq.{take-append-add, take-suc}
+use Rattle.std.proofs.lemmas.Int.Digits.{digits_value_push}
+use Rattle.std.specs.Char.{digit_value}
+use Rattle.std.specs.List.{list_all}
+use Rattle.std.specs.Str.Parse.{digits_value}
+use Rattle.std.proofs.lemmas.List.{length-replicate}
+use Rattle.std.proofs.KnownBytes.{Appends-trans, Appends-nil}
+use Rattle.hex.specs.declared.error.FromHexError.{FromHexError}
+use Rattle.std.specs.Borrow.{Bor}
+use Rattle.std.specs.Io.BufRead.{drop_through, take_through}
+use Rattle.std.specs.Io.KnownBytes.{Appends}
+use Rattle.delivery_token.specs.declared.CopyKey.{CopyKey}
+use Rattle.delivery_token.specs.declared.log.Noted.{Noted}
+use Rattle.envelope.specs.Names.{number_of}
+use Rattle.house.specs.declared.event.Event.TheVariants as events
+use Rattle.house.specs.declared.event.HouseFault.{HouseFault}
+use Rattle.house.specs.declared.event.HouseFault.TheVariants as faults
+use Rattle.script.specs.declared.run.TurnFault.{TurnFault}
+use Rattle.script.specs.declared.run.TurnFault.TheVariants as turn_faults
+use Rattle.callers.specs.Line.{Line}
+use Rattle.house.specs.State.{State}
+use Rattle.callers.specs.Caller.{Caller, Setup}
+use Rattle.house.specs.Scene.{HasEnded, Scene, empty_scene, most_serials, seat_of}
+use Rattle.house.specs.Stands.{StandsFor, StandsForOne}
+use Rattle.house.specs.Steps.{IsEmptySeat, IsNoSeat, IsSpent, IsUnread, Led, is_unread}
+use Rattle.house.specs.Settled.{SettledFrom, is_held}
+use Rattle.house.specs.Settling.{Settles}
+use Rattle.house.specs.Window.{PrintsWindow}
+use Rattle.script.specs.Script.{IsAway, IsNoConnection, IsOwing, LinePlays, NobodyThere, Script, ScriptLine, Sends, Vanishes, Hold, Free, Tail, Skip, Bad, Writes, WritesBeginning, WritesFirst, asked, goes_again, goes_nobody, held_after, is_bad, is_digit, line_of, none_held, refusal, script_of, sends, sent_in_hex, sends_to_nobody, sends_to_owing, skips, stands_nobody, stands_still, tails, tails_nobody, vanishes, vanishes_again, vanishes_away}
+use Rattle.std.specs.Prelude.{Bool, codes, false, true}
+use Rattle.script.specs.Running.{HasRun, IsClipped, IsOver, LineCut, LineDone, LinePlayed, LineWritten, SetsHeld, TurnTells, held_by, sets, sets_nobody}
+use Rattle.house.proofs.Ended.{ended_somewhere}
+use Rattle.script.proofs.ScriptLaws.{first_line, script_push}
+
+-- ---- nobody is there
+
+below : (a b : ℕ) → (a < b) ⊎ (b ≤ a)
+below a zero = inr (omega arith)
+below zero (suc b) = inl (omega arith)
+below (suc a) (suc b) = elim (below a b) [ inl h ↦ inl (omega arith) | inr h ↦ inr (omega arith) ]
+
+no_caller : (k : Setup) (seat : ℕ) (next : CopyKey) (heard : List Noted) (serials : ℕ) (line : Option Line) (o : Option Caller) → line ≡ None → StandsForOne k seat next heard serials line o → o ≡ None
+no_caller k seat next heard serials None None e s = refl
+no_caller k seat next heard serials None (Some b) e s = absurd s
+no_caller k seat next heard serials (Some h) o e s = absurd (let n : Some h ≡ None = e in cc)
+
+-- what a seat of the house is in the scene, where there is such a seat
+pub seat_cases : (k : Setup) (h : State) (s : Scene) (connection : ℕ) → StandsFor k h s → 0 < connection → IsNoConnection k connection ⊎ (seat_of connection < length h.callers)
+seat_cases k h s connection st some = elim (below (seat_of connection) (length h.callers)) [
+  | inl l ↦ inr l
+  | inr l ↦ inl (inr (let e = st.seats in omega arith))
+]
+
+ended : (k : Setup) (h : State) (s : Scene) (connection : ℕ) → StandsFor k h s → IsSpent h connection → get_or h.serials (seat_of connection) 0 ≡ s.next (seat_of connection) → seat_of connection < length h.callers
+    → (most_serials ≤ s.next (seat_of connection)) ⊎ HasEnded k.config s.world (seat_of connection)
+ended k h s connection st (inl m) e l = inl (omega (arith, m, e))
+ended k h s connection st (inr x) e l = inr (ended_somewhere k.config h.core s.world (seat_of connection) st.core (let p = st.seats in omega (arith, p, l)) x)
+
+pub nobody_there : (k : Setup) (h : State) (s : Scene) (connection : ℕ) → StandsFor k h s → IsNoSeat h connection ⊎ (IsEmptySeat h connection × IsSpent h connection) → NobodyThere k s connection
+nobody_there k h s connection st (inl (inl e)) = inl (inl e)
+nobody_there k h s connection st (inl (inr l)) = inl (inr (let e = st.seats in omega arith))
+nobody_there k h s zero st (inr n) = inl (inl refl)
+nobody_there k h s (suc c) st (inr n) = elim (seat_cases k h s (suc c) st (omega arith)) [
+  | inl l ↦ inl l
+  | inr l ↦ (let at = st.each (seat_of (suc c)) (record { seat = 0; serial = 0; message = 0; recipient = 0 }) 0 None l in
+      inr (no_caller k (seat_of (suc c)) _ _ _ _ _ n.0 at.who, ended k h s (suc c) st n.1 at.counted l))
+]
+
+pub away : (k : Setup) (h : State) (s : Scene) (connection : ℕ) → StandsFor k h s → IsNoSeat h connection ⊎ IsEmptySeat h connection → IsAway k s connection
+away k h s connection st (inl (inl e)) = inl (inl e)
+away k h s connection st (inl (inr l)) = inl (inr (let e = st.seats in omega arith))
+away k h s zero st (inr n) = inl (inl refl)
+away k h s (suc c) st (inr n) = elim (seat_cases k h s (suc c) st (omega arith)) [
+  | inl l ↦ inl l
+  | inr l ↦ (let at = st.each (seat_of (suc c)) (record { seat = 0; serial = 0; message = 0; recipient = 0 }) 0 None l in
+      inr (no_caller k (seat_of (suc c)) _ _ _ _ _ n at.who))
+]
+
+owing_caller : (k : Setup) (seat : ℕ) (next : CopyKey) (heard : List Noted) (serials : ℕ) (line : Option Line) (o : Option Caller) → is_unread line ≡ true → StandsForOne k seat next heard serials line o
+    → (b : Caller) × (o ≡ Some b) × (b.gone ≡ true)
+owing_caller k seat next heard serials None o e s = absurd (let x : false ≡ true = e in cc)
+owing_caller k seat next heard serials (Some h) None e s = absurd s
+owing_caller k seat next heard serials (Some h) (Some b) e s = (b, refl, sym s.0.gone ∙ e)
+
+pub owing : (k : Setup) (h : State) (s : Scene) (connection : ℕ) → StandsFor k h s → IsUnread h connection → IsOwing s connection
+owing k h s connection st u =
+    let l : seat_of connection < length h.callers = let n = u.number in let m = u.seat in omega (arith, n, m) in
+    let at = st.each (seat_of connection) (record { seat = 0; serial = 0; message = 0; recipient = 0 }) 0 None l in
+    owing_caller k (seat_of connection) _ _ _ _ _ u.gone at.who
+
+-- ---- a line
+
+none_wanting : ◌≡◌ {A = Result (Unit {0}) HouseFault} (Err faults.Nobody) (Err faults.NoMemory) → ⊥
+none_wanting e = cc
+
+pub not_wanting : (f : HouseFault) → f ≡ faults.Nobody → ◌≡◌ {A = Result (Unit {0}) HouseFault} (Err f) (Err faults.NoMemory) → ⊥
+not_wanting f e x = none_wanting (ap (λ (g : HouseFault). let r : Result (Unit {0}) HouseFault = Err g in r) (sym e) ∙ x)
+
+pub is_nobody : (f : HouseFault) → f ≡ faults.Nobody → ◌≡◌ {A = Result (Unit {0}) HouseFault} (Err f) (Err faults.Nobody)
+is_nobody f e = ap (λ (g : HouseFault). let r : Result (Unit {0}) HouseFault = Err g in r) e
+
+wants_other : ◌≡◌ {A = Result (Unit {0}) HouseFault} (Err faults.Busy) (Err faults.NoMemory) → ⊥
+wants_other e = cc
+
+pub busy_not_wanting : (f : HouseFault) → f ≡ faults.Busy → ◌≡◌ {A = Result (Unit {0}) HouseFault} (Err f) (Err faults.NoMemory) → ⊥
+busy_not_wanting f e x = wants_other (ap (λ (g : HouseFault). let r : Result (Unit {0}) HouseFault = Err g in r) (sym e) ∙ x)
+
+pub is_busy : (f : HouseFault) → f ≡ faults.Busy → ◌≡◌ {A = Result (Unit {0}) HouseFault} (Err f) (Err faults.Busy)
+is_busy f e = ap (λ (g : HouseFault). let r : Result (Unit {0}) HouseFault = Err g in r) e
+
+pub heard_bytes : (k : Setup) (number : ℕ) (s : Scene) (connection : ℕ) (piece : Bor (List ℕ)) (h : State) (old new : List ℕ)
+    → Led k true s (events.Bytes connection piece) h old new → LineDone k number (Sends connection piece.now) s h old new
+heard_bytes k number s connection piece h old new led = record {
+  after = led.after;
+  printed = led.printed;
+  does = sends connection piece.now led.plays;
+  stands = led.stands;
+  out = led.out;
+}
+
+pub told_nobody : (k : Setup) (number : ℕ) (s : Scene) (connection : ℕ) (bytes : List ℕ) (h : State) (old new : List ℕ)
+    → StandsFor k h s → NobodyThere k s connection → new ≡ old ++ refusal number (codes "Nobody") → LineDone k number (Sends connection bytes) s h old new
+told_nobody k number s connection bytes h old new st nobody e = record { after = s; printed = _; does = sends_to_nobody connection bytes nobody refl refl; stands = st; out = e }
+
+pub told_owing : (k : Setup) (number : ℕ) (s : Scene) (connection : ℕ) (bytes : List ℕ) (h : State) (old new : List ℕ)
+    → StandsFor k h s → IsOwing s connection → new ≡ old ++ refusal number (codes "Busy") → LineDone k number (Sends connection bytes) s h old new
+told_owing k number s connection bytes h old new st owes e = record { after = s; printed = _; does = sends_to_owing connection bytes owes refl refl; stands = st; out = e }
+
+pub lost : (k : Setup) (number : ℕ) (s : Scene) (connection : ℕ) (h : State) (old new : List ℕ) → Led k true s (events.Vanish connection) h old new → LineDone k number (Vanishes connection) s h old new
+lost k number s connection h old new led = record { after = led.after; printed = led.printed; does = vanishes connection led.plays; stands = led.stands; out = led.out }
+
+pub lost_nobody : (k : Setup) (number : ℕ) (s : Scene) (connection : ℕ) (h : State) (old new : List ℕ)
+    → StandsFor k h s → IsAway k s connection → new ≡ old ++ refusal number (codes "Nobody") → LineDone k number (Vanishes connection) s h old new
+lost_nobody k number s connection h old new st nobody e = record { after = s; printed = _; does = vanishes_away connection nobody refl refl; stands = st; out = e }
+
+pub lost_again : (k : Setup) (number : ℕ) (s : Scene) (connection : ℕ) (h : State) (old new : List ℕ)
+    → StandsFor k h s → IsOwing s connection → new ≡ old ++ refusal number (codes "Busy") → LineDone k number (Vanishes connection) s h old new
+lost_again k number s connection h old new st owes e = record { after = s; printed = _; does = vanishes_again connection owes refl refl; stands = st; out = e }
+
+pub held_done : (k : Setup) (number : ℕ) (s : Scene) (held holds : List Bool) (shard : ℕ) (h : State) (old new : List ℕ)
+    → StandsFor k h s → length held ≡ k.config.shards → SetsHeld held number shard true holds old new → LineDone k number (Hold shard) s h old new
+held_done k number s held holds shard h old new st many (sets l e f) = record { after = s; printed = []; does = stands_still shard (omega (arith, l, many)) refl refl; stands = st; out = f ∙ sym (append-nil old) }
+held_done k number s held holds shard h old new st many (sets_nobody l e f) = record { after = s; printed = _; does = stands_nobody shard (omega (arith, l, many)) refl refl; stands = st; out = f }
+
+pub freed_done : (k : Setup) (number : ℕ) (s : Scene) (held holds : List Bool) (shard : ℕ) (h : State) (old new : List ℕ)
+    → StandsFor k h s → length held ≡ k.config.shards → SetsHeld held number shard false holds old new → LineDone k number (Free shard) s h old new
+freed_done k number s held holds shard h old new st many (sets l e f) = record { after = s; printed = []; does = goes_again shard (omega (arith, l, many)) refl refl; stands = st; out = f ∙ sym (append-nil old) }
+freed_done k number s held holds shard h old new st many (sets_nobody l e f) = record { after = s; printed = _; does = goes_nobody shard (omega (arith, l, many)) refl refl; stands = st; out = f }
+
+set_beyond : (held : List Bool) (i : ℕ) (v : Bool) → length held ≤ i → set held i v ≡ held
+set_beyond [] zero v l = refl
+set_beyond [] (suc i) v l = refl
+set_beyond (x ∷ xs) zero v l = absurd (omega arith)
+set_beyond (x ∷ xs) (suc i) v l = ap (λ (ys : List Bool). x ∷ ys) (set_beyond xs i v (omega arith))
+
+-- what is held after a line that holds or frees
+pub held_is_set : (held : List Bool) (number shard : ℕ) (is : Bool) (now : List Bool) (old new : List ℕ) → SetsHeld held number shard is now old new → now ≡ set held shard is
+held_is_set held number shard is now old new (sets l e f) = e
+held_is_set held number shard is now old new (sets_nobody l e f) = e ∙ sym (set_beyond held shard is l)
+
+pub shown_tail : (k : Setup) (number : ℕ) (s : Scene) (word : List ℕ) (h : State) (old new : List ℕ) → StandsFor k h s → PrintsWindow k s word old new → LineDone k number (Tail word) s h old new
+shown_tail k number s word h old new st p = record { after = s; printed = _; does = tails word p.mailbox p.named refl refl; stands = st; out = p.out }
+
+pub shown_nobody : (k : Setup) (number : ℕ) (s : Scene) (word : List ℕ) (h : State) (old new : List ℕ) → StandsFor k h s → number_of k.directory word ≡ None
+    → new ≡ old ++ refusal number (codes "Nobody") → LineDone k number (Tail word) s h old new
+shown_nobody k number s word h old new st none e = record { after = s; printed = _; does = tails_nobody word none refl refl; stands = st; out = e }
+
+pub skipped : (k : Setup) (number : ℕ) (s : Scene) (h : State) (old : List ℕ) → StandsFor k h s → LineDone k number Skip s h old old
+skipped k number s h old st = record { after = s; printed = []; does = skips refl refl; stands = st; out = sym (append-nil old) }
+
+pub refused : (k : Setup) (number : ℕ) (s : Scene) (h : State) (old new : List ℕ) → StandsFor k h s → new ≡ old ++ refusal number (codes "Line") → LineDone k number Bad s h old new
+refused k number s h old new st e = record { after = s; printed = _; does = is_bad refl refl; stands = st; out = e }
+
+-- and then the house settles
+pub played : (k : Setup) (number : ℕ) (held holds : List Bool) (line : ScriptLine) (s : Scene) (g h : State) (mid new : List ℕ) → LineDone k number line s g [] mid → holds ≡ held_after held line
+    → ((j : Setup) (t : Scene) → StandsFor j g t → SettledFrom j holds t h mid new) → LinePlayed k number held line s h [] new
+played k number held holds line s g h mid new d same f =
+    let t = f k d.after d.stands in
+    record {
+      after = t.after;
+      printed = d.printed ++ t.printed;
+      plays = record { between = d.after; one = d.printed; two = t.printed; does = d.does; settles = subst (λ (x : List Bool). Settles k (is_held x) d.after t.after t.printed) same t.settles; both = refl };
+      stands = t.stands;
+      out = t.out ∙ ap (λ (x : List ℕ). x ++ t.printed) d.out;
+    }
+
+-- ---- a turn
+
+pub turn_written : (k : Setup) (number : ℕ) (held holds : List Bool) (s : Scene) (input piece text : List ℕ) (h : State) (left old new : Option (List ℕ)) (sent : ℕ)
+    → piece ≡ take_through 10 input → 0 < length piece → left ≡ Some (drop_through 10 input) → LinePlayed k number held (asked (line_of piece)) s h [] text → holds ≡ held_after held (asked (line_of piece))
+    → Appends old new text → sent ≡ length text → LineWritten k number held s input h holds left old new sent
+turn_written k number held holds s input piece text h left old new sent e some rest p now a n = record {
+  line = asked (line_of piece);
+  rest = drop_through 10 input;
+  remaining = rest;
+  first = first_line input (subst (λ (x : List ℕ). 0 < length x) e some) ∙ ap (λ (x : List ℕ). asked (line_of x) ∷ script_of (drop_through 10 input)) (sym e);
+  after = p.after;
+  printed = p.printed;
+  plays = p.plays;
+  holds_now = now;
+  stands = p.stands;
+  out = subst (Appends old new) p.out a;
+  count = n ∙ ap length p.out;
+}
+
+pub turn_cut : (k : Setup) (number : ℕ) (held : List Bool) (s : Scene) (input piece text : List ℕ) (h : State) (old new : Option (List ℕ)) (sent : ℕ)
+    → piece ≡ take_through 10 input → 0 < length piece → LinePlayed k number held (asked (line_of piece)) s h [] text
+    → Appends old new (take sent text) → sent < length text → LineCut k number held s input old new sent
+turn_cut k number held s input piece text h old new sent e some p a n = record {
+  line = asked (line_of piece);
+  others = script_of (drop_through 10 input);
+  first = first_line input (subst (λ (x : List ℕ). 0 < length x) e some) ∙ ap (λ (x : List ℕ). asked (line_of x) ∷ script_of (drop_through 10 input)) (sym e);
+  after = p.after;
+  printed = p.printed;
+  plays = p.plays;
+  within = (let l : length text ≡ length p.printed = ap length p.out in omega arith);
+  out = subst (λ (x : List ℕ). Appends old new (take sent x)) p.out a;
+}
+
+-- ---- numbers of shards
+
+-- a number of digits, and one digit more
+pub one_more : (n : ℕ) (i : ℕ) (ds : List ℕ) → i < length ds → IsClipped n (digits_value 10 (take i ds) * 10 + digit_value (get_or ds i 0)) → IsClipped n (digits_value 10 (take (i + 1) ds))
+one_more n i ds l h =
+    let s : i + 1 ≡ suc i = omega arith in
+    let e = ap (λ (j : ℕ). take j ds) s ∙ take-suc ds i 0 l in
+    subst (λ (x : ℕ). IsClipped n x) (sym (ap (digits_value 10) e ∙ digits_value_push 10 (take i ds) (get_or ds i 0))) h
+
+-- the digit at a place is one
+pub digit_at : (ds : List ℕ) (i : ℕ) → list_all is_digit ds ≡ true → i < length ds → is_digit (get_or ds i 0) ≡ true
+digit_at [] i e l = absurd (omega arith)
+digit_at (d ∷ ds) zero e l = first (is_digit d) refl e
+  where
+    first : (b : Bool) → is_digit d ≡ b → list_all is_digit (d ∷ ds) ≡ true → is_digit d ≡ true
+    first true f g = f
+    first false f g = absurd (let x : false ≡ true = rw f at g in cc)
+digit_at (d ∷ ds) (suc i) e l = digit_at ds i (others (is_digit d) refl e) (omega arith)
+  where
+    others : (b : Bool) → is_digit d ≡ b → list_all is_digit (d ∷ ds) ≡ true → list_all is_digit ds ≡ true
+    others true f g = rw f at g
+    others false f g = absurd (let x : false ≡ true = rw f at g in cc)
+
+-- ---- the run
+
+-- which shards are held after some lines and one more
+held_push : (held : List Bool) (lines : List ScriptLine) (line : ScriptLine) → held_by held (lines ++ line ∷ []) ≡ held_after (held_by held lines) line
+held_push held [] line = refl
+held_push held (l ∷ ls) line = held_push (held_after held l) ls line
+
+held_as_many : (held : List Bool) (line : ScriptLine) → length (held_after held line) ≡ length held
+held_as_many held (Sends connection bytes) = refl
+held_as_many held (Vanishes connection) = refl
+held_as_many held (Hold shard) = length-set held shard true
+held_as_many held (Free shard) = length-set held shard false
+held_as_many held (Tail word) = refl
+held_as_many held Skip = refl
+held_as_many held Bad = refl
+
+by_as_many : (held : List Bool) (lines : List ScriptLine) → length (held_by held lines) ≡ length held
+by_as_many held [] = refl
+by_as_many held (l ∷ ls) = by_as_many (held_after held l) ls ∙ held_as_many held l
+
+-- there is a place for each shard
+pub a_place_each : (k : Setup) (input : List ℕ) (count : ℕ) (h : State) (holds : List Bool) (left old new : Option (List ℕ)) (sent : ℕ) (start : Scene)
+    → HasRun k input count h holds left old new sent start → length holds ≡ k.config.shards
+a_place_each k input count h holds left old new sent start r = ap length r.holds_now ∙ by_as_many (none_held k) r.lines ∙ length-replicate k.config.shards false
+
+pub none_run : (k : Setup) (input : List ℕ) (h : State) (holds : List Bool) (left old : Option (List ℕ)) (start : Scene) → StandsFor k h start → holds ≡ none_held k → left ≡ Some input → HasRun k input 0 h holds left old old 0 start
+none_run k input h holds left old start st none e = record {
+  lines = [];
+  rest = input;
+  remaining = e;
+  split = refl;
+  counted = refl;
+  after = start;
+  printed = [];
+  script = (refl, refl);
+  holds_now = none;
+  stands = st;
+  out = Appends-nil old;
+  total = refl;
+}
+
+pub run_more : (k : Setup) (input : List ℕ) (count : ℕ) (g h : State) (held holds : List Bool) (before left old mid new : Option (List ℕ)) (sent more : ℕ) (start : Scene)
+    → (r : HasRun k input count g held before old mid sent start) → (o : Option ℕ) → o ≡ Some more → TurnTells k (count + 1) held r.after r.rest h holds left mid new (Ok o)
+    → HasRun k input (count + 1) h holds left old new (sent + more) start
+run_more k input count g h held holds before left old mid new sent more start r o is tells =
+    let w : LineWritten k (count + 1) held r.after r.rest h holds left mid new more = subst (λ (x : Option ℕ). TurnTells k (count + 1) held r.after r.rest h holds left mid new (Ok x)) is tells in
+    record {
+      lines = r.lines ++ w.line ∷ [];
+      rest = w.rest;
+      remaining = w.remaining;
+      split = r.split ∙ ap (λ (x : List ScriptLine). r.lines ++ x) w.first ∙ sym (append_assoc r.lines (w.line ∷ []) (script_of w.rest));
+      counted = length-append r.lines (w.line ∷ []) ∙ ap (λ (n : ℕ). n + 1) r.counted;
+      after = w.after;
+      printed = r.printed ++ w.printed;
+      script = script_push k 1 (count + 1) (none_held k) r.lines w.line start r.after w.after r.printed w.printed (let e = r.counted in omega arith) r.script
+          (subst (λ (x : List Bool). LinePlays k (count + 1) x w.line r.after w.after w.printed) r.holds_now w.plays);
+      holds_now = w.holds_now ∙ ap (λ (x : List Bool). held_after x w.line) r.holds_now ∙ sym (held_push (none_held k) r.lines w.line);
+      stands = w.stands;
+      out = Appends-trans old mid new r.printed w.printed r.out w.out;
+      total = (let a = r.total in let b = w.count in let l = length-append r.printed w.printed in omega arith);
+    }
+
+pub run_over : (k : Setup) (input : List ℕ) (count : ℕ) (g h : State) (held holds : List Bool) (before left old mid new : Option (List ℕ)) (sent : ℕ)
+    → (r : HasRun k input count g held before old mid sent empty_scene) → (o : Option ℕ) → o ≡ None → TurnTells k (count + 1) held r.after r.rest h holds left mid new (Ok o) → Writes k (script_of input) old new
+run_over k input count g h held holds before left old mid new sent r o is tells =
+    let over : IsOver r.rest mid new = subst (λ (x : Option ℕ). TurnTells k (count + 1) held r.after r.rest h holds left mid new (Ok x)) is tells in
+    record {
+      after = r.after;
+      printed = r.printed;
+      script = subst (λ (ls : List ScriptLine). Script k 1 (none_held k) ls empty_scene r.after r.printed) (sym (r.split ∙ ap (λ (x : List ℕ). r.lines ++ script_of x) over.ended ∙ append-nil r.lines)) r.script;
+      out = subst (λ (x : Option (List ℕ)). Appends old x r.printed) (sym over.silent) r.out;
+    }
+
+pub run_stops : (k : Setup) (input : List ℕ) (count : ℕ) (h : State) (held : List Bool) (left old mid new : Option (List ℕ)) (sent : ℕ)
+    → (r : HasRun k input count h held left old mid sent empty_scene) → new ≡ mid → WritesBeginning k (script_of input) old new
+run_stops k input count h held left old mid new sent r same = record {
+  some = r.lines;
+  others = script_of r.rest;
+  split = r.split;
+  after = r.after;
+  printed = r.printed;
+  script = r.script;
+  out = subst (λ (x : Option (List ℕ)). Appends old x r.printed) (sym same) r.out;
+}
+
+-- nothing was read or written yet
+pub run_unbegun : (k : Setup) (lines : List ScriptLine) (old : Option (List ℕ)) → WritesBeginning k lines old old
+run_unbegun k lines old = record { some = []; others = lines; split = refl; after = empty_scene; printed = []; script = (refl, refl); out = Appends-nil old }
+
+pub run_cut : (k : Setup) (input : List ℕ) (count : ℕ) (g h : State) (held holds : List Bool) (before left old mid new : Option (List ℕ)) (sent more : ℕ)
+    → (r : HasRun k input count g held before old mid sent empty_scene) → (f : TurnFault) → f ≡ turn_faults.Write more → TurnTells k (count + 1) held r.after r.rest h holds left mid new (Err f)
+    → WritesFirst k (script_of input) (sent + more) old new
+run_cut k input count g h held holds before left old mid new sent more r f is tells =
+    let w : LineCut k (count + 1) held r.after r.rest mid new more = subst (λ (x : TurnFault). TurnTells k (count + 1) held r.after r.rest h holds left mid new (Err x)) is tells in
+    record {
+      some = r.lines ++ w.line ∷ [];
+      others = w.others;
+      split = r.split ∙ ap (λ (x : List ScriptLine). r.lines ++ x) w.first ∙ sym (append_assoc r.lines (w.line ∷ []) w.others);
+      after = w.after;
+      printed = r.printed ++ w.printed;
+      script = script_push k 1 (count + 1) (none_held k) r.lines w.line empty_scene r.after w.after r.printed w.printed (let e = r.counted in omega arith) r.script
+          (subst (λ (x : List Bool). LinePlays k (count + 1) x w.line r.after w.after w.printed) r.holds_now w.plays);
+      within = (let a = r.total in let b = w.within in let l = length-append r.printed w.printed in omega arith);
+      out = subst (Appends old new) (sym (take-append-add r.printed w.printed more) ∙ ap (λ (n : ℕ). take (n + more) (r.printed ++ w.printed)) (sym r.total)) (Appends-trans old mid new r.printed (take more w.printed) r.out w.out);
+    }
+
+-- a turn failed before it wrote anything
+pub turn_silent : (k : Setup) (number : ℕ) (held : List Bool) (s : Scene) (input : List ℕ) (h : State) (holds : List Bool) (left old new : Option (List ℕ)) (f : TurnFault)
+    → (f ≡ turn_faults.Read) ⊎ (f ≡ turn_faults.NoMemory) → TurnTells k number held s input h holds left old new (Err f) → new ≡ old
+turn_silent k number held s input h holds left old new f (inl is) tells = subst (λ (x : TurnFault). TurnTells k number held s input h holds left old new (Err x)) is tells
+turn_silent k number held s input h holds left old new f (inr is) tells = subst (λ (x : TurnFault). TurnTells k number held s input h holds left old new (Err x)) is tells
+
+-- ---- hexadecimal digits
+
+-- digits that stand for no byte
+pub no_bytes : (connection : ℕ) (r : Result (List ℕ) FromHexError) (bytes : List ℕ) → r ≡ Ok bytes → length bytes ≡ 0 → sent_in_hex connection r ≡ Bad
+no_bytes connection r [] e l = ap (sent_in_hex connection) e
+no_bytes connection r (b ∷ bs) e l = absurd (omega (arith, l))
+
+-- digits that can't be read
+pub no_digits : (connection : ℕ) (r : Result (List ℕ) FromHexError) (f : FromHexError) → r ≡ Err f → sent_in_hex connection r ≡ Bad
+no_digits connection r f e = ap (sent_in_hex connection) e
+
+pub some_bytes : (connection : ℕ) (r : Result (List ℕ) FromHexError) (bytes : List ℕ) → r ≡ Ok bytes → (length bytes ≡ 0 → ⊥) → sent_in_hex connection r ≡ Sends connection bytes
+some_bytes connection r [] e l = absurd (l refl)
+some_bytes connection r (b ∷ bs) e l = ap (sent_in_hex connection) e
+
+-- and no shard is held or freed by them
+pub hex_holds_nothing : (held : List Bool) (connection : ℕ) (r : Result (List ℕ) FromHexError) → held_after held (sent_in_hex connection r) ≡ held
+hex_holds_nothing held connection (Err f) = refl
+hex_holds_nothing held connection (Ok []) = refl
+hex_holds_nothing held connection (Ok (b ∷ bs)) = refl

@@ -1,0 +1,34 @@
+use Rattle.std.proofs.Common.{◌∙◌, ◌++◌, ℕ, List, ap, sym, subst}
+use Rattle.std.specs.Prelude.{codes}
+use Rattle.std.proofs.lemmas.Result.{on_ok_weaker}
+use Rattle.house.specs.State.{State}
+use Rattle.house.specs.Stands.{StandsFor}
+use Rattle.script.specs.Script.{refusal}
+use Rattle.script.proofs.RunLaws.{busy_not_wanting, heard_bytes, is_busy, is_nobody, nobody_there, not_wanting, owing, told_nobody, told_owing}
+use Rattle.script.proofs.run.hear_bytes.Goals as goal
+
+pub returns-in-Ok : goal.returns-in-Ok
+returns-in-Ok c k s st =
+    heard_bytes k c.args.number s c.args.connection _ c.step.new.self c.args.out.now.items c.step.new.out.items (c.in-Ok.ensures.follows k s st)
+
+pub returns-in-Err-Nobody : goal.returns-in-Err-Nobody
+returns-in-Err-Nobody c =
+    let e = c.in-Err-Nobody.ensures in
+    let same = e.refused (not_wanting c.in-Err-Nobody.field-0 c.in-Err-Nobody.field-0-is) in
+    on_ok_weaker c.refuse.result
+    (λ printed k s st. told_nobody k c.args.number s c.args.connection c.args.bytes.now c.step.new.self c.args.out.now.items c.refuse.new.out.items
+    (subst (λ (h : State). StandsFor k h s) (sym same.0) st)
+    (nobody_there k c.args.house.now s c.args.connection st (e.nobody.0 (is_nobody c.in-Err-Nobody.field-0 c.in-Err-Nobody.field-0-is)))
+    (printed ∙ ap (λ (x : List ℕ). x ++ refusal c.args.number (codes "Nobody")) same.1))
+    c.refuse.ensures.ok
+
+pub returns-in-Err-Busy : goal.returns-in-Err-Busy
+returns-in-Err-Busy c =
+    let e = c.in-Err-Busy.ensures in
+    let same = e.refused (busy_not_wanting c.in-Err-Busy.field-0 c.in-Err-Busy.field-0-is) in
+    on_ok_weaker c.refuse-in-Err-Busy.result
+    (λ printed k s st. told_owing k c.args.number s c.args.connection c.args.bytes.now c.step.new.self c.args.out.now.items c.refuse-in-Err-Busy.new.out.items
+    (subst (λ (h : State). StandsFor k h s) (sym same.0) st)
+    (owing k c.args.house.now s c.args.connection st (e.busy.0 (is_busy c.in-Err-Busy.field-0 c.in-Err-Busy.field-0-is)))
+    (printed ∙ ap (λ (x : List ℕ). x ++ refusal c.args.number (codes "Busy")) same.1))
+    c.refuse-in-Err-Busy.ensures.ok

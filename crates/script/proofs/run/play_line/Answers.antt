@@ -1,0 +1,19 @@
+use Rattle.std.proofs.Common.{◌≡◌, ◌∙◌, ℕ, List, ap, subst}
+use Rattle.std.proofs.lemmas.Result.{on_ok_weaker}
+use Rattle.std.specs.Prelude.{Bool}
+use Rattle.script.specs.Running.{LineDone}
+use Rattle.house.specs.Settled.{SettledFrom}
+use Rattle.script.specs.Script.{ScriptLine, asked, held_after, line_of}
+use Rattle.script.proofs.RunLaws.{played}
+use Rattle.script.proofs.run.play_line.Goals as goal
+
+pub returns-clause-played : goal.returns-clause-played
+returns-clause-played c =
+    let line = asked (line_of c.args.room.now.line.items) in
+    let cut : asked c.without_end.result.now ≡ line = ap asked (c.without_end.ensures ∙ ap line_of c.deref.ensures.value) in
+    on_ok_weaker c.settle.result
+    (λ settles k s st many. played k c.args.number c.args.room.now.held.items c.do_line.new.held.items line s c.do_line.new.house c.settle.new.self c.do_line.new.out.items c.settle.new.out.items
+    (subst (λ (x : List ℕ). LineDone k c.args.number line s c.do_line.new.house x c.do_line.new.out.items) c.clear.ensures.items
+    (subst (λ (l : ScriptLine). LineDone k c.args.number l s c.do_line.new.house c.clear.new.self.items c.do_line.new.out.items) cut (c.in_ok-do_line.ensures.done k s st many)))
+    (c.in_ok-do_line.ensures.held ∙ ap (held_after c.args.room.now.held.items) cut) (λ j t st1. subst (λ (x : List Bool). SettledFrom j x t c.settle.new.self c.do_line.new.out.items c.settle.new.out.items) c.deref-2.ensures.value (settles j t st1)))
+    c.settle.ensures.settles

@@ -1,0 +1,93 @@
+-- What the parts of a run promise: of one line, and of one turn of the run.
+use Rattle.std.specs.Prelude.{◌≡◌, ℕ, ◌<◌, ◌≤◌, ◌⊎◌, Bool, List, [], ◌∷◌, ◌++◌, codes, length, slice_set, take, Option, Some, None, Result, Ok, Err}
+use Rattle.std.specs.Io.KnownBytes.{Appends}
+use Rattle.house.specs.State.{State}
+use Rattle.callers.specs.Caller.{Setup}
+use Rattle.house.specs.Scene.{Scene}
+use Rattle.script.specs.Script.{LineDoes, LinePlays, Script, ScriptLine, held_after, none_held, refusal, script_of}
+use Rattle.house.specs.Stands.{StandsFor}
+use Rattle.script.specs.declared.run.TurnFault.{TurnFault}
+use Rattle.script.specs.declared.run.TurnFault.TheVariants as faults
+
+-- the line was done, the house stands for what it leads to, and this was printed
+pub record LineDone (k : Setup) (number : ℕ) (line : ScriptLine) (s : Scene) (h : State) (old new : List ℕ) : Type 0 where
+  pub after : Scene
+  pub printed : List ℕ
+  pub does : LineDoes k number s after printed line
+  pub stands : StandsFor k h after
+  pub out : new ≡ old ++ printed
+
+-- and then the house settled
+pub record LinePlayed (k : Setup) (number : ℕ) (held : List Bool) (line : ScriptLine) (s : Scene) (h : State) (old new : List ℕ) : Type 0 where
+  pub after : Scene
+  pub printed : List ℕ
+  pub plays : LinePlays k number held line s after printed
+  pub stands : StandsFor k h after
+  pub out : new ≡ old ++ printed
+
+-- A turn: the first line of the input was read and played, and what it printed was written.
+pub record LineWritten (k : Setup) (number : ℕ) (held : List Bool) (s : Scene) (input : List ℕ) (h : State) (holds : List Bool) (left old new : Option (List ℕ)) (sent : ℕ) : Type 0 where
+  pub line : ScriptLine
+  pub rest : List ℕ
+  pub remaining : left ≡ Some rest
+  pub first : script_of input ≡ line ∷ script_of rest
+  pub after : Scene
+  pub printed : List ℕ
+  pub plays : LinePlays k number held line s after printed
+  pub holds_now : holds ≡ held_after held line
+  pub stands : StandsFor k h after
+  pub out : Appends old new printed
+  pub count : sent ≡ length printed
+
+-- of what it printed only the first bytes were written
+pub record LineCut (k : Setup) (number : ℕ) (held : List Bool) (s : Scene) (input : List ℕ) (old new : Option (List ℕ)) (sent : ℕ) : Type 0 where
+  pub line : ScriptLine
+  pub others : List ScriptLine
+  pub first : script_of input ≡ line ∷ others
+  pub after : Scene
+  pub printed : List ℕ
+  pub plays : LinePlays k number held line s after printed
+  pub within : sent ≤ length printed
+  pub out : Appends old new (take sent printed)
+
+-- the input was at its end, and nothing was written
+pub record IsOver (input : List ℕ) (old new : Option (List ℕ)) : Type 0 where
+  pub ended : input ≡ []
+  pub silent : new ≡ old
+
+-- what a turn says by its answer
+abbrev pub TurnTells : Setup → ℕ → (held : List Bool) → Scene → List ℕ → State → (holds : List Bool) → (left old new : Option (List ℕ)) → Result (Option ℕ) TurnFault → Type 0
+TurnTells k number held s input h holds left old new (Ok None) = IsOver input old new
+TurnTells k number held s input h holds left old new (Ok (Some sent)) = LineWritten k number held s input h holds left old new sent
+TurnTells k number held s input h holds left old new (Err (faults.Write sent)) = LineCut k number held s input old new sent
+TurnTells k number held s input h holds left old new (Err faults.Read) = new ≡ old
+TurnTells k number held s input h holds left old new (Err faults.NoMemory) = new ≡ old
+
+-- which shards are held after these lines
+abbrev pub held_by : List Bool → List ScriptLine → List Bool
+held_by held [] = held
+held_by held (line ∷ lines) = held_by (held_after held line) lines
+
+-- The run so far: of the script these lines were played, and what they printed was written.
+pub record HasRun (k : Setup) (input : List ℕ) (count : ℕ) (h : State) (holds : List Bool) (left old new : Option (List ℕ)) (sent : ℕ) (start : Scene) : Type 0 where
+  pub lines : List ScriptLine
+  pub rest : List ℕ
+  pub remaining : left ≡ Some rest
+  pub split : script_of input ≡ lines ++ script_of rest
+  pub counted : length lines ≡ count
+  pub after : Scene
+  pub printed : List ℕ
+  pub script : Script k 1 (none_held k) lines start after printed
+  pub holds_now : holds ≡ held_by (none_held k) lines
+  pub stands : StandsFor k h after
+  pub out : Appends old new printed
+  pub total : sent ≡ length printed
+
+-- the number itself, or 256 where that is less
+abbrev pub IsClipped : ℕ → ℕ → Type 0
+IsClipped clipped number = ((clipped ≡ number) × (number < 256)) ⊎ ((clipped ≡ 256) × (256 ≤ number))
+
+-- a shard was held or freed, if there is one of this number
+pub data SetsHeld (old : List Bool) (number shard : ℕ) (is : Bool) (new : List Bool) (before after : List ℕ) : Type 0 where
+  sets : shard < length old → new ≡ slice_set old shard is → after ≡ before → SetsHeld old number shard is new before after
+  sets_nobody : length old ≤ shard → new ≡ old → after ≡ before ++ refusal number (codes "Nobody") → SetsHeld old number shard is new before after

@@ -1,0 +1,258 @@
+-- A script: what its lines are, what each does to the house, and what is written.
+use Rattle.std.specs.Prelude.{◌≡◌, ℕ, ◌+◌, ◌-◌, ◌<◌, ◌≤◌, ◌==◌, ◌&&◌, nat_eq, nat_le, nat_lt, ◌⊎◌, Bool, true, false, if◌then◌else◌, List, [], ◌∷◌, ◌++◌, length, map, drop, take, codes, decimal, replicate, slice_set, Option, Some, None, Result, Ok, Err}
+use Rattle.std.specs.Io.BufRead.{ends_with_byte, strip_last}
+use Rattle.std.specs.Io.KnownBytes.{Appends}
+use Rattle.std.specs.List.{list_all, list_any, starts_with}
+use Rattle.std.specs.Str.Parse.{digits_value}
+use Rattle.hex.specs.Hex.{decode_of}
+use Rattle.hex.specs.declared.error.FromHexError.{FromHexError}
+use Rattle.envelope.specs.Names.{number_of}
+use Rattle.line_io.specs.Wire.{crlf}
+use Rattle.callers.specs.Caller.{Caller, Setup}
+use Rattle.house.specs.Scene.{BytesPlay, HasEnded, Scene, VanishPlay, empty_scene, most_serials, seat_of}
+use Rattle.house.specs.Settled.{is_held}
+use Rattle.house.specs.Settling.{Settles}
+use Rattle.house.specs.Window.{window_text}
+use Rattle.script.specs.declared.line.ScriptLine as read
+use Rattle.script.specs.declared.line.ScriptLine.TheVariants as reads
+
+-- ---- the lines of a script
+
+-- the input in pieces, each up to and with its LF; the last may lack it
+abbrev pub put_first : ℕ → List (List ℕ) → List (List ℕ)
+put_first b [] = (b ∷ []) ∷ []
+put_first b (piece ∷ pieces) = (b ∷ piece) ∷ pieces
+
+abbrev pub pieces : List ℕ → List (List ℕ)
+pieces [] = []
+pieces (b ∷ bs) = if b == 10 then (10 ∷ []) ∷ pieces bs else put_first b (pieces bs)
+
+-- a piece without its LF, and without a CR before that
+abbrev pub line_of : List ℕ → List ℕ
+line_of piece = if ends_with_byte 10 piece then strip_last 13 (strip_last 10 piece) else piece
+
+pub data ScriptLine : Type 0 where
+  -- these bytes come from the peer of a connection
+  Sends : (connection : ℕ) → List ℕ → ScriptLine
+  -- the peer of a connection is gone
+  Vanishes : (connection : ℕ) → ScriptLine
+  -- a shard's consumer stands still from now on
+  Hold : (shard : ℕ) → ScriptLine
+  -- it goes on
+  Free : (shard : ℕ) → ScriptLine
+  -- a mailbox's window is to be printed
+  Tail : List ℕ → ScriptLine
+  -- an empty line, or one that begins with #
+  Skip : ScriptLine
+  Bad : ScriptLine
+
+-- the most bytes of a line, without its end
+abbrev pub most_bytes : ℕ
+most_bytes = 65536
+
+abbrev pub has_space : List ℕ → Bool
+has_space bytes = list_any (λ b. b == 32) bytes
+
+-- a connection's number is one digit from 1 to 8
+abbrev pub is_connection : ℕ → Bool
+is_connection b = nat_le 49 b && nat_le b 56
+
+-- the bytes that were written in hexadecimal digits, if they could be read and there are any
+abbrev pub sent_in_hex : ℕ → Result (List ℕ) FromHexError → ScriptLine
+sent_in_hex connection (Err fault) = Bad
+sent_in_hex connection (Ok []) = Bad
+sent_in_hex connection (Ok (b ∷ bytes)) = Sends connection (b ∷ bytes)
+
+-- `x hex`: one space, and then pairs of digits in either case
+abbrev pub in_hex : ℕ → List ℕ → ScriptLine
+in_hex connection [] = Bad
+in_hex connection (b ∷ digits) = if b == 32 then sent_in_hex connection (decode_of digits) else Bad
+
+-- `!` and nothing behind it
+abbrev pub vanished : ℕ → List ℕ → ScriptLine
+vanished connection [] = Vanishes connection
+vanished connection (b ∷ more) = Bad
+
+-- what stands behind `L<n>`: nothing, ` text`, `x hex` or `!`
+abbrev pub behind_number : ℕ → List ℕ → ScriptLine
+behind_number connection [] = Sends connection crlf
+behind_number connection (b ∷ rest) =
+    if b == 32 then Sends connection (rest ++ crlf)
+    else if b == 120 then in_hex connection rest
+    else if b == 33 then vanished connection rest
+    else Bad
+
+abbrev pub said_by : ℕ → List ℕ → ScriptLine
+said_by n rest = if is_connection n then behind_number (n - 48) rest else Bad
+
+-- `TAIL word`, with one space and none in the word
+abbrev pub tail_of : List ℕ → ScriptLine
+tail_of word = if has_space word then Bad else Tail word
+
+abbrev pub is_digit : ℕ → Bool
+is_digit b = nat_le 48 b && nat_le b 57
+
+-- a shard's number: digits, as many as one likes, and nothing else
+abbrev pub is_number : List ℕ → Bool
+is_number [] = false
+is_number (b ∷ bytes) = list_all is_digit (b ∷ bytes)
+
+-- `HOLD s` and `FREE s`, with one space
+abbrev pub held_of : List ℕ → ScriptLine
+held_of digits = if is_number digits then Hold (digits_value 10 digits) else Bad
+
+abbrev pub freed_of : List ℕ → ScriptLine
+freed_of digits = if is_number digits then Free (digits_value 10 digits) else Bad
+
+-- the line begins with this text
+abbrev pub begins : List ℕ → List ℕ → Bool
+begins text line = starts_with nat_eq line text
+
+abbrev pub is_skipped : List ℕ → Bool
+is_skipped [] = true
+is_skipped (b ∷ bs) = b == 35
+
+-- what follows an L
+abbrev pub after_l : List ℕ → ScriptLine
+after_l [] = Bad
+after_l (n ∷ rest) = said_by n rest
+
+-- what a line asks for: comments are skipped whatever their length
+abbrev pub asked : List ℕ → ScriptLine
+asked line =
+    if is_skipped line then Skip
+    else if nat_lt most_bytes (length line) then Bad
+    else if begins (codes "TAIL ") line then tail_of (drop 5 line)
+    else if begins (codes "HOLD ") line then held_of (drop 5 line)
+    else if begins (codes "FREE ") line then freed_of (drop 5 line)
+    else if begins (codes "L") line then after_l (drop 1 line)
+    else Bad
+
+-- a line that was read, as a line of the script
+abbrev pub as_spec : read.ScriptLine → ScriptLine
+as_spec (reads.Says connection text) = Sends connection (text.now ++ crlf)
+as_spec (reads.SaysInHex connection digits) = sent_in_hex connection (decode_of digits.now)
+as_spec (reads.Vanishes connection) = Vanishes connection
+as_spec (reads.Hold digits) = Hold (digits_value 10 digits.now)
+as_spec (reads.Free digits) = Free (digits_value 10 digits.now)
+as_spec (reads.Tail word) = Tail word.now
+as_spec reads.Skip = Skip
+as_spec reads.Bad = Bad
+
+-- a shard's number is digits
+abbrev pub HasDigits : read.ScriptLine → Type 0
+HasDigits (reads.Says connection text) = Unit {0}
+HasDigits (reads.SaysInHex connection digits) = Unit {0}
+HasDigits (reads.Vanishes connection) = Unit {0}
+HasDigits (reads.Hold digits) = list_all is_digit digits.now ≡ true
+HasDigits (reads.Free digits) = list_all is_digit digits.now ≡ true
+HasDigits (reads.Tail word) = Unit {0}
+HasDigits reads.Skip = Unit {0}
+HasDigits reads.Bad = Unit {0}
+
+abbrev pub script_of : List ℕ → List ScriptLine
+script_of input = map (λ piece. asked (line_of piece)) (pieces input)
+
+-- ---- what a script does
+
+abbrev pub refusal : ℕ → List ℕ → List ℕ
+refusal number why = codes "? " ++ decimal number ++ codes " " ++ why ++ 10 ∷ []
+
+-- there is no such connection
+abbrev pub IsNoConnection : Setup → ℕ → Type 0
+IsNoConnection k connection = (connection ≡ 0) ⊎ (k.config.seats < connection)
+
+-- nobody is at the connection's seat
+abbrev pub IsAway : Setup → Scene → ℕ → Type 0
+IsAway k s connection = IsNoConnection k connection ⊎ (s.caller (seat_of connection) ≡ None)
+
+-- nobody is there, and the seat takes no more: its serials are spent, or it has ended
+abbrev pub NobodyThere : Setup → Scene → ℕ → Type 0
+NobodyThere k s connection = IsNoConnection k connection
+    ⊎ ((s.caller (seat_of connection) ≡ None) × ((most_serials ≤ s.next (seat_of connection)) ⊎ HasEnded k.config s.world (seat_of connection)))
+
+-- the seat still waits for the verdicts of a connection whose peer is gone
+abbrev pub IsOwing : Scene → ℕ → Type 0
+IsOwing s connection = (b : Caller) × (s.caller (seat_of connection) ≡ Some b) × (b.gone ≡ true)
+
+-- what the line itself does, before the house settles
+pub data LineDoes (k : Setup) (number : ℕ) (s : Scene) (t : Scene) (printed : List ℕ) : ScriptLine → Type 0 where
+  sends : (connection : ℕ) (bytes : List ℕ) → BytesPlay k true s (seat_of connection) bytes t printed
+      → LineDoes k number s t printed (Sends connection bytes)
+  sends_to_nobody : (connection : ℕ) (bytes : List ℕ) → NobodyThere k s connection → t ≡ s → printed ≡ refusal number (codes "Nobody")
+      → LineDoes k number s t printed (Sends connection bytes)
+  sends_to_owing : (connection : ℕ) (bytes : List ℕ) → IsOwing s connection → t ≡ s → printed ≡ refusal number (codes "Busy")
+      → LineDoes k number s t printed (Sends connection bytes)
+  vanishes : (connection : ℕ) → VanishPlay k true s (seat_of connection) t printed → LineDoes k number s t printed (Vanishes connection)
+  vanishes_away : (connection : ℕ) → IsAway k s connection → t ≡ s → printed ≡ refusal number (codes "Nobody")
+      → LineDoes k number s t printed (Vanishes connection)
+  vanishes_again : (connection : ℕ) → IsOwing s connection → t ≡ s → printed ≡ refusal number (codes "Busy")
+      → LineDoes k number s t printed (Vanishes connection)
+  -- what is held is said by `held_after`
+  stands_still : (shard : ℕ) → shard < k.config.shards → t ≡ s → printed ≡ [] → LineDoes k number s t printed (Hold shard)
+  stands_nobody : (shard : ℕ) → k.config.shards ≤ shard → t ≡ s → printed ≡ refusal number (codes "Nobody") → LineDoes k number s t printed (Hold shard)
+  goes_again : (shard : ℕ) → shard < k.config.shards → t ≡ s → printed ≡ [] → LineDoes k number s t printed (Free shard)
+  goes_nobody : (shard : ℕ) → k.config.shards ≤ shard → t ≡ s → printed ≡ refusal number (codes "Nobody") → LineDoes k number s t printed (Free shard)
+  tails : (word : List ℕ) (m : ℕ) → number_of k.directory word ≡ Some m → t ≡ s → printed ≡ window_text word (s.world.box m)
+      → LineDoes k number s t printed (Tail word)
+  tails_nobody : (word : List ℕ) → number_of k.directory word ≡ None → t ≡ s → printed ≡ refusal number (codes "Nobody")
+      → LineDoes k number s t printed (Tail word)
+  skips : t ≡ s → printed ≡ [] → LineDoes k number s t printed Skip
+  is_bad : t ≡ s → printed ≡ refusal number (codes "Line") → LineDoes k number s t printed Bad
+
+-- by shard, whether its consumer stands still: none does at the start
+abbrev pub none_held : Setup → List Bool
+none_held k = replicate k.config.shards false
+
+-- the same after a line; a shard that isn't there can't be held
+abbrev pub held_after : List Bool → ScriptLine → List Bool
+held_after held (Sends connection bytes) = held
+held_after held (Vanishes connection) = held
+held_after held (Hold shard) = slice_set held shard true
+held_after held (Free shard) = slice_set held shard false
+held_after held (Tail word) = held
+held_after held Skip = held
+held_after held Bad = held
+
+-- a line, and then the house settles
+pub record LinePlays (k : Setup) (number : ℕ) (held : List Bool) (line : ScriptLine) (s t : Scene) (printed : List ℕ) : Type 0 where
+  pub between : Scene
+  pub one : List ℕ
+  pub two : List ℕ
+  pub does : LineDoes k number s between one line
+  pub settles : Settles k (is_held (held_after held line)) between t two
+  pub both : printed ≡ one ++ two
+
+-- the lines from this number on, where these shards are held
+abbrev pub Script : Setup → ℕ → List Bool → List ScriptLine → Scene → Scene → List ℕ → Type 0
+Script k number held [] s t printed = (t ≡ s) × (printed ≡ [])
+Script k number held (line ∷ lines) s t printed = (m : Scene) × (one : List ℕ) × (two : List ℕ)
+    × LinePlays k number held line s m one × Script k (number + 1) (held_after held line) lines m t two × (printed ≡ one ++ two)
+
+-- These bytes were written, and they are what a script of these lines prints.
+pub record Writes (k : Setup) (lines : List ScriptLine) (old new : Option (List ℕ)) : Type 0 where
+  pub after : Scene
+  pub printed : List ℕ
+  pub script : Script k 1 (none_held k) lines empty_scene after printed
+  pub out : Appends old new printed
+
+-- The first `sent` bytes of what some of the first lines print were written.
+pub record WritesFirst (k : Setup) (lines : List ScriptLine) (sent : ℕ) (old new : Option (List ℕ)) : Type 0 where
+  pub some : List ScriptLine
+  pub others : List ScriptLine
+  pub split : lines ≡ some ++ others
+  pub after : Scene
+  pub printed : List ℕ
+  pub script : Script k 1 (none_held k) some empty_scene after printed
+  pub within : sent ≤ length printed
+  pub out : Appends old new (take sent printed)
+
+-- What some of the first lines print was written, whole.
+pub record WritesBeginning (k : Setup) (lines : List ScriptLine) (old new : Option (List ℕ)) : Type 0 where
+  pub some : List ScriptLine
+  pub others : List ScriptLine
+  pub split : lines ≡ some ++ others
+  pub after : Scene
+  pub printed : List ℕ
+  pub script : Script k 1 (none_held k) some empty_scene after printed
+  pub out : Appends old new printed

@@ -1,0 +1,9 @@
+//! The script form: what a line of a script asks for, what it does to a house, and what is written of that. A house's events are told in
+//! the crate `house`, the command line in `post_house`.
+#![tactic(auto)]
+
+mod line;
+mod run;
+
+pub use line::ScriptLine;
+pub use run::{RunFault, drive};

@@ -1,0 +1,421 @@
+//! A script's run: line after line is read and done, the house settles, and what the line printed is written. How a line is read and
+//! how things are printed is told elsewhere.
+
+ghost use Rattle.std.specs.Prelude.{false, true, ◌≡◌, ◌≢◌, ◌++◌, ◌∷◌, ◌<◌, ◌≤◌, ◌+◌, ◌*◌, ◌^◌, ℕ, List, Option, Some, None, Ok, Err, IfOk, OnOk, OnErr, length, replicate, []};
+ghost use Rattle.std.specs.Io.BufRead.{take_through, drop_through};
+ghost use Rattle.hex.specs.Hex.{decode_of};
+ghost use Rattle.hex.specs.declared.error.FromHexError.TheVariants.{OutOfMemory};
+ghost use Rattle.line_io.specs.Wire.{crlf};
+ghost use Rattle.std.specs.List.{list_all};
+ghost use Rattle.std.specs.Char.{digit_value};
+ghost use Rattle.std.specs.Str.Parse.{digits_value};
+ghost use Rattle.script.specs.Running.{IsClipped, LineDone, LinePlayed, SetsHeld, TurnTells};
+ghost use Rattle.house.specs.Scene as scene;
+ghost use Rattle.callers.specs.Caller.{Setup};
+ghost use Rattle.house.specs.Scene.{empty_scene};
+ghost use Rattle.script.specs.Script as spec;
+ghost use Rattle.script.specs.Script.{Writes, WritesBeginning, WritesFirst, as_spec, asked, held_after, is_digit, line_of, refusal, script_of, sent_in_hex};
+ghost use Rattle.house.specs.Stands.{StandsFor};
+
+use crate::line::{ScriptLine, read_line, without_end};
+use hex::{FromHexError, decode};
+use house::{Event, House, HouseFault};
+use itoa::Buffer;
+use line_io::{Sink, append_parts, send};
+use std::alloc::{AllocError, Global};
+use std::io::{BufRead, ErrorKind};
+
+/// How often a run reads: a script of this many lines or more doesn't end.
+pub const MOST_LINES: u64 = 4_294_967_296;
+
+/// Why a run ended before the end of its input.
+#[derive(Clone, Copy, Debug, PartialEq, Eq)]
+pub enum RunFault {
+    /// The input could not be read, or 2^32 lines of it were.
+    Read,
+    /// The output took no more than the first `sent` bytes.
+    Write { sent: u128 },
+    /// Memory was wanting.
+    NoMemory,
+}
+
+// Why a turn of a run failed.
+#[derive(Clone, Copy, Debug, PartialEq, Eq)]
+enum TurnFault {
+    Read,
+    // Of what the line printed the first `sent` bytes were written.
+    Write { sent: u128 },
+    NoMemory,
+}
+
+// What a run keeps from line to line: which shards are held, and room for the line as it was read, for what a connection is told, and
+// for what is printed.
+#[derive(Drop)]
+struct Room {
+    held: Vec<bool>,
+    line: Vec<u8>,
+    piece: Vec<u8>,
+    out: Vec<u8>,
+}
+
+// Prints that line `number` can't be done, or nothing.
+fn refuse(number: u64, why: &[u8], out: &mut Vec<u8>) -> Result<(), AllocError>
+    ensures ok { OnOk result (out.new.items ≡ out.old.items ++ refusal number why.now) }
+    ensures err { OnErr result (out.new.items ≡ out.old.items) }
+{
+    let mut digits = Buffer::new();
+    let number = digits.format(number).as_bytes();
+    append_parts(
+        &[
+            b"? ".as_slice(),
+            number,
+            b" ".as_slice(),
+            why,
+            b"\n".as_slice(),
+        ],
+        out,
+    )
+}
+
+// The text as a line of the wire, in `piece`.
+fn put_line(text: &[u8], piece: &mut Vec<u8>) -> Result<(), AllocError>
+    ensures { OnOk result (piece.new.items ≡ text.now ++ 13 ∷ 10 ∷ []) }
+{
+    piece.clear();
+    piece.extend_from_slice(text)?;
+    piece.extend_from_slice(b"\r\n")
+}
+
+// Bytes come from the peer of a connection.
+fn hear_bytes(
+    house: &mut House,
+    number: u64,
+    connection: u8,
+    bytes: &[u8],
+    out: &mut Vec<u8>,
+) -> Result<(), AllocError>
+    ensures { OnOk result ((k : Setup) (s : scene.Scene) → StandsFor k house.old s → LineDone k number (spec.Sends connection bytes.now) s house.new out.old.items out.new.items) }
+{
+    match house.step(Event::Bytes(connection, bytes), out) {
+        Ok(()) => Ok(()),
+        Err(HouseFault::Nobody) => refuse(number, b"Nobody", out),
+        Err(HouseFault::Busy) => refuse(number, b"Busy", out),
+        Err(_) => Err(AllocError),
+    }
+}
+
+// A line comes from the peer of a connection.
+fn hear_line(
+    house: &mut House,
+    number: u64,
+    connection: u8,
+    text: &[u8],
+    piece: &mut Vec<u8>,
+    out: &mut Vec<u8>,
+) -> Result<(), AllocError>
+    ensures { OnOk result ((k : Setup) (s : scene.Scene) → StandsFor k house.old s → LineDone k number (spec.Sends connection (text.now ++ crlf)) s house.new out.old.items out.new.items) }
+{
+    put_line(text, piece)?;
+    hear_bytes(house, number, connection, piece, out)
+}
+
+// Whether memory was wanting.
+fn is_want(fault: FromHexError) -> bool
+    ensures { result ≡ false → fault ≢ OutOfMemory }
+{
+    matches!(fault, FromHexError::OutOfMemory)
+}
+
+// Bytes in hexadecimal digits come from it, unless the digits can't be read or there are none.
+fn hear_hex(
+    alloc: Global,
+    house: &mut House,
+    number: u64,
+    connection: u8,
+    digits: &[u8],
+    out: &mut Vec<u8>,
+) -> Result<(), AllocError>
+    ensures { OnOk result ((k : Setup) (s : scene.Scene) → StandsFor k house.old s → LineDone k number (sent_in_hex connection (decode_of digits.now)) s house.new out.old.items out.new.items) }
+{
+    let bytes = match decode(alloc, digits) {
+        Ok(bytes) => bytes,
+        Err(fault) if is_want(fault) => return Err(AllocError),
+        Err(_) => return refuse(number, b"Line", out),
+    };
+    if bytes.is_empty() {
+        return refuse(number, b"Line", out);
+    }
+    hear_bytes(house, number, connection, &bytes, out)
+}
+
+// The peer of a connection is gone.
+fn lose_peer(
+    house: &mut House,
+    number: u64,
+    connection: u8,
+    out: &mut Vec<u8>,
+) -> Result<(), AllocError>
+    ensures { OnOk result ((k : Setup) (s : scene.Scene) → StandsFor k house.old s → LineDone k number (spec.Vanishes connection) s house.new out.old.items out.new.items) }
+{
+    match house.step(Event::Vanish(connection), out) {
+        Ok(()) => Ok(()),
+        Err(HouseFault::Nobody) => refuse(number, b"Nobody", out),
+        Err(HouseFault::Busy) => refuse(number, b"Busy", out),
+        Err(_) => Err(AllocError),
+    }
+}
+
+// The same with one digit more.
+fn clipped_more(value: usize, digit: u8) -> usize
+    requires digit { is_digit digit ≡ true }
+    requires small { value ≤ 256 }
+    ensures small { result ≤ 256 }
+    ensures clipped { (n : ℕ) → IsClipped value n → IsClipped result (n * 10 + digit_value digit) }
+{
+    let more = value * 10 + usize::from(digit - b'0');
+    if more < 256 { more } else { 256 }
+}
+
+// The number that decimal digits write, or 256 where that is less.
+fn clipped_number(digits: &[u8]) -> usize
+    requires { list_all is_digit digits.now ≡ true }
+    ensures { IsClipped result (digits_value 10 digits.now) }
+{
+    let mut value = 0;
+    for digit in digits {
+        value = clipped_more(value, *digit);
+    }
+    value
+}
+
+// A shard's consumer stands still from now on, or goes on; there may be no such shard.
+fn set_held(
+    held: &mut Vec<bool>,
+    number: u64,
+    digits: &[u8],
+    is_held: bool,
+    out: &mut Vec<u8>,
+) -> Result<(), AllocError>
+    requires digits { list_all is_digit digits.now ≡ true }
+    requires few { length held.old.items ≤ 256 }
+    ensures sets { OnOk result (SetsHeld held.old.items number (digits_value 10 digits.now) is_held held.new.items out.old.items out.new.items) }
+    ensures places { length held.new.items ≡ length held.old.items }
+{
+    let shard = clipped_number(digits);
+    if shard >= held.len() {
+        return refuse(number, b"Nobody", out);
+    }
+    held[shard] = is_held;
+    Ok(())
+}
+
+// The window of the mailbox with this word is printed.
+fn show_tail(house: &House, number: u64, word: &[u8], out: &mut Vec<u8>) -> Result<(), AllocError>
+    ensures { OnOk result ((k : Setup) (s : scene.Scene) → StandsFor k house.now s → LineDone k number (spec.Tail word.now) s house.now out.old.items out.new.items) }
+{
+    match house.tail(word, out) {
+        Ok(()) => Ok(()),
+        Err(HouseFault::Nobody) => refuse(number, b"Nobody", out),
+        Err(_) => Err(AllocError),
+    }
+}
+
+// Does what the line itself asks for.
+fn do_line(
+    house: &mut House,
+    number: u64,
+    line: &[u8],
+    held: &mut Vec<bool>,
+    piece: &mut Vec<u8>,
+    out: &mut Vec<u8>,
+) -> Result<(), AllocError>
+    requires { length held.old.items ≤ 256 }
+    ensures done { OnOk result ((k : Setup) (s : scene.Scene) → StandsFor k house.old s → length held.old.items ≡ k.config.shards → LineDone k number (asked line.now) s house.new out.old.items out.new.items) }
+    ensures held { OnOk result (held.new.items ≡ held_after held.old.items (asked line.now)) }
+    ensures places { length held.new.items ≡ length held.old.items }
+{
+    match read_line(line) {
+        ScriptLine::Says(connection, text) => hear_line(
+            house, number, connection, text, piece, out,
+        ),
+        ScriptLine::SaysInHex(connection, digits) => {
+            hear_hex(*out.allocator(), house, number, connection, digits, out)
+        }
+        ScriptLine::Vanishes(connection) => lose_peer(house, number, connection, out),
+        ScriptLine::Hold(digits) => set_held(held, number, digits, true, out),
+        ScriptLine::Free(digits) => set_held(held, number, digits, false, out),
+        ScriptLine::Tail(word) => show_tail(house, number, word, out),
+        ScriptLine::Skip => Ok(()),
+        ScriptLine::Bad => refuse(number, b"Line", out),
+    }
+}
+
+// Does the line that was read, and settles.
+fn play_line(house: &mut House, number: u64, room: &mut Room) -> Result<(), AllocError>
+    requires { length room.old.held.items ≤ 256 }
+    ensures played { OnOk result ((k : Setup) (s : scene.Scene) → StandsFor k house.old s → length room.old.held.items ≡ k.config.shards →
+        LinePlayed k number room.old.held.items (asked (line_of room.old.line.items)) s house.new [] room.new.out.items) }
+    ensures held { OnOk result (room.new.held.items ≡ held_after room.old.held.items (asked (line_of room.old.line.items))) }
+    ensures places { length room.new.held.items ≡ length room.old.held.items }
+{
+    room.out.clear();
+    do_line(
+        house,
+        number,
+        without_end(&room.line),
+        &mut room.held,
+        &mut room.piece,
+        &mut room.out,
+    )?;
+    house.settle(&room.held, &mut room.out)
+}
+
+// At the start no shard is held.
+fn none_held(alloc: Global, shards: u8) -> Result<Vec<bool>, AllocError>
+    ensures { IfOk result (λ v. v.items ≡ replicate shards false) }
+{
+    let mut held = Vec::new(alloc);
+    for _shard in 0..shards {
+        held.push(false)?;
+    }
+    Ok(held)
+}
+
+// Reads the next line with its end, if there is one.
+fn read_piece<R: BufRead>(reader: &mut R, line: &mut Vec<u8>) -> Result<bool, TurnFault>
+    ensures some { OnOk result ((xs : List ℕ) → R.remaining reader.old ≡ Some xs → line.new.items ≡ take_through 10 xs) }
+    ensures rest { OnOk result ((xs : List ℕ) → R.remaining reader.old ≡ Some xs → R.remaining reader.new ≡ Some (drop_through 10 xs)) }
+    ensures end { IfOk result (λ some. some ≡ false → (xs : List ℕ) → R.remaining reader.old ≡ Some xs → xs ≡ []) }
+    ensures more { IfOk result (λ some. some ≡ true → 0 < length line.new.items) }
+    ensures fault { (sent : ℕ) → result ≢ Err (TurnFault.Write sent) }
+{
+    line.clear();
+    match reader.read_until(b'\n', line) {
+        Ok(count) => Ok(count > 0),
+        Err(e) => match e.kind() {
+            ErrorKind::OutOfMemory => Err(TurnFault::NoMemory),
+            _ => Err(TurnFault::Read),
+        },
+    }
+}
+
+// A turn of the run: the next line is read and played, and what it printed is written. It gives the number of bytes written, or None
+// where the input is at its end.
+fn take_turn<R: BufRead, W: Sink>(
+    house: &mut House,
+    number: u64,
+    room: &mut Room,
+    reader: &mut R,
+    writer: &mut W,
+) -> Result<Option<usize>, TurnFault>
+    requires live { W.failed writer.old ≡ false }
+    requires few { length room.old.held.items ≤ 256 }
+    ensures tells { (k : Setup) (s : scene.Scene) (input : List ℕ) → StandsFor k house.old s → length room.old.held.items ≡ k.config.shards → R.remaining reader.old ≡ Some input →
+        TurnTells k number room.old.held.items s input house.new room.new.held.items (R.remaining reader.new) (W.taken writer.old) (W.taken writer.new) result }
+    ensures live { OnOk result (W.failed writer.new ≡ false) }
+    ensures places { length room.new.held.items ≡ length room.old.held.items }
+    ensures short { (sent : ℕ) → result ≡ Err (TurnFault.Write sent) → sent < 2 ^ 64 }
+{
+    if !read_piece(reader, &mut room.line)? {
+        return Ok(None);
+    }
+    let Ok(()) = play_line(house, number, room) else {
+        return Err(TurnFault::NoMemory);
+    };
+    match send(writer, &room.out) {
+        Ok(()) => Ok(Some(room.out.len())),
+        Err(fault) => Err(TurnFault::Write {
+            sent: fault.sent as u128,
+        }),
+    }
+}
+
+/// Runs a script to the end of its input: each line is done, the house settles, and what the line printed is written at once. At the end
+/// of the input nothing more is written.
+///
+/// `Read`: the reader failed, or 2^32 lines were read; `NoMemory`: memory was wanting. What the lines before printed was then written,
+/// and nothing of the line at hand. `Write`: the writer failed; the first `sent` bytes of what the script prints were written.
+pub fn drive<R: BufRead, W: Sink>(
+    alloc: Global,
+    house: &mut House,
+    reader: &mut R,
+    writer: &mut W,
+) -> Result<(), RunFault>
+    requires { W.failed writer.old ≡ false }
+    ensures ok { OnOk result ((k : Setup) (input : List ℕ) → StandsFor k house.old empty_scene → R.remaining reader.old ≡ Some input → Writes k (script_of input) (W.taken writer.old) (W.taken writer.new)) }
+    ensures write { (sent : ℕ) → result ≡ Err (RunFault.Write sent) → (k : Setup) (input : List ℕ) → StandsFor k house.old empty_scene → R.remaining reader.old ≡ Some input →
+        WritesFirst k (script_of input) sent (W.taken writer.old) (W.taken writer.new) }
+    ensures no_memory { result ≡ Err RunFault.NoMemory → (k : Setup) (input : List ℕ) → StandsFor k house.old empty_scene → R.remaining reader.old ≡ Some input →
+        WritesBeginning k (script_of input) (W.taken writer.old) (W.taken writer.new) }
+    ensures read { result ≡ Err RunFault.Read → (k : Setup) (input : List ℕ) → StandsFor k house.old empty_scene → R.remaining reader.old ≡ Some input →
+        WritesBeginning k (script_of input) (W.taken writer.old) (W.taken writer.new) }
+{
+    let Ok(held) = none_held(alloc, house.shards()) else {
+        return Err(RunFault::NoMemory);
+    };
+    let mut room = Room {
+        held,
+        line: Vec::new(alloc),
+        piece: Vec::new(alloc),
+        out: Vec::new(alloc),
+    };
+    let mut sent: u128 = 0;
+    for done in 0..MOST_LINES {
+        match take_turn(house, done + 1, &mut room, reader, writer) {
+            Ok(Some(count)) => sent += count as u128,
+            Ok(None) => return Ok(()),
+            Err(TurnFault::Write { sent: some }) => return Err(RunFault::Write {
+                sent: sent + some,
+            }),
+            Err(TurnFault::Read) => return Err(RunFault::Read),
+            Err(TurnFault::NoMemory) => return Err(RunFault::NoMemory),
+        }
+    }
+    Err(RunFault::Read)
+}
+
+#[cfg(test)]
+mod tests {
+    use super::*;
+    use std::io::{Error, Read};
+
+    // Fails at once.
+    #[derive(Drop)]
+    struct Failing(ErrorKind);
+
+    impl Read for Failing {
+        fn read(&mut self, _buf: &mut [u8]) -> std::io::Result<usize> {
+            Err(Error::from(self.0))
+        }
+    }
+
+    impl BufRead for Failing {
+        fn fill_buf(&mut self) -> std::io::Result<&[u8]> {
+            Err(Error::from(self.0))
+        }
+
+        fn consume(&mut self, _amount: usize) {}
+    }
+
+    #[test]
+    fn pieces_are_read(rt: HostRuntime) -> Result<(), TurnFault> {
+        let mut line = Vec::new(rt.alloc());
+        let mut input = b"L1\r\n\nx".as_slice();
+        assert!(rt; read_piece(&mut input, &mut line)?);
+        assert_eq!(rt; line.as_slice(), b"L1\r\n".as_slice());
+        assert!(rt; read_piece(&mut input, &mut line)?);
+        assert!(rt; read_piece(&mut input, &mut line)?);
+        assert_eq!(rt; line.as_slice(), b"x".as_slice());
+        assert!(rt; !read_piece(&mut input, &mut line)?);
+        Ok(())
+    }
+
+    #[test]
+    fn a_reader_that_fails_is_told(rt: HostRuntime) {
+        let mut line = Vec::new(rt.alloc());
+        let mut broken = Failing(ErrorKind::BrokenPipe);
+        assert_eq!(rt; read_piece(&mut broken, &mut line), Err(TurnFault::Read));
+        let mut full = Failing(ErrorKind::OutOfMemory);
+        assert_eq!(rt; read_piece(&mut full, &mut line), Err(TurnFault::NoMemory));
+    }
+}
