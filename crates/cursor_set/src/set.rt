@@ -1,7 +1,7 @@
 //! The cursors of a mailbox's clients: which changes each was shown, and the UIDs that it counts.
 //! What a change looks like is told in `lines`.
 
-ghost use Rattle.std.specs.Prelude.{◌≡◌, ◌≢◌, ℕ, ◌+◌, ◌-◌, ◌^◌, ◌<◌, ◌≤◌, ◌↔◌, [], ◌++◌, length, Some, None, OnOk, OnErr, IfOk, IfErr, IfSome, IfNone, IsTrue, IsSome, IsErr, IsOk, All, map, min, option_map, option_copied, Err};
+ghost use Rattle.std.specs.Prelude.{◌≡◌, ◌≢◌, ℕ, ◌+◌, ◌-◌, ◌^◌, ◌<◌, ◌≤◌, ◌↔◌, [], ◌++◌, length, Some, None, OnOk, OnErr, IfOk, IfErr, IfSome, IfNone, IsTrue, IsSome, IsErr, IsOk, All, map, min, option_map, option_copied, Err, vec_capacity};
 ghost use Rattle.std.specs.Option.{option_map_or};
 ghost use Rattle.change_ring.specs.Window.{total, changes_from};
 ghost use Rattle.slab.specs.Slab.{get, values};
@@ -86,6 +86,7 @@ impl Cursor {
         ensures err { OnErr result (open_of self.new ≡ open_of self.old) }
         ensures err_text { OnErr result (out.new.items ≡ out.old.items) }
         ensures nothing { length (first.now ++ rest.now) ≡ 0 → IsOk result }
+        ensures room { vec_capacity out.old ≤ vec_capacity out.new }
     {
         let count = first.len() + rest.len();
         let Some(room) = count.checked_mul(LINE_ROOM) else {
@@ -117,6 +118,7 @@ fn show_in(
     ensures err { OnErr result (opened slots.new.slots ≡ opened slots.old.slots) }
     ensures err_text { OnErr result (out.new.items ≡ out.old.items) }
     ensures nothing { length (first.now ++ rest.now) ≡ 0 → IsOk result }
+    ensures room { vec_capacity out.old ≤ vec_capacity out.new }
 {
     match slots.get_mut(slot) {
         Some(cursor) => cursor.show(first, rest, out),
@@ -311,6 +313,7 @@ impl CursorSet {
         ensures moved { IfOk result (λ n. Updates self.old self.new seat.old.slot
             (option_map (after_showing (next_changes ring.now seat.old.at n)) (held self.old seat.old))) }
         ensures next { self.new.next ≡ self.old.next }
+        ensures room { vec_capacity out.old ≤ vec_capacity out.new }
     {
         let Some(_cursor) = self.find(seat) else {
             return Err(FeedFault::Stranger);

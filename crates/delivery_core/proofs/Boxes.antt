@@ -1,7 +1,7 @@
 -- A mailbox's delivery is the world's.
 use Rattle.std.proofs.Common.{◌≡◌, ℕ, suc, ◌-◌, ◌<◌, ◌≤◌, ◌⊎◌, inl, inr, Bool, true, false, ◌||◌, nat_le, [], ◌∷◌, ◌++◌, length, map, refl, sym, ap, ◌∙◌, arith, subst, Result, Ok, Err, OnOk, OnErr, IfOk, ◌≢◌, get_or, set, get_or-set_same, get_or-set_other, List}
 use Rattle.std.specs.Prelude.{◌↔◌}
-use Rattle.std.proofs.lemmas.Bool.{cases_lt, cases_eq, leb-true, leb-false}
+use Rattle.std.proofs.lemmas.Bool.{cases_eq, leb-true, leb-false}
 use Rattle.delivery_core.proofs.Follow.{get_or-any}
 use Rattle.std.proofs.lemmas.List.{length-map, map-append}
 use Rattle.delivery_token.specs.declared.Job.{Job}
@@ -10,8 +10,9 @@ use Rattle.delivery_token.specs.declared.Refusal.{Refusal}
 use Rattle.delivery_token.specs.declared.Refusal.TheVariants.{Full, MailboxFull, NoMemory, UidSpent}
 use Rattle.change_ring.specs.declared.change.Change.TheVariants.{Add}
 use Rattle.change_ring.specs.Log.{rows_of, no_flags}
-use Rattle.change_ring.specs.Window.{total}
-use Rattle.mailbox.specs.Mail.{Mail, SameMailbox, next_uid as mail_uid, is_spent, is_full as mail_full, row_of}
+use Rattle.change_ring.specs.Window.{Window, total}
+use Rattle.cursor_set.specs.Cursors.{Cursors}
+use Rattle.mailbox.specs.Mail.{Mail, Message, SameMailbox, next_uid as mail_uid, is_spent, is_full as mail_full, row_of}
 use Rattle.mailbox.specs.Events.{Logs as MailLogs, Moves}
 use Rattle.mailbox.specs.declared.mailbox.Receipt.{Receipt}
 use Rattle.world.specs.World.{Config, Box, HasUid, IsSpent, is_full, next_uid}
@@ -20,10 +21,10 @@ use Rattle.world.proofs.Base.{part_append}
 use Rattle.delivery_core.specs.Stands.{StandsForBox, text_of, accepted_text}
 use Rattle.delivery_core.specs.Boxes.{verdict_of, BoxDelivers, stores, has_no_uid, has_no_place, has_no_memory}
 
-same_uid : (k : Config) (b : Mail) (w : Box) → StandsForBox k b w → mail_uid b ≡ next_uid k w
+pub same_uid : (k : Config) (b : Mail) (w : Box) → StandsForBox k b w → mail_uid b ≡ next_uid k w
 same_uid k b w S = omega (arith, S.first_uid, ap length S.accepted, length-map w.accepted pair_of)
 
-same_rows : (k : Config) (b : Mail) (w : Box) → StandsForBox k b w → length b.messages ≡ length (rows_of w.log)
+pub same_rows : (k : Config) (b : Mail) (w : Box) → StandsForBox k b w → length b.messages ≡ length (rows_of w.log)
 same_rows k b w S = sym (length-map b.messages row_of) ∙ ap length S.log.messages
 
 or_false : (a b : Bool) → (a || b) ≡ false → (a ≡ false) × (b ≡ false)
@@ -92,6 +93,7 @@ stored k old new w c uid S room logs accepts messages drops stays is =
           (subst (λ ys. IsPart (map text_of old.messages ++ (next_uid k w, c.text) ∷ []) ys) (sym (map-append accepted_text w.accepted ((c, next_uid k w) ∷ [])))
           (part_append ((next_uid k w, c.text) ∷ []) S.texts));
       first_uid = stays.first_uid ∙ S.first_uid;
+      uidvalidity = stays.uidvalidity ∙ S.uidvalidity;
       messages = stays.limit ∙ S.messages;
       ring = omega (arith, S.ring, drops.grows);
     })
@@ -128,3 +130,25 @@ same_boxes boxes i old new l there same m d = go (cases_eq m i)
     go : (m ≡ i) ⊎ (m ≢ i) → SameMailbox (get_or boxes m d) (get_or (set boxes i new) m d)
     go (inl e) = rw (e, get_or-set_same boxes i new d l, was) same
     go (inr e) = rw (get_or-set_other boxes i m new d e) (same_self (get_or boxes m d))
+
+-- what a client's call may change of its mailbox
+pub same_rest : (b b2 : Mail) (ms : List Message) (w : Window) (s : Cursors) → b2 ≡ record b { messages = ms; window = w; cursors = s } → SameMailbox b b2
+same_rest b b2 ms w s is = record {
+  number = ap (λ (z : Mail). z.number) is;
+  uidvalidity = ap (λ (z : Mail). z.uidvalidity) is;
+  first_uid = ap (λ (z : Mail). z.first_uid) is;
+  limit = ap (λ (z : Mail). z.limit) is;
+}
+
+pub same_ok : {T E : Type 0} (r : Result T E) (boxes : List Mail) (i : ℕ) (b b2 : Mail) → i < length boxes → b ≡ get_or boxes i b → OnOk r (SameMailbox b b2)
+    → OnOk r ((m : ℕ) (d : Mail) → SameMailbox (get_or boxes m d) (get_or (set boxes i b2) m d))
+same_ok (Ok x) boxes i b b2 l there same = same_boxes boxes i b b2 l there same
+same_ok (Err x) boxes i b b2 l there same = tt
+
+pub rest_always : {T E : Type 0} (r : Result T E) (b b2 : Mail) (ms : List Message) (w : Window) (s : Cursors) → b2 ≡ record b { messages = ms; window = w; cursors = s } → OnOk r (SameMailbox b b2)
+rest_always (Ok x) b b2 ms w s is = same_rest b b2 ms w s is
+rest_always (Err x) b b2 ms w s is = tt
+
+pub rest_ok : {T E : Type 0} (r : Result T E) (b b2 : Mail) (ms : List Message) (w : Window) (s : Cursors) → OnOk r (b2 ≡ record b { messages = ms; window = w; cursors = s }) → OnOk r (SameMailbox b b2)
+rest_ok (Ok x) b b2 ms w s is = same_rest b b2 ms w s is
+rest_ok (Err x) b b2 ms w s is = tt

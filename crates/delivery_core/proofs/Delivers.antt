@@ -11,7 +11,9 @@ use Rattle.world.proofs.Known.{HandKnown, known_always}
 use Rattle.delivery_core.specs.Held.{Held}
 use Rattle.delivery_core.specs.Stands.{EachAt, StandsFor, StandsForBox}
 use Rattle.delivery_core.specs.Boxes.{BoxDelivers, stores, has_no_uid, has_no_place, has_no_memory}
+use Rattle.delivery_core.specs.Seated.{cursors_of}
 use Rattle.delivery_core.proofs.Follow.{each_here, each_set, next_same, reached_step}
+use Rattle.delivery_core.proofs.SeatedLaws.{cursors_same}
 
 -- the copy in a hand is for a mailbox that is there
 pub job_place : (k : Config) (w : World) (old : Held) (s : ℕ) (c : Job) → StandsFor k old w → s < length old.hands → Taken c ≡ get_or old.hands s (Taken c) → c.mailbox < length old.boxes
@@ -24,10 +26,11 @@ job_place k w old s c S ins is =
 stands : (k : Config) (w v : World) (old new : Held) (s : ℕ) (c : Job) (verdict : Verdict) (b : Mail) → StandsFor k old w
     → new.hands ≡ set old.hands s (Done (reply_to c verdict)) → new.boxes ≡ set old.boxes c.mailbox b
     → new.lanes ≡ old.lanes → new.replies ≡ old.replies → new.heard ≡ old.heard → new.next ≡ old.next
-    → v.lane ≡ w.lane → v.replies ≡ w.replies → v.heard ≡ w.heard
+    → new.clients ≡ old.clients → cursors_of (set old.boxes c.mailbox b) ≡ cursors_of old.boxes
+    → v.lane ≡ w.lane → v.replies ≡ w.replies → v.heard ≡ w.heard → v.session ≡ w.session
     → DeliverStep k w s v → EachAt (λ s hand. hand ≡ v.hand s) (set old.hands s (Done (reply_to c verdict))) → EachAt (λ m b. StandsForBox k b (v.box m)) (set old.boxes c.mailbox b)
     → StandsFor k new v
-stands k w v old new s c verdict b S hands boxes lanes replies heard next vl vr vh step hand_at box_at = record {
+stands k w v old new s c verdict b S hands boxes lanes replies heard next clients cursors vl vr vh vs step hand_at box_at = record {
   reached = reached_step k w (Deliver s) v S.reached step;
   shards = ap length lanes ∙ S.shards;
   in_hands = ap length hands ∙ (length-set old.hands s (Done (reply_to c verdict)) ∙ S.in_hands);
@@ -36,6 +39,9 @@ stands k w v old new s c verdict b S hands boxes lanes replies heard next vl vr 
   nexts = ap length next ∙ S.nexts;
   mailboxes = ap length boxes ∙ (length-set old.boxes c.mailbox b ∙ S.mailboxes);
   lanes = rw (lanes, vl) S.lanes;
+  sessions = ap length clients ∙ S.sessions;
+  clients = rw (clients, vs) S.clients;
+  seated = rw (boxes, clients, cursors) S.seated;
   hands = rw hands hand_at;
   replies = rw (replies, vr) S.replies;
   heard = rw (heard, vh) S.heard;
@@ -48,19 +54,23 @@ pub deliver_follows : (k : Config) (w : World) (old new : Held) (s : ℕ) (c : J
     → ((x : Box) → StandsForBox k before x → BoxDelivers k x c verdict b)
     → new.hands ≡ set old.hands s (Done (reply_to c verdict)) → new.boxes ≡ set old.boxes c.mailbox b
     → new.lanes ≡ old.lanes → new.replies ≡ old.replies → new.heard ≡ old.heard → new.next ≡ old.next
+    → new.clients ≡ old.clients → b.cursors ≡ before.cursors
     → (v : World) × Steps k w (Deliver s ∷ []) v × StandsFor k new v
-deliver_follows k w old new s c verdict before b S ins is there does hands boxes lanes replies heard next =
+deliver_follows k w old new s c verdict before b S ins is there does hands boxes lanes replies heard next clients kept =
     go (does (w.box c.mailbox) (rw there (S.boxes c.mailbox before (job_place k w old s c S ins is))))
   where
     was : w.hand s ≡ Taken c
     was = sym (is ∙ S.hands s (Taken c) ins)
+
+    cursors : cursors_of (set old.boxes c.mailbox b) ≡ cursors_of old.boxes
+    cursors = cursors_same old.boxes c.mailbox before b (job_place k w old s c S ins is) there kept
 
     -- the mailbox said no, and its box is as it was
     no : (said : Verdict) → verdict ≡ said → StandsForBox k b (w.box c.mailbox) → DeliverStep k w s (refused w s (reply_to c said)) → (v : World) × Steps k w (Deliver s ∷ []) v × StandsFor k new v
     no said e box step = (
       refused w s (reply_to c said),
       (refused w s (reply_to c said), step, refl),
-      stands k w (refused w s (reply_to c said)) old new s c verdict b S hands boxes lanes replies heard next refl refl refl step
+      stands k w (refused w s (reply_to c said)) old new s c verdict b S hands boxes lanes replies heard next clients cursors refl refl refl refl step
           (each_set (λ a y. a ≡ y) old.hands w.hand s (Done (reply_to c verdict)) (Done (reply_to c said)) S.hands (ap (λ x. Done (reply_to c x)) e))
           (each_here (λ m x. StandsForBox k x (w.box m)) old.boxes c.mailbox b S.boxes box),
     )
@@ -71,7 +81,7 @@ deliver_follows k w old new s c verdict before b S ins is there does hands boxes
         let step : DeliverStep k w s (delivered w s c.mailbox u (reply_to c said)) = delivers c u was has room logs refl in (
           delivered w s c.mailbox u (reply_to c said),
           (delivered w s c.mailbox u (reply_to c said), step, refl),
-          stands k w (delivered w s c.mailbox u (reply_to c said)) old new s c verdict b S hands boxes lanes replies heard next refl refl refl step
+          stands k w (delivered w s c.mailbox u (reply_to c said)) old new s c verdict b S hands boxes lanes replies heard next clients cursors refl refl refl refl step
               (each_set (λ a y. a ≡ y) old.hands w.hand s (Done (reply_to c verdict)) (Done (reply_to c said)) S.hands (ap (λ x. Done (reply_to c x)) e))
               (each_set (λ x y. StandsForBox k x y) old.boxes w.box c.mailbox b u S.boxes box),
         )

@@ -31,9 +31,9 @@ lane_end n room p l l2 w S e = rw e (record {
 pub end_follows : (k : Config) (w : World) (old new : Held) (p s : ℕ) (l l2 : Waits Job) → StandsFor k old w
     → s < length old.lanes → p < length old.replies → l ≡ get_or old.lanes s l → get_or l.live p false ≡ true
     → length l.waiting < l.capacity → l2 ≡ record { capacity = l.capacity; live = set l.live p false; waiting = l.waiting ++ End p ∷ [] }
-    → new.lanes ≡ set old.lanes s l2 → new.hands ≡ old.hands → new.replies ≡ old.replies → new.heard ≡ old.heard → new.boxes ≡ old.boxes → new.next ≡ old.next
+    → new.lanes ≡ set old.lanes s l2 → new.hands ≡ old.hands → new.replies ≡ old.replies → new.heard ≡ old.heard → new.boxes ≡ old.boxes → new.next ≡ old.next → new.clients ≡ old.clients
     → (v : World) × Steps k w (PutEnd p s ∷ []) v × StandsFor k new v
-end_follows k w old new p s l l2 S ins inp there live room ends lanes hands replies heard boxes next =
+end_follows k w old new p s l l2 S ins inp there live room ends lanes hands replies heard boxes next clients =
     let was : StandsForLane k.seats k.depth l (w.lane s) = rw there (S.lanes s l ins) in
     let v : World = puts w s (End p) in
     let step : EndStep k w p s v = end_joins (omega (arith, S.seats)) (omega (arith, S.shards)) (was.live p false (omega (arith, was.producers, S.seats)) ∙ ap not live) (omega (arith, room, was.capacity, ap length was.waiting)) refl in (
@@ -47,6 +47,9 @@ end_follows k w old new p s l l2 S ins inp there live room ends lanes hands repl
         hearing = ap length heard ∙ S.hearing;
         nexts = ap length next ∙ S.nexts;
         mailboxes = ap length boxes ∙ S.mailboxes;
+        sessions = ap length clients ∙ S.sessions;
+        clients = rw clients S.clients;
+        seated = rw (boxes, clients) S.seated;
         lanes = rw lanes (each_set (λ a b. StandsForLane k.seats k.depth a b) old.lanes w.lane s l2 (put (w.lane s) (End p)) S.lanes (lane_end k.seats k.depth p l l2 (w.lane s) was ends));
         hands = rw hands S.hands;
         replies = rw replies S.replies;

@@ -1,4 +1,11 @@
 pub mod Follow
+pub mod SeatedLaws
+pub mod MailBoxes
+pub mod Mailed
+pub mod Calls
+pub mod Shown
+pub mod Gone
+pub mod Looks
 pub mod Boxes
 pub mod Delivers
 pub mod Takes

@@ -1,5 +1,9 @@
 -- A new delivery side stands for the empty world.
-use Rattle.std.proofs.Common.{◌≡◌, ℕ, [], length, map, true, not, refl, sym, ap, ◌∙◌, arith, subst}
+use Rattle.std.proofs.Common.{◌≡◌, ℕ, zero, suc, List, [], length, map, true, not, refl, sym, ap, ◌∙◌, arith, subst, Option, Some, None}
+use Rattle.std.specs.Prelude.{replicate}
+use Rattle.cursor_set.specs.Cursors.{Cursors}
+use Rattle.delivery_core.specs.declared.client.Client.{Client}
+use Rattle.delivery_core.specs.Seated.{AreSeated, client_at, cursors_of}
 use Rattle.std.proofs.lemmas.List.Elements.{All-replicate}
 use Rattle.std.proofs.lemmas.List.{length-replicate}
 use Rattle.shard_queue.specs.Lane.{empty_lane, has_end}
@@ -8,8 +12,24 @@ use Rattle.world.specs.declared.hand.Hand.TheVariants.{Empty}
 use Rattle.world.specs.World.{Config, empty_world, reply_room}
 use Rattle.delivery_core.specs.Held.{Held}
 use Rattle.delivery_core.specs.New.{new_lane, first_key, IsNewBox}
-use Rattle.delivery_core.specs.Stands.{EachAt, StandsFor, StandsForLane, text_of}
+use Rattle.delivery_core.specs.Stands.{EachAt, StandsFor, StandsForLane, StandsForPlace, text_of}
 use Rattle.world.specs.Law.{IsPart, none}
+
+client_none : (sessions n : ℕ) → client_at (replicate sessions None) n ≡ None
+client_none zero n = refl
+client_none (suc sessions) zero = refl
+client_none (suc sessions) (suc n) = client_none sessions n
+
+no_client : (sessions n : ℕ) (c : Client) → client_at (replicate sessions None) n ≡ Some c → ⊥
+no_client sessions n c e = let none : Some c ≡ None = sym e ∙ client_none sessions n in cc
+
+-- where there is no client, each has its cursor
+pub seated_none : (all : List Cursors) (sessions : ℕ) → AreSeated all (replicate sessions None)
+seated_none all sessions = record {
+  there = λ n c e. absurd (no_client sessions n c e);
+  known = λ n c e. absurd (no_client sessions n c e);
+  apart = λ m n c d e f other same. absurd (no_client sessions m c e);
+}
 
 lane_new : {T : Type 0} (l : Waits T) (count room producers : ℕ) → producers ≡ count → l ≡ new_lane room producers → StandsForLane count room l empty_lane
 lane_new l count room producers e is = rw is (record {
@@ -19,12 +39,12 @@ lane_new l count room producers e is = rw is (record {
   live = λ p d h. All-replicate (λ live. has_end {A = ℕ} [] ≡ not live) producers true refl p d h;
 })
 
-pub new_stands : (k : Config) (h : Held) (seats shards mailboxes depth uidvalidity most : ℕ) → k.seats ≡ seats → k.shards ≡ shards → k.mailboxes ≡ mailboxes → k.depth ≡ depth
+pub new_stands : (k : Config) (h : Held) (seats shards mailboxes depth most sessions : ℕ) → k.seats ≡ seats → k.shards ≡ shards → k.mailboxes ≡ mailboxes → k.depth ≡ depth
     → length h.lanes ≡ shards → EachAt (λ i l. l ≡ new_lane depth seats) h.lanes → length h.hands ≡ shards → EachAt (λ i x. x ≡ Empty) h.hands
     → length h.replies ≡ seats → EachAt (λ i l. l ≡ new_lane 128 shards) h.replies → length h.heard ≡ seats → EachAt (λ i b. b.notes ≡ []) h.heard
-    → length h.boxes ≡ mailboxes → EachAt (λ i b. IsNewBox i uidvalidity k.first_uid k.messages k.ring most b) h.boxes → length h.next ≡ seats → EachAt (λ p y. y ≡ first_key p) h.next
-    → StandsFor k h empty_world
-new_stands k h seats shards mailboxes depth uidvalidity most ks kh km kd a1 a2 b1 b2 c1 c2 d1 d2 e1 e2 f1 f2 = record {
+    → length h.boxes ≡ mailboxes → EachAt (λ i b. IsNewBox i k.uidvalidity k.first_uid k.messages k.ring most b) h.boxes → length h.next ≡ seats → EachAt (λ p y. y ≡ first_key p) h.next
+    → k.sessions ≡ sessions → h.clients ≡ replicate sessions None → StandsFor k h empty_world
+new_stands k h seats shards mailboxes depth most sessions ks kh km kd a1 a2 b1 b2 c1 c2 d1 d2 e1 e2 f1 f2 kn g = record {
   reached = ([], refl);
   shards = a1 ∙ sym kh;
   in_hands = b1 ∙ sym kh;
@@ -32,11 +52,14 @@ new_stands k h seats shards mailboxes depth uidvalidity most ks kh km kd a1 a2 b
   hearing = d1 ∙ sym ks;
   nexts = f1 ∙ sym ks;
   mailboxes = e1 ∙ sym km;
+  sessions = ap length g ∙ (length-replicate sessions None ∙ sym kn);
+  clients = rw g (λ n d l. All-replicate (λ (c : Option Client). StandsForPlace c None) sessions None tt n d l);
+  seated = rw g (seated_none (cursors_of h.boxes) sessions);
   lanes = λ i d l. lane_new _ k.seats k.depth seats (sym ks) (a2 i d l ∙ ap (λ n. new_lane n seats) (sym kd));
   hands = b2;
   replies = λ i d l. lane_new _ k.shards reply_room shards (sym kh) (c2 i d l);
   heard = d2;
-  boxes = λ i d l. let b : IsNewBox i uidvalidity k.first_uid k.messages k.ring most _ = e2 i d l in
-      record { log = b.log; base = ap (λ w. w.base) b.window; accepted = b.accepted; texts = subst (λ ms. IsPart (map text_of ms) []) (sym b.empty) none; first_uid = b.first; messages = b.limit; ring = omega (arith, ap (λ w. w.capacity) b.window) };
+  boxes = λ i d l. let b : IsNewBox i k.uidvalidity k.first_uid k.messages k.ring most _ = e2 i d l in
+      record { log = b.log; base = ap (λ w. w.base) b.window; accepted = b.accepted; texts = subst (λ ms. IsPart (map text_of ms) []) (sym b.empty) none; first_uid = b.first; uidvalidity = b.validity; messages = b.limit; ring = omega (arith, ap (λ w. w.capacity) b.window) };
   next = λ p d l. rw (f2 p d l) (record { own = refl; sent = λ t j e m. absurd (omega arith); heard = λ j e m. absurd (omega arith) });
 }

@@ -129,11 +129,11 @@ pub put_follows : (k : Config) (w : World) (old new : Held) (s : ℕ) (c : Job) 
     → AtLeast (get_or old.next c.key.seat c.key) c.key → c.mailbox < length old.boxes → s ≡ c.mailbox % length old.lanes
     → book0 ≡ get_or old.heard c.key.seat book0 → book1.notes ≡ book0.notes → LanePuts l c.key.seat c l2 None
     → new.lanes ≡ set old.lanes s l2 → new.heard ≡ set old.heard c.key.seat book1 → new.next ≡ set old.next c.key.seat (past c.key)
-    → new.hands ≡ old.hands → new.replies ≡ old.replies → new.boxes ≡ old.boxes
+    → new.hands ≡ old.hands → new.replies ≡ old.replies → new.boxes ≡ old.boxes → new.clients ≡ old.clients
     → (v : World) × Steps k w (Put c.key.seat s c ∷ []) v × StandsFor k new v
-put_follows k w old new s c l l2 book0 book1 S ins there live inp least box shard first kept (has_no_room h e same) lanes heard next hands replies boxes = absurd (cc)
-put_follows k w old new s c l l2 book0 book1 S ins there live inp least box shard first kept (has_no_memory e same) lanes heard next hands replies boxes = absurd (cc)
-put_follows k w old new s c l l2 book0 book1 S ins there live inp least box shard first kept (joins room e put_it) lanes heard next hands replies boxes =
+put_follows k w old new s c l l2 book0 book1 S ins there live inp least box shard first kept (has_no_room h e same) lanes heard next hands replies boxes clients = absurd (cc)
+put_follows k w old new s c l l2 book0 book1 S ins there live inp least box shard first kept (has_no_memory e same) lanes heard next hands replies boxes clients = absurd (cc)
+put_follows k w old new s c l l2 book0 book1 S ins there live inp least box shard first kept (joins room e put_it) lanes heard next hands replies boxes clients =
     let p : ℕ = c.key.seat in
     let was : StandsForLane k.seats k.depth l (w.lane s) = rw there (S.lanes s l ins) in
     let may : MayPut k w p s c = may_put k w old s c l S ins there live inp least box shard in
@@ -148,6 +148,9 @@ put_follows k w old new s c l l2 book0 book1 S ins there live inp least box shar
         hearing = ap length heard ∙ (length-set old.heard p book1 ∙ S.hearing);
         nexts = ap length next ∙ (length-set old.next p (past c.key) ∙ S.nexts);
         mailboxes = ap length boxes ∙ S.mailboxes;
+        sessions = ap length clients ∙ S.sessions;
+        clients = rw clients S.clients;
+        seated = rw (boxes, clients) S.seated;
         lanes = rw lanes (each_set (λ a b. StandsForLane k.seats k.depth a b) old.lanes w.lane s l2 (put (w.lane s) (Item p c)) S.lanes (lane_put k.seats k.depth p c l l2 (w.lane s) was put_it));
         hands = rw hands S.hands;
         replies = rw replies S.replies;
@@ -164,9 +167,9 @@ pub refused_follows : (k : Config) (w : World) (old new : Held) (s : ℕ) (c : J
     → book0 ≡ get_or old.heard c.key.seat book0 → book1.notes ≡ book0.notes → book2 ≡ get_or (set old.heard c.key.seat book1) c.key.seat book2 → book3.notes ≡ book2.notes ++ reply_to c (Refused why) ∷ []
     → LanePuts l c.key.seat c l2 (Some why)
     → new.lanes ≡ set old.lanes s l2 → new.heard ≡ set (set old.heard c.key.seat book1) c.key.seat book3 → new.next ≡ set old.next c.key.seat (past c.key)
-    → new.hands ≡ old.hands → new.replies ≡ old.replies → new.boxes ≡ old.boxes
+    → new.hands ≡ old.hands → new.replies ≡ old.replies → new.boxes ≡ old.boxes → new.clients ≡ old.clients
     → (v : World) × Steps k w (Put c.key.seat s c ∷ []) v × StandsFor k new v
-refused_follows k w old new s c why l l2 book0 book1 book2 book3 S ins there live inp least box shard first kept second noted does lanes heard next hands replies boxes = go does
+refused_follows k w old new s c why l l2 book0 book1 book2 book3 S ins there live inp least box shard first kept second noted does lanes heard next hands replies boxes clients = go does
   where
     p : ℕ
     p = c.key.seat
@@ -198,6 +201,9 @@ refused_follows k w old new s c why l l2 book0 book1 book2 book3 S ins there liv
         hearing = ap length heard ∙ (length-set (set old.heard c.key.seat book1) c.key.seat book3 ∙ (length-set old.heard c.key.seat book1 ∙ S.hearing));
         nexts = ap length next ∙ (length-set old.next c.key.seat (past c.key) ∙ S.nexts);
         mailboxes = ap length boxes ∙ S.mailboxes;
+        sessions = ap length clients ∙ S.sessions;
+        clients = rw clients S.clients;
+        seated = rw (boxes, clients) S.seated;
         lanes = rw lanes (rw (← (sym (ap (set old.lanes s) same ∙ set_back old.lanes s l ins there))) S.lanes);
         hands = rw hands S.hands;
         replies = rw replies S.replies;

@@ -46,9 +46,9 @@ pub take_follows : (k : Config) (w : World) (old new : Held) (s : ℕ) (l l2 : W
     → s < length old.lanes → s < length old.hands → Empty ≡ get_or old.hands s Empty → l ≡ get_or old.lanes s l
     → l ≡ record { capacity = l2.capacity; live = l2.live; waiting = before_taking t l2.waiting } → Some hand ≡ option_map in_hand (taken_entry t)
     → new.lanes ≡ set old.lanes s l2 → new.hands ≡ set old.hands s hand
-    → new.replies ≡ old.replies → new.heard ≡ old.heard → new.boxes ≡ old.boxes → new.next ≡ old.next
+    → new.replies ≡ old.replies → new.heard ≡ old.heard → new.boxes ≡ old.boxes → new.next ≡ old.next → new.clients ≡ old.clients
     → (v : World) × Steps k w (Take s ∷ []) v × StandsFor k new v
-take_follows k w old new s l l2 t hand S ins inh is there front held lanes hands replies heard boxes next =
+take_follows k w old new s l l2 t hand S ins inh is there front held lanes hands replies heard boxes next clients =
     let got : (e : Entry Job) × (before_taking t l2.waiting ≡ e ∷ l2.waiting) × (hand ≡ in_hand e) = from_taken t hand l2.waiting held in
     let e : Entry Job = got.0 in
     let was : StandsForLane k.seats k.depth l (w.lane s) = rw there (S.lanes s l ins) in
@@ -65,6 +65,9 @@ take_follows k w old new s l l2 t hand S ins inh is there front held lanes hands
         hearing = ap length heard ∙ S.hearing;
         nexts = ap length next ∙ S.nexts;
         mailboxes = ap length boxes ∙ S.mailboxes;
+        sessions = ap length clients ∙ S.sessions;
+        clients = rw clients S.clients;
+        seated = rw (boxes, clients) S.seated;
         lanes = rw lanes (each_set (λ a b. StandsForLane k.seats k.depth a b) old.lanes w.lane s l2 (took (w.lane s) e l2.waiting) S.lanes
             (record { capacity = sym (ap (λ x. x.capacity) front) ∙ was.capacity; producers = sym (ap (λ x. length x.live) front) ∙ was.producers; waiting = refl; live = subst (λ xs. EachAt (λ p live. has_end ((w.lane s).sent p) ≡ not live) xs) (ap (λ x. x.live) front) was.live }));
         hands = rw hands (each_set (λ a b. a ≡ b) old.hands w.hand s hand (in_hand e) S.hands got.2);
@@ -112,9 +115,9 @@ pub answer_follows : (k : Config) (w : World) (old new : Held) (s : ℕ) (r : No
     → s < length old.hands → Done r ≡ get_or old.hands s (Done r) → r.key.seat < length old.replies → l ≡ get_or old.replies r.key.seat l
     → length l.waiting < l.capacity → l2 ≡ record { capacity = l.capacity; live = l.live; waiting = l.waiting ++ Item s r ∷ [] }
     → new.hands ≡ set old.hands s Empty → new.replies ≡ set old.replies r.key.seat l2
-    → new.lanes ≡ old.lanes → new.heard ≡ old.heard → new.boxes ≡ old.boxes → new.next ≡ old.next
+    → new.lanes ≡ old.lanes → new.heard ≡ old.heard → new.boxes ≡ old.boxes → new.next ≡ old.next → new.clients ≡ old.clients
     → (v : World) × Steps k w (Answer s ∷ []) v × StandsFor k new v
-answer_follows k w old new s r l l2 S inh is inp there room puts hands replies lanes heard boxes next =
+answer_follows k w old new s r l l2 S inh is inp there room puts hands replies lanes heard boxes next clients =
     let p : ℕ = r.key.seat in
     let was : StandsForLane k.shards reply_room l (w.replies p) = rw there (S.replies p l inp) in
     let v : World = record w { hand = set_at w.hand s Empty; replies = set_at w.replies p (put (w.replies p) (Item s r)) } in
@@ -129,6 +132,9 @@ answer_follows k w old new s r l l2 S inh is inp there room puts hands replies l
         hearing = ap length heard ∙ S.hearing;
         nexts = ap length next ∙ S.nexts;
         mailboxes = ap length boxes ∙ S.mailboxes;
+        sessions = ap length clients ∙ S.sessions;
+        clients = rw clients S.clients;
+        seated = rw (boxes, clients) S.seated;
         lanes = rw lanes S.lanes;
         hands = rw hands (each_set (λ a b. a ≡ b) old.hands w.hand s Empty Empty S.hands refl);
         replies = rw replies (each_set (λ a b. StandsForLane k.shards reply_room a b) old.replies w.replies p l2 (put (w.replies p) (Item s r)) S.replies (lane_put k.shards reply_room s r l l2 (w.replies p) was puts));
@@ -156,9 +162,9 @@ pub hear_follows : (k : Config) (w : World) (old new : Held) (p s : ℕ) (r : No
     → p < length old.replies → p < length old.heard → l ≡ get_or old.replies p l → l ≡ record { capacity = l2.capacity; live = l2.live; waiting = Item s r ∷ l2.waiting }
     → book0 ≡ get_or old.heard p book0 → book1.notes ≡ book0.notes → book2 ≡ get_or (set old.heard p book1) p book2 → book3.notes ≡ book2.notes ++ r ∷ []
     → new.replies ≡ set old.replies p l2 → new.heard ≡ set (set old.heard p book1) p book3
-    → new.lanes ≡ old.lanes → new.hands ≡ old.hands → new.boxes ≡ old.boxes → new.next ≡ old.next
+    → new.lanes ≡ old.lanes → new.hands ≡ old.hands → new.boxes ≡ old.boxes → new.next ≡ old.next → new.clients ≡ old.clients
     → (v : World) × Steps k w (Hear p ∷ []) v × StandsFor k new v
-hear_follows k w old new p s r l l2 book0 book1 book2 book3 S inp inh there front first kept second noted replies heard lanes hands boxes next =
+hear_follows k w old new p s r l l2 book0 book1 book2 book3 S inp inh there front first kept second noted replies heard lanes hands boxes next clients =
     let was : StandsForLane k.shards reply_room l (w.replies p) = rw there (S.replies p l inp) in
     let waits : (w.replies p).waiting ≡ Item s r ∷ l2.waiting = sym was.waiting ∙ ap (λ x. x.waiting) front in
     let v : World = record w { replies = set_at w.replies p (took (w.replies p) (Item s r) l2.waiting); heard = set_at w.heard p (w.heard p ++ r ∷ []) } in
@@ -176,6 +182,9 @@ hear_follows k w old new p s r l l2 book0 book1 book2 book3 S inp inh there fron
         hearing = ap length heard ∙ (length-set (set old.heard p book1) p book3 ∙ (length-set old.heard p book1 ∙ S.hearing));
         nexts = ap length next ∙ S.nexts;
         mailboxes = ap length boxes ∙ S.mailboxes;
+        sessions = ap length clients ∙ S.sessions;
+        clients = rw clients S.clients;
+        seated = rw (boxes, clients) S.seated;
         lanes = rw lanes S.lanes;
         hands = rw hands S.hands;
         replies = rw replies (each_set (λ a b. StandsForLane k.shards reply_room a b) old.replies w.replies p l2 (took (w.replies p) (Item s r) l2.waiting) S.replies

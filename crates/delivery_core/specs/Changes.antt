@@ -14,6 +14,7 @@ pub record SameCounts (old new : Held) : Type 0 where
   pub heard : length new.heard ≡ length old.heard
   pub boxes : length new.boxes ≡ length old.boxes
   pub next : length new.next ≡ length old.next
+  pub clients : length new.clients ≡ length old.clients
 
 -- the seat heard these verdicts after all that it had heard, and no other seat heard any
 pub record Hears (old new : Held) (seat : ℕ) (more : List Noted) : Type 0 where
@@ -24,3 +25,11 @@ pub record Hears (old new : Held) (seat : ℕ) (more : List Noted) : Type 0 wher
 abbrev pub heard_at_once : CopyKey → ℕ → Option Refusal → List Noted
 heard_at_once key mailbox None = []
 heard_at_once key mailbox (Some why) = record { key = key; mailbox = mailbox; verdict = Refused why } ∷ []
+
+-- nothing changed of what lies between seats and mailboxes
+pub record SameDelivery (old new : Held) : Type 0 where
+  pub lanes : new.lanes ≡ old.lanes
+  pub hands : new.hands ≡ old.hands
+  pub replies : new.replies ≡ old.replies
+  pub heard : new.heard ≡ old.heard
+  pub next : new.next ≡ old.next

@@ -1,6 +1,6 @@
 -- What the delivery side holds, as lists: for each shard its lane and its hand, for each seat its reply lane, what it heard and the least
--- key that it may use next, and the mailboxes.
-use Rattle.std.specs.Prelude.{ℕ, Bool, false, not, List, [], map, slice_index_or}
+-- key that it may use next, the mailboxes, and for each session the client that it has, where it entered a mailbox.
+use Rattle.std.specs.Prelude.{ℕ, Bool, false, not, List, [], map, slice_index_or, Option, Some, None}
 use Rattle.std.specs.List.{list_any}
 use Rattle.delivery_token.specs.declared.CopyKey.{CopyKey}
 use Rattle.delivery_token.specs.declared.Job.{Job}
@@ -9,6 +9,11 @@ use Rattle.delivery_token.specs.Book.{Book}
 use Rattle.shard_queue.specs.Waits.{Waits}
 use Rattle.mailbox.specs.Mail.{Mail}
 use Rattle.world.specs.declared.hand.Hand.{Hand}
+use Rattle.change_ring.specs.declared.change.Change.{Change}
+use Rattle.change_ring.specs.Window.{Window, changes_from}
+use Rattle.cursor_set.specs.Cursors.{Open}
+use Rattle.delivery_core.specs.declared.client.Client.{Client}
+use Rattle.delivery_core.specs.Seated.{client_at, cursor_of, cursors_of}
 
 pub record Held : Type 0 where
   pub lanes : List (Waits Job)
@@ -17,6 +22,7 @@ pub record Held : Type 0 where
   pub heard : List Book
   pub boxes : List Mail
   pub next : List CopyKey
+  pub clients : List (Option Client)
 
 -- the verdicts that a seat has heard, in order
 abbrev pub notes_of : Held → ℕ → List Noted
@@ -29,3 +35,34 @@ is_ended seat l = not (slice_index_or l.live seat false)
 -- whether a seat has put its end into some lane
 abbrev pub has_ended : Held → ℕ → Bool
 has_ended h seat = list_any (is_ended seat) h.lanes
+
+-- the client of a session
+abbrev pub client_of : Held → ℕ → Option Client
+client_of h session = client_at h.clients session
+
+-- the UIDs that a cursor's client counts; none where there is no cursor
+abbrev pub view_in : Option Open → List ℕ
+view_in None = []
+view_in (Some o) = o.view
+
+-- the UIDs that a client was shown; none where there is no client
+abbrev pub shown_to : Held → Option Client → List ℕ
+shown_to h None = []
+shown_to h (Some c) = view_in (cursor_of (cursors_of h.boxes) c)
+
+-- the UIDs that a session was shown, of the mailbox that it entered
+abbrev pub view_of : Held → ℕ → List ℕ
+view_of h session = shown_to h (client_of h session)
+
+-- the last changes of the mailbox of this number; none where it is not there
+abbrev pub window_at : List Mail → ℕ → Window
+window_at boxes mailbox = slice_index_or (map (λ (b : Mail). b.window) boxes) mailbox (record { base = 0; changes = []; capacity = 0; max = 0 })
+
+-- the changes that a client is still to be shown, as its mailbox has them
+abbrev pub pending_in : Held → Option Client → List Change
+pending_in h None = []
+pending_in h (Some c) = changes_from c.seat.at (window_at h.boxes c.mailbox)
+
+-- the changes that a session is still to be shown
+abbrev pub pending_for : Held → ℕ → List Change
+pending_for h session = pending_in h (client_of h session)

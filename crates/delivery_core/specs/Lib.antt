@@ -1,3 +1,4 @@
+pub mod Seated
 pub mod Held
 pub mod Stands
 pub mod Changes
@@ -6,3 +7,4 @@ pub mod Boxes
 pub mod Puts
 pub mod New
 pub mod Settled
+pub mod Clients

@@ -11,3 +11,5 @@ pub record IsFor (k : Config) (s : Settings) : Type 0 where
   pub messages : k.messages ≡ s.limits.messages
   pub ring : k.ring ≡ s.limits.ring
   pub first_uid : k.first_uid ≡ s.first_uid
+  pub uidvalidity : k.uidvalidity ≡ s.uidvalidity
+  pub sessions : k.sessions ≡ s.sessions

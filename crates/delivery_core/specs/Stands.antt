@@ -1,6 +1,6 @@
 -- When the delivery side stands for a world: what it holds is that world's. The rest of the world, all that was ever sent, taken and
 -- logged, it need not hold.
-use Rattle.std.specs.Prelude.{◌≡◌, ℕ, ◌<◌, ◌≤◌, ◌++◌, not, List, length, map, slice_index_or, All}
+use Rattle.std.specs.Prelude.{◌≡◌, ℕ, ◌<◌, ◌≤◌, ◌++◌, not, List, length, map, slice_index_or, All, Option, Some, None}
 use Rattle.shard_queue.specs.Lane.{Lane, has_end}
 use Rattle.delivery_token.specs.Keys.{Below}
 use Rattle.delivery_token.specs.declared.CopyKey.{CopyKey}
@@ -8,8 +8,10 @@ use Rattle.delivery_token.specs.declared.Job.{Job}
 use Rattle.shard_queue.specs.Waits.{Waits}
 use Rattle.mailbox.specs.Mail.{Mail, Message}
 use Rattle.mailbox.specs.Stands.{Stands}
-use Rattle.world.specs.World.{Config, World, Box, Event, Step, Steps, IsWorld, EntryBelow, reply_room}
+use Rattle.world.specs.World.{Config, World, Box, Session, Event, Step, Steps, IsWorld, EntryBelow, reply_room}
 use Rattle.world.specs.Law.{Headline, IsPart, pairs}
+use Rattle.delivery_core.specs.declared.client.Client.{Client}
+use Rattle.delivery_core.specs.Seated.{AreSeated, cursors_of}
 use Rattle.delivery_core.specs.Held.{Held}
 
 -- P holds of each place and the element there
@@ -39,8 +41,21 @@ pub record StandsForBox (k : Config) (b : Mail) (w : Box) : Type 0 where
   -- each message has the text of the copy that was accepted under its UID
   pub texts : IsPart (map text_of b.messages) (map accepted_text w.accepted)
   pub first_uid : b.first_uid ≡ k.first_uid
+  pub uidvalidity : b.uidvalidity ≡ k.uidvalidity
   pub messages : b.limit ≡ k.messages
   pub ring : k.ring ≤ b.window.capacity
+
+-- the client is the session's: in its mailbox, with its cursor
+pub record StandsForClient (c : Client) (s : Session) : Type 0 where
+  pub mailbox : c.mailbox ≡ s.mailbox
+  pub cursor : c.seat.at ≡ s.cursor
+
+-- a client is where a session has selected, and no other
+abbrev pub StandsForPlace : Option Client → Option Session → Type 0
+StandsForPlace None None = Unit {0}
+StandsForPlace (Some c) (Some s) = StandsForClient c s
+StandsForPlace None (Some s) = ⊥
+StandsForPlace (Some c) None = ⊥
 
 -- each key that seat p has sent or heard of is below y
 pub record IsNext (w : World) (p : ℕ) (y : CopyKey) : Type 0 where
@@ -61,6 +76,7 @@ pub record StandsFor (k : Config) (h : Held) (w : World) : Type 0 where
   pub hearing : length h.heard ≡ k.seats
   pub nexts : length h.next ≡ k.seats
   pub mailboxes : length h.boxes ≡ k.mailboxes
+  pub sessions : length h.clients ≡ k.sessions
   -- and each is as the world has it
   pub lanes : EachAt (λ s l. StandsForLane k.seats k.depth l (w.lane s)) h.lanes
   pub hands : EachAt (λ s hand. hand ≡ w.hand s) h.hands
@@ -68,6 +84,9 @@ pub record StandsFor (k : Config) (h : Held) (w : World) : Type 0 where
   pub heard : EachAt (λ p book. book.notes ≡ w.heard p) h.heard
   pub boxes : EachAt (λ m b. StandsForBox k b (w.box m)) h.boxes
   pub next : EachAt (λ p y. IsNext w p y) h.next
+  pub clients : EachAt (λ n c. StandsForPlace c (w.session n)) h.clients
+  -- and each client has its cursor
+  pub seated : AreSeated (cursors_of h.boxes) h.clients
 
 -- From each world that the old one stood for, these events lead to one that the new one stands for.
 abbrev pub Follows : Config → Held → List Event → Held → Type 0

@@ -2,6 +2,8 @@
 //! call one event of the world. No connection, no session and no output stands here.
 #![tactic(auto)]
 
+mod client;
+mod clients;
 mod make;
 mod steps;
 

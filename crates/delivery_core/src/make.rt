@@ -1,11 +1,12 @@
 //! The parts of a new delivery side, each made of as many as the settings say. What they do later is
 //! told in `steps`.
 
-ghost use Rattle.std.specs.Prelude.{max, ◌≡◌, ◌<◌, [], length, replicate, true, IfOk};
+ghost use Rattle.std.specs.Prelude.{max, ◌≡◌, ◌<◌, [], length, replicate, true, IfOk, None};
 ghost use Rattle.mailbox.specs.Stands.{Stands};
 ghost use Rattle.delivery_core.specs.Stands.{EachAt};
 ghost use Rattle.delivery_core.specs.New.{first_key, new_lane, IsNewBox};
 
+use crate::client::Client;
 use delivery_token::{CopyKey, WorkerLog};
 use mailbox::{Limits, Mailbox};
 use shard_queue::PlainLane;
@@ -82,4 +83,14 @@ pub fn new_boxes(
         boxes.push(Mailbox::new(alloc, number, uidvalidity, first_uid, limits)?)?;
     }
     Ok(boxes)
+}
+
+pub fn no_clients(alloc: Global, count: usize) -> Result<Vec<Option<Client>>, AllocError>
+    ensures { IfOk result (λ v. v.items ≡ replicate count None) }
+{
+    let mut clients = Vec::new(alloc);
+    for _place in 0..count {
+        clients.push(None)?;
+    }
+    Ok(clients)
 }

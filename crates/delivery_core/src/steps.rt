@@ -1,12 +1,13 @@
 //! Lanes, hands, reply lanes, heard verdicts and mailboxes, on one thread. Each call is one event of
 //! the world. No connection, no session and no output stands here.
 
-ghost use Rattle.std.specs.Prelude.{max, ◌≡◌, ℕ, ◌⊎◌, ◌%◌, ◌+◌, ◌++◌, ◌<◌, ◌≤◌, ◌↔◌, [], ◌∷◌, length, OnOk, OnErr, Err, IfOk, IfSome, IsSome, IsTrue, option_map, slice_index_or, slice_set};
+ghost use Rattle.std.specs.Prelude.{max, replicate, None, ◌≡◌, ℕ, ◌⊎◌, ◌%◌, ◌+◌, ◌++◌, ◌<◌, ◌≤◌, ◌↔◌, [], ◌∷◌, length, OnOk, OnErr, Err, IfOk, IfSome, IsSome, IsTrue, option_map, slice_index_or, slice_set};
 ghost use Rattle.world.specs.World.{Answer, Box, Config, Deliver, Hear, Put, PutEnd, Take, empty_world, in_hand};
 ghost use Rattle.shard_queue.specs.Plain.{MayPutMore, taken_entry};
 ghost use Rattle.delivery_core.specs.Changes.{Hears, SameCounts, heard_at_once};
 ghost use Rattle.delivery_core.specs.Held.{has_ended, is_ended};
 ghost use Rattle.delivery_core.specs.Load.{load};
+ghost use Rattle.delivery_core.specs.Seated.{cursors_of};
 ghost use Rattle.delivery_core.specs.Puts.{AtLeast, IsNextKey, LanePuts, past};
 ghost use Rattle.delivery_core.specs.Stands.{EachAt, Follows, Idle, Lives, StandsFor, StandsForBox};
 ghost use Rattle.delivery_core.specs.Boxes.{verdict_of, BoxDelivers};
@@ -16,7 +17,8 @@ ghost use Rattle.delivery_token.specs.Book.{Book};
 ghost use Rattle.delivery_token.specs.declared.CopyKey.{CopyKey};
 ghost use Rattle.mailbox.specs.Mail.{Mail, SameMailbox};
 
-use crate::make::{empty_hands, first_keys, new_boxes, new_lanes, new_logs};
+use crate::client::Client;
+use crate::make::{empty_hands, first_keys, new_boxes, new_lanes, new_logs, no_clients};
 use change_ring::Change;
 use delivery_token::{CopyKey, Job, Noted, Refusal, Text, Verdict, WorkerLog, precedes};
 use mailbox::{Limits, Mailbox, Receipt};
@@ -38,7 +40,8 @@ pub enum Fault {
 
 /// What lies between the seats that put copies and the mailboxes that take them: for each shard a
 /// lane and what its consumer has in its hand, for each seat a reply lane, the verdicts that it has
-/// heard and the least key that it may use next, and the mailboxes. The copies for a mailbox pass
+/// heard and the least key that it may use next, the mailboxes, and for each session a place for
+/// the client that it has in the mailbox that it entered. The copies for a mailbox pass
 /// through the shard of its number modulo the number of shards.
 #[derive(Drop)]
 pub struct DeliveryCore {
@@ -46,19 +49,21 @@ pub struct DeliveryCore {
     hands: Vec<Hand>,
     replies: Vec<PlainLane<Noted>>,
     heard: Vec<WorkerLog>,
-    boxes: Vec<Mailbox>,
+    pub(crate) boxes: Vec<Mailbox>,
     next: Vec<CopyKey>,
+    pub(crate) clients: Vec<Option<Client>>,
 }
 
 impl Model for DeliveryCore {
     ghost use Rattle.std.specs.Prelude.{◌≡◌, length};
     ghost use Rattle.delivery_core.specs.Held.{Held};
+    ghost use Rattle.delivery_core.specs.Seated.{AreSeated, cursors_of};
 
     ghost Value = { Held };
 
-    ghost view = { λ p. record { lanes = p.lanes.items; hands = p.hands.items; replies = p.replies.items; heard = p.heard.items; boxes = p.boxes.items; next = p.next.items } };
+    ghost view = { λ p. record { lanes = p.lanes.items; hands = p.hands.items; replies = p.replies.items; heard = p.heard.items; boxes = p.boxes.items; next = p.next.items; clients = p.clients.items } };
 
-    ghost invariant = { λ p. (length p.hands.items ≡ length p.lanes.items) × (length p.heard.items ≡ length p.replies.items) × (length p.next.items ≡ length p.replies.items) };
+    ghost invariant = { λ p. (length p.hands.items ≡ length p.lanes.items) × (length p.heard.items ≡ length p.replies.items) × (length p.next.items ≡ length p.replies.items) × AreSeated (cursors_of p.boxes.items) p.clients.items };
 }
 
 // Whether a seat may put no more into this lane.
@@ -82,6 +87,7 @@ fn verdict_of(answer: Result<Receipt, Refusal>) -> Verdict
 fn deliver_to(mailbox: &mut Mailbox, job: &Job) -> Verdict
     ensures delivers { (k : Config) (w : Box) → StandsForBox k mailbox.old w → BoxDelivers k w job.now result mailbox.new }
     ensures same { SameMailbox mailbox.old mailbox.new }
+    ensures cursors { mailbox.new.cursors ≡ mailbox.old.cursors }
 {
     verdict_of(mailbox.deliver(job))
 }
@@ -127,6 +133,8 @@ pub struct Settings {
     pub first_uid: u32,
     /// How much each mailbox keeps.
     pub limits: Limits,
+    /// So many sessions may have entered a mailbox at a time, each at a place of its own.
+    pub sessions: usize,
 }
 
 // So many verdicts have room in a reply lane.
@@ -142,6 +150,7 @@ impl DeliveryCore {
         ensures shards { IfOk result (λ h. length h.lanes ≡ settings.shards) }
         ensures mailboxes { IfOk result (λ h. length h.boxes ≡ settings.mailboxes) }
         ensures boxes { IfOk result (λ h. EachAt (λ m b. IsNewBox m settings.uidvalidity settings.first_uid settings.limits.messages settings.limits.ring (max settings.limits.ring settings.limits.ring_max) b) h.boxes) }
+        ensures clients { IfOk result (λ h. h.clients ≡ replicate settings.sessions None) }
         ensures next { IfOk result (λ h. (p : ℕ) (d : CopyKey) → p < settings.seats → slice_index_or h.next p d ≡ first_key p) }
     {
         Ok(DeliveryCore {
@@ -157,6 +166,7 @@ impl DeliveryCore {
                 settings.limits,
             )?,
             next: first_keys(alloc, settings.seats)?,
+            clients: no_clients(alloc, settings.sessions)?,
         })
     }
 
@@ -194,6 +204,7 @@ impl DeliveryCore {
         ensures idle { result ≡ Err Fault.Nothing → (k : Config) → Idle k self.old (Put key.seat (mailbox % length self.old.lanes) (record { key = key; mailbox = mailbox; text = text.now })) }
         ensures heard { IfOk result (λ why. Hears self.old self.new key.seat (heard_at_once key mailbox why)) }
         ensures boxes { self.new.boxes ≡ self.old.boxes }
+        ensures clients { self.new.clients ≡ self.old.clients }
         ensures counts { SameCounts self.old self.new }
         ensures load { OnOk result (load self.new ≤ load self.old + 4) }
         ensures refused { OnErr result (self.new ≡ self.old) }
@@ -245,6 +256,7 @@ impl DeliveryCore {
         ensures heard { self.new.heard ≡ self.old.heard }
         ensures next { self.new.next ≡ self.old.next }
         ensures boxes { self.new.boxes ≡ self.old.boxes }
+        ensures clients { self.new.clients ≡ self.old.clients }
         ensures counts { SameCounts self.old self.new }
         ensures load { OnOk result (load self.new ≡ load self.old + 1) }
         ensures refused { OnErr result (self.new ≡ self.old) }
@@ -273,6 +285,7 @@ impl DeliveryCore {
         ensures heard { self.new.heard ≡ self.old.heard }
         ensures next { self.new.next ≡ self.old.next }
         ensures boxes { self.new.boxes ≡ self.old.boxes }
+        ensures clients { self.new.clients ≡ self.old.clients }
         ensures counts { SameCounts self.old self.new }
         ensures load { OnOk result (load self.new < load self.old) }
         ensures refused { OnErr result (self.new ≡ self.old) }
@@ -303,7 +316,9 @@ impl DeliveryCore {
         ensures idle { result ≡ Err Fault.Nothing → (k : Config) → Idle k self.old (Deliver shard) }
         ensures heard { self.new.heard ≡ self.old.heard }
         ensures next { self.new.next ≡ self.old.next }
+        ensures cursors { cursors_of self.new.boxes ≡ cursors_of self.old.boxes }
         ensures same { OnOk result ((m : ℕ) (d : Mail) → SameMailbox (slice_index_or self.old.boxes m d) (slice_index_or self.new.boxes m d)) }
+        ensures clients { self.new.clients ≡ self.old.clients }
         ensures counts { SameCounts self.old self.new }
         ensures load { OnOk result (load self.new < load self.old) }
         ensures refused { OnErr result (self.new ≡ self.old) }
@@ -340,6 +355,7 @@ impl DeliveryCore {
         ensures heard { self.new.heard ≡ self.old.heard }
         ensures next { self.new.next ≡ self.old.next }
         ensures boxes { self.new.boxes ≡ self.old.boxes }
+        ensures clients { self.new.clients ≡ self.old.clients }
         ensures counts { SameCounts self.old self.new }
         ensures load { OnOk result (load self.new < load self.old) }
         ensures refused { OnErr result (self.new ≡ self.old) }
@@ -376,6 +392,7 @@ impl DeliveryCore {
         ensures heard { IfOk result (λ noted. Hears self.old self.new seat (noted ∷ [])) }
         ensures next { self.new.next ≡ self.old.next }
         ensures boxes { self.new.boxes ≡ self.old.boxes }
+        ensures clients { self.new.clients ≡ self.old.clients }
         ensures counts { SameCounts self.old self.new }
         ensures load { OnOk result (load self.new < load self.old) }
         ensures refused { OnErr result (self.new ≡ self.old) }
@@ -442,6 +459,7 @@ mod tests {
             ring: 16,
             ring_max: 0,
         },
+        sessions: 2,
     };
 
     const KEY: CopyKey = CopyKey {

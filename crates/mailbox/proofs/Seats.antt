@@ -1,7 +1,7 @@
 -- What a seat that has a cursor carries.
-use Rattle.std.proofs.Common.{◌≡◌, Bool, true, false, ◌==◌, ◌&&◌, Option, Some, None, sym, ap, ◌∙◌, refl}
+use Rattle.std.proofs.Common.{◌≡◌, Bool, true, false, ◌==◌, ◌&&◌, Option, Some, None, IsSome, is_some, sym, ap, ap₂, ◌∙◌, refl}
 use Rattle.std.specs.Prelude.{if◌then◌else◌}
-use Rattle.std.proofs.lemmas.Bool.{eqb-true}
+use Rattle.std.proofs.lemmas.Bool.{eq-eqb, eqb-true}
 use Rattle.cursor_set.specs.Cursors.{Cursors, Open, Seat, held, if_of, in_slot}
 
 if_some : (b : Bool) (x : Option Open) (o : Open) → (if b then x else None) ≡ Some o → (b ≡ true) × (x ≡ Some o)
@@ -28,3 +28,9 @@ held_at s seat o e = at_of seat (in_slot s seat.slot) o (if_some (s.number == se
 pub held_some : (x : Option Open) → (x ≡ None → ⊥) → (o : Open) × (x ≡ Some o)
 held_some None h = absurd (h refl)
 held_some (Some o) h = (o, refl)
+
+-- a seat that agrees with the cursor in its slot has it
+pub known_by : (s : Cursors) (seat : Seat) (o : Open) → s.number ≡ seat.number → in_slot s seat.slot ≡ Some o → o.serial ≡ seat.serial → o.at ≡ seat.at → IsSome (held s seat)
+known_by s seat o number slot serial at = ap is_some
+    (ap (λ (b : Bool). if b then if_of seat (in_slot s seat.slot) else None) (eq-eqb s.number seat.number number) ∙ ap (if_of seat) slot
+    ∙ ap₂ (λ (a b : Bool). if a && b then Some o else None) (eq-eqb o.serial seat.serial serial) (eq-eqb o.at seat.at at))

@@ -1,7 +1,7 @@
 //! What a mailbox's clients do: each holds a cursor, is shown changes by it, reads messages and sets
 //! their flags. Which messages go, and how a client leaves, is told in `removal`.
 
-ghost use Rattle.std.specs.Prelude.{◌≡◌, ◌≢◌, ◌+◌, ◌-◌, ◌^◌, ◌<◌, ◌≤◌, ◌↔◌, ◌⊎◌, ℕ, List, [], ◌∷◌, ◌++◌, length, map, min, All, Some, None, Err, OnOk, OnErr, IfOk, IfErr, IfSome, IfNone, IsErr, IsTrue, option_map, slice_get, if◌then◌else◌};
+ghost use Rattle.std.specs.Prelude.{◌≡◌, ◌≢◌, ◌+◌, ◌-◌, ◌^◌, ◌<◌, ◌≤◌, ◌↔◌, ◌⊎◌, ℕ, List, [], ◌∷◌, ◌++◌, length, map, min, All, Some, None, Err, OnOk, OnErr, IfOk, IfErr, IfSome, IfNone, IsErr, IsSome, IsTrue, option_map, slice_get, if◌then◌else◌, vec_capacity};
 ghost use Rattle.std.specs.List.Sorted.{IsStrictlyIncreasing};
 ghost use Rattle.change_ring.specs.Log.{view_at};
 ghost use Rattle.change_ring.specs.Logged.{flags_logged, seen_logged};
@@ -105,6 +105,7 @@ impl Mailbox {
         // The seat is new, and its slot was vacant.
         ensures seat { IfOk result (λ r. r.0 ≡ record { number = self.old.number; slot = r.0.slot; serial = self.old.cursors.next; at = total self.old.window }) }
         ensures vacant { IfOk result (λ r. in_slot self.old.cursors r.0.slot ≡ None) }
+        ensures known { IfOk result (λ r. IsSome (held self.new.cursors r.0)) }
         ensures opened { IfOk result (λ r. Updates self.old.cursors self.new.cursors r.0.slot
             (Some (record { serial = self.old.cursors.next; at = total self.old.window; view = uids_of self.old.messages }))) }
         ensures next { OnOk result (self.new.cursors.next ≡ self.old.cursors.next + 1) }
@@ -160,6 +161,11 @@ impl Mailbox {
         ensures moved { IfOk result (λ n. Updates self.old.cursors self.new.cursors seat.old.slot
             (option_map (after_showing (next_changes self.old.window seat.old.at n)) (held self.old.cursors seat.old))) }
         ensures next { self.new.cursors.next ≡ self.old.cursors.next }
+
+        // The lines as the client counts.
+        ensures written { IfOk result (λ n. IfSome (held self.old.cursors seat.old) (λ o.
+            out.new.items ≡ out.old.items ++ lines o.view (next_changes self.old.window seat.old.at n))) }
+        ensures room { vec_capacity out.old ≤ vec_capacity out.new }
     {
         let count = self.cursors.feed(&self.ring, seat, limit, out)?;
         Ok(count)

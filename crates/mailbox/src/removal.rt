@@ -1,7 +1,7 @@
 //! Which messages go: those with \Deleted, at an expunge or as a client leaves. All of a call's
 //! removals are one event: they are logged in the order of the UIDs, and taken out in one pass.
 
-ghost use Rattle.std.specs.Prelude.{◌≡◌, ◌≢◌, ◌+◌, ◌^◌, ◌≤◌, ◌<◌, ◌↔◌, ◌⊎◌, ◌==◌, not, ℕ, Bool, true, List, [], ◌∷◌, ◌++◌, length, map, filter, count_by, None, Some, Err, OnOk, OnErr, IfOk, IfErr, IsTrue, option_map, drop, IsSome, if◌then◌else◌};
+ghost use Rattle.std.specs.Prelude.{◌≡◌, ◌≢◌, ◌+◌, ◌^◌, ◌≤◌, ◌<◌, ◌↔◌, ◌⊎◌, ◌==◌, not, ℕ, Bool, true, List, [], ◌∷◌, ◌++◌, length, map, filter, count_by, None, Some, Err, OnOk, OnErr, IfOk, IfErr, IsTrue, option_map, drop, IsSome, IfSome, if◌then◌else◌, vec_capacity};
 ghost use Rattle.std.specs.List.Sorted.{IsNonDecreasing};
 ghost use Rattle.std.specs.List.{list_any};
 ghost use Rattle.change_ring.specs.Log.{view_at};
@@ -145,6 +145,7 @@ impl Mailbox {
         ensures shown { OnOk result ((log : List Change) → Stands self.old log →
             out.new.items ≡ out.old.items ++ lines (view_at log seat.old.at) (drop seat.old.at log)) }
         ensures seat { OnOk result (seat.new ≡ record seat.old { at = total self.old.window }) }
+        ensures within { OnOk result (seat.old.at ≤ total self.old.window) }
         ensures moved { OnOk result (Updates self.old.cursors self.new.cursors seat.old.slot
             (option_map (after_showing (changes_from seat.old.at self.old.window)) (held self.old.cursors seat.old))) }
 
@@ -154,6 +155,11 @@ impl Mailbox {
         ensures rest { OnOk result (self.new ≡ record self.old { messages = self.new.messages; window = self.new.window; cursors = self.new.cursors }) }
         ensures next { self.new.cursors.next ≡ self.old.cursors.next }
         ensures count { IfOk result (λ n. n ≡ length (removals (in_set (option_map (λ uids. uids.now) set.entry)) (rows self.old))) }
+
+        // The lines as the client counts.
+        ensures written { OnOk result (IfSome (held self.old.cursors seat.old) (λ o.
+            out.new.items ≡ out.old.items ++ lines o.view (changes_from seat.old.at self.old.window))) }
+        ensures room { vec_capacity out.old ≤ vec_capacity out.new }
     {
         self.admit(seat)?;
         let choice = choice_of(set);

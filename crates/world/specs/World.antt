@@ -1,5 +1,5 @@
 -- The whole house as lists and numbers, the events that change it, and the worlds that come from the empty one.
-use Rattle.std.specs.Prelude.{◌≡◌, ℕ, suc, ◌+◌, ◌-◌, ◌%◌, ◌^◌, ◌<◌, ◌≤◌, Bool, true, false, ◌⊎◌, List, [], ◌∷◌, ◌++◌, length, take, drop, All, Option, Some, None}
+use Rattle.std.specs.Prelude.{◌≡◌, ℕ, ◌+◌, ◌%◌, ◌^◌, ◌<◌, ◌≤◌, Bool, true, false, ◌⊎◌, List, [], ◌∷◌, ◌++◌, length, take, drop, All, Option, Some, None}
 use Rattle.shard_queue.specs.Lane.{Lane, empty_lane, put, took, IsLive}
 use Rattle.shard_queue.specs.declared.lane.Entry.{Entry}
 use Rattle.shard_queue.specs.declared.lane.Entry.TheVariants.{Item, End}
@@ -30,6 +30,7 @@ pub record Config : Type 0 where
   pub messages : ℕ  -- rows that a mailbox has room for
   pub ring : ℕ  -- changes that a mailbox's window keeps at least
   pub first_uid : ℕ
+  pub uidvalidity : ℕ
 
 -- replies that a reply lane has room for
 abbrev pub reply_room : ℕ

@@ -25,4 +25,4 @@ returns-in-Ok-clause-follows c k w S =
     (rw c.from-at.ensures at (rw c.in-Done.is at c.index.ensures))
     (omega (arith, c.len-2.ensures, c.if-seat-len.false, c.from-seat.ensures))
     (rw c.from-seat.ensures at c.index_mut-lane.ensures.value) c.in-Ok.ensures.put.0 c.in-Ok.ensures.put.1
-    (ap (λ i. set c.self.inside.hands.items i Empty) c.from-at.ensures) (ap (λ i. set c.self.inside.replies.items i c.put.new.self) c.from-seat.ensures) refl refl refl refl
+    (ap (λ i. set c.self.inside.hands.items i Empty) c.from-at.ensures) (ap (λ i. set c.self.inside.replies.items i c.put.new.self) c.from-seat.ensures) refl refl refl refl refl

@@ -15,4 +15,4 @@ returns-clause-follows c k w S =
     rw (← c.from-at.ensures) (end_follows k w _ _ c.args.seat c.from-at.result c.index_mut-lane.result.now c.end.new.self
     (subst (λ (h : Held). StandsFor k h w) (sym c.self.view_is) S) ins (omega (arith, c.len-else-at-len.ensures, c.if-from-len.false, c.from.ensures)) c.index_mut-lane.ensures.value
     (subst (λ (x : Waits Job). get_or x.live c.args.seat false ≡ true) same (c.is_live.ensures.0 c.if-not-is_live.false))
-    c.in-Ok.ensures.put.0 c.in-Ok.ensures.put.1 refl refl refl refl refl refl)
+    c.in-Ok.ensures.put.0 c.in-Ok.ensures.put.1 refl refl refl refl refl refl refl)

@@ -24,7 +24,7 @@ returns-clause-follows c k w S =
     (rw (← c.self.view_is) at c.requires.seat) (rw (← c.self.view_is) at c.requires.next) (rw (← c.self.view_is) at c.requires.mailbox) refl
     (rw c.from-seat.ensures at c.index_mut.ensures.value) c.reserve.ensures.notes (rw c.from-seat.ensures at c.index_mut-book.ensures.value) c.note.ensures.notes
     (rw c.in-Some.is at c.put_in.ensures)
-    (ap (λ (n : ℕ). set i.lanes.items n c.put_in.new.lane) sh) (ap (λ (n : ℕ). set (set i.heard.items n c.reserve.new.self) n c.note.new.self) c.from-seat.ensures) (ap (λ (n : ℕ). set i.next.items n (past c.args.key)) c.from-seat.ensures) refl refl refl)
+    (ap (λ (n : ℕ). set i.lanes.items n c.put_in.new.lane) sh) (ap (λ (n : ℕ). set (set i.heard.items n c.reserve.new.self) n c.note.new.self) c.from-seat.ensures) (ap (λ (n : ℕ). set i.next.items n (past c.args.key)) c.from-seat.ensures) refl refl refl refl)
 
 pub returns-in_default-clause-follows : goal.returns-in_default-clause-follows
 returns-in_default-clause-follows c k w S =
@@ -41,7 +41,7 @@ returns-in_default-clause-follows c k w S =
     (rw (← c.self.view_is) at c.requires.seat) (rw (← c.self.view_is) at c.requires.next) (rw (← c.self.view_is) at c.requires.mailbox) refl
     (rw c.from-seat.ensures at c.index_mut.ensures.value) c.reserve.ensures.notes
     (rw c.in_default.is at c.put_in.ensures)
-    (ap (λ (n : ℕ). set i.lanes.items n c.put_in.new.lane) sh) (ap (λ (n : ℕ). set i.heard.items n c.reserve.new.self) c.from-seat.ensures) (ap (λ (n : ℕ). set i.next.items n (past c.args.key)) c.from-seat.ensures) refl refl refl)
+    (ap (λ (n : ℕ). set i.lanes.items n c.put_in.new.lane) sh) (ap (λ (n : ℕ). set i.heard.items n c.reserve.new.self) c.from-seat.ensures) (ap (λ (n : ℕ). set i.next.items n (past c.args.key)) c.from-seat.ensures) refl refl refl refl)
 
 pub returns-in_default-clause-heard : goal.returns-in_default-clause-heard
 returns-in_default-clause-heard c =

@@ -1,11 +1,12 @@
 use Rattle.std.proofs.Common.{◌≡◌, ◌+◌, ◌-◌, ◌<◌, ◌≤◌, ◌^◌, ℕ, Bool, true, false, List, ◌++◌, length, take, ap, sym, subst, refl, ◌∙◌, inl, inr, arith, length-drop}
-use Rattle.std.specs.Prelude.{◌↔◌, IsTrue, option_map}
+use Rattle.std.specs.Prelude.{◌↔◌, IsTrue, option_map, IfSome}
 use Rattle.std.proofs.lemmas.Bool.{cases_lt}
 use Rattle.std.proofs.lemmas.List.{take_all}
 use Rattle.change_ring.specs.declared.change.Change.{Change}
 use Rattle.change_ring.specs.Logged.{removals}
 use Rattle.change_ring.specs.Window.{changes_from, total}
-use Rattle.cursor_set.specs.Cursors.{Cursors, Updates, after_showing, held}
+use Rattle.cursor_set.specs.Lines.{lines}
+use Rattle.cursor_set.specs.Cursors.{Cursors, Open, Updates, after_showing, held}
 use Rattle.mailbox.specs.Choices.{passes}
 use Rattle.mailbox.specs.Mail.{Mail, rows}
 use Rattle.mailbox.specs.Stands.{Stands}
@@ -68,3 +69,11 @@ returns-clause-moved c =
     subst (λ (cs : List Change). Updates now.cursors c.remove.new.self.cursors c.args.seat.now.slot (option_map (after_showing cs) (held now.cursors c.args.seat.now))) all
     (subst (λ (k : Cursors). Updates now.cursors k c.args.seat.now.slot (option_map (after_showing (take c.in-Ok._shown (changes_from at now.window))) (held now.cursors c.args.seat.now)))
     (sym (ap (λ (m : Mail). m.cursors) c.remove.ensures.rest)) c.in-Ok.ensures.moved)
+
+pub returns-clause-written : goal.returns-clause-written
+returns-clause-written c =
+    let now = c.args.self.now in
+    let at = c.args.seat.now.at in
+    let all : take c.in-Ok._shown (changes_from at now.window) ≡ changes_from at now.window =
+    take_all c.in-Ok._shown (changes_from at now.window) (omega (arith, c.in-Ok.ensures.count, c.admit.ensures.small, c.in_ok-admit.ensures.admitted.1, length-drop (at - now.window.base) now.window.changes)) in
+    subst (λ (cs : List Change). IfSome (held now.cursors c.args.seat.now) (λ (o : Open). c.feed.new.out.items ≡ c.args.out.now.items ++ lines o.view cs)) all c.in-Ok.ensures.written

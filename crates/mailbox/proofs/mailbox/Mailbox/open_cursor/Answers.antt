@@ -6,6 +6,7 @@ use Rattle.mailbox.specs.Stands.{Stands}
 use Rattle.mailbox.specs.declared.mailbox.Message as kept
 use Rattle.mailbox.specs.Seen.{mail_of, message_of}
 use Rattle.mailbox.proofs.MessageLaws.{uids_kept}
+use Rattle.mailbox.proofs.Seats.{known_by}
 use Rattle.mailbox.proofs.StandsLaws.{Stands-enter}
 use Rattle.mailbox.proofs.mailbox.Mailbox.open_cursor.Goals as goal
 
@@ -37,3 +38,9 @@ returns-clause-logged c = λ log s.
 pub returns-clause-opened : goal.returns-clause-opened
 returns-clause-opened c =
     subst (λ (m : Mail). Updates m.cursors c.enter.new.self c.in-Ok-enter.seat.slot (Some (record { serial = m.cursors.next; at = total m.window; view = uids_of m.messages }))) c.self.view_is (entered c)
+
+pub returns-clause-known : goal.returns-clause-known
+returns-clause-known c =
+    let u = c.in-Ok-enter.ensures.opened in
+    let e = c.in-Ok-enter.ensures.seat in
+    known_by c.enter.new.self c.in-Ok-enter.seat _ (u.number ∙ sym e.0) u.changed (sym e.1) (sym e.2)

@@ -1,0 +1,270 @@
+-- A session's call is an event of the world.
+use Rattle.std.proofs.Common.{◌≡◌, ℕ, zero, suc, ◌+◌, ◌<◌, ◌≤◌, Bool, true, List, [], ◌∷◌, length, set, get_or, refl, sym, ap, ◌∙◌, arith, subst, length-set, Option, Some, None, IsSome, is_some}
+use Rattle.std.specs.Prelude.{option_map}
+use Rattle.change_ring.specs.declared.change.Change.{Change}
+use Rattle.cursor_set.specs.Cursors.{Cursors, Open, Seat, Updates, after_showing, held, in_slot}
+use Rattle.mailbox.specs.Mail.{Mail}
+use Rattle.shard_queue.specs.At.{set_at}
+use Rattle.world.specs.World.{Config, World, Box, Session, Event, Step, Logs, MailStep, mails, mail_lapped, mail_spent, mail_no_memory, Selected, shows, most_changes}
+use Rattle.world.specs.Law.{IsShown}
+use Rattle.world.proofs.Kept.{BoxOk, Kept, SessionOk}
+use Rattle.world.proofs.Always.{kept_always}
+use Rattle.delivery_core.specs.declared.client.Client.{Client}
+use Rattle.delivery_core.specs.Held.{Held}
+use Rattle.delivery_core.specs.Seated.{AreSeated, client_at, cursors_at, cursors_of}
+use Rattle.delivery_core.specs.Stands.{EachAt, Reached, StandsFor, StandsForBox, StandsForClient, StandsForPlace}
+use Rattle.delivery_core.proofs.Follow.{each_here, each_set, next_same, reached_step, get_or-any, set_back}
+use Rattle.delivery_core.proofs.SeatedLaws.{SameElsewhere, HasSlot, held_shown, some_of, cursors_get, cursors_same, cursors_set, length_cursors, own_slot, place_within, seated_after}
+
+-- ---- the client and its session
+
+pub session_of : (c : Client) (x : Option Session) → StandsForPlace (Some c) x → (s : Session) × (x ≡ Some s) × StandsForClient c s
+session_of c None h = absurd h
+session_of c (Some s) h = (s, refl, h)
+
+pub session_at : (k : Config) (w : World) (old : Held) (n : ℕ) (c : Client) → StandsFor k old w → client_at old.clients n ≡ Some c → (s : Session) × (w.session n ≡ Some s) × StandsForClient c s
+session_at k w old n c S e = session_of c (w.session n) (subst (λ (o : Option Client). StandsForPlace o (w.session n)) e (S.clients n None (place_within old.clients n c e)))
+
+pub there_at : (k : Config) (w : World) (old : Held) (n : ℕ) (c : Client) → StandsFor k old w → client_at old.clients n ≡ Some c → c.mailbox < length old.boxes
+there_at k w old n c S e = omega (arith, S.seated.there n c e, length_cursors old.boxes)
+
+-- ---- what stands after mailboxes and clients changed
+
+pub stands_after : (k : Config) (w v : World) (old : Held) (boxes : List Mail) (clients : List (Option Client)) → StandsFor k old w → Reached k v
+    → length boxes ≡ length old.boxes → length clients ≡ length old.clients
+    → v.lane ≡ w.lane → v.hand ≡ w.hand → v.replies ≡ w.replies → v.heard ≡ w.heard
+    → EachAt (λ m b. StandsForBox k b (v.box m)) boxes → EachAt (λ n c. StandsForPlace c (v.session n)) clients → AreSeated (cursors_of boxes) clients
+    → StandsFor k (record old { boxes = boxes; clients = clients }) v
+stands_after k w v old boxes clients S reached many places lane hand replies heard box_at client_each seated = record {
+  reached = reached;
+  shards = S.shards;
+  in_hands = S.in_hands;
+  seats = S.seats;
+  hearing = S.hearing;
+  nexts = S.nexts;
+  mailboxes = many ∙ S.mailboxes;
+  sessions = places ∙ S.sessions;
+  lanes = rw lane S.lanes;
+  hands = rw hand S.hands;
+  replies = rw replies S.replies;
+  heard = rw heard S.heard;
+  boxes = box_at;
+  next = next_same w v old.next (λ t p. ap (λ f. (f t).sent p) lane) (λ p. ap (λ f. f p) heard) S.next;
+  clients = client_each;
+  seated = seated;
+}
+
+-- ---- a call of a client
+
+-- what a mailbox leaves of its cursors, where the client of a seat did something
+pub record SeatMoves (old new : Cursors) (seat moved : Seat) : Type 0 where
+  pub elsewhere : SameElsewhere old new seat.slot
+  pub slot : moved.slot ≡ seat.slot
+  pub known : IsSome (held new moved)
+
+-- what a mailbox does for a client, as the event of the world that it is
+pub data BoxMails (k : Config) (x : Box) (s : Session) (allocates : Bool) (shown changes : List Change) (new : Mail) (seat : Seat) : Type 0 where
+  box_mails : (y : Box) → x.base ≤ s.cursor → Logs k x changes [] y → StandsForBox k new y → seat.at ≡ s.cursor + length shown → BoxMails k x s allocates shown changes new seat
+  box_lapsed : s.cursor < x.base → StandsForBox k new x → seat.at ≡ s.cursor → BoxMails k x s allocates shown changes new seat
+  box_spent : x.base ≤ s.cursor → most_changes < length x.log + length changes → StandsForBox k new x → seat.at ≡ s.cursor → BoxMails k x s allocates shown changes new seat
+  box_no_memory : allocates ≡ true → x.base ≤ s.cursor → length x.log + length changes ≤ most_changes → StandsForBox k new x → seat.at ≡ s.cursor → BoxMails k x s allocates shown changes new seat
+
+-- the clients' cursors after it
+pub seated_mailed : (boxes : List Mail) (clients : List (Option Client)) (n : ℕ) (c : Client) (b b2 : Mail) (seat2 : Seat) → AreSeated (cursors_of boxes) clients → client_at clients n ≡ Some c → b ≡ get_or boxes c.mailbox b
+    → SeatMoves b.cursors b2.cursors c.seat seat2
+    → AreSeated (cursors_of (set boxes c.mailbox b2)) (set clients n (Some (record { mailbox = c.mailbox; seat = seat2 })))
+seated_mailed boxes clients n c b b2 seat2 S e there moves =
+    subst (λ (all : List Cursors). AreSeated all (set clients n (Some (record { mailbox = c.mailbox; seat = seat2 })))) (sym (cursors_set boxes c.mailbox b2))
+    (seated_after (cursors_of boxes) clients n c.mailbox c.seat.slot b2.cursors (Some (record { mailbox = c.mailbox; seat = seat2 })) S (S.there n c e)
+    (subst (λ (s : Cursors). SameElsewhere s b2.cursors c.seat.slot) (sym was) moves.elsewhere)
+    (own_slot (cursors_of boxes) clients n c S e)
+    (λ d same. has d same))
+  where
+    was : cursors_at (cursors_of boxes) c.mailbox ≡ b.cursors
+    was = cursors_get boxes c.mailbox b (omega (arith, S.there n c e, length_cursors boxes)) ∙ ap (λ (m : Mail). m.cursors) (sym there)
+
+    same_client : (a d : Client) → Some a ≡ Some d → a ≡ d
+    same_client a d same = cc
+
+    has : (d : Client) → Some (record { mailbox = c.mailbox; seat = seat2 }) ≡ Some d → HasSlot c.mailbox c.seat.slot b2.cursors d
+    has d same = subst (HasSlot c.mailbox c.seat.slot b2.cursors) (same_client _ d same) (record { mailbox_is = refl; slot_is = moves.slot; known = moves.known })
+
+pub mails_follow : (k : Config) (w : World) (old : Held) (n : ℕ) (c : Client) (b b2 : Mail) (seat2 : Seat) (allocates : Bool) (shown : Box → Session → List Change) (changes : Box → List Change)
+    (P : Box → Session → Type 0) (event : Event) → ((v : World) → Selected w n (λ s. MailStep k w n s allocates (shown (w.box s.mailbox) s) (changes (w.box s.mailbox)) v) → Step k w event v)
+    → StandsFor k old w → client_at old.clients n ≡ Some c → b ≡ get_or old.boxes c.mailbox b → SeatMoves b.cursors b2.cursors c.seat seat2
+    → ((x : Box) (s : Session) → StandsForBox k b x → c.seat.at ≡ s.cursor → BoxOk k x → IsShown x.log s → BoxMails k x s allocates (shown x s) (changes x) b2 seat2 × P x s)
+    → (v : World) × Step k w event v × StandsFor k (record old { boxes = set old.boxes c.mailbox b2; clients = set old.clients n (Some (record { mailbox = c.mailbox; seat = seat2 })) }) v
+    × Selected w n (λ s. P (w.box s.mailbox) s)
+mails_follow k w old n c b b2 seat2 allocates shown changes P event as_step S e there moves does = go (session_at k w old n c S e)
+  where
+    boxes2 : List Mail
+    boxes2 = set old.boxes c.mailbox b2
+
+    next : Client
+    next = record { mailbox = c.mailbox; seat = seat2 }
+
+    seated : AreSeated (cursors_of (set old.boxes c.mailbox b2)) (set old.clients n (Some (record { mailbox = c.mailbox; seat = seat2 })))
+    seated = seated_mailed old.boxes old.clients n c b b2 seat2 S.seated e there moves
+
+    kept : Kept k w
+    kept = kept_always k S.reached.0 w S.reached.1
+
+    within : c.mailbox < length old.boxes
+    within = there_at k w old n c S e
+
+    go : (s : Session) × (w.session n ≡ Some s) × StandsForClient c s
+        → (v : World) × Step k w event v × StandsFor k (record old { boxes = set old.boxes c.mailbox b2; clients = set old.clients n (Some (record { mailbox = c.mailbox; seat = seat2 })) }) v
+        × Selected w n (λ s. P (w.box s.mailbox) s)
+    go (s, is, same) = done (does (w.box s.mailbox) s here same.cursor (kept.boxes s.mailbox) (subst (SessionOk w.box) is (kept.sessions n)))
+      where
+        here : StandsForBox k b (w.box s.mailbox)
+        here = subst (λ (m : ℕ). StandsForBox k b (w.box m)) same.mailbox (subst (λ (x : Mail). StandsForBox k x (w.box c.mailbox)) (sym there) (S.boxes c.mailbox b within))
+
+        -- it was refused, and nothing changed
+        still : P (w.box s.mailbox) s → StandsForBox k b2 (w.box s.mailbox) → seat2.at ≡ s.cursor → MailStep k w n s allocates (shown (w.box s.mailbox) s) (changes (w.box s.mailbox)) w
+            → (v : World) × Step k w event v × StandsFor k (record old { boxes = set old.boxes c.mailbox b2; clients = set old.clients n (Some (record { mailbox = c.mailbox; seat = seat2 })) }) v
+            × Selected w n (λ s. P (w.box s.mailbox) s)
+        still p box at step = (
+          w,
+          as_step w (s, is, step),
+          stands_after k w w old (set old.boxes c.mailbox b2) (set old.clients n (Some (record { mailbox = c.mailbox; seat = seat2 }))) S S.reached
+              (length-set old.boxes c.mailbox b2) (length-set old.clients n _) refl refl refl refl
+              (each_here (λ m x. StandsForBox k x (w.box m)) old.boxes c.mailbox b2 S.boxes (subst (λ (m : ℕ). StandsForBox k b2 (w.box m)) (sym same.mailbox) box))
+              (each_here (λ m x. StandsForPlace x (w.session m)) old.clients n (Some (record { mailbox = c.mailbox; seat = seat2 })) S.clients
+              (subst (λ (o : Option Session). StandsForPlace (Some (record { mailbox = c.mailbox; seat = seat2 })) o) (sym is) (record { mailbox = same.mailbox; cursor = at })))
+              seated,
+          (s, is, p),
+        )
+
+        moved : P (w.box s.mailbox) s → (y : Box) → StandsForBox k b2 y → seat2.at ≡ s.cursor + length (shown (w.box s.mailbox) s)
+            → MailStep k w n s allocates (shown (w.box s.mailbox) s) (changes (w.box s.mailbox)) (record w { box = set_at w.box s.mailbox y; session = set_at w.session n (Some (shows s (shown (w.box s.mailbox) s))) })
+            → (v : World) × Step k w event v × StandsFor k (record old { boxes = set old.boxes c.mailbox b2; clients = set old.clients n (Some (record { mailbox = c.mailbox; seat = seat2 })) }) v
+            × Selected w n (λ s. P (w.box s.mailbox) s)
+        moved p y box at step =
+            let v : World = record w { box = set_at w.box s.mailbox y; session = set_at w.session n (Some (shows s (shown (w.box s.mailbox) s))) } in
+            let made : Step k w event v = as_step v (s, is, step) in (
+              v,
+              made,
+              stands_after k w v old (set old.boxes c.mailbox b2) (set old.clients n (Some (record { mailbox = c.mailbox; seat = seat2 }))) S (reached_step k w event v S.reached made)
+                  (length-set old.boxes c.mailbox b2) (length-set old.clients n _) refl refl refl refl
+                  (subst (λ (m : ℕ). EachAt (λ i x. StandsForBox k x (set_at w.box m y i)) (set old.boxes c.mailbox b2)) same.mailbox
+                  (each_set (λ x z. StandsForBox k x z) old.boxes w.box c.mailbox b2 y S.boxes box))
+                  (each_set (λ x z. StandsForPlace x z) old.clients w.session n (Some (record { mailbox = c.mailbox; seat = seat2 })) (Some (shows s (shown (w.box s.mailbox) s))) S.clients
+                  (record { mailbox = same.mailbox; cursor = at }))
+                  seated,
+              (s, is, p),
+            )
+
+        done : BoxMails k (w.box s.mailbox) s allocates (shown (w.box s.mailbox) s) (changes (w.box s.mailbox)) b2 seat2 × P (w.box s.mailbox) s
+            → (v : World) × Step k w event v × StandsFor k (record old { boxes = set old.boxes c.mailbox b2; clients = set old.clients n (Some (record { mailbox = c.mailbox; seat = seat2 })) }) v
+            × Selected w n (λ s. P (w.box s.mailbox) s)
+        done (box_mails y kept logs box at, p) = moved p y box at (mails y kept logs refl)
+        done (box_lapsed low box at, p) = still p box at (mail_lapped low refl)
+        done (box_spent kept many box at, p) = still p box at (mail_spent kept many refl)
+        done (box_no_memory may kept few box at, p) = still p box at (mail_no_memory may kept few refl)
+
+-- ---- calls as the code makes them
+
+pub client_here : (clients : List (Option Client)) (p n : ℕ) (o : Option Client) (c : Client) → p ≡ n → p < length clients → o ≡ get_or clients p o → o ≡ Some c → client_at clients n ≡ Some c
+client_here clients p n o c same l there is = ap (client_at clients) (sym same) ∙ get_or-any clients p None o l ∙ sym there ∙ is
+
+client_back : (clients : List (Option Client)) (n : ℕ) (c : Client) → client_at clients n ≡ Some c → set clients n (Some c) ≡ clients
+client_back clients n c e = set_back clients n (Some c) (place_within clients n c e) (sym e ∙ get_or-any clients n None (Some c) (place_within clients n c e))
+
+set_again : {A : Type 0} (xs : List A) (i : ℕ) (a b : A) → set (set xs i a) i b ≡ set xs i b
+set_again [] i a b = refl
+set_again (x ∷ xs) zero a b = refl
+set_again (x ∷ xs) (suc i) a b = ap (λ ys. x ∷ ys) (set_again xs i a b)
+
+-- a client's mailbox knows it
+pub known_at : (boxes : List Mail) (clients : List (Option Client)) (n : ℕ) (c : Client) (b : Mail) → AreSeated (cursors_of boxes) clients → client_at clients n ≡ Some c → b ≡ get_or boxes c.mailbox b → IsSome (held b.cursors c.seat)
+known_at boxes clients n c b S e there = subst (λ (s : Cursors). IsSome (held s c.seat))
+    (cursors_get boxes c.mailbox b (omega (arith, S.there n c e, length_cursors boxes)) ∙ ap (λ (m : Mail). m.cursors) (sym there)) (S.known n c e)
+
+pub mailbox_within : (boxes : List Mail) (clients : List (Option Client)) (n m : ℕ) (c : Client) → AreSeated (cursors_of boxes) clients → client_at clients n ≡ Some c → m ≡ c.mailbox → m < length boxes
+mailbox_within boxes clients n m c S e same = omega (arith, S.there n c e, length_cursors boxes)
+
+seat_stays : (old new : Cursors) (seat : Seat) → new ≡ old → IsSome (held old seat) → SeatMoves old new seat seat
+seat_stays old new seat same some = record {
+  elsewhere = record { number = ap (λ (s : Cursors). s.number) same; others = λ slot other. ap (λ (s : Cursors). in_slot s slot) same };
+  slot = refl;
+  known = subst (λ (s : Cursors). IsSome (held s seat)) (sym same) some;
+}
+
+-- a call that moves no cursor
+pub still_follow : (k : Config) (w : World) (old : Held) (n m : ℕ) (c : Client) (b b2 : Mail) (allocates : Bool) (changes : Box → List Change) (P : Box → Session → Type 0) (event : Event)
+    → ((v : World) → Selected w n (λ s. MailStep k w n s allocates [] (changes (w.box s.mailbox)) v) → Step k w event v)
+    → StandsFor k old w → client_at old.clients n ≡ Some c → m ≡ c.mailbox → b ≡ get_or old.boxes m b → b2.cursors ≡ b.cursors
+    → ((x : Box) (s : Session) → StandsForBox k b x → c.seat.at ≡ s.cursor → BoxOk k x → IsShown x.log s → BoxMails k x s allocates [] (changes x) b2 c.seat × P x s)
+    → (v : World) × Step k w event v × StandsFor k (record old { boxes = set old.boxes m b2 }) v × Selected w n (λ s. P (w.box s.mailbox) s)
+still_follow k w old n m c b b2 allocates changes P event as_step S e same there kept does =
+    subst (λ (i : ℕ). (v : World) × Step k w event v × StandsFor k (record old { boxes = set old.boxes i b2 }) v × Selected w n (λ s. P (w.box s.mailbox) s)) (sym same)
+    (subst (λ (cs : List (Option Client)). (v : World) × Step k w event v × StandsFor k (record old { boxes = set old.boxes c.mailbox b2; clients = cs }) v × Selected w n (λ s. P (w.box s.mailbox) s)) (client_back old.clients n c e)
+    (mails_follow k w old n c b b2 c.seat allocates (λ x s. []) changes P event as_step S e here (seat_stays b.cursors b2.cursors c.seat kept (known_at old.boxes old.clients n c b S.seated e here)) does))
+  where
+    here : b ≡ get_or old.boxes c.mailbox b
+    here = there ∙ ap (λ (i : ℕ). get_or old.boxes i b) same
+
+-- a call that moves the client's cursor, whose client was taken from its place and put back
+pub moved_follow : (k : Config) (w : World) (old : Held) (n p m : ℕ) (c : Client) (b b2 : Mail) (seat2 : Seat) (vacant : Option Client) (allocates : Bool) (shown : Box → Session → List Change) (changes : Box → List Change)
+    (P : Box → Session → Type 0) (event : Event)
+    → ((v : World) → Selected w n (λ s. MailStep k w n s allocates (shown (w.box s.mailbox) s) (changes (w.box s.mailbox)) v) → Step k w event v)
+    → StandsFor k old w → client_at old.clients n ≡ Some c → p ≡ n → m ≡ c.mailbox → b ≡ get_or old.boxes m b → SeatMoves b.cursors b2.cursors c.seat seat2
+    → ((x : Box) (s : Session) → StandsForBox k b x → c.seat.at ≡ s.cursor → BoxOk k x → IsShown x.log s → BoxMails k x s allocates (shown x s) (changes x) b2 seat2 × P x s)
+    → (v : World) × Step k w event v × StandsFor k (record old { boxes = set old.boxes m b2; clients = set (set old.clients p vacant) p (Some (record { mailbox = c.mailbox; seat = seat2 })) }) v
+    × Selected w n (λ s. P (w.box s.mailbox) s)
+moved_follow k w old n p m c b b2 seat2 vacant allocates shown changes P event as_step S e place same there moves does =
+    subst (λ (i : ℕ). (v : World) × Step k w event v × StandsFor k (record old { boxes = set old.boxes i b2; clients = set (set old.clients p vacant) p (Some next) }) v × Selected w n (λ s. P (w.box s.mailbox) s)) (sym same)
+    (subst (λ (cs : List (Option Client)). (v : World) × Step k w event v × StandsFor k (record old { boxes = set old.boxes c.mailbox b2; clients = cs }) v × Selected w n (λ s. P (w.box s.mailbox) s))
+    (ap (λ (i : ℕ). set old.clients i (Some next)) (sym place) ∙ sym (set_again old.clients p vacant (Some next)))
+    (mails_follow k w old n c b b2 seat2 allocates shown changes P event as_step S e (there ∙ ap (λ (i : ℕ). get_or old.boxes i b) same) moves does))
+  where
+    next : Client
+    next = record { mailbox = c.mailbox; seat = seat2 }
+
+-- the clients' cursors after these
+pub still_seated : (boxes : List Mail) (clients : List (Option Client)) (n m : ℕ) (c : Client) (b b2 : Mail) → AreSeated (cursors_of boxes) clients → client_at clients n ≡ Some c → m ≡ c.mailbox → b ≡ get_or boxes m b → b2.cursors ≡ b.cursors
+    → AreSeated (cursors_of (set boxes m b2)) clients
+still_seated boxes clients n m c b b2 S e same there kept =
+    subst (λ (all : List Cursors). AreSeated all clients) (sym (cursors_same boxes m b b2 (mailbox_within boxes clients n m c S e same) there kept)) S
+
+-- a seat whose client was shown these changes
+pub seat_moves : (old new : Cursors) (seat moved : Seat) (cs : List Change) → IsSome (held old seat) → Updates old new seat.slot (option_map (after_showing cs) (held old seat)) → moved ≡ record seat { at = seat.at + length cs } → SeatMoves old new seat moved
+seat_moves old new seat moved cs some u is =
+    let o : (x : Open) × (held old seat ≡ Some x) = some_of (held old seat) some in
+    let v : Updates old new seat.slot (Some (after_showing cs o.0)) = subst (λ (x : Option Open). Updates old new seat.slot (option_map (after_showing cs) x)) o.1 u in
+    record {
+      elsewhere = record { number = u.number; others = u.others };
+      slot = ap (λ (z : Seat). z.slot) is;
+      known = subst (λ (z : Seat). IsSome (held new z)) (sym is) (ap is_some (held_shown old new seat o.0 cs o.1 v));
+    }
+
+-- or was refused
+pub seat_same : (old new : Cursors) (seat moved : Seat) → IsSome (held old seat) → new ≡ old → moved ≡ seat → SeatMoves old new seat moved
+seat_same old new seat moved some same is = subst (SeatMoves old new seat) (sym is) (seat_stays old new seat same some)
+
+-- a call that moves the client's cursor leaves it seated
+pub moved_seated : (boxes : List Mail) (clients : List (Option Client)) (n p m : ℕ) (c : Client) (b b2 : Mail) (seat2 : Seat) (vacant : Option Client) → AreSeated (cursors_of boxes) clients → client_at clients n ≡ Some c → p ≡ n → m ≡ c.mailbox → b ≡ get_or boxes m b
+    → SeatMoves b.cursors b2.cursors c.seat seat2 → AreSeated (cursors_of (set boxes m b2)) (set (set clients p vacant) p (Some (record { mailbox = c.mailbox; seat = seat2 })))
+moved_seated boxes clients n p m c b b2 seat2 vacant S e place same there moves =
+    subst (λ (i : ℕ). AreSeated (cursors_of (set boxes i b2)) (set (set clients p vacant) p (Some next))) (sym same)
+    (subst (λ (cs : List (Option Client)). AreSeated (cursors_of (set boxes c.mailbox b2)) cs)
+    (ap (λ (i : ℕ). set clients i (Some next)) (sym place) ∙ sym (set_again clients p vacant (Some next)))
+    (seated_mailed boxes clients n c b b2 seat2 S e (there ∙ ap (λ (i : ℕ). get_or boxes i b) same) moves))
+  where
+    next : Client
+    next = record { mailbox = c.mailbox; seat = seat2 }
+
+-- a client that was taken from its place and put back as it was
+pub put_back : (clients : List (Option Client)) (n p : ℕ) (c : Client) (vacant : Option Client) (seat2 : Seat) → client_at clients n ≡ Some c → p ≡ n → seat2 ≡ c.seat → set (set clients p vacant) p (Some (record { mailbox = c.mailbox; seat = seat2 })) ≡ clients
+put_back clients n p c vacant seat2 e place same =
+    set_again clients p vacant _ ∙ ap (λ (i : ℕ). set clients i (Some (record { mailbox = c.mailbox; seat = seat2 }))) place
+    ∙ ap (λ (z : Seat). set clients n (Some (record { mailbox = c.mailbox; seat = z }))) same ∙ client_back clients n c e
+
+-- where neither the mailbox nor the seat changed, nothing did
+pub nothing_moved : (old : Held) (n p m : ℕ) (c : Client) (b b2 : Mail) (seat2 : Seat) (vacant : Option Client) → AreSeated (cursors_of old.boxes) old.clients → client_at old.clients n ≡ Some c → p ≡ n → m ≡ c.mailbox → b ≡ get_or old.boxes m b → b2 ≡ b → seat2 ≡ c.seat
+    → record old { boxes = set old.boxes m b2; clients = set (set old.clients p vacant) p (Some (record { mailbox = c.mailbox; seat = seat2 })) } ≡ old
+nothing_moved old n p m c b b2 seat2 vacant S e place same there still kept =
+    ap (λ (bs : List Mail). let h : Held = record old { boxes = bs; clients = set (set old.clients p vacant) p (Some (record { mailbox = c.mailbox; seat = seat2 })) } in h)
+    (ap (set old.boxes m) still ∙ set_back old.boxes m b (mailbox_within old.boxes old.clients n m c S e same) there)
+    ∙ ap (λ (cs : List (Option Client)). let h : Held = record old { clients = cs } in h) (put_back old.clients n p c vacant seat2 e place kept)

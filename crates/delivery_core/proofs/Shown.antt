@@ -1,0 +1,311 @@
+-- The calls of a session that show it changes.
+use Rattle.std.proofs.Common.{◌≡◌, ◌<◌, ◌⊎◌, ℕ, zero, suc, ◌+◌, ◌-◌, ◌≤◌, inl, inr, Bool, true, List, [], ◌∷◌, ◌++◌, length, map, take, drop, get_or, set, refl, sym, ap, ◌∙◌, arith, subst, Result, Ok, Err, Option, Some, IsSome, length-take, length-drop, append-nil}
+use Rattle.std.specs.Prelude.{◌↔◌, min, option_map, OnOk, OnErr, IfOk, IfSome}
+use Rattle.std.proofs.lemmas.Bool.{cases_lt}
+use Rattle.change_ring.specs.declared.change.Change.{Change}
+use Rattle.change_ring.specs.Log.{Row, rows_of, view_at}
+use Rattle.change_ring.specs.Logged.{removals}
+use Rattle.change_ring.specs.Window.{Window, changes_from, total}
+use Rattle.cursor_set.specs.Cursors.{Cursors, Open, Seat, Updates, after_showing, held, next_changes}
+use Rattle.cursor_set.specs.Lines.{lines}
+use Rattle.cursor_set.specs.declared.set.FeedFault.{FeedFault}
+use Rattle.cursor_set.specs.declared.set.FeedFault.TheVariants as lapse
+use Rattle.mailbox.specs.declared.clients.MailFault.{MailFault}
+use Rattle.mailbox.specs.declared.clients.MailFault.TheVariants.{Stranger, Lapped, Spent, NoMemory}
+use Rattle.mailbox.specs.Events.{KeepsLog, Logs as MailLogs, Moves, IsTooMany, IsStranger, IsLapped, IsCurrent}
+use Rattle.mailbox.specs.Mail.{Mail, rows, remaining}
+use Rattle.mailbox.specs.Stands.{Stands, next_of}
+use Rattle.mailbox.proofs.StandsLaws.{Moves-nothing}
+use Rattle.world.specs.World.{Config, World, Box, Session, Expunge, Feed, Selected, Step, pending}
+use Rattle.world.specs.Law.{IsPart, IsShown}
+use Rattle.world.proofs.Base.{part_self}
+use Rattle.world.proofs.Kept.{BoxOk}
+use Rattle.delivery_core.specs.declared.client.Client.{Client}
+use Rattle.delivery_core.specs.Held.{Held, pending_for}
+use Rattle.delivery_core.specs.Seated.{AreSeated, client_at, cursors_of}
+use Rattle.delivery_core.specs.Stands.{StandsFor, StandsForBox, text_of}
+use Rattle.delivery_core.specs.Clients.{Expunges, Feeds, Refuses, Sees, answer_of}
+use Rattle.delivery_core.proofs.MailBoxes.{Becomes, Told, box_call, box_logs, remaining_part, same_rows, taken, turned_away}
+use Rattle.delivery_core.proofs.Looks.{pending_here, saw}
+use Rattle.delivery_core.proofs.Mailed.{BoxMails, SeatMoves, known_at, moved_follow, seat_moves, seat_same}
+
+take_self : {A : Type 0} (l : ℕ) (xs : List A) → take (length (take l xs)) xs ≡ take l xs
+take_self zero [] = refl
+take_self zero (x ∷ xs) = refl
+take_self (suc l) [] = refl
+take_self (suc l) (x ∷ xs) = ap (λ ys. x ∷ ys) (take_self l xs)
+
+-- ---- Feed
+
+back_stranger : (r : Result ℕ FeedFault) → answer_of r ≡ Err Stranger → r ≡ Err lapse.Stranger
+back_stranger (Ok n) e = cc
+back_stranger (Err lapse.Stranger) e = refl
+back_stranger (Err lapse.Lapped) e = cc
+back_stranger (Err lapse.NoMemory) e = cc
+
+back_lapped : (r : Result ℕ FeedFault) → answer_of r ≡ Err Lapped → r ≡ Err lapse.Lapped
+back_lapped (Ok n) e = cc
+back_lapped (Err lapse.Stranger) e = cc
+back_lapped (Err lapse.Lapped) e = refl
+back_lapped (Err lapse.NoMemory) e = cc
+
+pub never_spent : (r : Result ℕ FeedFault) → answer_of r ≡ Err Spent → ⊥
+never_spent (Ok n) e = cc
+never_spent (Err lapse.Stranger) e = cc
+never_spent (Err lapse.Lapped) e = cc
+never_spent (Err lapse.NoMemory) e = cc
+
+pub feed_strange : (r : Result ℕ FeedFault) (b : Mail) (seat : Seat) → (r ≡ Err lapse.Stranger) ↔ IsStranger b seat → (answer_of r ≡ Err Stranger) ↔ IsStranger b seat
+feed_strange r b seat strange = (λ e. strange.0 (back_stranger r e), λ h. ap answer_of (strange.1 h))
+
+feed_told : (k : Config) (b : Mail) (x : Box) (seat : Seat) (r : Result ℕ FeedFault) → StandsForBox k b x → BoxOk k x → IsSome (held b.cursors seat) → (r ≡ Err lapse.Stranger) ↔ IsStranger b seat → (r ≡ Err lapse.Lapped) ↔ IsLapped b seat → Told (answer_of r) b seat []
+feed_told k b x seat r S ok some strange lapses = record {
+  known = some;
+  stranger = feed_strange r b seat strange;
+  lapsed = (λ e. lapses.0 (back_lapped r e), λ h. ap answer_of (lapses.1 h));
+  spent = (λ e. absurd (never_spent r e), λ h. absurd (omega (arith, h.1, ok.room, S.log.window.long)));
+}
+
+fed_length : (w : Window) (at n limit : ℕ) → w.base ≤ at → n ≡ min limit (total w - at) → length (next_changes w at n) ≡ n
+fed_length w at n limit low count = omega (arith, length-take n (changes_from at w), length-drop (at - w.base) w.changes, count, low)
+
+pub feed_moves : (b b2 : Mail) (seat seat2 : Seat) (limit : ℕ) (before after : List ℕ) (r : Result ℕ FeedFault) → IsSome (held b.cursors seat) → (r ≡ Err lapse.Lapped) ↔ IsLapped b seat
+    → OnErr r ((b2 ≡ b) × (seat2 ≡ seat) × (after ≡ before)) → IfOk r (λ n. n ≡ min limit (total b.window - seat.at)) → IfOk r (λ n. seat2 ≡ record seat { at = seat.at + n })
+    → IfOk r (λ n. Updates b.cursors b2.cursors seat.slot (option_map (after_showing (next_changes b.window seat.at n)) (held b.cursors seat))) → SeatMoves b.cursors b2.cursors seat seat2
+feed_moves b b2 seat seat2 limit before after (Ok n) some lapses err count is moved =
+    seat_moves b.cursors b2.cursors seat seat2 (next_changes b.window seat.at n) some moved (is ∙ ap (λ (j : ℕ). let z : Seat = record { number = seat.number; slot = seat.slot; serial = seat.serial; at = seat.at + j } in z) (sym (fed_length b.window seat.at n limit low count)))
+  where
+    no_err : Ok n ≡ Err lapse.Lapped → ⊥
+    no_err e = cc
+
+    low : b.window.base ≤ seat.at
+    low = elim (cases_lt seat.at b.window.base) [ inl under ↦ absurd (no_err (lapses.1 (some, under))) | inr over ↦ over ]
+feed_moves b b2 seat seat2 limit before after (Err f) some lapses err count is moved = seat_same b.cursors b2.cursors seat seat2 some (ap (λ (z : Mail). z.cursors) err.0) err.1
+
+-- a mailbox that logged nothing
+becomes_same : (k : Config) (b b2 : Mail) (x : Box) → StandsForBox k b x → BoxOk k x → KeepsLog b b2 → b2 ≡ record b { cursors = b2.cursors } → Becomes k x [] b2
+becomes_same k b b2 x S ok keeps_log rest = box_logs k b b2 x [] b.cursors S (omega (arith, ok.room))
+    (λ log s. subst (Stands b2) (sym (append-nil log)) (keeps_log log s))
+    (subst (λ (z : Window). Moves b.cursors b.window z []) (sym (ap (λ (z : Mail). z.window) rest)) (Moves-nothing b.cursors b.window))
+    (subst (λ (z : Mail). IsPart (map text_of z.messages) (map text_of b.messages)) (sym rest) (part_self (map text_of b.messages)))
+    (ap (λ (z : Mail). z.accepted) rest) (ap (λ (z : Mail). z.first_uid) rest) (ap (λ (z : Mail). z.limit) rest) (ap (λ (z : Mail). z.uidvalidity) rest)
+
+feed_box : (k : Config) (b b2 : Mail) (x : Box) (s : Session) (seat seat2 : Seat) (limit : ℕ) (before after : List ℕ) (r : Result ℕ FeedFault) → StandsForBox k b x → seat.at ≡ s.cursor → BoxOk k x → Told (answer_of r) b seat []
+    → OnErr r ((b2 ≡ b) × (seat2 ≡ seat) × (after ≡ before)) → IfOk r (λ n. n ≡ min limit (total b.window - seat.at))
+    → IfOk r (λ n. (log : List Change) → Stands b log → after ≡ before ++ lines (view_at log seat.at) (next_of log seat.at n))
+    → IfOk r (λ n. seat2 ≡ record seat { at = seat.at + n }) → KeepsLog b b2 → b2 ≡ record b { cursors = b2.cursors }
+    → BoxMails k x s true (take limit (pending x s)) [] b2 seat2 × Feeds limit before after (answer_of r) x s
+feed_box k b b2 x s seat seat2 limit before after (Ok n) S at ok told err count shown is keeps_log rest = (
+  box_call k b b2 x s seat seat2 true (take limit (pending x s)) [] (Ok n) S at told (λ f. refl) tt (λ room. becomes_same k b b2 x S ok keeps_log rest) (omega (arith, ap (λ (z : Seat). z.at) is, at, long)),
+  (record { kept = (taken k b x s seat [] (Ok n) n S at told refl).0; text = shown x.log S.log ∙ ap (λ (cs : List Change). before ++ lines (view_at x.log seat.at) cs) what ∙ ap (λ (i : ℕ). before ++ lines (view_at x.log i) (take limit (pending x s))) at }, sym long),
+)
+  where
+    long : length (take limit (pending x s)) ≡ n
+    long = omega (arith, length-take limit (drop s.cursor x.log), length-drop s.cursor x.log, count, at, S.log.window.long)
+
+    what : next_of x.log seat.at n ≡ take limit (pending x s)
+    what = ap (λ (i : ℕ). take n (drop i x.log)) at ∙ ap (λ (j : ℕ). take j (drop s.cursor x.log)) (sym long) ∙ take_self limit (drop s.cursor x.log)
+feed_box k b b2 x s seat seat2 limit before after (Err lapse.Stranger) S at ok told err count shown is keeps_log rest =
+    (box_call k b b2 x s seat seat2 true (take limit (pending x s)) [] (Err Stranger) S at told (λ f. refl) (err.0, err.1) tt tt, turned_away k b x s seat [] (Err Stranger) Stranger S at told refl)
+feed_box k b b2 x s seat seat2 limit before after (Err lapse.Lapped) S at ok told err count shown is keeps_log rest =
+    (box_call k b b2 x s seat seat2 true (take limit (pending x s)) [] (Err Lapped) S at told (λ f. refl) (err.0, err.1) tt tt, turned_away k b x s seat [] (Err Lapped) Lapped S at told refl)
+feed_box k b b2 x s seat seat2 limit before after (Err lapse.NoMemory) S at ok told err count shown is keeps_log rest =
+    (box_call k b b2 x s seat seat2 true (take limit (pending x s)) [] (Err NoMemory) S at told (λ f. refl) (err.0, err.1) tt tt, turned_away k b x s seat [] (Err NoMemory) NoMemory S at told refl)
+
+pub feed_follows : (k : Config) (w : World) (old : Held) (n p m : ℕ) (c : Client) (b b2 : Mail) (seat2 : Seat) (vacant : Option Client) (limit : ℕ) (before after : List ℕ) (r : Result ℕ FeedFault) (q : Result ℕ MailFault)
+    → StandsFor k old w → client_at old.clients n ≡ Some c → p ≡ n → m ≡ c.mailbox → b ≡ get_or old.boxes m b → q ≡ answer_of r
+    → (r ≡ Err lapse.Stranger) ↔ IsStranger b c.seat → (r ≡ Err lapse.Lapped) ↔ IsLapped b c.seat → OnErr r ((b2 ≡ b) × (seat2 ≡ c.seat) × (after ≡ before)) → IfOk r (λ j. j ≡ min limit (total b.window - c.seat.at))
+    → IfOk r (λ j. (log : List Change) → Stands b log → after ≡ before ++ lines (view_at log c.seat.at) (next_of log c.seat.at j))
+    → IfOk r (λ j. seat2 ≡ record c.seat { at = c.seat.at + j }) → KeepsLog b b2 → b2 ≡ record b { cursors = b2.cursors }
+    → IfOk r (λ j. Updates b.cursors b2.cursors c.seat.slot (option_map (after_showing (next_changes b.window c.seat.at j)) (held b.cursors c.seat)))
+    → (v : World) × Step k w (Feed n limit) v × StandsFor k (record old { boxes = set old.boxes m b2; clients = set (set old.clients p vacant) p (Some (record { mailbox = c.mailbox; seat = seat2 })) }) v
+    × Selected w n (λ s. Feeds limit before after q (w.box s.mailbox) s)
+feed_follows k w old n p m c b b2 seat2 vacant limit before after r q S e place same there tells strange lapses err count shown is keeps_log rest moved =
+    subst (λ (z : Result ℕ MailFault). (v : World) × Step k w (Feed n limit) v × StandsFor k (record old { boxes = set old.boxes m b2; clients = set (set old.clients p vacant) p (Some (record { mailbox = c.mailbox; seat = seat2 })) }) v
+    × Selected w n (λ s. Feeds limit before after z (w.box s.mailbox) s)) (sym tells)
+    (moved_follow k w old n p m c b b2 seat2 vacant true (λ x s. take limit (pending x s)) (λ x. []) (λ x s. Feeds limit before after (answer_of r) x s) (Feed n limit) (λ v h. h) S e place same there
+    (feed_moves b b2 c.seat seat2 limit before after r some lapses err count is moved)
+    (λ x s box at ok shown_is. feed_box k b b2 x s c.seat seat2 limit before after r box at ok (feed_told k b x c.seat r box ok some strange lapses) err count shown is keeps_log rest))
+  where
+    some : IsSome (held b.cursors c.seat)
+    some = known_at old.boxes old.clients n c b S.seated e (there ∙ ap (λ (i : ℕ). get_or old.boxes i b) same)
+
+-- ---- Expunge
+
+pub expunge_moves : (b b2 : Mail) (seat seat2 : Seat) (before after : List ℕ) (r : Result ℕ MailFault) → IsSome (held b.cursors seat) → (r ≡ Err Lapped) ↔ IsLapped b seat
+    → OnErr r ((b2 ≡ b) × (seat2 ≡ seat) × (after ≡ before)) → OnOk r (seat2 ≡ record seat { at = total b.window }) → OnOk r (seat.at ≤ total b.window)
+    → OnOk r (Updates b.cursors b2.cursors seat.slot (option_map (after_showing (changes_from seat.at b.window)) (held b.cursors seat))) → SeatMoves b.cursors b2.cursors seat seat2
+expunge_moves b b2 seat seat2 before after (Ok n) some lapses err is within moved =
+    seat_moves b.cursors b2.cursors seat seat2 (changes_from seat.at b.window) some moved (is ∙ ap (λ (j : ℕ). let z : Seat = record { number = seat.number; slot = seat.slot; serial = seat.serial; at = j } in z) whole)
+  where
+    no_err : Ok n ≡ Err Lapped → ⊥
+    no_err e = cc
+
+    low : b.window.base ≤ seat.at
+    low = elim (cases_lt seat.at b.window.base) [ inl under ↦ absurd (no_err (lapses.1 (some, under))) | inr over ↦ over ]
+
+    whole : total b.window ≡ seat.at + length (changes_from seat.at b.window)
+    whole = omega (arith, length-drop (seat.at - b.window.base) b.window.changes, low, within)
+expunge_moves b b2 seat seat2 before after (Err f) some lapses err is within moved = seat_same b.cursors b2.cursors seat seat2 some (ap (λ (z : Mail). z.cursors) err.0) err.1
+
+expunge_box : (k : Config) (b b2 : Mail) (x : Box) (s : Session) (seat seat2 : Seat) (test : ℕ → Bool) (before after : List ℕ) (cursors : Cursors) (r : Result ℕ MailFault) → StandsForBox k b x → seat.at ≡ s.cursor → IsShown x.log s → Told r b seat (removals test (rows b))
+    → OnErr r ((b2 ≡ b) × (seat2 ≡ seat) × (after ≡ before)) → OnOk r ((log : List Change) → Stands b log → after ≡ before ++ lines (view_at log seat.at) (drop seat.at log))
+    → OnOk r (seat2 ≡ record seat { at = total b.window }) → OnOk r (MailLogs b b2 (removals test (rows b))) → OnOk r (Moves cursors b.window b2.window (removals test (rows b)))
+    → OnOk r (b2.messages ≡ remaining test b.messages) → OnOk r (b2 ≡ record b { messages = b2.messages; window = b2.window; cursors = b2.cursors }) → IfOk r (λ n. n ≡ length (removals test (rows b)))
+    → BoxMails k x s true (pending x s) (removals test (rows_of x.log)) b2 seat2 × Expunges test before after r x s
+expunge_box k b b2 x s seat seat2 test before after cursors (Ok n) S at past told err shown is logs moves messages rest count = (
+  subst (λ (rs : List Row). BoxMails k x s true (pending x s) (removals test rs) b2 seat2) (same_rows k b x S)
+      (box_call k b b2 x s seat seat2 true (pending x s) (removals test (rows b)) (Ok n) S at told (λ f. refl) tt
+      (λ room. box_logs k b b2 x (removals test (rows b)) cursors S room logs moves (remaining_part test b.messages b2.messages messages) (ap (λ (z : Mail). z.accepted) rest) (ap (λ (z : Mail). z.first_uid) rest) (ap (λ (z : Mail). z.limit) rest) (ap (λ (z : Mail). z.uidvalidity) rest))
+      (omega (arith, ap (λ (z : Seat). z.at) is, S.log.window.long, length-drop s.cursor x.log, past.within))),
+  (
+    record { kept = (taken k b x s seat (removals test (rows b)) (Ok n) n S at told refl).0; text = shown x.log S.log ∙ ap (λ (i : ℕ). before ++ lines (view_at x.log i) (drop i x.log)) at },
+    count ∙ ap (λ (rs : List Row). length (removals test rs)) (same_rows k b x S),
+  ),
+)
+expunge_box k b b2 x s seat seat2 test before after cursors (Err f) S at past told err shown is logs moves messages rest count = (
+  subst (λ (rs : List Row). BoxMails k x s true (pending x s) (removals test rs) b2 seat2) (same_rows k b x S)
+      (box_call k b b2 x s seat seat2 true (pending x s) (removals test (rows b)) (Err f) S at told (λ g. refl) (err.0, err.1) tt tt),
+  subst (λ (rs : List Row). Refuses f (removals test rs) x s) (same_rows k b x S) (turned_away k b x s seat (removals test (rows b)) (Err f) f S at told refl),
+)
+
+pub expunge_follows : (k : Config) (w : World) (old : Held) (n p m : ℕ) (c : Client) (b b2 : Mail) (seat2 : Seat) (vacant : Option Client) (test : ℕ → Bool) (before after : List ℕ) (cursors : Cursors) (r : Result ℕ MailFault)
+    → StandsFor k old w → client_at old.clients n ≡ Some c → p ≡ n → m ≡ c.mailbox → b ≡ get_or old.boxes m b
+    → (r ≡ Err Stranger) ↔ IsStranger b c.seat → (r ≡ Err Lapped) ↔ IsLapped b c.seat → (r ≡ Err Spent) ↔ (IsCurrent b c.seat × IsTooMany b (removals test (rows b)))
+    → OnErr r ((b2 ≡ b) × (seat2 ≡ c.seat) × (after ≡ before)) → OnOk r ((log : List Change) → Stands b log → after ≡ before ++ lines (view_at log c.seat.at) (drop c.seat.at log))
+    → OnOk r (seat2 ≡ record c.seat { at = total b.window }) → OnOk r (c.seat.at ≤ total b.window)
+    → OnOk r (Updates b.cursors b2.cursors c.seat.slot (option_map (after_showing (changes_from c.seat.at b.window)) (held b.cursors c.seat)))
+    → OnOk r (MailLogs b b2 (removals test (rows b))) → OnOk r (Moves cursors b.window b2.window (removals test (rows b)))
+    → OnOk r (b2.messages ≡ remaining test b.messages) → OnOk r (b2 ≡ record b { messages = b2.messages; window = b2.window; cursors = b2.cursors }) → IfOk r (λ j. j ≡ length (removals test (rows b)))
+    → (v : World) × Step k w (Expunge n test) v × StandsFor k (record old { boxes = set old.boxes m b2; clients = set (set old.clients p vacant) p (Some (record { mailbox = c.mailbox; seat = seat2 })) }) v
+    × Selected w n (λ s. Expunges test before after r (w.box s.mailbox) s)
+expunge_follows k w old n p m c b b2 seat2 vacant test before after cursors r S e place same there strange lapses spends err shown is within moved logs moves messages rest count =
+    moved_follow k w old n p m c b b2 seat2 vacant true (λ x s. pending x s) (λ x. removals test (rows_of x.log)) (λ x s. Expunges test before after r x s) (Expunge n test) (λ v h. h) S e place same there
+    (expunge_moves b b2 c.seat seat2 before after r some lapses err is within moved)
+    (λ x s box at ok past. expunge_box k b b2 x s c.seat seat2 test before after cursors r box at past (record { known = some; stranger = strange; lapsed = lapses; spent = spends }) err shown is logs moves messages rest count)
+  where
+    some : IsSome (held b.cursors c.seat)
+    some = known_at old.boxes old.clients n c b S.seated e (there ∙ ap (λ (i : ℕ). get_or old.boxes i b) same)
+
+-- ---- refusals
+
+pub expunge_refused : (r : Result ℕ MailFault) (old new : Held) (b b2 : Mail) (seat seat2 : Seat) (before after : List ℕ) → OnErr r ((b2 ≡ b) × (seat2 ≡ seat) × (after ≡ before)) → (b2 ≡ b → seat2 ≡ seat → new ≡ old) → OnErr r ((new ≡ old) × (after ≡ before))
+expunge_refused (Ok n) old new b b2 seat seat2 before after err same = tt
+expunge_refused (Err f) old new b b2 seat seat2 before after err same = (same err.0 err.1, err.2)
+
+pub feed_refused : (r : Result ℕ FeedFault) (q : Result ℕ MailFault) (old new : Held) (b b2 : Mail) (seat seat2 : Seat) (before after : List ℕ) → q ≡ answer_of r → OnErr r ((b2 ≡ b) × (seat2 ≡ seat) × (after ≡ before)) → (b2 ≡ b → seat2 ≡ seat → new ≡ old) → OnErr q ((new ≡ old) × (after ≡ before))
+feed_refused r q old new b b2 seat seat2 before after tells err same = subst (λ (z : Result ℕ MailFault). OnErr z ((new ≡ old) × (after ≡ before))) (sym tells) (go r err)
+  where
+    go : (z : Result ℕ FeedFault) → OnErr z ((b2 ≡ b) × (seat2 ≡ seat) × (after ≡ before)) → OnErr (answer_of z) ((new ≡ old) × (after ≡ before))
+    go (Ok n) h = tt
+    go (Err lapse.Stranger) h = (same h.0 h.1, h.2)
+    go (Err lapse.Lapped) h = (same h.0 h.1, h.2)
+    go (Err lapse.NoMemory) h = (same h.0 h.1, h.2)
+
+-- ---- what the session counts then
+
+fed_low : (b : Mail) (seat : Seat) (j : ℕ) → IsSome (held b.cursors seat) → (let r : Result ℕ FeedFault = Ok j in r ≡ Err lapse.Lapped) ↔ IsLapped b seat → b.window.base ≤ seat.at
+fed_low b seat j some lapses = elim (cases_lt seat.at b.window.base) [ inl under ↦ absurd (no_err (lapses.1 (some, under))) | inr over ↦ over ]
+  where
+    no_err : (let r : Result ℕ FeedFault = Ok j in r ≡ Err lapse.Lapped) → ⊥
+    no_err h = cc
+
+pub feed_saw : (old : Held) (n p m : ℕ) (c : Client) (b b2 : Mail) (seat2 : Seat) (vacant : Option Client) (limit : ℕ) (before after : List ℕ) (r : Result ℕ FeedFault) (q : Result ℕ MailFault)
+    → AreSeated (cursors_of old.boxes) old.clients → client_at old.clients n ≡ Some c → p ≡ n → m ≡ c.mailbox → b ≡ get_or old.boxes m b → q ≡ answer_of r → (r ≡ Err lapse.Lapped) ↔ IsLapped b c.seat
+    → IfOk r (λ j. j ≡ min limit (total b.window - c.seat.at)) → IfOk r (λ j. seat2 ≡ record c.seat { at = c.seat.at + j })
+    → IfOk r (λ j. Updates b.cursors b2.cursors c.seat.slot (option_map (after_showing (next_changes b.window c.seat.at j)) (held b.cursors c.seat)))
+    → IfOk r (λ j. IfSome (held b.cursors c.seat) (λ (o : Open). after ≡ before ++ lines o.view (next_changes b.window c.seat.at j)))
+    → IfOk q (λ j. Sees old (record old { boxes = set old.boxes m b2; clients = set (set old.clients p vacant) p (Some (record { mailbox = c.mailbox; seat = seat2 })) }) n (take j (pending_for old n)) before after)
+feed_saw old n p m c b b2 seat2 vacant limit before after r q S e place same there tells lapses count is moved written =
+    subst (λ (z : Result ℕ MailFault). IfOk z (λ (j : ℕ). Sees old (record old { boxes = set old.boxes m b2; clients = set (set old.clients p vacant) p (Some (record { mailbox = c.mailbox; seat = seat2 })) }) n (take j (pending_for old n)) before after)) (sym tells) (go r lapses count is moved written)
+  where
+    some : IsSome (held b.cursors c.seat)
+    some = known_at old.boxes old.clients n c b S e (there ∙ ap (λ (i : ℕ). get_or old.boxes i b) same)
+
+    go : (z : Result ℕ FeedFault) → (z ≡ Err lapse.Lapped) ↔ IsLapped b c.seat → IfOk z (λ j. j ≡ min limit (total b.window - c.seat.at)) → IfOk z (λ j. seat2 ≡ record c.seat { at = c.seat.at + j })
+        → IfOk z (λ j. Updates b.cursors b2.cursors c.seat.slot (option_map (after_showing (next_changes b.window c.seat.at j)) (held b.cursors c.seat)))
+        → IfOk z (λ j. IfSome (held b.cursors c.seat) (λ (o : Open). after ≡ before ++ lines o.view (next_changes b.window c.seat.at j))) → IfOk (answer_of z) (λ (j : ℕ). Sees old (record old { boxes = set old.boxes m b2; clients = set (set old.clients p vacant) p (Some (record { mailbox = c.mailbox; seat = seat2 })) }) n (take j (pending_for old n)) before after)
+    go (Ok j) lapses count is moved written =
+        let long : length (next_changes b.window c.seat.at j) ≡ j = fed_length b.window c.seat.at j limit (fed_low b c.seat j some lapses) count in
+        let all : next_changes b.window c.seat.at j ≡ take j (pending_for old n) = ap (take j) (sym (pending_here old n m c b S e same there)) in
+        subst (λ (cs : List Change). Sees old (record old { boxes = set old.boxes m b2; clients = set (set old.clients p vacant) p (Some (record { mailbox = c.mailbox; seat = seat2 })) }) n cs before after) all
+        (saw old n p m c b b2 seat2 vacant (next_changes b.window c.seat.at j) before after S e place same there moved
+        (is ∙ ap (λ (i : ℕ). let y : Seat = record { number = c.seat.number; slot = c.seat.slot; serial = c.seat.serial; at = c.seat.at + i } in y) (sym long)) written)
+    go (Err lapse.Stranger) lapses count is moved written = tt
+    go (Err lapse.Lapped) lapses count is moved written = tt
+    go (Err lapse.NoMemory) lapses count is moved written = tt
+
+pub feed_count : (old : Held) (n m : ℕ) (c : Client) (b : Mail) (limit : ℕ) (r : Result ℕ FeedFault) (q : Result ℕ MailFault)
+    → AreSeated (cursors_of old.boxes) old.clients → client_at old.clients n ≡ Some c → m ≡ c.mailbox → b ≡ get_or old.boxes m b → q ≡ answer_of r → (r ≡ Err lapse.Lapped) ↔ IsLapped b c.seat
+    → IfOk r (λ j. j ≡ min limit (total b.window - c.seat.at)) → IfOk q (λ j. (j ≤ limit) × (length (take j (pending_for old n)) ≡ j))
+feed_count old n m c b limit r q S e same there tells lapses count = subst (λ (z : Result ℕ MailFault). IfOk z (λ (j : ℕ). (j ≤ limit) × (length (take j (pending_for old n)) ≡ j))) (sym tells) (go r lapses count)
+  where
+    some : IsSome (held b.cursors c.seat)
+    some = known_at old.boxes old.clients n c b S e (there ∙ ap (λ (i : ℕ). get_or old.boxes i b) same)
+
+    go : (z : Result ℕ FeedFault) → (z ≡ Err lapse.Lapped) ↔ IsLapped b c.seat → IfOk z (λ j. j ≡ min limit (total b.window - c.seat.at)) → IfOk (answer_of z) (λ (j : ℕ). (j ≤ limit) × (length (take j (pending_for old n)) ≡ j))
+    go (Ok j) lapses count = (omega (arith, count), ap (λ (cs : List Change). length (take j cs)) (pending_here old n m c b S e same there) ∙ fed_length b.window c.seat.at j limit (fed_low b c.seat j some lapses) count)
+    go (Err lapse.Stranger) lapses count = tt
+    go (Err lapse.Lapped) lapses count = tt
+    go (Err lapse.NoMemory) lapses count = tt
+
+pub expunge_saw : (old : Held) (n p m : ℕ) (c : Client) (b b2 : Mail) (seat2 : Seat) (vacant : Option Client) (before after : List ℕ) (r : Result ℕ MailFault)
+    → AreSeated (cursors_of old.boxes) old.clients → client_at old.clients n ≡ Some c → p ≡ n → m ≡ c.mailbox → b ≡ get_or old.boxes m b → (r ≡ Err Lapped) ↔ IsLapped b c.seat
+    → OnOk r (seat2 ≡ record c.seat { at = total b.window }) → OnOk r (c.seat.at ≤ total b.window)
+    → OnOk r (Updates b.cursors b2.cursors c.seat.slot (option_map (after_showing (changes_from c.seat.at b.window)) (held b.cursors c.seat)))
+    → OnOk r (IfSome (held b.cursors c.seat) (λ (o : Open). after ≡ before ++ lines o.view (changes_from c.seat.at b.window)))
+    → OnOk r (Sees old (record old { boxes = set old.boxes m b2; clients = set (set old.clients p vacant) p (Some (record { mailbox = c.mailbox; seat = seat2 })) }) n (pending_for old n) before after)
+expunge_saw old n p m c b b2 seat2 vacant before after (Ok j) S e place same there lapses is within moved written =
+    subst (λ (cs : List Change). Sees old (record old { boxes = set old.boxes m b2; clients = set (set old.clients p vacant) p (Some (record { mailbox = c.mailbox; seat = seat2 })) }) n cs before after) (sym (pending_here old n m c b S e same there))
+    (saw old n p m c b b2 seat2 vacant (changes_from c.seat.at b.window) before after S e place same there moved
+    (is ∙ ap (λ (i : ℕ). let y : Seat = record { number = c.seat.number; slot = c.seat.slot; serial = c.seat.serial; at = i } in y) whole) written)
+  where
+    no_err : Ok j ≡ Err Lapped → ⊥
+    no_err h = cc
+
+    some : IsSome (held b.cursors c.seat)
+    some = known_at old.boxes old.clients n c b S e (there ∙ ap (λ (i : ℕ). get_or old.boxes i b) same)
+
+    low : b.window.base ≤ c.seat.at
+    low = elim (cases_lt c.seat.at b.window.base) [ inl under ↦ absurd (no_err (lapses.1 (some, under))) | inr over ↦ over ]
+
+    whole : total b.window ≡ c.seat.at + length (changes_from c.seat.at b.window)
+    whole = omega (arith, length-drop (c.seat.at - b.window.base) b.window.changes, low, within)
+expunge_saw old n p m c b b2 seat2 vacant before after (Err f) S e place same there lapses is within moved written = tt
+
+-- ---- where memory is refused, something was to be shown
+
+back_memory : (r : Result ℕ FeedFault) → answer_of r ≡ Err NoMemory → r ≡ Err lapse.NoMemory
+back_memory (Ok n) e = cc
+back_memory (Err lapse.Stranger) e = cc
+back_memory (Err lapse.Lapped) e = cc
+back_memory (Err lapse.NoMemory) e = refl
+
+pub feed_memory : (old : Held) (n m : ℕ) (c : Client) (b : Mail) (limit : ℕ) (r : Result ℕ FeedFault) (q : Result ℕ MailFault)
+    → AreSeated (cursors_of old.boxes) old.clients → client_at old.clients n ≡ Some c → m ≡ c.mailbox → b ≡ get_or old.boxes m b → q ≡ answer_of r → (r ≡ Err lapse.Lapped) ↔ IsLapped b c.seat
+    → (r ≡ Err lapse.NoMemory → 0 < min limit (total b.window - c.seat.at)) → q ≡ Err NoMemory → 0 < length (take limit (pending_for old n))
+feed_memory old n m c b limit r q S e same there tells lapses memory refused = go (cases_lt c.seat.at b.window.base)
+  where
+    is : r ≡ Err lapse.NoMemory
+    is = back_memory r (sym tells ∙ refused)
+
+    differ : (z : Result ℕ FeedFault) → z ≡ Err lapse.NoMemory → z ≡ Err lapse.Lapped → ⊥
+    differ z x y = cc
+
+    go : (c.seat.at < b.window.base) ⊎ (b.window.base ≤ c.seat.at) → 0 < length (take limit (pending_for old n))
+    go (inl under) = absurd (differ r is (lapses.1 (known_at old.boxes old.clients n c b S e (there ∙ ap (λ (i : ℕ). get_or old.boxes i b) same), under)))
+    go (inr over) =
+        let all : length (take limit (pending_for old n)) ≡ length (take limit (changes_from c.seat.at b.window)) = ap (λ (cs : List Change). length (take limit cs)) (pending_here old n m c b S e same there) in
+        omega (arith, all, length-take limit (changes_from c.seat.at b.window), length-drop (c.seat.at - b.window.base) b.window.changes, memory is, over)
+
+pub expunge_memory : (old : Held) (n m : ℕ) (c : Client) (b : Mail) (r : Result ℕ MailFault)
+    → AreSeated (cursors_of old.boxes) old.clients → client_at old.clients n ≡ Some c → m ≡ c.mailbox → b ≡ get_or old.boxes m b → (r ≡ Err Lapped) ↔ IsLapped b c.seat
+    → (r ≡ Err NoMemory → c.seat.at < total b.window) → r ≡ Err NoMemory → 0 < length (pending_for old n)
+expunge_memory old n m c b r S e same there lapses memory refused = go (cases_lt c.seat.at b.window.base)
+  where
+    differ : (z : Result ℕ MailFault) → z ≡ Err NoMemory → z ≡ Err Lapped → ⊥
+    differ z x y = cc
+
+    go : (c.seat.at < b.window.base) ⊎ (b.window.base ≤ c.seat.at) → 0 < length (pending_for old n)
+    go (inl under) = absurd (differ r refused (lapses.1 (known_at old.boxes old.clients n c b S e (there ∙ ap (λ (i : ℕ). get_or old.boxes i b) same), under)))
+    go (inr over) = omega (arith, ap length (pending_here old n m c b S e same there), length-drop (c.seat.at - b.window.base) b.window.changes, memory refused, over)

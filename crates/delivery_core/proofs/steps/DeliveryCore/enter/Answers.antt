@@ -1,0 +1,51 @@
+use Rattle.std.proofs.Common.{◌<◌, ◌∙◌, ap, arith, length, set, subst, sym}
+use Rattle.cursor_set.specs.Cursors.{Seat}
+use Rattle.mailbox.specs.declared.clients.MailFault.TheVariants.{NoMemory}
+use Rattle.mailbox.specs.declared.clients.Opening.{Opening}
+use Rattle.delivery_core.specs.Held.{Held}
+use Rattle.delivery_core.specs.Stands.{StandsFor}
+use Rattle.delivery_core.proofs.Follow.{set_back}
+use Rattle.delivery_core.proofs.Boxes.{same_boxes, same_rest}
+use Rattle.delivery_core.proofs.Gone.{enter_follows, enter_refused, enter_seated, place_free}
+use Rattle.delivery_core.proofs.steps.DeliveryCore.enter.Goals as goal
+
+pub returns-in_default-clause-event : goal.returns-in_default-clause-event
+returns-in_default-clause-event c allowed k w S =
+    let i = c.self.inside in
+    let l : c.from-place.result < length i.clients.items = omega (arith, c.if-place-len.false, c.len.ensures) in
+    let number : c.from-number.result < length i.boxes.items = omega (arith, c.if-number-len.false, c.len-2.ensures) in
+    let free = place_free i.clients.items c.from-place.result c.args.session c.index.result.now c.is_some.result c.from-place.ensures l c.index.ensures c.is_some.ensures c.if-is_some.false in
+    let h : Held = record { lanes = i.lanes.items; hands = i.hands.items; replies = i.replies.items; heard = i.heard.items; boxes = i.boxes.items; next = i.next.items; clients = i.clients.items } in
+    enter_refused k w h _ c.args.session c.args.mailbox c.from-number.result NoMemory (subst (λ (x : Held). StandsFor k x w) (sym c.self.view_is) S) (omega (arith, l, c.from-place.ensures)) free c.from-number.ensures number
+    (ap (λ bs. let x : Held = record h { boxes = bs } in x) (ap (set i.boxes.items c.from-number.result) c.in_default.ensures.err ∙ set_back i.boxes.items c.from-number.result c.index_mut.result.now number c.index_mut.ensures.value))
+
+pub invariant_of-self-2 : goal.invariant_of-self-2
+invariant_of-self-2 c =
+    let i = c.self.inside in
+    let number : c.from-number.result < length i.boxes.items = omega (arith, c.if-number-len.false, c.len-2.ensures) in
+    let e = c.in-Ok.ensures in (
+      c.self.invariant.0,
+      c.self.invariant.1,
+      c.self.invariant.2,
+      enter_seated i.boxes.items i.clients.items c.args.session c.from-place.result c.args.mailbox c.from-number.result c.index_mut.result.now c.open_cursor.new.self c.in-Ok.seat _ c.self.invariant.3 c.from-place.ensures c.from-number.ensures number
+          c.index_mut.ensures.value e.opened e.vacant e.known,
+    )
+
+pub returns-clause-event : goal.returns-clause-event
+returns-clause-event c allowed k w S =
+    let i = c.self.inside in
+    let e = c.in-Ok.ensures in
+    let l : c.from-place.result < length i.clients.items = omega (arith, c.if-place-len.false, c.len.ensures) in
+    let number : c.from-number.result < length i.boxes.items = omega (arith, c.if-number-len.false, c.len-2.ensures) in
+    let free = place_free i.clients.items c.from-place.result c.args.session c.index.result.now c.is_some.result c.from-place.ensures l c.index.ensures c.is_some.ensures c.if-is_some.false in
+    enter_follows k w _ c.args.session c.from-place.result c.args.mailbox c.from-number.result c.index_mut.result.now c.open_cursor.new.self c.in-Ok.seat _ c.in-Ok.opening
+    (subst (λ (x : Held). StandsFor k x w) (sym c.self.view_is) S) (omega (arith, l, c.from-place.ensures)) free c.from-place.ensures c.from-number.ensures number c.index_mut.ensures.value
+    e.opened e.vacant e.known (ap (λ (z : Seat). z.at) e.seat) e.logged e.rest (ap (λ (z : Opening). z.count) e.opening) (ap (λ (z : Opening). z.uidnext) e.opening)
+
+pub returns-clause-same : goal.returns-clause-same
+returns-clause-same c =
+    let i = c.self.inside in
+    let number : c.from-number.result < length i.boxes.items = omega (arith, c.if-number-len.false, c.len-2.ensures) in
+    let b = c.index_mut.result.now in
+    let b2 = c.open_cursor.new.self in
+    rw (← c.self.view_is) (same_boxes i.boxes.items c.from-number.result b b2 number c.index_mut.ensures.value (same_rest b b2 b.messages b.window b2.cursors c.in-Ok.ensures.rest))

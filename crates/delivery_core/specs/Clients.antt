@@ -1,0 +1,116 @@
+-- What a call of a session is in the world, and what it tells of the mailbox and of the session, as the event met them.
+use Rattle.std.specs.Prelude.{◌≡◌, ℕ, ◌+◌, ◌<◌, ◌≤◌, ◌==◌, not, Bool, List, [], ◌∷◌, ◌++◌, length, take, count_by, sum_by, option_map, Option, Some, None, Result, Ok, Err, if◌then◌else◌}
+use Rattle.delivery_token.specs.declared.Job.{Job}
+use Rattle.change_ring.specs.declared.change.Change.{Change}
+use Rattle.change_ring.specs.declared.change.Flags.{Flags}
+use Rattle.change_ring.specs.declared.flag_op.FlagOp.{FlagOp}
+use Rattle.change_ring.specs.Log.{Row, replay, rows_of, view_at}
+use Rattle.change_ring.specs.Logged.{flags_logged, removals, removals_if, seen_logged}
+use Rattle.cursor_set.specs.Lines.{lines}
+use Rattle.cursor_set.specs.declared.set.FeedFault.{FeedFault}
+use Rattle.cursor_set.specs.declared.set.FeedFault.TheVariants as lapse
+use Rattle.mailbox.specs.Events.{was_logged}
+use Rattle.mailbox.specs.declared.clients.MailFault.{MailFault}
+use Rattle.mailbox.specs.declared.clients.MailFault.TheVariants.{Stranger, Lapped, Spent, NoMemory}
+use Rattle.mailbox.specs.declared.clients.Opening.{Opening}
+use Rattle.mailbox.specs.declared.clients.Row as read
+use Rattle.mailbox.specs.declared.mailbox.Status.{Status}
+use Rattle.world.specs.World.{Config, World, Box, Session, Event, Enter, Step, Selected, most_changes, next_uid, pending}
+use Rattle.delivery_core.specs.Held.{Held, view_of}
+use Rattle.delivery_core.specs.Stands.{StandsFor}
+
+-- From each world for which the old one stood, the event leads to one for which the new one stands, and this holds of the mailbox that session
+-- n had selected and of the session, as they were.
+abbrev pub Does : Config → Held → Event → ℕ → (Box → Session → Type 0) → Held → Type 0
+Does k old event n P new = (w : World) → StandsFor k old w → (v : World) × Step k w event v × StandsFor k new v × Selected w n (λ s. P (w.box s.mailbox) s)
+
+-- why a session was refused that would log these changes
+abbrev pub Refuses : MailFault → List Change → Box → Session → Type 0
+Refuses Lapped changes b s = s.cursor < b.base
+Refuses Spent changes b s = (b.base ≤ s.cursor) × (most_changes < length b.log + length changes)
+Refuses NoMemory changes b s = (b.base ≤ s.cursor) × (length b.log + length changes ≤ most_changes)
+Refuses Stranger changes b s = ⊥
+
+-- the rows after these changes
+abbrev pub rows_then : Box → List Change → List Row
+rows_then b changes = rows_of (b.log ++ changes)
+
+-- the row of a UID
+abbrev pub row_with : ℕ → List Row → Option Row
+row_with uid [] = None
+row_with uid (row ∷ rows) = if row.uid == uid then Some row else row_with uid rows
+
+-- the text of the copy that was accepted under a UID
+abbrev pub text_with : ℕ → List (Job × ℕ) → List ℕ
+text_with uid [] = []
+text_with uid (copy ∷ copies) = if copy.1 == uid then copy.0.text else text_with uid copies
+
+-- the session was shown these changes, whose lines stand behind what stood there
+pub record IsTold (shown : List Change) (before after : List ℕ) (b : Box) (s : Session) : Type 0 where
+  pub kept : b.base ≤ s.cursor
+  pub text : after ≡ before ++ lines (view_at b.log s.cursor) shown
+
+-- the session was shown these changes: their lines stand behind what stood there, and it counts the UIDs that they leave
+pub record Sees (old new : Held) (session : ℕ) (shown : List Change) (before after : List ℕ) : Type 0 where
+  pub text : after ≡ before ++ lines (view_of old session) shown
+  pub view : view_of new session ≡ replay (view_of old session) shown
+
+-- a Feed answers how many changes it showed: those that are pending, at most so many
+abbrev pub Feeds : ℕ → List ℕ → List ℕ → Result ℕ MailFault → Box → Session → Type 0
+Feeds limit before after (Ok n) b s = IsTold (take limit (pending b s)) before after b s × (n ≡ length (take limit (pending b s)))
+Feeds limit before after (Err fault) b s = Refuses fault [] b s
+
+-- an Expunge shows all that is pending, and answers how many messages it removed
+abbrev pub Expunges : (ℕ → Bool) → List ℕ → List ℕ → Result ℕ MailFault → Box → Session → Type 0
+Expunges may_go before after (Ok n) b s = IsTold (pending b s) before after b s × (n ≡ length (removals may_go (rows_of b.log)))
+Expunges may_go before after (Err fault) b s = Refuses fault (removals may_go (rows_of b.log)) b s
+
+-- the row of a UID as it is after a Read, with the text of its copy
+abbrev pub read_of : Bool → ℕ → Box → Option read.Row
+read_of mark_seen uid b =
+    option_map (λ (row : Row). record { uid = row.uid; flags = row.flags; newly_seen = was_logged (seen_logged mark_seen (rows_of b.log) uid); text = text_with uid b.accepted })
+    (row_with uid (rows_then b (seen_logged mark_seen (rows_of b.log) uid)))
+
+-- a Read answers the message, where it is there
+abbrev pub Reads : Bool → ℕ → Result (Option read.Row) MailFault → Box → Session → Type 0
+Reads mark_seen uid (Ok row) b s = (b.base ≤ s.cursor) × (row ≡ read_of mark_seen uid b)
+Reads mark_seen uid (Err fault) b s = Refuses fault (seen_logged mark_seen (rows_of b.log) uid) b s
+
+-- the flags of a UID as they are after a Store
+abbrev pub flags_of : ℕ → FlagOp → Box → Option Flags
+flags_of uid op b = option_map (λ (row : Row). row.flags) (row_with uid (rows_then b (flags_logged (rows_of b.log) uid op)))
+
+-- a Store answers the message's flags, where it is there
+abbrev pub Alters : ℕ → FlagOp → Result (Option Flags) MailFault → Box → Session → Type 0
+Alters uid op (Ok flags) b s = (b.base ≤ s.cursor) × (flags ≡ flags_of uid op b)
+Alters uid op (Err fault) b s = Refuses fault (flags_logged (rows_of b.log) uid op) b s
+
+-- a Leave answers how many messages went, and is refused where the log has no room for that
+abbrev pub Leaves : Bool → Result ℕ MailFault → Box → Session → Type 0
+Leaves removing (Ok n) b s = n ≡ length (removals_if removing (rows_of b.log))
+Leaves removing (Err Spent) b s = most_changes < length b.log + length (removals_if removing (rows_of b.log))
+Leaves removing (Err fault) b s = ⊥
+
+-- an Enter answers how many messages are there and the next UID
+abbrev pub Opens : Config → Result Opening MailFault → Box → Type 0
+Opens k (Ok opening) b = (opening.count ≡ length (rows_of b.log)) × (opening.uidnext ≡ next_uid k b)
+Opens k (Err fault) b = Unit {0}
+
+-- From each world for which the old one stood, session n enters mailbox m or is refused, and the new one stands for what comes of it.
+abbrev pub Enters : Config → Held → ℕ → ℕ → Result Opening MailFault → Held → Type 0
+Enters k old n m result new = (w : World) → StandsFor k old w → (v : World) × Step k w (Enter n m) v × StandsFor k new v × Opens k result (w.box m)
+
+-- what STATUS tells: of the rows, and of the texts that were accepted under their UIDs
+pub record IsStatus (k : Config) (b : Box) (status : Status) : Type 0 where
+  pub messages : status.messages ≡ length (rows_of b.log)
+  pub uidnext : status.uidnext ≡ next_uid k b
+  pub unseen : status.unseen ≡ count_by (λ (row : Row). not row.flags.seen) (rows_of b.log)
+  pub deleted : status.deleted ≡ count_by (λ (row : Row). row.flags.deleted) (rows_of b.log)
+  pub size : status.size ≡ sum_by (λ (row : Row). length (text_with row.uid b.accepted)) (rows_of b.log)
+
+-- a feed's answer, with its fault as one of all calls
+abbrev pub answer_of : Result ℕ FeedFault → Result ℕ MailFault
+answer_of (Ok n) = Ok n
+answer_of (Err lapse.Stranger) = Err Stranger
+answer_of (Err lapse.Lapped) = Err Lapped
+answer_of (Err lapse.NoMemory) = Err NoMemory

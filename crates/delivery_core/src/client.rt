@@ -1,0 +1,12 @@
+//! A client of a mailbox, as the delivery side keeps it. What it does is told in `clients`.
+
+use cursor_set::CursorSeat;
+
+/// The mailbox that a session entered, and its seat there.
+#[derive(Drop)]
+pub struct Client {
+    /// The mailbox's number.
+    pub mailbox: u8,
+    /// The session's hold of its cursor.
+    pub seat: CursorSeat,
+}

@@ -1,0 +1,394 @@
+//! What a session does in the mailbox that it enters: each call is one event of the world. Lanes and
+//! verdicts are told in `steps`.
+
+ghost use Rattle.std.specs.Prelude.{◌≡◌, ◌≢◌, ℕ, ◌+◌, ◌-◌, ◌^◌, ◌<◌, ◌≤◌, ◌⊎◌, ◌↔◌, length, Err, Some, None, IfErr, IfOk, IfSome, OnErr, OnOk, IsErr, IsSome, IsTrue, option_map, slice_index_or, take, vec_capacity};
+ghost use Rattle.change_ring.specs.Log.{rows_of, view_at};
+ghost use Rattle.mailbox.specs.Events.{in_set};
+ghost use Rattle.mailbox.specs.Mail.{Mail, SameMailbox};
+ghost use Rattle.world.specs.World.{Box, Config, World, Expunge, Feed, Leave, Read, Selected, Store};
+ghost use Rattle.delivery_core.specs.Changes.{SameCounts, SameDelivery};
+ghost use Rattle.delivery_core.specs.Clients.{Alters, Does, Enters, Expunges, Feeds, IsStatus, Leaves, Reads, Sees, answer_of};
+ghost use Rattle.delivery_core.specs.Held.{client_of, pending_for, view_of};
+ghost use Rattle.delivery_core.specs.Stands.{StandsFor};
+
+use crate::client::Client;
+use crate::steps::DeliveryCore;
+use change_ring::{FlagOp, Flags};
+use cursor_set::FeedFault;
+use mailbox::{MailFault, Opening, Row, Status};
+
+// A feed's answer, with its fault as one of all calls.
+fn answer_of(fed: Result<usize, FeedFault>) -> Result<usize, MailFault>
+    ensures { result ≡ answer_of fed }
+{
+    match fed {
+        Ok(count) => Ok(count),
+        Err(FeedFault::Stranger) => Err(MailFault::Stranger),
+        Err(FeedFault::Lapped) => Err(MailFault::Lapped),
+        Err(FeedFault::NoMemory) => Err(MailFault::NoMemory),
+    }
+}
+
+impl DeliveryCore {
+    /// A session is shown its next changes, at most `limit`: a line for each behind `out` (RFC 9051,
+    /// 7.4 and 7.5), and it is told how many. Stranger where it has entered no mailbox, else Lapped
+    /// where the next change was overwritten, else NoMemory; nothing is then changed.
+    pub fn feed(&mut self, session: u8, limit: usize, out: &mut Vec<u8>) -> Result<usize, MailFault>
+        ensures stranger { (result ≡ Err MailFault.Stranger) ↔ (client_of self.old session ≡ None) }
+        ensures spent { result ≢ Err MailFault.Spent }
+        ensures memory { result ≡ Err MailFault.NoMemory → 0 < length (take limit (pending_for self.old session)) }
+        ensures event { IsSome (client_of self.old session) → (k : Config) → Does k self.old (Feed session limit) session (Feeds limit out.old.items out.new.items result) self.new }
+        ensures shown { IfOk result (λ n. Sees self.old self.new session (take n (pending_for self.old session)) out.old.items out.new.items) }
+        ensures count { IfOk result (λ n. (n ≤ limit) × (length (take n (pending_for self.old session)) ≡ n)) }
+        ensures rest { SameDelivery self.old self.new }
+        ensures same { OnOk result ((m : ℕ) (d : Mail) → SameMailbox (slice_index_or self.old.boxes m d) (slice_index_or self.new.boxes m d)) }
+        ensures counts { SameCounts self.old self.new }
+        ensures room { vec_capacity out.old ≤ vec_capacity out.new }
+        ensures refused { OnErr result ((self.new ≡ self.old) × (out.new.items ≡ out.old.items)) }
+    {
+        let place = usize::from(session);
+        if place >= self.clients.len() {
+            return Err(MailFault::Stranger);
+        }
+        let Some(mut client) = self.clients[place].take() else {
+            return Err(MailFault::Stranger);
+        };
+        let mailbox = &mut self.boxes[usize::from(client.mailbox)];
+        let fed = mailbox.feed(&mut client.seat, limit, out);
+        self.clients[place] = Some(client);
+        answer_of(fed)
+    }
+
+    /// A session reads the message of a UID of its mailbox, with a copy of its text; where
+    /// `mark_seen`, it has \Seen from now on (RFC 9051, 6.4.5). None where no message has the UID.
+    /// Stranger where it has entered no mailbox, else Lapped, Spent or NoMemory, in this order;
+    /// nothing is then changed.
+    pub fn read(&mut self, session: u8, uid: u32, mark_seen: bool) -> Result<Option<Row>, MailFault>
+        ensures stranger { (result ≡ Err MailFault.Stranger) ↔ (client_of self.old session ≡ None) }
+        ensures clients { self.new.clients ≡ self.old.clients }
+        ensures view { view_of self.new session ≡ view_of self.old session }
+        ensures event { IsSome (client_of self.old session) → (k : Config) → Does k self.old (Read session uid mark_seen) session (Reads mark_seen uid result) self.new }
+        ensures rest { SameDelivery self.old self.new }
+        ensures same { OnOk result ((m : ℕ) (d : Mail) → SameMailbox (slice_index_or self.old.boxes m d) (slice_index_or self.new.boxes m d)) }
+        ensures counts { SameCounts self.old self.new }
+        ensures refused { OnErr result (self.new ≡ self.old) }
+    {
+        let place = usize::from(session);
+        if place >= self.clients.len() {
+            return Err(MailFault::Stranger);
+        }
+        let Some(client) = &self.clients[place] else {
+            return Err(MailFault::Stranger);
+        };
+        let mailbox = &mut self.boxes[usize::from(client.mailbox)];
+        mailbox.read(&client.seat, uid, mark_seen)
+    }
+
+    /// A session changes the flags of the message of a UID of its mailbox (RFC 9051, 6.4.6), and is
+    /// told them as they are then; None where no message has the UID. Stranger where it has entered
+    /// no mailbox, else Lapped or Spent, in this order; nothing is then changed.
+    pub fn store(&mut self, session: u8, uid: u32, op: FlagOp) -> Result<Option<Flags>, MailFault>
+        ensures stranger { (result ≡ Err MailFault.Stranger) ↔ (client_of self.old session ≡ None) }
+        ensures memory { result ≢ Err MailFault.NoMemory }
+        ensures event { IsSome (client_of self.old session) → (k : Config) → Does k self.old (Store session uid op) session (Alters uid op result) self.new }
+        ensures clients { self.new.clients ≡ self.old.clients }
+        ensures view { view_of self.new session ≡ view_of self.old session }
+        ensures rest { SameDelivery self.old self.new }
+        ensures same { OnOk result ((m : ℕ) (d : Mail) → SameMailbox (slice_index_or self.old.boxes m d) (slice_index_or self.new.boxes m d)) }
+        ensures counts { SameCounts self.old self.new }
+        ensures refused { OnErr result (self.new ≡ self.old) }
+    {
+        let place = usize::from(session);
+        if place >= self.clients.len() {
+            return Err(MailFault::Stranger);
+        }
+        let Some(client) = &self.clients[place] else {
+            return Err(MailFault::Stranger);
+        };
+        let mailbox = &mut self.boxes[usize::from(client.mailbox)];
+        mailbox.store(&client.seat, uid, op)
+    }
+
+    /// A session is shown all that is pending, and then the messages of its mailbox with \Deleted are
+    /// removed, of these UIDs where some are named (RFC 9051, 6.4.3 and 6.4.9): it is told how many
+    /// went. Stranger where it has entered no mailbox, else Lapped, Spent or NoMemory, in this order;
+    /// nothing is then changed.
+    pub fn expunge(
+        &mut self,
+        session: u8,
+        uids: Option<&[u32]>,
+        out: &mut Vec<u8>,
+    ) -> Result<usize, MailFault>
+        ensures stranger { (result ≡ Err MailFault.Stranger) ↔ (client_of self.old session ≡ None) }
+        ensures memory { result ≡ Err MailFault.NoMemory → 0 < length (pending_for self.old session) }
+        ensures event { IsSome (client_of self.old session) → (k : Config) → Does k self.old (Expunge session (in_set (option_map (λ uids. uids.now) uids.entry))) session
+            (Expunges (in_set (option_map (λ uids. uids.now) uids.entry)) out.old.items out.new.items result) self.new }
+        ensures shown { OnOk result (Sees self.old self.new session (pending_for self.old session) out.old.items out.new.items) }
+        ensures rest { SameDelivery self.old self.new }
+        ensures same { OnOk result ((m : ℕ) (d : Mail) → SameMailbox (slice_index_or self.old.boxes m d) (slice_index_or self.new.boxes m d)) }
+        ensures counts { SameCounts self.old self.new }
+        ensures room { vec_capacity out.old ≤ vec_capacity out.new }
+        ensures refused { OnErr result ((self.new ≡ self.old) × (out.new.items ≡ out.old.items)) }
+    {
+        let place = usize::from(session);
+        if place >= self.clients.len() {
+            return Err(MailFault::Stranger);
+        }
+        let Some(mut client) = self.clients[place].take() else {
+            return Err(MailFault::Stranger);
+        };
+        let mailbox = &mut self.boxes[usize::from(client.mailbox)];
+        let gone = mailbox.expunge(&mut client.seat, uids, out);
+        self.clients[place] = Some(client);
+        gone
+    }
+
+    /// A session enters a mailbox, at the end of its log: it counts the messages that are there, and
+    /// is to be shown what happens from now on (RFC 9051, 6.3.2). Stranger where there is no such
+    /// session or mailbox, or the session has entered one already; else Spent where the mailbox has
+    /// no serial left for a cursor, else NoMemory; nothing is then changed.
+    pub fn enter(&mut self, session: u8, mailbox: u8) -> Result<Opening, MailFault>
+        ensures stranger { (result ≡ Err MailFault.Stranger) ↔ ((length self.old.clients ≤ session) ⊎ (IsSome (client_of self.old session) ⊎ (length self.old.boxes ≤ mailbox))) }
+        ensures lapsed { result ≢ Err MailFault.Lapped }
+        ensures spent { result ≡ Err MailFault.Spent → (d : Mail) → 2 ^ 64 - 1 ≤ (slice_index_or self.old.boxes mailbox d).cursors.next }
+        ensures event { result ≢ Err MailFault.Stranger → (k : Config) → Enters k self.old session mailbox result self.new }
+        ensures entered { OnOk result (option_map (λ client. client.mailbox) (client_of self.new session) ≡ Some mailbox) }
+        ensures validity { IfOk result (λ opening. (d : Mail) → opening.uidvalidity ≡ (slice_index_or self.old.boxes mailbox d).uidvalidity) }
+        ensures rest { SameDelivery self.old self.new }
+        ensures same { OnOk result ((m : ℕ) (d : Mail) → SameMailbox (slice_index_or self.old.boxes m d) (slice_index_or self.new.boxes m d)) }
+        ensures counts { SameCounts self.old self.new }
+        ensures refused { OnErr result (self.new ≡ self.old) }
+    {
+        let place = usize::from(session);
+        if place >= self.clients.len() {
+            return Err(MailFault::Stranger);
+        }
+        if self.clients[place].is_some() {
+            return Err(MailFault::Stranger);
+        }
+        let number = usize::from(mailbox);
+        if number >= self.boxes.len() {
+            return Err(MailFault::Stranger);
+        }
+        if !self.boxes[number].can_open() {
+            return Err(MailFault::Spent);
+        }
+        let Ok((seat, opening)) = self.boxes[number].open_cursor() else {
+            return Err(MailFault::NoMemory);
+        };
+        self.clients[place] = Some(Client { mailbox, seat });
+        Ok(opening)
+    }
+
+    /// A session leaves its mailbox; where `remove`, every message with \Deleted goes with it (RFC
+    /// 9051, 6.4.1 and 6.4.2): it is told how many went. Stranger where it has entered no mailbox,
+    /// else Spent where the log has no room for the removals; nothing is then changed.
+    pub fn leave(&mut self, session: u8, remove: bool) -> Result<usize, MailFault>
+        ensures stranger { (result ≡ Err MailFault.Stranger) ↔ (client_of self.old session ≡ None) }
+        ensures faults { IfErr result (λ fault. (fault ≡ MailFault.Stranger) ⊎ (fault ≡ MailFault.Spent)) }
+        ensures event { IsSome (client_of self.old session) → (k : Config) → Does k self.old (Leave session remove) session (Leaves remove result) self.new }
+        ensures gone { OnOk result (client_of self.new session ≡ None) }
+        ensures rest { SameDelivery self.old self.new }
+        ensures same { OnOk result ((m : ℕ) (d : Mail) → SameMailbox (slice_index_or self.old.boxes m d) (slice_index_or self.new.boxes m d)) }
+        ensures counts { SameCounts self.old self.new }
+        ensures refused { OnErr result (self.new ≡ self.old) }
+    {
+        let place = usize::from(session);
+        if place >= self.clients.len() {
+            return Err(MailFault::Stranger);
+        }
+        let Some(client) = self.clients[place].take() else {
+            return Err(MailFault::Stranger);
+        };
+        let number = client.mailbox;
+        let mailbox = &mut self.boxes[usize::from(number)];
+        let (seat, fault) = match mailbox.close_cursor(client.seat, remove) {
+            Ok(count) => return Ok(count),
+            Err(refused) => refused,
+        };
+        self.clients[place] = Some(Client {
+            mailbox: number,
+            seat,
+        });
+        Err(fault)
+    }
+
+    /// The UIDs that a session was shown of its mailbox, in their order. It takes no memory.
+    /// Stranger where it has entered no mailbox.
+    pub fn view(&self, session: u8) -> Result<&[u32], MailFault>
+        ensures stranger { IsErr result ↔ (client_of self.now session ≡ None) }
+        ensures faults { IfErr result (λ fault. fault ≡ MailFault.Stranger) }
+        ensures shown { IfOk result (λ view. view.now ≡ view_of self.now session) }
+        ensures log { IfOk result (λ view. (k : Config) (w : World) → StandsFor k self.now w →
+            Selected w session (λ s. (w.box s.mailbox).base ≤ s.cursor → view.now ≡ view_at (w.box s.mailbox).log s.cursor)) }
+    {
+        let place = usize::from(session);
+        if place >= self.clients.len() {
+            return Err(MailFault::Stranger);
+        }
+        let Some(client) = &self.clients[place] else {
+            return Err(MailFault::Stranger);
+        };
+        let Ok(view) = self.boxes[usize::from(client.mailbox)].view(&client.seat) else {
+            return Err(MailFault::Stranger);
+        };
+        Ok(view)
+    }
+
+    /// What STATUS tells of a mailbox (RFC 9051, 6.3.11). None where it is not there.
+    pub fn status(&self, mailbox: u8) -> Option<Status>
+        ensures there { IsSome result ↔ (mailbox < length self.now.boxes) }
+        ensures status { IfSome result (λ status. (k : Config) (w : World) → StandsFor k self.now w → IsStatus k (w.box mailbox) status) }
+        ensures validity { IfSome result (λ status. (d : Mail) → status.uidvalidity ≡ (slice_index_or self.now.boxes mailbox d).uidvalidity) }
+    {
+        let number = usize::from(mailbox);
+        if number >= self.boxes.len() {
+            return None;
+        }
+        Some(self.boxes[number].status())
+    }
+}
+
+#[cfg(test)]
+mod tests {
+    use super::*;
+    use crate::steps::Settings;
+    use delivery_token::{CopyKey, Text};
+    use mailbox::Limits;
+    use std::alloc::{AllocError, Global};
+
+    const SMALL: Settings = Settings {
+        seats: 1,
+        shards: 1,
+        mailboxes: 2,
+        depth: 2,
+        uidvalidity: 7,
+        first_uid: 1,
+        limits: Limits {
+            messages: 8,
+            ring: 1,
+            ring_max: 4,
+        },
+        sessions: 2,
+    };
+
+    const NONE: Flags = Flags {
+        answered: false,
+        flagged: false,
+        deleted: false,
+        seen: false,
+        draft: false,
+    };
+
+    const SEEN: Flags = Flags { seen: true, ..NONE };
+
+    const DELETED: Flags = Flags {
+        deleted: true,
+        ..NONE
+    };
+
+    // A copy of "hi" goes the whole way to a mailbox.
+    fn deliver(
+        core: &mut DeliveryCore,
+        alloc: Global,
+        recipient: u8,
+        mailbox: u8,
+    ) -> Result<(), AllocError> {
+        let text = Text::new(Vec::from_slice(alloc, b"hi\r\n")?);
+        let key = CopyKey {
+            seat: 0,
+            serial: 0,
+            message: 0,
+            recipient,
+        };
+        if !core.may_put(key, mailbox) {
+            return Err(AllocError);
+        }
+        let Ok(None) = core.put(key, mailbox, &text) else {
+            return Err(AllocError);
+        };
+        let Ok(()) = core.take(0) else {
+            return Err(AllocError);
+        };
+        let Ok(()) = core.deliver(0) else {
+            return Err(AllocError);
+        };
+        let Ok(()) = core.answer(0) else {
+            return Err(AllocError);
+        };
+        let Ok(_noted) = core.hear(0) else {
+            return Err(AllocError);
+        };
+        Ok(())
+    }
+
+    #[test]
+    fn a_session_is_in_its_mailbox(rt: HostRuntime) -> Result<(), AllocError> {
+        let alloc = rt.alloc();
+        let mut core = DeliveryCore::new(alloc, SMALL)?;
+        let mut out = Vec::new(alloc);
+        let opening = Opening {
+            count: 0,
+            uidnext: 1,
+            uidvalidity: 7,
+        };
+        assert_eq!(rt; core.enter(0, 1), Ok(opening));
+        deliver(&mut core, alloc, 0, 1)?;
+        assert!(rt; core.view(0) == Ok(&[][..]));
+        assert_eq!(rt; core.feed(0, 64, &mut out), Ok(1));
+        assert!(rt; core.view(0) == Ok(&[1][..]));
+        let Ok(Some(row)) = core.read(0, 1, true) else {
+            return Err(AllocError);
+        };
+        assert_eq!(rt; (row.uid, row.flags, row.newly_seen), (1, SEEN, true));
+        assert!(rt; row.text.as_slice() == b"hi\r\n".as_slice());
+        let status = Status {
+            messages: 1,
+            uidnext: 2,
+            uidvalidity: 7,
+            unseen: 0,
+            deleted: 0,
+            size: 4,
+        };
+        assert_eq!(rt; core.status(1), Some(status));
+        assert_eq!(rt; core.status(2), None);
+        assert_eq!(rt; core.store(0, 1, FlagOp::Set(DELETED)), Ok(Some(DELETED)));
+        assert_eq!(rt; core.expunge(0, Some(&[1]), &mut out), Ok(1));
+        assert_eq!(rt; core.feed(0, 64, &mut out), Ok(1));
+        let told =
+            b"* 1 EXISTS\r\n* 1 FETCH (UID 1 FLAGS (\\Seen))\r\n* 1 FETCH (UID 1 FLAGS (\\Deleted))\r\n* 1 EXPUNGE\r\n";
+        assert!(rt; out.as_slice() == told.as_slice());
+        assert_eq!(rt; core.leave(0, true), Ok(0));
+        assert_eq!(rt; core.leave(0, true), Err(MailFault::Stranger));
+        Ok(())
+    }
+
+    #[test]
+    fn one_of_two_sessions_falls_behind(rt: HostRuntime) -> Result<(), AllocError> {
+        let alloc = rt.alloc();
+        let settings = Settings {
+            limits: Limits {
+                ring_max: 0,
+                ..SMALL.limits
+            },
+            ..SMALL
+        };
+        let mut core = DeliveryCore::new(alloc, settings)?;
+        let mut out = Vec::new(alloc);
+        assert!(rt; core.enter(0, 0).is_ok());
+        assert!(rt; core.enter(1, 0).is_ok());
+        assert_eq!(rt; core.enter(1, 1), Err(MailFault::Stranger));
+        assert_eq!(rt; core.enter(2, 0), Err(MailFault::Stranger));
+        deliver(&mut core, alloc, 0, 0)?;
+        assert_eq!(rt; core.feed(0, 64, &mut out), Ok(1));
+        deliver(&mut core, alloc, 1, 0)?;
+        assert_eq!(rt; core.feed(0, 64, &mut out), Ok(1));
+        assert_eq!(rt; core.feed(1, 64, &mut out), Err(MailFault::Lapped));
+        assert!(rt; matches!(core.read(1, 1, false), Err(MailFault::Lapped)));
+        assert!(rt; out.as_slice() == b"* 1 EXISTS\r\n* 2 EXISTS\r\n".as_slice());
+        assert!(rt; core.view(0) == Ok(&[1, 2][..]));
+        assert_eq!(rt; core.leave(1, false), Ok(0));
+        assert!(rt; core.enter(1, 1).is_ok());
+        Ok(())
+    }
+}
