@@ -3,13 +3,13 @@ use Rattle.std.specs.Prelude.{◌≡◌, ◌≢◌, ℕ, Bool, true, false, code
 use Rattle.std.specs.List.{list_any}
 use Rattle.std.specs.Str.{str_to_ascii_lowercase as lowercase, str_eq_ignore_ascii_case as is_same}
 use Rattle.change_ring.specs.declared.change.Flags.{Flags}
+use Rattle.mailbox.specs.declared.clients.Row.{Row}
 use Rattle.mailbox.specs.declared.mailbox.Status.{Status}
 use Rattle.cursor_set.specs.Lines.{flag_words, spaced}
 use Rattle.envelope.specs.Bytes.{is_not_slash}
 use Rattle.envelope.specs.Grammar.{Many}
 use Rattle.envelope.specs.Reading.{first_is}
 use Rattle.imap_grammar.specs.Grammar.{section_word, status_word}
-use Rattle.imap_grammar.specs.declared.answers.MessageRow.{MessageRow}
 use Rattle.imap_grammar.specs.declared.items.Section.{Section}
 use Rattle.imap_grammar.specs.declared.items.Section.TheVariants.{Whole, Header, Text}
 use Rattle.imap_grammar.specs.declared.items.Span.{Span}
@@ -65,11 +65,11 @@ abbrev pub body_text : Section → Option Span → List ℕ → List ℕ
 body_text which span text =
     codes "BODY[" ++ section_word which ++ codes "]" ++ origin_text span ++ codes " " ++ literal (part span (section which text))
 
-abbrev pub item_text : MessageRow → FetchItem → List ℕ
+abbrev pub item_text : Row → FetchItem → List ℕ
 item_text row fetch.Uid = codes "UID " ++ decimal row.uid
 item_text row fetch.Flags = flags_text row.flags
-item_text row fetch.Size = codes "RFC822.SIZE " ++ decimal (length row.text.now)
-item_text row (fetch.Body peek which span) = body_text which span row.text.now
+item_text row fetch.Size = codes "RFC822.SIZE " ++ decimal (length row.text)
+item_text row (fetch.Body peek which span) = body_text which span row.text
 
 abbrev pub is_uid : FetchItem → Bool
 is_uid fetch.Uid = true
@@ -98,7 +98,7 @@ abbrev pub fetch_answer : ℕ → List (List ℕ) → List ℕ
 fetch_answer k texts = codes "* " ++ decimal k ++ codes " FETCH (" ++ spaced texts ++ codes ")\r\n"
 
 -- the answer for the message at this place
-abbrev pub row_answer : ℕ → Bool → List FetchItem → MessageRow → List ℕ
+abbrev pub row_answer : ℕ → Bool → List FetchItem → Row → List ℕ
 row_answer k by_uid items row = fetch_answer k (map (item_text row) (answered by_uid row.newly_seen items))
 
 -- ---- STATUS

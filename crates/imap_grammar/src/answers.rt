@@ -14,23 +14,12 @@ ghost use Rattle.imap_grammar.specs.Joined.{lead, joined, is_none};
 use crate::items::{
     FetchItem, FetchItems, Section, Span, StatusItem, StatusItems, fetch_item, status_item,
 };
-use crate::print::{append_parts, write_flags};
+use crate::print::write_flags;
 use crate::words::next_word;
-use change_ring::Flags;
 use itoa::Buffer;
-use mailbox::Status;
+use line_io::append_parts;
+use mailbox::{Row, Status};
 use std::alloc::AllocError;
-
-/// A message as FETCH tells of it.
-#[derive(Clone, Copy)]
-pub struct MessageRow<'a> {
-    pub uid: u32,
-    /// The flags after the read.
-    pub flags: Flags,
-    /// The read itself set \Seen.
-    pub newly_seen: bool,
-    pub text: &'a [u8],
-}
 
 fn is_crlf(bytes: &[u8]) -> bool
     ensures { result ≡ is_crlf bytes.now }
@@ -173,7 +162,7 @@ fn write_number(word: &[u8], number: u128, out: &mut Vec<u8>) -> Result<(), Allo
 }
 
 /// Appends an item of FETCH, or nothing where memory is refused.
-fn write_item(row: &MessageRow<'_>, item: FetchItem, out: &mut Vec<u8>) -> Result<(), AllocError>
+fn write_item(row: &Row, item: FetchItem, out: &mut Vec<u8>) -> Result<(), AllocError>
     ensures ok { OnOk result (out.new.items ≡ out.old.items ++ item_text row.now item) }
     ensures err { OnErr result (out.new.items ≡ out.old.items) }
     ensures room { vec_capacity out.old ≤ vec_capacity out.new }
@@ -181,12 +170,12 @@ fn write_item(row: &MessageRow<'_>, item: FetchItem, out: &mut Vec<u8>) -> Resul
     match item {
         FetchItem::Uid => write_number(b"UID ", u128::from(row.uid), out),
         FetchItem::Flags => write_flags(row.flags, out),
-        FetchItem::Size => write_number(b"RFC822.SIZE ", row.text.len() as u128, out),
+        FetchItem::Size => write_number(b"RFC822.SIZE ", row.text.as_slice().len() as u128, out),
         FetchItem::Body {
             peek: _,
             section,
             partial,
-        } => write_body(section, partial, row.text, out),
+        } => write_body(section, partial, row.text.as_slice(), out),
     }
 }
 
@@ -204,12 +193,7 @@ fn write_space(first: bool, out: &mut Vec<u8>) -> Result<(), AllocError>
 
 /// Appends the item that a word is, or a part of it; nothing where it is none. Says whether nothing
 /// stands there still.
-fn put_item(
-    first: bool,
-    row: &MessageRow<'_>,
-    word: &[u8],
-    out: &mut Vec<u8>,
-) -> Result<bool, AllocError>
+fn put_item(first: bool, row: &Row, word: &[u8], out: &mut Vec<u8>) -> Result<bool, AllocError>
     ensures ok { OnOk result (out.new.items ≡ out.old.items ++ joined first (map (item_text row.now) (option_to_list (fetch_item_of word.now)))) }
     ensures first { IfOk result (λ f. f ≡ (first && not (is_some (fetch_item_of word.now)))) }
     ensures err { OnErr result (StartsWith out.new.items out.old.items) }
@@ -225,12 +209,7 @@ fn put_item(
 
 /// Appends the items that a text's words are, or a part of them. Says whether nothing stands there still.
 #[tactic(auto, using(crate::proofs::JoinedLaws::told_none))]
-fn put_items(
-    first: bool,
-    row: &MessageRow<'_>,
-    text: &[u8],
-    out: &mut Vec<u8>,
-) -> Result<bool, AllocError>
+fn put_items(first: bool, row: &Row, text: &[u8], out: &mut Vec<u8>) -> Result<bool, AllocError>
     ensures ok { OnOk result (out.new.items ≡ out.old.items ++ joined first (map (item_text row.now) (fetch_items_of text.now))) }
     ensures first { IfOk result (λ f. f ≡ (first && is_none (fetch_items_of text.now))) }
     ensures err { OnErr result (StartsWith out.new.items out.old.items) }
@@ -316,12 +295,7 @@ impl FetchItems<'_> {
 }
 
 /// Appends the UID where that is answered unasked. Says whether it isn't.
-fn put_uid(
-    by_uid: bool,
-    row: &MessageRow<'_>,
-    text: &[u8],
-    out: &mut Vec<u8>,
-) -> Result<bool, AllocError>
+fn put_uid(by_uid: bool, row: &Row, text: &[u8], out: &mut Vec<u8>) -> Result<bool, AllocError>
     ensures ok { OnOk result (out.new.items ≡ out.old.items ++ joined true (map (item_text row.now) (uid_first by_uid (fetch_items_of text.now)))) }
     ensures first { IfOk result (λ f. f ≡ is_none (uid_first by_uid (fetch_items_of text.now))) }
     ensures err { OnErr result (out.new.items ≡ out.old.items) }
@@ -335,12 +309,7 @@ fn put_uid(
 }
 
 /// Appends the flags where they are answered unasked, or a part of them.
-fn put_flags(
-    first: bool,
-    row: &MessageRow<'_>,
-    text: &[u8],
-    out: &mut Vec<u8>,
-) -> Result<(), AllocError>
+fn put_flags(first: bool, row: &Row, text: &[u8], out: &mut Vec<u8>) -> Result<(), AllocError>
     ensures ok { OnOk result (out.new.items ≡ out.old.items
         ++ joined first (map (item_text row.now) (flags_last row.now.newly_seen (fetch_items_of text.now)))) }
     ensures err { OnErr result (StartsWith out.new.items out.old.items) }
@@ -354,12 +323,7 @@ fn put_flags(
 }
 
 /// Appends what stands between the parentheses of a FETCH, or a part of it.
-fn put_answered(
-    by_uid: bool,
-    row: &MessageRow<'_>,
-    text: &[u8],
-    out: &mut Vec<u8>,
-) -> Result<(), AllocError>
+fn put_answered(by_uid: bool, row: &Row, text: &[u8], out: &mut Vec<u8>) -> Result<(), AllocError>
     ensures ok { OnOk result (out.new.items ≡ out.old.items
         ++ spaced (map (item_text row.now) (answered by_uid row.now.newly_seen (fetch_items_of text.now)))) }
     ensures err { OnErr result (StartsWith out.new.items out.old.items) }
@@ -376,7 +340,7 @@ fn put_row(
     place: usize,
     by_uid: bool,
     text: &[u8],
-    row: &MessageRow<'_>,
+    row: &Row,
     out: &mut Vec<u8>,
 ) -> Result<(), AllocError>
     ensures ok { OnOk result (out.new.items ≡ out.old.items ++ row_answer place by_uid (fetch_items_of text.now) row.now) }
@@ -399,7 +363,7 @@ pub fn write_row(
     place: usize,
     by_uid: bool,
     items: &FetchItems<'_>,
-    row: &MessageRow<'_>,
+    row: &Row,
     out: &mut Vec<u8>,
 ) -> Result<(), AllocError>
     ensures ok { OnOk result (out.new.items ≡ out.old.items ++ row_answer place by_uid items.now row.now) }

@@ -21,7 +21,7 @@ mod set;
 mod tests;
 mod words;
 
-pub use answers::{MessageRow, write_row, write_status};
+pub use answers::{write_row, write_status};
 pub use command::{Command, Fetch, ImapFault, Store, Tag, Verb};
 pub use items::{FetchItem, FetchItems, Section, Span, StatusItem, StatusItems};
 pub use laws::patterns_match_what_they_stand_for;

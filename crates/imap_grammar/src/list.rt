@@ -7,7 +7,7 @@ ghost use Rattle.imap_grammar.specs.Answers.{matches, is_listed, listed, asks_fo
 ghost use Rattle.imap_grammar.specs.Globs.{is_wild, at_byte, Reached};
 
 use crate::name::Name;
-use crate::print::append_parts;
+use line_io::append_parts;
 use std::alloc::{AllocError, Global};
 
 fn is_wild(p: u8) -> bool

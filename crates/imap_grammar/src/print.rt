@@ -1,28 +1,12 @@
-//! Bytes, appended all or none, and the parts that answers are made of.
-//! No answer as a whole stands here.
+//! The flags of a message as answers print them, appended all or none. No answer as a whole stands here.
 
-ghost use Rattle.std.specs.Prelude.{◌≡◌, ◌++◌, [], drop, flat_map, if◌then◌else◌, OnOk, OnErr, ◌≤◌, vec_capacity};
+ghost use Rattle.std.specs.Prelude.{◌≡◌, ◌++◌, [], drop, if◌then◌else◌, OnOk, OnErr, ◌≤◌, vec_capacity};
 ghost use Rattle.cursor_set.specs.Lines.{flag_words, spaced};
 ghost use Rattle.imap_grammar.specs.Answers.{flags_text};
 
 use change_ring::Flags;
+use line_io::append_parts;
 use std::alloc::AllocError;
-
-/// Appends the parts in their order, or nothing where memory is refused.
-pub fn append_parts(parts: &[&[u8]], out: &mut Vec<u8>) -> Result<(), AllocError>
-    ensures ok { OnOk result (out.new.items ≡ out.old.items ++ flat_map (λ part. part.now) parts.now) }
-    ensures err { OnErr result (out.new.items ≡ out.old.items) }
-    ensures room { vec_capacity out.old ≤ vec_capacity out.new }
-{
-    let before = out.len();
-    for part in parts {
-        let Ok(()) = out.extend_from_slice(part) else {
-            out.truncate(before);
-            return Err(AllocError);
-        };
-    }
-    Ok(())
-}
 
 /// A flag's word, which has a space before it, as it is printed: without the space where no flag
 /// before it is set.

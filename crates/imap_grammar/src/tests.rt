@@ -2,11 +2,12 @@
 //! expected is what RFC 9051 says of them, and the choices that specs/ leaves to this server.
 
 use crate::{
-    Command, ImapFault, MessageRow, SetFault, patterns_match_what_they_stand_for, read_line,
-    write_list, write_row, write_status,
+    Command, ImapFault, SetFault, patterns_match_what_they_stand_for, read_line, write_list,
+    write_row, write_status,
 };
 use change_ring::{FlagOp, Flags};
-use mailbox::Status;
+use delivery_token::Text;
+use mailbox::{Row, Status};
 use std::alloc::{AllocError, Global};
 
 fn command_kind(command: &Command<'_>) -> &'static str {
@@ -191,7 +192,7 @@ fn sets_name_messages(rt: HostRuntime) -> Result<(), SetFault> {
 }
 
 // The answer to a FETCH line for a message at place 2.
-fn answered(alloc: Global, line: &[u8], row: &MessageRow<'_>) -> Result<Vec<u8>, AllocError> {
+fn answered(alloc: Global, line: &[u8], row: &Row) -> Result<Vec<u8>, AllocError> {
     let Ok((_tag, command)) = read_line(line) else {
         return Err(AllocError);
     };
@@ -205,7 +206,7 @@ fn answered(alloc: Global, line: &[u8], row: &MessageRow<'_>) -> Result<Vec<u8>,
 
 #[test]
 fn rows_are_written(rt: HostRuntime) -> Result<(), AllocError> {
-    let row = MessageRow {
+    let row = Row {
         uid: 7,
         flags: Flags {
             answered: true,
@@ -215,7 +216,7 @@ fn rows_are_written(rt: HostRuntime) -> Result<(), AllocError> {
             draft: false,
         },
         newly_seen: true,
-        text: b"A: b\r\n\r\nhello\r\n",
+        text: Text::new(Vec::from_slice(rt.alloc(), b"A: b\r\n\r\nhello\r\n")?),
     };
     let asked = answered(rt.alloc(), b"a FETCH 2 (flags uid RFC822.SIZE)", &row)?;
     assert_eq!(rt;

@@ -1,0 +1,110 @@
+-- How an exchange ends: the last words are written, and the whole answers a line.
+use Rattle.std.proofs.Common.{◌≡◌, ℕ, Bool, false, List, [], ◌++◌, Option, Some, None, Result, Ok, Err, OnOk, OnErr, IfOk, IfErr, refl, ap, sym, ◌∙◌, subst, append_assoc, append-nil}
+use Rattle.std.specs.Borrow.{Bor}
+use Rattle.mailbox.specs.declared.clients.MailFault.{MailFault}
+use Rattle.mailbox.specs.declared.clients.MailFault.TheVariants.{NoMemory}
+use Rattle.imap_grammar.specs.declared.command.Command.{Command}
+use Rattle.imap_grammar.specs.declared.command.ImapFault.{ImapFault}
+use Rattle.imap_grammar.specs.Reading.{read}
+use Rattle.imap_session.specs.declared.standing.After.{After}
+use Rattle.imap_session.specs.declared.standing.After.TheVariants.{Go, Bye}
+use Rattle.imap_session.specs.declared.standing.Selected.{Selected}
+use Rattle.imap_session.specs.Exchange as ex
+use Rattle.imap_session.specs.Exchange.{Call, Answer, Exchange, Folder, Standing, Turn, Event, played, refused, saying, closed, tagged, refusal_text, refusal_after, nothing_more}
+use Rattle.imap_session.specs.Commands.{says, on_found, wrong_state, on_command, fault_text}
+use Rattle.imap_session.specs.Store.{Met, Reaches, Stops, Does, Moves, Plays, Answers, after_command, ending, last, last_words, after_result, onward}
+use Rattle.imap_session.proofs.Runs.{Met-append, reaches_here, reaches_write, stops_write}
+
+-- what is done where the selected mailbox stays
+pub moves_still : {S V : Type 0} (step : S → Call → Answer → S → Type 0) (sel : Option Selected) (x : Exchange) (y : V → Exchange) (old new : S) (before after : List ℕ) (r : Result V MailFault)
+    → Does step x y old new before after r → Moves step sel sel x y old new before after r
+moves_still step sel x y old new before after (Ok v) d = λ tag now was.
+    let P : Option Selected → Type 0 = λ s. Reaches step tag now (record now { selected = s }) x (y v) old new before after in
+    subst P was (d tag now)
+moves_still step sel x y old new before after (Err fault) d = λ tag now was.
+    let P : Option Selected → Type 0 = λ s. Stops step tag now (record now { selected = s }) x fault old new before after in
+    subst P was (d tag now)
+
+-- where none is selected
+pub moves_refused : {S : Type 0} (step : S → Call → Answer → S → Type 0) (sel : Option Selected) (f : Selected → Exchange) (s : S) (text : List ℕ)
+    → sel ≡ None
+    → (tag : List ℕ) (now : Standing) → now.selected ≡ sel → Reaches step tag now (record now { selected = sel }) (on_found f wrong_state sel) wrong_state s s text text
+moves_refused step sel f s text n tag now was =
+    let P : Option Selected → Type 0 = λ z. Reaches step tag now (record now { selected = z }) (on_found f wrong_state sel) wrong_state s s text text in
+    subst P was (rw n (reaches_here step tag now wrong_state s text))
+
+-- a line that is told before the last one
+pub does_tell : {S : Type 0} (step : S → Call → Answer → S → Type 0) (line words : List ℕ) (s : S) (before after : List ℕ) (r : Result (Bor (List ℕ)) MailFault)
+    → OnOk r (after ≡ before ++ line) → IfOk r (λ w. w.now ≡ words) → OnErr r (after ≡ before) → IfErr r (λ f. f ≡ NoMemory)
+    → Does step (ex.Write line (says words)) last s s before after r
+does_tell step line words s before after (Ok w) t same e f = λ tag now.
+    rw same (reaches_write step tag now line (says words) s before after t)
+does_tell step line words s before after (Err fault) t same e f = λ tag now.
+    rw (f, e) (stops_write step tag now line (says words) s before)
+
+-- ---- the last words
+
+ends : {S : Type 0} (step : S → Call → Answer → S → Type 0) (tag : List ℕ) (now next : Standing) (x : Exchange) (old new : S) (before mid final : List ℕ) (events : List Event) (bytes words : List ℕ) (how : After)
+    → (whole : List Answer) → played tag now x whole ≡ Some (onward events bytes (saying words (closed next how)))
+    → Met step old events new → mid ≡ before ++ bytes → final ≡ mid ++ words
+    → Plays step tag now next x old new before final how
+ends step tag now next x old new before mid final events bytes words Go whole p m w e = record {
+  answers = whole;
+  events = events ++ [];
+  bytes = bytes ++ (words ++ []);
+  leads = p;
+  met = Met-append step old new new events [] m refl;
+  wrote = e ∙ (ap (λ t. t ++ words) w ∙ (append_assoc before bytes words ∙ ap (λ t. before ++ (bytes ++ t)) (sym (append-nil words))));
+}
+ends step tag now next x old new before mid final events bytes words Bye whole p m w e = record {
+  answers = whole;
+  events = events ++ [];
+  bytes = bytes ++ (words ++ []);
+  leads = p;
+  met = Met-append step old new new events [] m refl;
+  wrote = e ∙ (ap (λ t. t ++ words) w ∙ (append_assoc before bytes words ∙ ap (λ t. before ++ (bytes ++ t)) (sym (append-nil words))));
+}
+
+-- an exchange that was done but for its last line, and then that line, or what is said of the fault that stopped it
+pub plays_moved : {S : Type 0} (step : S → Call → Answer → S → Type 0) (tag : List ℕ) (now : Standing) (to : Option Selected) (after : After) (x : Exchange) (old new : S) (before mid final : List ℕ) (r : Result (Bor (List ℕ)) MailFault)
+    → Moves step now.selected to x (ending after) old new before mid r → final ≡ mid ++ last_words tag r
+    → Plays step tag now (record now { selected = to }) x old new before final (after_result after r)
+plays_moved step tag now to after x old new before mid final (Ok words) m e =
+    let p = m tag now refl in
+    let next : Standing = record now { selected = to } in
+    let led = p.leads [] (saying (tagged tag words.now) (closed next after)) refl in
+    ends step tag now next x old new before mid final p.events p.bytes (tagged tag words.now) after led.0 led.1 p.met p.wrote e
+plays_moved step tag now to after x old new before mid final (Err fault) m e =
+    let p = m tag now refl in
+    let next : Standing = record now { selected = to } in
+    ends step tag now next x old new before mid final p.events p.bytes (refusal_text tag fault) (refusal_after fault) p.leads.0 p.leads.1 p.met p.wrote e
+
+standing_of : List Folder → Option Selected → Bool → Standing
+standing_of folders selected ended = record { folders = folders; selected = selected; ended = ended }
+
+-- a command that was carried out, and its last line
+pub plays_command : {S : Type 0} (step : S → Call → Answer → S → Type 0) (tag : List ℕ) (now : Standing) (folders : List Folder) (from to : Option Selected) (ended : Bool) (command : Command) (old new : S) (before mid final : List ℕ) (r : Result (Bor (List ℕ)) MailFault) (after how : After)
+    → (let s : Standing = record { folders = folders; selected = from; ended = ended } in s) ≡ now → now.ended ≡ false
+    → Moves step from to (on_command (record { folders = folders; selected = from; ended = false }) command) (ending (after_command command)) old new before mid r
+    → after ≡ after_command command → final ≡ mid ++ last_words tag r → how ≡ after_result after r
+    → Plays step tag now (record now { selected = to }) (on_command now command) old new before final how
+unfolding standing_of
+plays_command step tag now folders from to ended command old new before mid final r after how e going m a f h =
+    let P : Standing → Type 0 = λ s. Plays step tag s (record s { selected = to }) (on_command s command) old new before final how in
+    let open_now : false ≡ ended = sym (ap (λ (s : Standing). s.ended) e ∙ going) in
+    let same : standing_of folders from false ≡ now = ap (λ b. standing_of folders from b) open_now ∙ e in
+    subst P same (rw (h, a) (plays_moved step tag (standing_of folders from false) to (after_command command) (on_command (standing_of folders from false) command) old new before mid final r m f))
+
+-- ---- lines
+
+pub answers_fault : {S : Type 0} (step : S → Call → Answer → S → Type 0) (now : Standing) (line : List ℕ) (fault : ImapFault) (s : S) (before after : List ℕ)
+    → read line ≡ Err fault → after ≡ before ++ fault_text fault
+    → Answers step now line s s before after Go now
+answers_fault step now line fault s before after h e = record {
+  answers = [];
+  events = [];
+  bytes = fault_text fault ++ [];
+  played = rw h refl;
+  met = refl;
+  wrote = e ∙ ap (λ t. before ++ t) (sym (append-nil (fault_text fault)));
+}

@@ -1,0 +1,11 @@
+pub mod Runs
+pub mod Shown
+pub mod Showing
+pub mod Fetching
+pub mod Choosing
+pub mod Saying
+pub mod Storing
+pub mod Selecting
+pub mod Ending
+pub mod Naming
+pub mod Viewing

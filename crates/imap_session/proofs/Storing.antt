@@ -1,0 +1,61 @@
+-- The parts of a STORE.
+use Rattle.std.proofs.Common.{◌≡◌, ℕ, ◌+◌, ◌<◌, Bool, true, false, if◌then◌else◌, length, drop, get_or, add-one, drop-cons, List, ◌++◌, Option, Some, refl, subst}
+use Rattle.mailbox.specs.declared.clients.MailFault.{MailFault}
+use Rattle.mailbox.specs.declared.clients.MailFault.TheVariants.{NoMemory}
+use Rattle.change_ring.specs.declared.change.Flags.{Flags}
+use Rattle.change_ring.specs.declared.flag_op.FlagOp.{FlagOp}
+use Rattle.imap_grammar.specs.declared.command.Store.{Store}
+use Rattle.imap_session.specs.Exchange as ex
+use Rattle.imap_session.specs.Exchange.{Call, Answer, Altered, Refused, Exchange, Standing}
+use Rattle.imap_session.specs.Commands.{on_found, stored, storing}
+use Rattle.imap_session.specs.Store.{Reaches, Stops}
+use Rattle.imap_session.proofs.Runs.{reaches_alter, reaches_write, reaches_then, stops_write, stops_then}
+
+-- a message that is there: its answer is what is left to write
+pub alters_there : {S : Type 0} (step : S → Call → Answer → S → Type 0) (tag : List ℕ) (now : Standing) (uid : ℕ) (op : FlagOp) (text : Flags → List ℕ) (x y : Exchange) (flags : Flags) (old new : S) (before after : List ℕ)
+    → step old (ex.Alter uid op) (Altered (Some flags)) new → after ≡ before ++ text flags
+    → Reaches step tag now now (ex.Alter uid op (on_found (λ r. ex.Write (text r) x) y)) x old new before after
+alters_there step tag now uid op text x y flags old new before after h e =
+    let next : Option Flags → Exchange = on_found (λ r. ex.Write (text r) x) y in
+    reaches_then step tag now now now (ex.Alter uid op next) (ex.Write (text flags) x) x old new new before before after
+    (reaches_alter step tag now uid op next (Some flags) old new before h)
+    (reaches_write step tag now (text flags) x new before after e)
+
+-- the same, where memory for its answer is refused
+pub alters_starved : {S : Type 0} (step : S → Call → Answer → S → Type 0) (tag : List ℕ) (now : Standing) (uid : ℕ) (op : FlagOp) (text : Flags → List ℕ) (x y : Exchange) (flags : Flags) (fault : MailFault) (old new : S) (before after : List ℕ)
+    → step old (ex.Alter uid op) (Altered (Some flags)) new → fault ≡ NoMemory → after ≡ before
+    → Stops step tag now now (ex.Alter uid op (on_found (λ r. ex.Write (text r) x) y)) fault old new before after
+alters_starved step tag now uid op text x y flags fault old new before after h f e =
+    let next : Option Flags → Exchange = on_found (λ r. ex.Write (text r) x) y in
+    rw (f, e) (stops_then step tag now now now (ex.Alter uid op next) (ex.Write (text flags) x) NoMemory old new new before before before
+    (reaches_alter step tag now uid op next (Some flags) old new before h)
+    (stops_write step tag now (text flags) x new before))
+
+-- what is left of a STORE is a change of the next message
+pub storing_next : (store : Store) (view : List ℕ) (done : Bool → Exchange) (uids : List ℕ) (i : ℕ) (gone : Bool) → i < length uids
+    → storing store view done (drop i uids) gone ≡ ex.Alter (get_or uids i 0) store.change (on_found
+    (λ flags. ex.Write (stored store view (get_or uids i 0) flags) (storing store view done (drop (i + 1) uids) gone))
+    (storing store view done (drop (i + 1) uids) true))
+storing_next store view done uids i gone h = rw (add-one, drop-cons uids i 0) refl
+
+pub one_of_both : (f : Bool → Exchange) (here gone : Bool) → (if here then f gone else f true) ≡ f (if here then gone else true)
+one_of_both f true gone = refl
+one_of_both f false gone = refl
+
+-- a STORE goes on by one message
+pub stores_more : {S : Type 0} (step : S → Call → Answer → S → Type 0) (tag : List ℕ) (now : Standing) (store : Store) (view : List ℕ) (done : Bool → Exchange) (uids : List ℕ) (i : ℕ) (gone here : Bool) (x : Exchange) (old mid new : S) (first second third : List ℕ)
+    → i < length uids
+    → Reaches step tag now now x (storing store view done (drop i uids) gone) old mid first second
+    → Reaches step tag now now
+    (ex.Alter (get_or uids i 0) store.change (on_found
+    (λ flags. ex.Write (stored store view (get_or uids i 0) flags) (storing store view done (drop (i + 1) uids) gone))
+    (storing store view done (drop (i + 1) uids) true)))
+    (if here then storing store view done (drop (i + 1) uids) gone else storing store view done (drop (i + 1) uids) true) mid new second third
+    → Reaches step tag now now x (storing store view done (drop (i + 1) uids) (if here then gone else true)) old new first third
+stores_more {S} step tag now store view done uids i gone here x old mid new first second third lt p q =
+    let f : Bool → Exchange = λ g. storing store view done (drop (i + 1) uids) g in
+    let P : Exchange → Type 0 = λ y. Reaches step tag now now x y old mid first second in
+    let Q : Exchange → Type 0 = λ z. Reaches step tag now now x z old new first third in
+    subst Q (one_of_both f here gone)
+    (reaches_then step tag now now now x _ (if here then f gone else f true) old mid new first second third
+    (subst P (storing_next store view done uids i gone lt) p) q)

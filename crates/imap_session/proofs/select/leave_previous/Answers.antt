@@ -1,0 +1,22 @@
+use Rattle.std.proofs.Common.{rules, ◌≡◌, true, false, is_none}
+use Rattle.imap_session.proofs.Runs.{stops_leave}
+use Rattle.imap_session.proofs.Selecting.{reaches_unclosed, closing_some, moves_closed}
+use Rattle.imap_session.proofs.select.leave_previous.Goals as goal
+
+pub returns-then-is_none-clause-done : goal.returns-then-is_none-clause-done
+returns-then-is_none-clause-done g c x tag now was =
+    let none : is_none c.args.selected.now ≡ true = search rules in
+    let none' : is_none now.selected ≡ true = rw was none in
+    rw (← was) (reaches_unclosed g.S.Store.step tag now now.selected x _ _ none')
+
+pub returns-in-Err-clause-done : goal.returns-in-Err-clause-done
+returns-in-Err-clause-done g c x tag now was =
+    let some : is_none c.args.selected.now ≡ false = search rules in
+    let some' : is_none now.selected ≡ false = rw was some in
+    rw (← was) (rw (closing_some now.selected x some') (stops_leave g.S.Store.step tag now false _ c.in-Err.fault _ _ _ c.in-Err.ensures))
+
+pub returns-in-Ok-clause-done : goal.returns-in-Ok-clause-done
+returns-in-Ok-clause-done g c x =
+    let some : is_none c.args.selected.now ≡ false = search rules in
+    moves_closed g.S.Store.step c.args.selected.now x c.in-Ok.field-0 _ _ _ _ c.write_line.result some c.in-Ok.ensures
+    c.write_line.ensures.text c.write_line.ensures.err c.write_line.ensures.fault

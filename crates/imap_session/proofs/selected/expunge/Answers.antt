@@ -1,0 +1,13 @@
+use Rattle.std.proofs.Common.{None}
+use Rattle.imap_grammar.specs.declared.command.Command.TheVariants as commands
+use Rattle.imap_session.specs.Exchange.{Expunge, Feed}
+use Rattle.imap_session.specs.Commands.{completed, says, unlimited}
+use Rattle.imap_session.proofs.Runs.{reaches_here}
+use Rattle.imap_session.proofs.selected.expunge.Goals as goal
+
+pub returns-in-Some-clause-done : goal.returns-in-Some-clause-done
+returns-in-Some-clause-done g c tag now =
+    rw (c.in-Some.ensures.refused (Expunge None (Feed unlimited (completed commands.Expunge)))) (reaches_here g.S.Store.step tag now (says c.in-Some.words.now) _ _)
+
+pub returns-in-None-clause-done : goal.returns-in-None-clause-done
+returns-in-None-clause-done g c = rw (c.in-None.ensures.taken (Expunge None (Feed unlimited (completed commands.Expunge)))) c.expunge_all.ensures.done

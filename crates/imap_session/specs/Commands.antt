@@ -1,0 +1,234 @@
+-- What a session does about each line (RFC 9051, 6 and 7).
+use Rattle.std.specs.Prelude.{ℕ, ◌-◌, ◌^◌, Bool, true, false, codes, decimal, List, [], ◌∷◌, ◌++◌, map, Option, Some, None, Result, Ok, Err, ◌&&◌, ◌||◌, not, if◌then◌else◌}
+use Rattle.std.specs.List.{list_any}
+use Rattle.std.specs.Str.{bytes_eq}
+use Rattle.mailbox.specs.declared.clients.Opening.{Opening}
+use Rattle.mailbox.specs.declared.clients.Row.{Row}
+use Rattle.cursor_set.specs.Lines.{place, flag_words, spaced}
+use Rattle.change_ring.specs.declared.change.Flags.{Flags}
+use Rattle.imap_grammar.specs.declared.set.SeqRange.{SeqRange}
+use Rattle.imap_grammar.specs.declared.items.StatusItem.{StatusItem}
+use Rattle.imap_grammar.specs.declared.command.Command.{Command}
+use Rattle.imap_grammar.specs.declared.command.Command.TheVariants as commands
+use Rattle.imap_grammar.specs.declared.command.Fetch.{Fetch}
+use Rattle.imap_grammar.specs.declared.command.Store.{Store}
+use Rattle.imap_grammar.specs.declared.command.Verb.{Verb}
+use Rattle.imap_grammar.specs.declared.command.ImapFault.{ImapFault}
+use Rattle.imap_grammar.specs.declared.command.ImapFault.TheVariants as faults
+use Rattle.imap_grammar.specs.Sets.{named_in}
+use Rattle.imap_grammar.specs.Verbs.{word_of, stands_behind_uid}
+use Rattle.imap_grammar.specs.Grammar.{verb_of}
+use Rattle.imap_grammar.specs.Reading.{read}
+use Rattle.imap_grammar.specs.Answers.{crlf, row_answer, status_answer, list_answer, is_inbox, marks_seen}
+use Rattle.imap_session.specs.declared.standing.After.TheVariants.{Go, Bye}
+use Rattle.imap_session.specs.declared.standing.Selected.{Selected}
+use Rattle.imap_session.specs.Exchange.{Answer, saying, nothing_more, Turn, Standing, Folder, Exchange, Done, Write, Enter, Look, Read, Count, Alter, Expunge, Feed, Leave, tagged, bye, played}
+
+-- ---- how an answer ends
+
+-- the last line has these words behind the tag
+abbrev pub says : List ℕ → Exchange
+says words = Done words Go
+
+abbrev pub verb_text : Verb → List ℕ
+verb_text verb = if stands_behind_uid verb then codes "UID " ++ word_of verb else word_of verb
+
+abbrev pub completed : Command → Exchange
+completed command = says (codes "OK " ++ verb_text (verb_of command) ++ codes " completed")
+
+-- more changes than any mailbox has pending
+abbrev pub unlimited : ℕ
+unlimited = 2 ^ 64 - 1
+
+-- shows what is pending, where a mailbox is selected
+abbrev pub showing : Option Selected → Exchange → Exchange
+showing None x = x
+showing (Some selected) x = Feed unlimited x
+
+abbrev pub untagged : List ℕ → Exchange → Exchange
+untagged words x = Write (codes "* " ++ words ++ crlf) x
+
+-- ---- mailboxes by name
+
+-- INBOX is found whatever the case
+abbrev pub is_named : List ℕ → Folder → Bool
+is_named name folder = bytes_eq folder.name name || (is_inbox folder.name && is_inbox name)
+
+-- the first mailbox of this name
+abbrev pub folder_of : List ℕ → List Folder → Option Folder
+folder_of name [] = None
+folder_of name (folder ∷ folders) = if is_named name folder then Some folder else folder_of name folders
+
+abbrev pub on_found : {A : Type 0} → (A → Exchange) → Exchange → Option A → Exchange
+on_found found gone None = gone
+on_found found gone (Some x) = found x
+
+abbrev pub on_folder : List ℕ → List Folder → (Folder → Exchange) → Exchange
+on_folder name folders next = on_found next (says (codes "NO [NONEXISTENT] No such mailbox")) (folder_of name folders)
+
+-- memory is wanted here for a name, and nothing is written
+abbrev pub wanting : Exchange → Exchange
+wanting x = Write [] x
+
+-- ---- SELECT and EXAMINE
+
+abbrev pub all_flags : List ℕ
+all_flags = codes "\\Answered \\Flagged \\Deleted \\Seen \\Draft"
+
+-- what is told of a mailbox that was entered
+abbrev pub opening_text : Bool → List ℕ → Opening → List ℕ
+opening_text read_only name opening =
+    codes "* FLAGS (" ++ all_flags ++ codes ")\r\n* " ++ decimal opening.count ++ codes " EXISTS\r\n"
+    ++ codes "* OK [UIDVALIDITY " ++ decimal opening.uidvalidity ++ codes "] UIDs valid\r\n"
+    ++ codes "* OK [UIDNEXT " ++ decimal opening.uidnext ++ codes "] Predicted next UID\r\n"
+    ++ codes "* OK [PERMANENTFLAGS (" ++ (if read_only then [] else all_flags) ++ codes ")] Flags kept\r\n"
+    ++ codes "* LIST () \"/\" " ++ name ++ codes "\r\n"
+
+abbrev pub opened : Bool → List ℕ → Opening → Exchange
+opened read_only name opening =
+    Write (opening_text read_only name opening)
+    (says (if read_only then codes "OK [READ-ONLY] EXAMINE completed" else codes "OK [READ-WRITE] SELECT completed"))
+
+-- the mailbox that was selected is left first, also where the new one isn't there
+abbrev pub closing : Option Selected → Exchange → Exchange
+closing None x = x
+closing (Some selected) x = Leave false (untagged (codes "OK [CLOSED] Previous mailbox is closed") x)
+
+abbrev pub entering : Bool → Folder → Exchange
+entering read_only folder = Enter (record { mailbox = folder.mailbox; read_only = read_only }) (opened read_only folder.name)
+
+abbrev pub selecting : Standing → Bool → List ℕ → Exchange
+selecting now read_only name = wanting (closing now.selected (on_folder name now.folders (entering read_only)))
+
+-- ---- sets of messages
+
+-- goes on with the view and the messages that a set names in it; nothing is done where one isn't there
+abbrev pub on_chosen : Option (List ℕ) → (List ℕ → Exchange) → Exchange
+on_chosen None next = says (codes "BAD Sequence number too high")
+on_chosen (Some uids) next = next uids
+
+abbrev pub on_set : Bool → List SeqRange → (List ℕ → List ℕ → Exchange) → Exchange
+on_set by_uid set next = Look (λ view. on_chosen (named_in by_uid set view) (next view))
+
+-- after the last message of a FETCH or STORE: only the UID forms show changes, and they don't tell that messages are gone
+abbrev pub messages_done : Command → Bool → Bool → Exchange
+messages_done command true gone = Feed unlimited (completed command)
+messages_done command false true = says (codes "NO [EXPUNGEISSUED] Some messages are gone")
+messages_done command false false = completed command
+
+-- the answer for a message that was read, at its place in the view
+abbrev pub fetched : Fetch → List ℕ → ℕ → Row → List ℕ
+fetched fetch view uid row = row_answer (place uid view) fetch.by_uid fetch.items row
+
+-- reads each message, and tells of those that are there
+abbrev pub fetching : Fetch → Bool → List ℕ → (Bool → Exchange) → List ℕ → Bool → Exchange
+fetching fetch mark view done [] gone = done gone
+fetching fetch mark view done (uid ∷ uids) gone =
+    Read uid mark (on_found (λ row. Write (fetched fetch view uid row) (fetching fetch mark view done uids gone))
+    (fetching fetch mark view done uids true))
+
+-- the flags of a message after a STORE, with its UID under UID STORE
+abbrev pub flags_answer : Bool → ℕ → ℕ → Flags → List ℕ
+flags_answer by_uid k uid flags =
+    codes "* " ++ decimal k ++ codes " FETCH (" ++ (if by_uid then codes "UID " ++ decimal uid ++ codes " " else [])
+    ++ codes "FLAGS (" ++ spaced (flag_words flags) ++ codes "))\r\n"
+
+-- the same for a message at its place in the view, or nothing where the client asked for silence
+abbrev pub stored : Store → List ℕ → ℕ → Flags → List ℕ
+stored store view uid flags = if store.silent then [] else flags_answer store.by_uid (place uid view) uid flags
+
+-- changes the flags of each message, and tells of those that are there
+abbrev pub storing : Store → List ℕ → (Bool → Exchange) → List ℕ → Bool → Exchange
+storing store view done [] gone = done gone
+storing store view done (uid ∷ uids) gone =
+    Alter uid store.change (on_found (λ flags. Write (stored store view uid flags) (storing store view done uids gone))
+    (storing store view done uids true))
+
+-- ---- commands
+
+abbrev pub wrong_state : Exchange
+wrong_state = says (codes "BAD Wrong state")
+
+abbrev pub in_selected : Standing → (Selected → Exchange) → Exchange
+in_selected now next = on_found next wrong_state now.selected
+
+-- where the selected mailbox may be changed
+abbrev pub if_writable : Exchange → Selected → Exchange
+if_writable x selected = if selected.read_only then says (codes "NO Mailbox is read-only") else x
+
+abbrev pub in_writable : Standing → Exchange → Exchange
+in_writable now x = in_selected now (if_writable x)
+
+-- a FETCH sets \Seen for its items' sake, unless the mailbox was selected by EXAMINE
+abbrev pub fetch_messages : Fetch → Selected → Exchange
+fetch_messages fetch selected =
+    on_set fetch.by_uid fetch.set (λ view uids.
+    fetching fetch (list_any marks_seen fetch.items && not selected.read_only) view
+    (messages_done (commands.Fetch fetch) fetch.by_uid) uids false)
+
+abbrev pub store_messages : Store → Exchange
+store_messages store =
+    on_set store.by_uid store.set (λ view uids.
+    storing store view (messages_done (commands.Store store) store.by_uid) uids false)
+
+-- the set is resolved on the view before the changes are shown, and what they showed can't come into it
+abbrev pub expunge_set : List SeqRange → Exchange
+expunge_set set = on_set true set (λ view uids. Expunge (Some uids) (Feed unlimited (completed (commands.UidExpunge set))))
+
+-- the mailbox is counted as it is, and then what is pending is shown
+abbrev pub counting : Standing → List ℕ → List StatusItem → Folder → Exchange
+counting now name items folder =
+    Count folder.mailbox (λ status. Write (status_answer folder.name items status) (showing now.selected (completed (commands.Status name items))))
+
+abbrev pub on_command : Standing → Command → Exchange
+on_command now commands.Capability = untagged (codes "CAPABILITY IMAP4rev2") (completed commands.Capability)
+on_command now commands.Noop = showing now.selected (completed commands.Noop)
+on_command now commands.Logout = Write (bye (codes "Logging out")) (Done (codes "OK LOGOUT completed") Bye)
+on_command now commands.Namespace = untagged (codes "NAMESPACE ((\"\" \"/\")) NIL NIL") (completed commands.Namespace)
+on_command now commands.Login = wrong_state
+on_command now commands.Authenticate = wrong_state
+on_command now commands.StartTls = wrong_state
+on_command now (commands.Select name) = selecting now false name
+on_command now (commands.Examine name) = selecting now true name
+on_command now (commands.List reference pattern) =
+    Write (list_answer reference pattern (map (λ (folder : Folder). folder.name) now.folders))
+    (showing now.selected (completed (commands.List reference pattern)))
+on_command now (commands.Status name items) =
+    wanting (on_folder name now.folders (counting now name items))
+on_command now commands.Close = in_selected now (λ selected. Leave (not selected.read_only) (completed commands.Close))
+on_command now commands.Unselect = in_selected now (λ selected. Leave false (completed commands.Unselect))
+on_command now commands.Expunge = in_writable now (Expunge None (Feed unlimited (completed commands.Expunge)))
+on_command now (commands.UidExpunge set) = in_writable now (expunge_set set)
+on_command now (commands.Fetch fetch) = in_selected now (fetch_messages fetch)
+on_command now (commands.Store store) = in_writable now (store_messages store)
+
+-- ---- lines
+
+-- the line that answers one that is no command. Room for it was reserved
+abbrev pub fault_text : ImapFault → List ℕ
+fault_text faults.NoTag = codes "* BAD Missing tag\r\n"
+fault_text (faults.Unknown tag) = tagged tag (codes "BAD Unknown command")
+fault_text (faults.LeftOut tag) = tagged tag (codes "NO [CANNOT] Not offered here")
+fault_text (faults.Arguments tag) = tagged tag (codes "BAD Invalid arguments")
+
+-- a line that asks nothing of the store
+abbrev pub only_says : List ℕ → Standing → List Answer → Option Turn
+only_says text now [] = Some (saying text (nothing_more Go now))
+only_says text now (answer ∷ more) = None
+
+abbrev pub on_read : Standing → Result (List ℕ × Command) ImapFault → List Answer → Option Turn
+on_read now (Ok line) answers = played line.0 now (on_command now line.1) answers
+on_read now (Err fault) answers = only_says (fault_text fault) now answers
+
+-- where a line leads, with these answers of the store
+abbrev pub turn_of : Standing → List ℕ → List Answer → Option Turn
+turn_of now line answers = on_read now (read line) answers
+
+-- ---- what comes without a line of its own
+
+abbrev pub greeting : List ℕ
+greeting = codes "* PREAUTH IMAP4rev2 server ready\r\n"
+
+-- the answer to a line that is too long
+abbrev pub long_line_text : List ℕ
+long_line_text = codes "* BAD Line too long\r\n"

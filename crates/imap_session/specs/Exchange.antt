@@ -1,0 +1,152 @@
+-- What a session asks of its store, in which order, and what it writes.
+use Rattle.std.specs.Prelude.{ℕ, zero, suc, Bool, true, codes, List, [], ◌∷◌, ◌++◌, Option, Some, None}
+use Rattle.std.specs.Option.{option_map}
+use Rattle.change_ring.specs.declared.change.Flags.{Flags}
+use Rattle.change_ring.specs.declared.change.Change.{Change}
+use Rattle.mailbox.specs.declared.clients.MailFault.{MailFault}
+use Rattle.mailbox.specs.declared.clients.MailFault.TheVariants.{Stranger, Lapped, Spent, NoMemory}
+use Rattle.mailbox.specs.declared.clients.Opening.{Opening}
+use Rattle.mailbox.specs.declared.mailbox.Status.{Status}
+use Rattle.mailbox.specs.declared.clients.Row.{Row}
+use Rattle.change_ring.specs.declared.flag_op.FlagOp.{FlagOp}
+use Rattle.cursor_set.specs.Lines.{lines}
+use Rattle.imap_session.specs.declared.standing.After.{After}
+use Rattle.imap_session.specs.declared.standing.After.TheVariants.{Go, Bye}
+use Rattle.imap_session.specs.declared.standing.Selected.{Selected}
+
+-- ---- the store
+
+-- what a session asks of the store. All but Look are events of a mailbox
+pub data Call : Type 0 where
+  Enter : (mailbox : ℕ) → Call
+  -- a copy of the view
+  Look : Call
+  Read : (uid : ℕ) (mark_seen : Bool) → Call
+  Count : (mailbox : ℕ) → Call
+  Alter : (uid : ℕ) → FlagOp → Call
+  -- of these UIDs, or of all
+  Expunge : Option (List ℕ) → Call
+  -- at most so many changes
+  Feed : ℕ → Call
+  Leave : (remove : Bool) → Call
+
+-- what the store answers
+pub data Answer : Type 0 where
+  Entered : Opening → Answer
+  Looked : (view : List ℕ) → Answer
+  Found : Option Row → Answer
+  Counted : Status → Answer
+  Altered : Option Flags → Answer
+  -- to an Expunge: the view that it met, the changes that it showed, and how many messages went
+  Expunged : (view : List ℕ) → List Change → ℕ → Answer
+  -- to a Feed: the view that it met, and the changes that it showed
+  Fed : (view : List ℕ) → List Change → Answer
+  Left : ℕ → Answer
+  Refused : MailFault → Answer
+  -- no call was made: the session wrote so many more pieces, and then memory was refused to it
+  Starved : ℕ → Answer
+
+pub record Event : Type 0 where
+  pub call : Call
+  pub answer : Answer
+
+-- ---- the session
+
+pub record Folder : Type 0 where
+  pub name : List ℕ
+  pub mailbox : ℕ
+
+pub record Standing : Type 0 where
+  pub folders : List Folder
+  pub selected : Option Selected
+  pub ended : Bool
+
+-- What a session does about one command. What it does after a call depends on the answer; what it does where the store refuses is the
+-- same everywhere, and stands in `refused`.
+pub data Exchange : Type 0 where
+  -- the last line: the tag, and these words. Room for it is reserved before anything is done, so memory can't be refused to it
+  Done : (words : List ℕ) → After → Exchange
+  Write : List ℕ → Exchange → Exchange
+  Enter : Selected → (Opening → Exchange) → Exchange
+  Look : (List ℕ → Exchange) → Exchange
+  Read : ℕ → Bool → (Option Row → Exchange) → Exchange
+  Count : ℕ → (Status → Exchange) → Exchange
+  Alter : ℕ → FlagOp → (Option Flags → Exchange) → Exchange
+  -- these show changes
+  Expunge : Option (List ℕ) → Exchange → Exchange
+  Feed : ℕ → Exchange → Exchange
+  Leave : Bool → Exchange → Exchange
+
+-- what one line leads to
+pub record Turn : Type 0 where
+  pub events : List Event
+  pub bytes : List ℕ
+  pub after : After
+  pub standing : Standing
+
+abbrev pub nothing_more : After → Standing → Turn
+nothing_more after standing = record { events = []; bytes = []; after = after; standing = standing }
+
+abbrev pub saying : List ℕ → Turn → Turn
+saying bytes turn = record turn { bytes = bytes ++ turn.bytes }
+
+abbrev pub having : Call → Answer → Turn → Turn
+having call answer turn = record turn { events = record { call = call; answer = answer } ∷ turn.events }
+
+abbrev pub closed : Standing → After → Turn
+closed now Go = nothing_more Go now
+closed now Bye = nothing_more Bye (record now { ended = true })
+
+abbrev pub bye : List ℕ → List ℕ
+bye words = codes "* BYE " ++ words ++ codes "\r\n"
+
+abbrev pub tagged : List ℕ → List ℕ → List ℕ
+tagged tag words = tag ++ codes " " ++ words ++ codes "\r\n"
+
+-- what is said where the store refuses, or memory is refused
+abbrev pub refusal_text : List ℕ → MailFault → List ℕ
+refusal_text tag Stranger = bye (codes "Internal fault")
+refusal_text tag Lapped = bye (codes "Too many changes were missed")
+refusal_text tag Spent = tagged tag (codes "NO Mailbox is spent")
+refusal_text tag NoMemory = tagged tag (codes "NO Out of memory")
+
+abbrev pub refusal_after : MailFault → After
+refusal_after Stranger = Bye
+refusal_after Lapped = Bye
+refusal_after Spent = Go
+refusal_after NoMemory = Go
+
+abbrev pub refused : List ℕ → Standing → MailFault → Turn
+refused tag now fault = saying (refusal_text tag fault) (closed now (refusal_after fault))
+
+-- where an exchange leads with these answers; nowhere where they are none to its calls
+abbrev pub played : List ℕ → Standing → Exchange → List Answer → Option Turn
+played tag now (Done words after) [] = Some (saying (tagged tag words) (closed now after))
+played tag now (Done words after) (answer ∷ more) = None
+played tag now (Write bytes x) (Starved (suc n) ∷ []) = option_map (saying bytes) (played tag now x (Starved n ∷ []))
+played tag now x (Starved zero ∷ []) = Some (refused tag now NoMemory)
+played tag now (Write bytes x) answers = option_map (saying bytes) (played tag now x answers)
+played tag now (Enter selected next) (Entered opening ∷ more) =
+    option_map (having (Enter selected.mailbox) (Entered opening)) (played tag (record now { selected = Some selected }) (next opening) more)
+played tag now (Enter selected next) (Refused fault ∷ []) = Some (having (Enter selected.mailbox) (Refused fault) (refused tag now fault))
+played tag now (Look next) (Looked view ∷ more) = option_map (having Look (Looked view)) (played tag now (next view) more)
+played tag now (Look next) (Refused fault ∷ []) = Some (having Look (Refused fault) (refused tag now fault))
+played tag now (Read uid mark next) (Found row ∷ more) =
+    option_map (having (Read uid mark) (Found row)) (played tag now (next row) more)
+played tag now (Read uid mark next) (Refused fault ∷ []) = Some (having (Read uid mark) (Refused fault) (refused tag now fault))
+played tag now (Count mailbox next) (Counted status ∷ more) =
+    option_map (having (Count mailbox) (Counted status)) (played tag now (next status) more)
+played tag now (Count mailbox next) (Refused fault ∷ []) = Some (having (Count mailbox) (Refused fault) (refused tag now fault))
+played tag now (Alter uid change next) (Altered flags ∷ more) =
+    option_map (having (Alter uid change) (Altered flags)) (played tag now (next flags) more)
+played tag now (Alter uid change next) (Refused fault ∷ []) = Some (having (Alter uid change) (Refused fault) (refused tag now fault))
+played tag now (Expunge uids x) (Expunged view changes gone ∷ more) =
+    option_map (λ turn. having (Expunge uids) (Expunged view changes gone) (saying (lines view changes) turn)) (played tag now x more)
+played tag now (Expunge uids x) (Refused fault ∷ []) = Some (having (Expunge uids) (Refused fault) (refused tag now fault))
+played tag now (Feed limit x) (Fed view changes ∷ more) =
+    option_map (λ turn. having (Feed limit) (Fed view changes) (saying (lines view changes) turn)) (played tag now x more)
+played tag now (Feed limit x) (Refused fault ∷ []) = Some (having (Feed limit) (Refused fault) (refused tag now fault))
+played tag now (Leave remove x) (Left gone ∷ more) =
+    option_map (having (Leave remove) (Left gone)) (played tag (record now { selected = None }) x more)
+played tag now (Leave remove x) (Refused fault ∷ []) = Some (having (Leave remove) (Refused fault) (refused tag now fault))
+played tag now x answers = None

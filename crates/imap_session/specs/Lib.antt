@@ -1,0 +1,5 @@
+pub mod Exchange
+pub mod Commands
+pub mod Store
+pub mod Shows
+pub mod Rows

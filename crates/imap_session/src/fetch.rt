@@ -1,0 +1,151 @@
+//! FETCH and UID FETCH (RFC 9051, 6.4.5 and 6.4.9).
+
+ghost use Rattle.std.specs.Prelude.{◌≡◌, ◌+◌, ◌≤◌, Bool, false, List, ℕ, ◌++◌, OnOk, OnErr, IfOk, IfErr, if◌then◌else◌, length, vec_len};
+ghost use Rattle.std.specs.Vec.{vec_capacity};
+ghost use Rattle.imap_session.specs.Exchange.{Exchange, Read, Write};
+ghost use Rattle.imap_session.specs.Commands.{on_found, fetched, fetching, messages_done, on_set};
+ghost use Rattle.imap_session.specs.Store.{Does, last};
+ghost use Rattle.imap_grammar.specs.declared.command.Command.TheVariants as commands;
+
+use crate::say::hold_room;
+use crate::show::show;
+use crate::store::Store;
+use crate::view::View;
+use imap_grammar::{Fetch, SetFault, write_row};
+use mailbox::{MailFault, Row};
+use std::alloc::Global;
+
+// Writes the answer for a message, with room for `keep` more bytes behind it.
+fn write_fetched(
+    fetch: &Fetch<'_>,
+    view: &View,
+    uid: u32,
+    row: &Row,
+    keep: usize,
+    out: &mut Vec<u8>,
+) -> Result<(), MailFault>
+    requires room { vec_len out.old + keep ≤ vec_capacity out.old }
+    ensures text { OnOk result (out.new.items ≡ out.old.items ++ fetched fetch.now view.now uid row.now) }
+    ensures err { OnErr result (out.new.items ≡ out.old.items) }
+    ensures fault { IfErr result (λ f. f ≡ MailFault.NoMemory) }
+    ensures room { vec_len out.new + keep ≤ vec_capacity out.new }
+{
+    let start = out.len();
+    let place = view.place_of(uid);
+    if write_row(place, fetch.by_uid, &fetch.items, row, out).is_err() {
+        return Err(MailFault::NoMemory);
+    }
+    hold_room(start, keep, out)
+}
+
+// Answers for one message, and says whether it is there.
+fn fetch_one<S: Store>(
+    fetch: &Fetch<'_>,
+    mark: bool,
+    view: &View,
+    uid: u32,
+    store: &mut S,
+    keep: usize,
+    out: &mut Vec<u8>,
+) -> Result<bool, MailFault>
+    requires room { vec_len out.old + keep ≤ vec_capacity out.old }
+    ensures done { (x y : Exchange) → Does S.step
+        (Read uid mark (on_found (λ row. Write (fetched fetch.now view.now uid row) x) y))
+        (λ here. if here then x else y) store.old store.new out.old.items out.new.items result }
+    ensures room { vec_len out.new + keep ≤ vec_capacity out.new }
+{
+    match store.read(uid, mark) {
+        Err(fault) => Err(fault),
+        Ok(None) => Ok(false),
+        Ok(Some(row)) => match write_fetched(fetch, view, uid, &row, keep, out) {
+            Err(fault) => Err(fault),
+            Ok(()) => Ok(true),
+        },
+    }
+}
+
+// Answers for these messages, and says whether one of them is gone.
+fn fetch_all<S: Store>(
+    fetch: &Fetch<'_>,
+    mark: bool,
+    view: &View,
+    uids: &[u32],
+    store: &mut S,
+    keep: usize,
+    out: &mut Vec<u8>,
+) -> Result<bool, MailFault>
+    requires room { vec_len out.old + keep ≤ vec_capacity out.old }
+    ensures done { (done : Bool → Exchange) → Does S.step
+        (fetching fetch.now mark view.now done uids.now false) done store.old store.new out.old.items out.new.items result }
+    ensures room { vec_len out.new + keep ≤ vec_capacity out.new }
+{
+    let mut gone = false;
+    for uid in uids {
+        match fetch_one(fetch, mark, view, *uid, store, keep, out) {
+            Err(fault) => return Err(fault),
+            Ok(here) => {
+                if !here {
+                    gone = true;
+                }
+            }
+        }
+    }
+    Ok(gone)
+}
+
+// After the last message: only UID FETCH shows changes. Answers what the last line says.
+fn finish_fetch<S: Store>(
+    fetch: &Fetch<'_>,
+    gone: bool,
+    store: &mut S,
+    keep: usize,
+    out: &mut Vec<u8>,
+) -> Result<&'static [u8], MailFault>
+    requires room { vec_len out.old + keep ≤ vec_capacity out.old }
+    ensures done { Does S.step (messages_done (commands.Fetch fetch.now) fetch.now.by_uid gone) last store.old store.new out.old.items out.new.items result }
+    ensures short { IfOk result (λ words. length words.now ≤ 45) }
+    ensures room { vec_len out.new + keep ≤ vec_capacity out.new }
+{
+    if fetch.by_uid {
+        match show(usize::MAX, store, keep, out) {
+            Err(fault) => Err(fault),
+            Ok(_) => Ok(b"OK UID FETCH completed"),
+        }
+    } else if gone {
+        Ok(b"NO [EXPUNGEISSUED] Some messages are gone")
+    } else {
+        Ok(b"OK FETCH completed")
+    }
+}
+
+// A FETCH in the selected mailbox. Answers what the last line says.
+pub(crate) fn fetch_messages<S: Store>(
+    alloc: Global,
+    fetch: &Fetch<'_>,
+    mark: bool,
+    store: &mut S,
+    keep: usize,
+    out: &mut Vec<u8>,
+) -> Result<&'static [u8], MailFault>
+    requires room { vec_len out.old + keep ≤ vec_capacity out.old }
+    ensures done { Does S.step
+        (on_set fetch.now.by_uid fetch.now.set (λ view uids. fetching fetch.now mark view (messages_done (commands.Fetch fetch.now) fetch.now.by_uid) uids false))
+        last store.old store.new out.old.items out.new.items result }
+    ensures short { IfOk result (λ words. length words.now ≤ 45) }
+    ensures room { vec_len out.new + keep ≤ vec_capacity out.new }
+{
+    let view = match store.view(alloc) {
+        Err(fault) => return Err(fault),
+        Ok(uids) => View::new(uids),
+    };
+    let uids = match fetch.set.resolve(alloc, view.uids(), fetch.by_uid) {
+        Err(SetFault::NoMemory) => return Err(MailFault::NoMemory),
+        Err(SetFault::TooHigh) => return Ok(b"BAD Sequence number too high"),
+        Ok(uids) => uids,
+    };
+    let gone = match fetch_all(fetch, mark, &view, uids.as_slice(), store, keep, out) {
+        Err(fault) => return Err(fault),
+        Ok(gone) => gone,
+    };
+    finish_fetch(fetch, gone, store, keep, out)
+}

@@ -1,0 +1,26 @@
+//! One IMAP session over any store of mailboxes: what is answered to each line, and what is asked of the store for it, in which order
+//! (RFC 9051, 6 and 7). How lines are spelled is told in `imap_grammar`; the store's mailboxes stand elsewhere.
+#![tactic(auto)]
+
+mod count;
+mod expunge;
+mod fetch;
+mod folders;
+mod laws;
+mod say;
+mod select;
+mod selected;
+mod session;
+mod set_flags;
+mod show;
+mod standing;
+mod store;
+#[cfg(test)]
+mod tests;
+mod turn;
+mod view;
+
+pub use laws::changes_are_shown_in_place;
+pub use session::Session;
+pub use standing::{After, Folder, Selected, SessionFault};
+pub use store::Store;

@@ -1,0 +1,207 @@
+//! STORE and UID STORE (RFC 9051, 6.4.6 and 6.4.9).
+
+ghost use Rattle.std.specs.Prelude.{◌≡◌, ◌+◌, ◌≤◌, Bool, false, List, [], codes, decimal, ℕ, ◌++◌, OnOk, OnErr, IfOk, IfErr, if◌then◌else◌, length, vec_len};
+ghost use Rattle.std.specs.Io.{StartsWith};
+ghost use Rattle.std.specs.Vec.{vec_capacity};
+ghost use Rattle.imap_grammar.specs.declared.command.Command.TheVariants as commands;
+ghost use Rattle.cursor_set.specs.Lines.{flag_words, spaced};
+ghost use Rattle.imap_session.specs.Exchange.{Exchange, Alter, Write};
+ghost use Rattle.imap_session.specs.Commands.{on_found, on_set, flags_answer, stored, storing, messages_done};
+ghost use Rattle.imap_session.specs.Store.{Does, last};
+
+use crate::say::hold_room;
+use crate::show::show;
+use crate::store::Store;
+use crate::view::View;
+use change_ring::Flags;
+use cursor_set::{FLAGS_ROOM, put_flags};
+use imap_grammar::{SetFault, Store as StoreCommand};
+use itoa::Buffer;
+use mailbox::MailFault;
+use std::alloc::{AllocError, Global};
+
+// Appends a UID where it is told, or a part of that.
+fn append_uid(by_uid: bool, uid: u32, out: &mut Vec<u8>) -> Result<(), AllocError>
+    ensures ok { OnOk result (out.new.items ≡ out.old.items ++ (if by_uid then codes "UID " ++ decimal uid ++ codes " " else [])) }
+    ensures err { OnErr result (StartsWith out.new.items out.old.items) }
+    ensures room { vec_capacity out.old ≤ vec_capacity out.new }
+{
+    if !by_uid {
+        return Ok(());
+    }
+    let mut digits = Buffer::new();
+    out.extend_from_slice(b"UID ")?;
+    out.extend_from_slice(digits.format(uid).as_bytes())?;
+    out.extend_from_slice(b" ")?;
+    Ok(())
+}
+
+// Appends the names of the flags that are set, or nothing where memory is refused.
+fn append_flags(flags: Flags, out: &mut Vec<u8>) -> Result<(), AllocError>
+    ensures ok { OnOk result (out.new.items ≡ out.old.items ++ spaced (flag_words flags)) }
+    ensures err { OnErr result (out.new.items ≡ out.old.items) }
+    ensures room { vec_capacity out.old ≤ vec_capacity out.new }
+{
+    out.reserve(FLAGS_ROOM)?;
+    put_flags(flags, out);
+    Ok(())
+}
+
+// Appends the answer to a STORE, or a part of it.
+fn append_answer(
+    by_uid: bool,
+    place: usize,
+    uid: u32,
+    flags: Flags,
+    out: &mut Vec<u8>,
+) -> Result<(), AllocError>
+    ensures ok { OnOk result (out.new.items ≡ out.old.items ++ flags_answer by_uid place uid flags) }
+    ensures err { OnErr result (StartsWith out.new.items out.old.items) }
+    ensures room { vec_capacity out.old ≤ vec_capacity out.new }
+{
+    let mut digits = Buffer::new();
+    out.extend_from_slice(b"* ")?;
+    out.extend_from_slice(digits.format(place).as_bytes())?;
+    out.extend_from_slice(b" FETCH (")?;
+    append_uid(by_uid, uid, out)?;
+    out.extend_from_slice(b"FLAGS (")?;
+    append_flags(flags, out)?;
+    out.extend_from_slice(b"))\r\n")?;
+    Ok(())
+}
+
+// Writes the answer for a message, unless the client asked for silence, with room for `keep` more bytes behind it.
+fn write_stored(
+    command: &StoreCommand<'_>,
+    view: &View,
+    uid: u32,
+    flags: Flags,
+    keep: usize,
+    out: &mut Vec<u8>,
+) -> Result<(), MailFault>
+    requires room { vec_len out.old + keep ≤ vec_capacity out.old }
+    ensures text { OnOk result (out.new.items ≡ out.old.items ++ stored command.now view.now uid flags) }
+    ensures err { OnErr result (out.new.items ≡ out.old.items) }
+    ensures fault { IfErr result (λ f. f ≡ MailFault.NoMemory) }
+    ensures room { vec_len out.new + keep ≤ vec_capacity out.new }
+{
+    if command.silent {
+        return Ok(());
+    }
+    let start = out.len();
+    let place = view.place_of(uid);
+    if append_answer(command.by_uid, place, uid, flags, out).is_err() {
+        out.truncate(start);
+        return Err(MailFault::NoMemory);
+    }
+    hold_room(start, keep, out)
+}
+
+// Changes the flags of one message, and says whether it is there.
+fn store_one<S: Store>(
+    command: &StoreCommand<'_>,
+    view: &View,
+    uid: u32,
+    store: &mut S,
+    keep: usize,
+    out: &mut Vec<u8>,
+) -> Result<bool, MailFault>
+    requires room { vec_len out.old + keep ≤ vec_capacity out.old }
+    ensures done { (x y : Exchange) → Does S.step
+        (Alter uid command.now.change (on_found (λ flags. Write (stored command.now view.now uid flags) x) y))
+        (λ here. if here then x else y) store.old store.new out.old.items out.new.items result }
+    ensures room { vec_len out.new + keep ≤ vec_capacity out.new }
+{
+    match store.store(uid, command.change) {
+        Err(fault) => Err(fault),
+        Ok(None) => Ok(false),
+        Ok(Some(flags)) => match write_stored(command, view, uid, flags, keep, out) {
+            Err(fault) => Err(fault),
+            Ok(()) => Ok(true),
+        },
+    }
+}
+
+// Changes the flags of these messages, and says whether one of them is gone.
+fn store_all<S: Store>(
+    command: &StoreCommand<'_>,
+    view: &View,
+    uids: &[u32],
+    store: &mut S,
+    keep: usize,
+    out: &mut Vec<u8>,
+) -> Result<bool, MailFault>
+    requires room { vec_len out.old + keep ≤ vec_capacity out.old }
+    ensures done { (done : Bool → Exchange) → Does S.step
+        (storing command.now view.now done uids.now false) done store.old store.new out.old.items out.new.items result }
+    ensures room { vec_len out.new + keep ≤ vec_capacity out.new }
+{
+    let mut gone = false;
+    for uid in uids {
+        match store_one(command, view, *uid, store, keep, out) {
+            Err(fault) => return Err(fault),
+            Ok(here) => {
+                if !here {
+                    gone = true;
+                }
+            }
+        }
+    }
+    Ok(gone)
+}
+
+// After the last message: only UID STORE shows changes. Answers what the last line says.
+fn finish_store<S: Store>(
+    command: &StoreCommand<'_>,
+    gone: bool,
+    store: &mut S,
+    keep: usize,
+    out: &mut Vec<u8>,
+) -> Result<&'static [u8], MailFault>
+    requires room { vec_len out.old + keep ≤ vec_capacity out.old }
+    ensures done { Does S.step (messages_done (commands.Store command.now) command.now.by_uid gone) last store.old store.new out.old.items out.new.items result }
+    ensures short { IfOk result (λ words. length words.now ≤ 45) }
+    ensures room { vec_len out.new + keep ≤ vec_capacity out.new }
+{
+    if command.by_uid {
+        match show(usize::MAX, store, keep, out) {
+            Err(fault) => Err(fault),
+            Ok(_) => Ok(b"OK UID STORE completed"),
+        }
+    } else if gone {
+        Ok(b"NO [EXPUNGEISSUED] Some messages are gone")
+    } else {
+        Ok(b"OK STORE completed")
+    }
+}
+
+// A STORE in the selected mailbox. Answers what the last line says.
+pub(crate) fn store_messages<S: Store>(
+    alloc: Global,
+    command: &StoreCommand<'_>,
+    store: &mut S,
+    keep: usize,
+    out: &mut Vec<u8>,
+) -> Result<&'static [u8], MailFault>
+    requires room { vec_len out.old + keep ≤ vec_capacity out.old }
+    ensures done { Does S.step
+        (on_set command.now.by_uid command.now.set (λ view uids. storing command.now view (messages_done (commands.Store command.now) command.now.by_uid) uids false))
+        last store.old store.new out.old.items out.new.items result }
+    ensures short { IfOk result (λ words. length words.now ≤ 45) }
+    ensures room { vec_len out.new + keep ≤ vec_capacity out.new }
+{
+    let view = match store.view(alloc) {
+        Err(fault) => return Err(fault),
+        Ok(uids) => View::new(uids),
+    };
+    let uids = match command.set.resolve(alloc, view.uids(), command.by_uid) {
+        Err(SetFault::NoMemory) => return Err(MailFault::NoMemory),
+        Err(SetFault::TooHigh) => return Ok(b"BAD Sequence number too high"),
+        Ok(uids) => uids,
+    };
+    let gone = match store_all(command, &view, uids.as_slice(), store, keep, out) {
+        Err(fault) => return Err(fault),
+        Ok(gone) => gone,
+    };
+    finish_store(command, gone, store, keep, out)
+}

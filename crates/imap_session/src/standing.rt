@@ -1,0 +1,72 @@
+//! Where a session stands: its folders, the mailbox that it selected, and whether it has ended.
+//! What it answers is told in specs/Commands.antt.
+
+use std::marker::Model;
+
+/// What a client may send next.
+#[derive(Clone, Copy, Debug, PartialEq, Eq)]
+pub enum After {
+    /// A command.
+    Go,
+    /// Nothing: the session has ended.
+    Bye,
+}
+
+/// Why a line wasn't taken. Nothing happened, and nothing changed.
+#[derive(Clone, Copy, Debug, PartialEq, Eq)]
+pub enum SessionFault {
+    /// The session has ended.
+    Ended,
+    /// Memory was refused before anything was done.
+    NoMemory,
+}
+
+/// The selected mailbox.
+#[derive(Clone, Copy, Debug, PartialEq, Eq)]
+pub struct Selected {
+    /// Its number.
+    pub mailbox: u8,
+    /// It was selected by EXAMINE, and the session changes nothing in it (RFC 9051, 6.3.3).
+    pub read_only: bool,
+}
+
+/// A mailbox of the session's user, under the name that the user knows it by: `INBOX`, or a folder's own
+/// name as `Work`.
+#[derive(Drop)]
+pub struct Folder {
+    name: Vec<u8>,
+    mailbox: u8,
+}
+
+impl Model for Folder {
+    ghost use Rattle.imap_session.specs.Exchange.{Folder as Place};
+
+    ghost Value = { Place };
+
+    ghost view = { λ f. record { name = f.name.items; mailbox = f.mailbox } };
+}
+
+impl Folder {
+    ghost use Rattle.std.specs.Prelude.{◌≡◌};
+
+    /// The mailbox of this number under this name.
+    pub fn new(name: Vec<u8>, mailbox: u8) -> Folder
+        ensures { result ≡ record { name = name.items; mailbox = mailbox } }
+    {
+        Folder { name, mailbox }
+    }
+
+    /// The name.
+    pub fn name(&self) -> &[u8]
+        ensures { result.now ≡ self.now.name }
+    {
+        &self.name
+    }
+
+    /// The mailbox's number.
+    pub fn mailbox(&self) -> u8
+        ensures { result ≡ self.now.mailbox }
+    {
+        self.mailbox
+    }
+}

@@ -1,0 +1,65 @@
+//! What a session asks of the mailboxes of its user: a call for each event of a mailbox, and the view.
+//! Locks, rings and cursors are the store's matter.
+
+ghost use Rattle.std.specs.Prelude.{◌≡◌, ◌≢◌, ◌≤◌, List, ℕ, IfErr, ◌⊎◌};
+ghost use Rattle.std.specs.Option.{option_copied};
+ghost use Rattle.std.specs.Vec.{vec_capacity};
+ghost use Rattle.imap_session.specs.Exchange.{Call, Enter, Look, Read, Count, Alter, Expunge, Feed, Leave, Answer, Entered, Looked, Found, Counted, Altered, Left};
+ghost use Rattle.imap_session.specs.Store.{answer, ViewAfter, Feeds, Expunges};
+
+use change_ring::{FlagOp, Flags};
+use mailbox::{MailFault, Opening, Row, Status};
+use std::alloc::Global;
+
+/// The mailboxes of one session, which may have entered one of them. Each call but `view` is one event of
+/// one mailbox, as that call finds it: others may change the mailbox between two calls.
+///
+/// Each may be refused with any `MailFault`, but for those that its clauses rule out; `out` is then as it was.
+pub trait Store {
+    // The UIDs that the session was shown, in the mailbox that it entered.
+    ghost shown: { Self → List ℕ };
+
+    // What a call may do: the store before it, the call, its answer and the store after it. A copy of the view leaves the store as it is.
+    ghost step: { Self → Call → Answer → Self → Type 0 };
+
+    /// Enters the mailbox of this number, at the end of its log.
+    fn enter(&mut self, mailbox: u8) -> Result<Opening, MailFault>
+        ensures { step self.old (Enter mailbox) (answer Entered result) self.new };
+
+    /// Copies the view, the UIDs that the session was shown. It is no event.
+    fn view(&self, alloc: Global) -> Result<Vec<u32>, MailFault>
+        ensures event { step self.now Look (answer (λ v. Looked v.items) result) self.now }
+        ensures faults { IfErr result (λ f. (f ≡ MailFault.Stranger) ⊎ (f ≡ MailFault.NoMemory)) };
+
+    /// Reads the message of a UID; where `mark_seen`, it has \Seen from now on. None where it isn't there.
+    fn read(&mut self, uid: u32, mark_seen: bool) -> Result<Option<Row>, MailFault>
+        ensures { step self.old (Read uid mark_seen) (answer Found result) self.new };
+
+    /// Counts the mailbox of this number, as it is, whether the session entered it or not.
+    fn status(&mut self, mailbox: u8) -> Result<Status, MailFault>
+        ensures event { step self.old (Count mailbox) (answer Counted result) self.new }
+        ensures faults { IfErr result (λ f. (f ≡ MailFault.Stranger) ⊎ (f ≡ MailFault.NoMemory)) };
+
+    /// Changes the flags of the message of a UID, and answers them as they are then. None where it isn't there.
+    fn store(&mut self, uid: u32, op: FlagOp) -> Result<Option<Flags>, MailFault>
+        ensures { step self.old (Alter uid op) (answer Altered result) self.new };
+
+    /// Shows all that is pending, then removes the messages that have \Deleted, of these UIDs where some are
+    /// named. Answers how many went.
+    fn expunge(&mut self, uids: Option<&[u32]>, out: &mut Vec<u8>) -> Result<usize, MailFault>
+        ensures event { Expunges (λ a. step self.old (Expunge (option_copied uids.entry)) a self.new) (shown self.old) out.old.items out.new.items result }
+        ensures room { vec_capacity out.old ≤ vec_capacity out.new };
+
+    /// Shows the changes that are pending, so many of them at most. Answers how many it showed.
+    fn feed(&mut self, limit: usize, out: &mut Vec<u8>) -> Result<usize, MailFault>
+        ensures event { Feeds (λ a. step self.old (Feed limit) a self.new) limit (shown self.old) out.old.items out.new.items result }
+        ensures room { vec_capacity out.old ≤ vec_capacity out.new }
+        ensures faults { IfErr result (λ f. f ≢ MailFault.Spent) };
+
+    /// Leaves the mailbox, with its messages that have \Deleted removed or not. Answers how many went.
+    fn leave(&mut self, remove: bool) -> Result<usize, MailFault>
+        ensures { step self.old (Leave remove) (answer Left result) self.new };
+
+    // Between two calls only the view is known.
+    ghost views: { (old new : Self) (call : Call) (answered : Answer) → step old call answered new → ViewAfter (shown old) answered (shown new) };
+}
