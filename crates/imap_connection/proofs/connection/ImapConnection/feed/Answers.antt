@@ -1,0 +1,57 @@
+use Rattle.std.proofs.Common.{◌≡◌, ◌+◌, ◌≤◌, ◌<◌, ◌++◌, ◌∙◌, sym, ap, subst, refl, List, ℕ, take, length}
+use Rattle.std.proofs.Math.Seq.{take-length}
+use Rattle.line_io.specs.Cutting as cutting
+use Rattle.line_io.specs.Wire.{wire_lines}
+use Rattle.line_io.specs.Cutting.{EndsLine}
+use Rattle.imap_session.specs.Exchange.{Standing}
+use Rattle.imap_session.specs.Store.{Answers}
+use Rattle.imap_session.specs.Commands.{long_line_text}
+use Rattle.imap_connection.specs.Dialogue.{Link, begins, ends, most_bytes, reads, too_long}
+use Rattle.imap_connection.proofs.Feeding.{has_begun, line_ends, some_same, stands_anew}
+use Rattle.imap_connection.proofs.connection.ImapConnection.feed.Goals as goal
+
+pub invariant_of-self : goal.invariant_of-self
+invariant_of-self g c =
+    (c.take-cut.ensures.max ∙ c.self.invariant.0, (c.self.invariant.1.0 ++ take c.take-cut.result.used c.args.piece.now, c.take-cut.ensures.stands c.self.invariant.1.0 c.self.invariant.1.1))
+
+pub returns-in-NeedMore-clause-ok : goal.returns-in-NeedMore-clause-ok
+returns-in-NeedMore-clause-ok g c d s =
+    let same : c.self.inside.session ≡ d.standing = ap (λ (l : Link). l.session) c.self.view_is ∙ s.session in
+    let cut : cutting.StandsFor c.self.inside.cutter d.begun = subst (λ (l : Link). cutting.StandsFor l.cutter d.begun) (sym c.self.view_is) s.cutter in
+    let used : c.take-cut.result.used ≡ length c.args.piece.now = c.take-cut.ensures.all_used c.in-NeedMore.is in
+    let all : take c.take-cut.result.used c.args.piece.now ≡ c.args.piece.now = ap (λ n. take n c.args.piece.now) used ∙ take-length c.args.piece.now in
+    let tells = subst (λ w. cutting.Tells w c.take-cut.new.self d.begun (take c.take-cut.result.used c.args.piece.now)) c.in-NeedMore.is (c.take-cut.ensures.lines d.begun cut) in
+    begins (ap (λ x. x.ended) (sym same) ∙ sym c.ended.ensures ∙ c.if-ended.false) used refl refl (c.reserve.ensures.items)
+    (has_begun c.self.inside.session c.take-cut.new.self d c.args.piece.now same s.uncut
+    (subst (λ (t : List ℕ). cutting.StandsFor c.take-cut.new.self (d.begun ++ t)) all (c.take-cut.ensures.stands d.begun cut))
+    (subst (λ (t : List ℕ). wire_lines (d.begun ++ t) ≡ wire_lines d.begun) all tells))
+
+pub returns-in-Ok-clause-ok : goal.returns-in-Ok-clause-ok
+returns-in-Ok-clause-ok g c d s =
+    let same : c.self.inside.session ≡ d.standing = ap (λ (l : Link). l.session) c.self.view_is ∙ s.session in
+    let cut : cutting.StandsFor c.self.inside.cutter d.begun = subst (λ (l : Link). cutting.StandsFor l.cutter d.begun) (sym c.self.view_is) s.cutter in
+    let used : List ℕ = take c.take-cut.result.used c.args.piece.now in
+    let told = subst (λ w. cutting.Tells w c.take-cut.new.self d.begun (take c.take-cut.result.used c.args.piece.now)) c.in-Line.is (c.take-cut.ensures.lines d.begun cut) in
+    let is : told.0 ≡ c.line.result.now = some_same told.0 c.line.result.now (sym told.3 ∙ c.line.ensures) in
+    let ended = subst (λ (l : List ℕ). EndsLine d.begun (take c.take-cut.result.used c.args.piece.now) l) is told.1 in
+    let max : c.take-cut.new.self.max ≡ 8192 = c.take-cut.ensures.max ∙ c.self.invariant.0 in
+    let short : length c.line.result.now + 2 ≤ most_bytes = subst (λ (n : ℕ). length c.line.result.now + 2 ≤ n) max (subst (λ (l : List ℕ). length l + 2 ≤ c.take-cut.new.self.max) is told.2) in
+    let whole = line_ends d used c.line.result.now s.uncut ended in
+    ends c.line.result.now c.line-in-Line.new.self (ap (λ x. x.ended) (sym same) ∙ sym c.ended.ensures ∙ c.if-ended.false) whole.0 whole.1
+    (reads short
+    (subst (λ (now : Standing). Answers g.S.Store.step now c.line.result.now c.args.store.now c.line-in-Line.new.store c.args.out.now.items c.line-in-Line.new.out.items c.in-Ok.after c.line-in-Line.new.self) same
+    (subst (λ (t : List ℕ). Answers g.S.Store.step c.self.inside.session c.line.result.now c.args.store.now c.line-in-Line.new.store t c.line-in-Line.new.out.items c.in-Ok.after c.line-in-Line.new.self) c.reserve.ensures.items
+    c.in-Ok.ensures.answered)))
+    (stands_anew c.line-in-Line.new.self c.take-cut.new.self d.begun used c.line.result.now (c.take-cut.ensures.stands d.begun cut) ended)
+
+pub returns-in-Ok-long_line-clause-ok : goal.returns-in-Ok-long_line-clause-ok
+returns-in-Ok-long_line-clause-ok g c d s =
+    let same : c.self.inside.session ≡ d.standing = ap (λ (l : Link). l.session) c.self.view_is ∙ s.session in
+    let cut : cutting.StandsFor c.self.inside.cutter d.begun = subst (λ (l : Link). cutting.StandsFor l.cutter d.begun) (sym c.self.view_is) s.cutter in
+    let used : List ℕ = take c.take-cut.result.used c.args.piece.now in
+    let told = subst (λ w. cutting.Tells w c.take-cut.new.self d.begun (take c.take-cut.result.used c.args.piece.now)) c.in-TooLong.is (c.take-cut.ensures.lines d.begun cut) in
+    let max : c.take-cut.new.self.max ≡ 8192 = c.take-cut.ensures.max ∙ c.self.invariant.0 in
+    let whole = line_ends d used told.0 s.uncut told.1 in
+    ends told.0 c.long_line.new.self (ap (λ x. x.ended) (sym same) ∙ sym c.ended.ensures ∙ c.if-ended.false) whole.0 whole.1
+    (too_long (subst (λ (n : ℕ). n < length told.0 + 2) max told.2) refl (c.in-Ok-long_line.ensures.answered.1 ∙ ap (λ (t : List ℕ). t ++ long_line_text) c.reserve.ensures.items) c.in-Ok-long_line.ensures.answered.0 (c.in-Ok-long_line.ensures.same ∙ same))
+    (stands_anew c.long_line.new.self c.take-cut.new.self d.begun used told.0 (c.take-cut.ensures.stands d.begun cut) told.1)

@@ -1,0 +1,15 @@
+use Rattle.std.proofs.Common.{◌≡◌, ◌-◌, ◌≤◌, ◌++◌, false, length, take, List, ℕ}
+use Rattle.imap_session.specs.declared.standing.After.TheVariants.{Go}
+use Rattle.imap_connection.specs.Dialogue.{Answered, Dialogue, StandsFor}
+use Rattle.imap_connection.proofs.connection.ImapConnection.take.Given as goal
+
+abbrev pub invariant-loop-fed : goal.invariant-loop-fed
+invariant-loop-fed g l = record {
+  within : l.used ≤ length l.piece;
+  goes_on : l.self.session.ended ≡ false;
+  took : (d : Dialogue) → StandsFor l.fn.self d → (said : List ℕ) × (next : Dialogue) × Answered g.S.Store.step d (take l.used l.piece) l.fn.store l.store said Go next
+      × StandsFor l.self next × (l.out.items ≡ l.fn.out.items ++ said);
+}
+
+abbrev pub decreases-loop-fed : goal.decreases-loop-fed
+decreases-loop-fed g l = length l.piece - l.used

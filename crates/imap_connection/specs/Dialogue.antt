@@ -1,0 +1,69 @@
+-- The bytes of an IMAP client, cut into lines, and what is answered to each of them.
+use Rattle.std.specs.Prelude.{◌≡◌, ℕ, ◌+◌, ◌<◌, ◌≤◌, List, [], ◌∷◌, ◌++◌, ◌⊎◌, length, take, true, false, Some, None}
+use Rattle.line_io.specs.Wire.{IsUncut, crlf, joined}
+use Rattle.line_io.specs.Cutting as cutting
+use Rattle.imap_session.specs.declared.standing.After.{After}
+use Rattle.imap_session.specs.declared.standing.After.TheVariants.{Go, Bye}
+use Rattle.imap_connection.specs.declared.connection.Fed.{Fed}
+use Rattle.imap_connection.specs.declared.connection.Progress.{Progress}
+use Rattle.imap_session.specs.Exchange.{Call, Answer, Standing}
+use Rattle.imap_session.specs.Commands.{long_line_text}
+use Rattle.imap_session.specs.Store.{Answers}
+
+-- the most bytes of a line, with its CRLF
+abbrev pub most_bytes : ℕ
+most_bytes = 8192
+
+-- where a client's dialogue stands: where its session does, and the bytes of the line that has not ended yet
+pub record Dialogue : Type 0 where
+  pub standing : Standing
+  pub begun : List ℕ
+
+-- what a connection holds, as contracts see it
+pub record Link : Type 0 where
+  pub session : Standing
+  pub cutter : cutting.Cutter
+
+-- the connection stands for a dialogue
+pub record StandsFor (link : Link) (d : Dialogue) : Type 0 where
+  pub session : link.session ≡ d.standing
+  pub cutter : cutting.StandsFor link.cutter d.begun
+  pub uncut : IsUncut d.begun
+
+-- A line, without its CRLF, was answered over a store: by the session, or, where it is too long, by that.
+pub data AnswersLine {S : Type 0} (step : S → Call → Answer → S → Type 0) (now : Standing) (line : List ℕ) (old new : S) (before after : List ℕ) (how : After) (next : Standing) : Type 0 where
+  reads : length line + 2 ≤ most_bytes → Answers step now line old new before after how next → AnswersLine step now line old new before after how next
+  too_long : most_bytes < length line + 2 → new ≡ old → after ≡ before ++ long_line_text → how ≡ Go → next ≡ now → AnswersLine step now line old new before after how next
+
+-- What a call took of a piece: nothing where the session has ended, all of it where no line ends in it, or the end of the line that has begun, which was answered.
+pub data Takes {S : Type 0} (step : S → Call → Answer → S → Type 0) (d : Dialogue) (piece : List ℕ) (old new : S) (before after : List ℕ) (fed : Fed) (link : Link) : Type 0 where
+  has_ended : d.standing.ended ≡ true → fed.used ≡ 0 → fed.after ≡ Bye → new ≡ old → after ≡ before → StandsFor link d → Takes step d piece old new before after fed link
+  begins : d.standing.ended ≡ false → fed.used ≡ length piece → fed.after ≡ Go → new ≡ old → after ≡ before
+      → StandsFor link (record { standing = d.standing; begun = d.begun ++ piece }) → Takes step d piece old new before after fed link
+  ends : (line : List ℕ) (next : Standing) → d.standing.ended ≡ false → d.begun ++ take fed.used piece ≡ line ++ crlf → IsUncut line
+      → AnswersLine step d.standing line old new before after fed.after next → StandsFor link (record { standing = next; begun = [] }) → Takes step d piece old new before after fed link
+
+-- ---- lines, one after the other
+
+-- These lines were answered over a store, one after the other, and this was said. Only the last may end the session.
+pub data Converses {S : Type 0} (step : S → Call → Answer → S → Type 0) : Standing → List (List ℕ) → S → S → List ℕ → After → Standing → Type 0 where
+  silent : (now : Standing) (old : S) → Converses step now [] old old [] Go now
+  parts : (now next : Standing) (line : List ℕ) (old new : S) (said : List ℕ) → AnswersLine step now line old new [] said Bye next → Converses step now (line ∷ []) old new said Bye next
+  goes_on : (now between next : Standing) (line : List ℕ) (others : List (List ℕ)) (old mid new : S) (one two : List ℕ) (how : After) → AnswersLine step now line old mid [] one Go between
+      → Converses step between others mid new two how next → Converses step now (line ∷ others) old new (one ++ two) how next
+
+-- The lines of what had begun and these bytes were answered, and with the rest a line has begun. After the end of the session the rest says nothing.
+pub record Answered {S : Type 0} (step : S → Call → Answer → S → Type 0) (d : Dialogue) (bytes : List ℕ) (old new : S) (said : List ℕ) (how : After) (next : Dialogue) : Type 0 where
+  pub lines : List (List ℕ)
+  pub whole : d.begun ++ bytes ≡ joined lines ++ next.begun
+  pub converses : Converses step d.standing lines old new said how next.standing
+
+-- So it is with the first bytes of a piece, and the connection stands for what they lead to.
+pub record Took {S : Type 0} (step : S → Call → Answer → S → Type 0) (d : Dialogue) (piece : List ℕ) (old new : S) (before after : List ℕ) (progress : Progress) (link : Link) : Type 0 where
+  pub said : List ℕ
+  pub how : After
+  pub next : Dialogue
+  pub answered : Answered step d (take progress.used piece) old new said how next
+  pub stands : StandsFor link next
+  pub wrote : after ≡ before ++ said
+  pub is : progress.after ≡ None ⊎ (progress.after ≡ Some how)

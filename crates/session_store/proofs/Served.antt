@@ -1,0 +1,57 @@
+-- What the layer above takes from a call of the session: where the core stood for a world, it is that session's call there.
+use Rattle.std.proofs.Common.{◌≡◌, ℕ, List, [], ◌∷◌, ◌∙◌, refl, sym, subst}
+use Rattle.imap_connection.proofs.Carried.{Carries}
+use Rattle.imap_session.specs.Exchange.{Event}
+use Rattle.imap_session.specs.Store.{Met}
+use Rattle.world.specs.World.{Config, World}
+use Rattle.delivery_core.specs.Changes.{SameCounts, SameDelivery}
+use Rattle.delivery_core.specs.Held.{Held}
+use Rattle.delivery_core.specs.Stands.{StandsFor}
+use Rattle.session_store.specs.declared.desk.Desk.{Desk}
+use Rattle.session_store.specs.Desk.{Serves}
+use Rattle.session_store.specs.Meets.{Meets}
+use Rattle.session_store.proofs.Serving.{same_counts, same_delivery}
+
+-- a desk that serves session n, and stands for a world
+pub record IsServing (k : Config) (n : ℕ) (desk : Desk) (w : World) : Type 0 where
+  pub session : desk.session ≡ n
+  pub stands : StandsFor k desk.core w
+
+pub carries : (k : Config) (n : ℕ) → Carries {S = Desk} {T = World} Serves (λ w call answer v. Meets k n w call answer v) (IsServing k n)
+carries k n old new call answer w served is =
+    let m = served.meets k w is.stands in
+    (m.0, subst (λ i. Meets k i w call answer m.0) is.session m.1, record { session = served.same ∙ is.session; stands = m.2 })
+
+-- ---- over several calls
+
+delivery_then : (a b c : Held) → SameDelivery a b → SameDelivery b c → SameDelivery a c
+delivery_then a b c p q = record {
+  lanes = q.lanes ∙ p.lanes;
+  hands = q.hands ∙ p.hands;
+  replies = q.replies ∙ p.replies;
+  heard = q.heard ∙ p.heard;
+  next = q.next ∙ p.next;
+}
+
+counts_then : (a b c : Held) → SameCounts a b → SameCounts b c → SameCounts a c
+counts_then a b c p q = record {
+  lanes = q.lanes ∙ p.lanes;
+  hands = q.hands ∙ p.hands;
+  replies = q.replies ∙ p.replies;
+  heard = q.heard ∙ p.heard;
+  boxes = q.boxes ∙ p.boxes;
+  next = q.next ∙ p.next;
+  clients = q.clients ∙ p.clients;
+}
+
+pub met_delivery : (old new : Desk) (events : List Event) → Met Serves old events new → SameDelivery old.core new.core
+met_delivery old new [] met = subst (λ (d : Desk). SameDelivery old.core d.core) (sym met) (same_delivery old.core)
+met_delivery old new (e ∷ events) met = delivery_then old.core met.0.core new.core met.1.rest (met_delivery met.0 new events met.2)
+
+pub met_counts : (old new : Desk) (events : List Event) → Met Serves old events new → SameCounts old.core new.core
+met_counts old new [] met = subst (λ (d : Desk). SameCounts old.core d.core) (sym met) (same_counts old.core)
+met_counts old new (e ∷ events) met = counts_then old.core met.0.core new.core met.1.counts (met_counts met.0 new events met.2)
+
+pub met_session : (old new : Desk) (events : List Event) → Met Serves old events new → new.session ≡ old.session
+met_session old new [] met = subst (λ (d : Desk). d.session ≡ old.session) (sym met) refl
+met_session old new (e ∷ events) met = met_session met.0 new events met.2 ∙ met.1.same

@@ -1,0 +1,22 @@
+-- What a call does to the delivery core and to each world for which it stands.
+use Rattle.std.specs.Prelude.{◌≡◌}
+use Rattle.world.specs.World.{Config, World}
+use Rattle.delivery_core.specs.Changes.{SameCounts, SameDelivery}
+use Rattle.delivery_core.specs.Held.{view_of}
+use Rattle.delivery_core.specs.Stands.{StandsFor}
+use Rattle.imap_session.specs.Exchange.{Call, Answer}
+use Rattle.imap_session.specs.Store.{ViewAfter}
+use Rattle.session_store.specs.declared.desk.Desk.{Desk}
+use Rattle.session_store.specs.Meets.{Meets}
+
+-- A call of the session that is served now, with its answer.
+pub record Serves (old : Desk) (call : Call) (answer : Answer) (new : Desk) : Type 0 where
+  -- the session stays
+  pub same : new.session ≡ old.session
+  -- from each world for which the core stood, the call leads to one for which it stands
+  pub meets : (k : Config) (w : World) → StandsFor k old.core w → (v : World) × Meets k old.session w call answer v × StandsFor k new.core v
+  -- nothing changed of what lies between seats and mailboxes
+  pub rest : SameDelivery old.core new.core
+  pub counts : SameCounts old.core new.core
+  -- what the session was shown
+  pub view : ViewAfter (view_of old.core old.session) answer (view_of new.core new.session)

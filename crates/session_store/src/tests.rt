@@ -1,0 +1,175 @@
+//! Two sessions of one core, each served in its turn through the trait. The lines are those of RFC 9051, 7.4 and 7.5.
+
+use crate::desk::Desk;
+use change_ring::{FlagOp, Flags};
+use delivery_core::{DeliveryCore, Settings};
+use delivery_token::{CopyKey, Text};
+use imap_session::Store;
+use mailbox::{Limits, MailFault, Opening, Row, Status};
+use std::alloc::{AllocError, Global};
+
+const SMALL: Settings = Settings {
+    seats: 1,
+    shards: 1,
+    mailboxes: 2,
+    depth: 2,
+    uidvalidity: 7,
+    first_uid: 1,
+    limits: Limits {
+        messages: 8,
+        ring: 1,
+        ring_max: 4,
+    },
+    sessions: 2,
+};
+
+const NONE: Flags = Flags {
+    answered: false,
+    flagged: false,
+    deleted: false,
+    seen: false,
+    draft: false,
+};
+
+const SEEN: Flags = Flags { seen: true, ..NONE };
+
+const DELETED: Flags = Flags {
+    deleted: true,
+    ..NONE
+};
+
+// A copy of "hi" goes the whole way to a mailbox.
+fn deliver(core: &mut DeliveryCore, alloc: Global, mailbox: u8) -> Result<(), AllocError> {
+    let text = Text::new(Vec::from_slice(alloc, b"hi\r\n")?);
+    let key = CopyKey {
+        seat: 0,
+        serial: 0,
+        message: 0,
+        recipient: 0,
+    };
+    if !core.may_put(key, mailbox) {
+        return Err(AllocError);
+    }
+    let Ok(None) = core.put(key, mailbox, &text) else {
+        return Err(AllocError);
+    };
+    let Ok(()) = core.take(0) else {
+        return Err(AllocError);
+    };
+    let Ok(()) = core.deliver(0) else {
+        return Err(AllocError);
+    };
+    Ok(())
+}
+
+// What a session found that removed a message.
+#[derive(Drop)]
+struct Found {
+    shown: usize,
+    view: Vec<u32>,
+    row: Row,
+    flags: Flags,
+    gone: usize,
+}
+
+fn enter<S: Store>(store: &mut S, mailbox: u8) -> Result<Opening, MailFault> {
+    store.enter(mailbox)
+}
+
+// A session is shown what is new, and reads, marks and removes the first message.
+fn remove_first<S: Store>(
+    store: &mut S,
+    alloc: Global,
+    out: &mut Vec<u8>,
+) -> Result<Found, MailFault> {
+    let shown = store.feed(64, out)?;
+    let view = store.view(alloc)?;
+    let Some(row) = store.read(1, true)? else {
+        return Err(MailFault::Stranger);
+    };
+    let Some(flags) = store.store(1, FlagOp::Set(DELETED))? else {
+        return Err(MailFault::Stranger);
+    };
+    let gone = store.expunge(Some(&[1]), out)?;
+    Ok(Found {
+        shown,
+        view,
+        row,
+        flags,
+        gone,
+    })
+}
+
+fn feed<S: Store>(store: &mut S, limit: usize, out: &mut Vec<u8>) -> Result<usize, MailFault> {
+    store.feed(limit, out)
+}
+
+fn count<S: Store>(store: &mut S, mailbox: u8) -> Result<Status, MailFault> {
+    store.status(mailbox)
+}
+
+fn leave<S: Store>(store: &mut S) -> Result<usize, MailFault> {
+    store.leave(true)
+}
+
+#[test]
+fn two_sessions_are_in_one_mailbox(rt: HostRuntime) -> Result<(), AllocError> {
+    let alloc = rt.alloc();
+    let mut desk = Desk {
+        core: DeliveryCore::new(alloc, SMALL)?,
+        session: 0,
+    };
+    let opening = Opening {
+        count: 0,
+        uidnext: 1,
+        uidvalidity: 7,
+    };
+    assert_eq!(rt; enter(&mut desk, 1), Ok(opening));
+    desk.session = 1;
+    assert_eq!(rt; enter(&mut desk, 1), Ok(opening));
+    deliver(&mut desk.core, alloc, 1)?;
+    let mut out = Vec::new(alloc);
+    let Ok(found) = remove_first(&mut desk, alloc, &mut out) else {
+        return Err(AllocError);
+    };
+    assert_eq!(rt; (found.shown, found.flags, found.gone), (1, DELETED, 1));
+    assert!(rt; found.view.as_slice() == [1].as_slice());
+    assert_eq!(rt;
+        (found.row.uid, found.row.flags, found.row.newly_seen),
+        (1, SEEN, true)
+    );
+    assert!(rt; found.row.text.as_slice() == b"hi\r\n".as_slice());
+    assert_eq!(rt; feed(&mut desk, 64, &mut out), Ok(1));
+    let told =
+        b"* 1 EXISTS\r\n* 1 FETCH (UID 1 FLAGS (\\Seen))\r\n* 1 FETCH (UID 1 FLAGS (\\Deleted))\r\n* 1 EXPUNGE\r\n";
+    assert!(rt; out.as_slice() == told.as_slice());
+    desk.session = 0;
+    let mut behind = Vec::new(alloc);
+    assert_eq!(rt; feed(&mut desk, 3, &mut behind), Ok(3));
+    assert_eq!(rt; feed(&mut desk, 3, &mut behind), Ok(1));
+    assert!(rt; behind.as_slice() == told.as_slice());
+    assert_eq!(rt; leave(&mut desk), Ok(0));
+    assert_eq!(rt; leave(&mut desk), Err(MailFault::Stranger));
+    Ok(())
+}
+
+#[test]
+fn a_mailbox_is_counted(rt: HostRuntime) -> Result<(), AllocError> {
+    let alloc = rt.alloc();
+    let mut desk = Desk {
+        core: DeliveryCore::new(alloc, SMALL)?,
+        session: 0,
+    };
+    deliver(&mut desk.core, alloc, 1)?;
+    let status = Status {
+        messages: 1,
+        uidnext: 2,
+        uidvalidity: 7,
+        unseen: 1,
+        deleted: 0,
+        size: 4,
+    };
+    assert_eq!(rt; count(&mut desk, 1), Ok(status));
+    assert_eq!(rt; count(&mut desk, 2), Err(MailFault::Stranger));
+    Ok(())
+}

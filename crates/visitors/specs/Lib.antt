@@ -1,0 +1,3 @@
+pub mod Visitor
+pub mod Place
+pub mod Folders

@@ -1,0 +1,41 @@
+-- What a visitor's place holds, as contracts see it, and when it stands for a visitor.
+use Rattle.std.specs.Prelude.{◌≡◌, ℕ, Bool, true, List, ◌++◌}
+use Rattle.imap_session.specs.Exchange.{Call, Answer}
+use Rattle.imap_connection.specs.Dialogue as dialogue
+use Rattle.imap_connection.specs.Dialogue.{Link}
+use Rattle.visitors.specs.Visitor.{Visitor, Answers, HasAnswered, IsWhole, Speaks}
+
+-- its connection, the bytes that came and were not taken by it, and what was said and isn't printed yet
+pub record Place : Type 0 where
+  pub link : Link
+  pub came : List ℕ
+  pub unsaid : List ℕ
+
+pub record StandsFor (p : Place) (v : Visitor) : Type 0 where
+  -- the line that has begun
+  pub begun : List ℕ
+  pub connection : dialogue.StandsFor p.link (record { standing = v.standing; begun = begun })
+  pub waits : v.waits ≡ begun ++ p.came
+  pub unsaid : p.unsaid ≡ v.unsaid
+
+-- these bytes came and wait
+abbrev pub with_more : List ℕ → Place → Place
+with_more piece p = record { link = p.link; came = p.came ++ piece; unsaid = p.unsaid }
+
+-- From this visitor its place went on over a store and printed this, and stands for the visitor after it.
+pub record WentOn {S : Type 0} (step : S → Call → Answer → S → Type 0) (whole : Bool) (n : ℕ) (before : Visitor) (old new : S) (text text_after : List ℕ) (p : Place) : Type 0 where
+  pub after : Visitor
+  pub printed : List ℕ
+  pub speaks : Speaks step n before old new after printed
+  pub all : whole ≡ true → IsWhole after
+  pub stands : StandsFor p after
+  pub out : text_after ≡ text ++ printed
+
+-- From this visitor its place answered what waited, and nothing of that is printed yet.
+pub record Answered {S : Type 0} (step : S → Call → Answer → S → Type 0) (whole : Bool) (before : Visitor) (old new : S) (p : Place) : Type 0 where
+  pub after : Visitor
+  pub said : List ℕ
+  pub answers : Answers step before old new after said
+  pub kept : after.unsaid ≡ before.unsaid ++ said
+  pub all : whole ≡ true → HasAnswered after
+  pub stands : StandsFor p after

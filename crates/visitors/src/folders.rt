@@ -1,0 +1,87 @@
+//! The mailboxes of a user, by the names that the user knows them by. Which user it is, is told by the word that a session enters with.
+
+ghost use Rattle.std.specs.Prelude.{◌≡◌, ◌<◌, ◌++◌, ◌∷◌, [], IfOk, IfSome, OnOk, length, slice_get};
+ghost use Rattle.std.specs.Option.{option_copied};
+ghost use Rattle.visitors.specs.Folders.{folders_from, folders_of, name_of};
+
+use envelope::Directory;
+use imap_session::Folder;
+use std::alloc::{AllocError, Global};
+
+// The name that a user knows a mailbox by.
+fn name_of(folder: Option<&[u8]>) -> &[u8]
+    ensures { result.now ≡ name_of (option_copied folder.entry) }
+{
+    match folder {
+        None => b"INBOX",
+        Some(folder) => folder,
+    }
+}
+
+// Adds a mailbox to the folders, if it is one of the user's.
+fn add_folder(
+    alloc: Global,
+    directory: &Directory,
+    user: &[u8],
+    mailbox: u8,
+    folders: &mut Vec<Folder>,
+) -> Result<(), AllocError>
+    requires { mailbox < length directory.now.homes }
+    ensures { OnOk result (IfSome (slice_get directory.now.homes mailbox) (λ home. folders.new.items ≡ folders.old.items ++ folders_from mailbox user.now (home ∷ []))) }
+{
+    if user != directory.user_of(mailbox) {
+        return Ok(());
+    }
+    let name = Vec::from_slice(alloc, name_of(directory.folder_of(mailbox)))?;
+    folders.push(Folder::new(name, mailbox))?;
+    Ok(())
+}
+
+/// The mailboxes of the user with this name, in the directory's order: the user's INBOX under that name, any other under its folder's.
+/// The name is compared byte by byte, and where there is no such user there is no folder.
+///
+/// Errors: `AllocError` where memory was refused.
+pub fn folders_of(
+    alloc: Global,
+    directory: &Directory,
+    user: &[u8],
+) -> Result<Vec<Folder>, AllocError>
+    ensures { IfOk result (λ v. v.items ≡ folders_of directory.now user.now) }
+{
+    let mut folders = Vec::new(alloc);
+    for mailbox in 0..directory.mailboxes() {
+        add_folder(alloc, directory, user, mailbox as u8, &mut folders)?;
+    }
+    Ok(folders)
+}
+
+#[cfg(test)]
+mod tests {
+    use super::*;
+    use envelope::DirectoryFault;
+
+    #[test]
+    fn a_user_has_folders(rt: HostRuntime) -> Result<(), DirectoryFault> {
+        let directory = Directory::new(
+            rt.alloc(),
+            &[b"example.org".as_slice()],
+            &[
+                b"alice".as_slice(),
+                b"alice/Work".as_slice(),
+                b"bob".as_slice(),
+            ],
+            2,
+        )?;
+        let folders = folders_of(rt.alloc(), &directory, b"alice")?;
+        assert_eq!(rt; folders.len(), 2);
+        if let [inbox, work] = folders.as_slice() {
+            assert_eq!(rt; inbox.name(), b"INBOX".as_slice());
+            assert_eq!(rt; inbox.mailbox(), 0);
+            assert_eq!(rt; work.name(), b"Work".as_slice());
+            assert_eq!(rt; work.mailbox(), 1);
+        }
+        let folders = folders_of(rt.alloc(), &directory, b"Alice")?;
+        assert_eq!(rt; folders.len(), 0);
+        Ok(())
+    }
+}

@@ -1,0 +1,11 @@
+//! A session at its place in a house: what came for it, what its connection answered, and how that is printed. Which mailboxes it sees is
+//! its store's matter.
+#![tactic(auto)]
+
+mod folders;
+#[cfg(test)]
+mod tests;
+mod visitor;
+
+pub use folders::folders_of;
+pub use visitor::Visitor;

@@ -1,0 +1,37 @@
+//! What a visitor says, and how it is printed. What is answered to its lines is the session's matter.
+
+mod nowhere;
+
+use crate::Visitor;
+use imap_session::Folder;
+use nowhere::Nowhere;
+use std::alloc::{AllocError, Global};
+
+// A visitor with one mailbox.
+fn visitor(alloc: Global) -> Result<Visitor, AllocError> {
+    let name = Vec::from_slice(alloc, b"INBOX")?;
+    let mut folders = Vec::new(alloc);
+    folders.push(Folder::new(name, 0))?;
+    Visitor::open(alloc, folders)
+}
+
+#[test]
+fn each_line_is_marked(rt: HostRuntime) -> Result<(), AllocError> {
+    let alloc = rt.alloc();
+    let mut visitor = visitor(alloc)?;
+    let mut out = Vec::new(alloc);
+    visitor.go_on(alloc, 3, &mut Nowhere, &mut out)?;
+    visitor.append(b"a1 CLOSE\r\na2 LIST \"\" %\r\na3 LOG")?;
+    visitor.go_on(alloc, 3, &mut Nowhere, &mut out)?;
+    assert_eq!(rt; visitor.selected(), None);
+    visitor.append(b"OUT\r\na4 NOOP\r\n")?;
+    assert!(rt; !visitor.has_ended());
+    visitor.go_on(alloc, 3, &mut Nowhere, &mut out)?;
+    assert!(rt; visitor.has_ended());
+    visitor.go_on(alloc, 3, &mut Nowhere, &mut out)?;
+    assert_eq!(rt;
+        out.as_slice(),
+        b"I3 * PREAUTH IMAP4rev2 server ready\nI3 a1 BAD Wrong state\nI3 * LIST () \"/\" INBOX\nI3 a2 OK LIST completed\nI3 * BYE Logging out\nI3 a3 OK LOGOUT completed\n".as_slice()
+    );
+    Ok(())
+}
