@@ -1,5 +1,5 @@
 -- Each call of a session, from what its mailbox answered.
-use Rattle.std.proofs.Common.{◌≡◌, ℕ, Bool, true, false, List, map, get_or, set, refl, sym, ap, ◌∙◌, subst, Result, Ok, Err, Option, Some, None}
+use Rattle.std.proofs.Common.{◌≡◌, ℕ, ◌+◌, ◌≤◌, Bool, true, false, List, [], length, map, get_or, set, refl, sym, ap, ◌∙◌, subst, Result, Ok, Err, Option, Some, None}
 use Rattle.std.specs.Prelude.{◌↔◌, option_map, OnOk, OnErr, IfOk}
 use Rattle.change_ring.specs.declared.change.Change.{Change}
 use Rattle.change_ring.specs.declared.change.Flags.{Flags}
@@ -11,7 +11,7 @@ use Rattle.mailbox.specs.declared.clients.MailFault.TheVariants.{Stranger, Lappe
 use Rattle.mailbox.specs.declared.clients.Row as read
 use Rattle.mailbox.specs.Events.{Logs as MailLogs, Moves, IsTooMany, IsStranger, IsLapped, IsCurrent, seen_after, was_logged}
 use Rattle.mailbox.specs.Mail.{Mail, Message, row_of, rows, flagged, message_with}
-use Rattle.world.specs.World.{Config, World, Box, Session, Read, Selected, Step, Store}
+use Rattle.world.specs.World.{Config, World, Box, Session, Event, MailStep, Read, Selected, Step, Store, most_changes}
 use Rattle.world.specs.Law.{IsPart}
 use Rattle.world.proofs.Base.{part_both}
 use Rattle.world.proofs.Kept.{BoxOk}
@@ -19,9 +19,10 @@ use Rattle.delivery_core.specs.declared.client.Client.{Client}
 use Rattle.delivery_core.specs.Held.{Held}
 use Rattle.delivery_core.specs.Seated.{AreSeated, client_at, cursors_of}
 use Rattle.delivery_core.specs.Stands.{StandsFor, StandsForBox, text_of, accepted_text}
-use Rattle.delivery_core.specs.Clients.{Reads, Alters, Refuses, read_of, flags_of, text_with}
+use Rattle.delivery_core.specs.Clients.{Reads, Alters, Makes, Refuses, read_of, flags_of, text_with}
 use Rattle.delivery_core.proofs.MailBoxes.{Told, box_still, flagged_part, no_stranger, row_after, same_rows, seen_part, taken, text_told, turned_away}
-use Rattle.delivery_core.proofs.Mailed.{known_at, still_follow}
+use Rattle.delivery_core.proofs.Follow.{reached_step}
+use Rattle.delivery_core.proofs.Mailed.{known_at, still_done, still_follow, with_memory}
 
 -- of an Ok alone
 on_ok : {T E : Type 0} (P : Type 0) (r : Result T E) → OnOk r P → (t : T) → r ≡ Ok t → P
@@ -80,7 +81,7 @@ pub read_follows : (k : Config) (w : World) (old : Held) (n m : ℕ) (c : Client
     → b2 ≡ record b { messages = b2.messages; window = b2.window } → IfOk r (λ row. row ≡ option_map (row_read mark_seen uid (rows b)) (message_with uid b2.messages))
     → (v : World) × Step k w (Read n uid mark_seen) v × StandsFor k (record old { boxes = set old.boxes m b2 }) v × Selected w n (λ s. Reads mark_seen uid r (w.box s.mailbox) s)
 read_follows k w old n m c b b2 uid mark_seen r S e same there strange lapses spends err logs moves messages rest row =
-    still_follow k w old n m c b b2 true (λ x. seen_logged mark_seen (rows_of x.log) uid) (λ x s. Reads mark_seen uid r x s) (Read n uid mark_seen) (λ v h. h) S e same there (ap (λ (z : Mail). z.cursors) rest)
+    still_follow k w old n m c b b2 true (λ x. seen_logged mark_seen (rows_of x.log) uid) (λ x s. Reads mark_seen uid r x s) (λ v. Step k w (Read n uid mark_seen) v) (λ v. reached_step k w (Read n uid mark_seen) v S.reached) (λ v h. h) S e same there (ap (λ (z : Mail). z.cursors) rest)
     (λ x s box at ok shown. (
       box_still k b b2 x s c.seat true (λ rs. seen_logged mark_seen rs uid) r box at tests (λ f. refl) err logs moves (ok_map _ _ r (seen_part mark_seen uid b.messages b2.messages) messages) rest,
       tells r x s box at ok tests logs messages row,
@@ -113,7 +114,7 @@ pub store_follows : (k : Config) (w : World) (old : Held) (n m : ℕ) (c : Clien
     → b2 ≡ record b { messages = b2.messages; window = b2.window } → IfOk r (λ flags. flags ≡ option_map (λ (x : Message). x.flags) (message_with uid b2.messages))
     → (v : World) × Step k w (Store n uid op) v × StandsFor k (record old { boxes = set old.boxes m b2 }) v × Selected w n (λ s. Alters uid op r (w.box s.mailbox) s)
 store_follows k w old n m c b b2 uid op r S e same there strange lapses spends memory err logs moves messages rest flags =
-    still_follow k w old n m c b b2 false (λ x. flags_logged (rows_of x.log) uid op) (λ x s. Alters uid op r x s) (Store n uid op) (λ v h. h) S e same there (ap (λ (z : Mail). z.cursors) rest)
+    still_follow k w old n m c b b2 false (λ x. flags_logged (rows_of x.log) uid op) (λ x s. Alters uid op r x s) (λ v. Step k w (Store n uid op) v) (λ v. reached_step k w (Store n uid op) v S.reached) (λ v h. h) S e same there (ap (λ (z : Mail). z.cursors) rest)
     (λ x s box at ok shown. (
       box_still k b b2 x s c.seat false (λ rs. flags_logged rs uid op) r box at tests (λ f. absurd (memory f)) err logs moves (ok_map _ _ r (flagged_part uid op b.messages b2.messages) messages) rest,
       tells r x s box at tests logs flags,
@@ -129,3 +130,40 @@ store_follows k w old n m c b b2 uid op r S e same there strange lapses spends m
       is ∙ alter_tells k b b2 x uid op box l,
     )
     tells (Err f) x s box at h l is = subst (λ (rs : List Row). Refuses f (flags_logged rs uid op) x s) (same_rows k b x box) (turned_away k b x s c.seat (flags_logged (rows b) uid op) (Err f) f box at h refl)
+
+-- ---- calls that were not refused
+
+logs_done : {T : Type 0} (old : Held) (n m : ℕ) (c : Client) (b b2 : Mail) (logged : List Row → List Change) (event : Event) (r : Result T MailFault)
+    → ((k : Config) (w v : World) → Selected w n (λ s. MailStep k w n s false [] (logged (rows_of (w.box s.mailbox).log)) v) → Step k w event v)
+    → AreSeated (cursors_of old.boxes) old.clients → client_at old.clients n ≡ Some c → m ≡ c.mailbox → b ≡ get_or old.boxes m b
+    → (r ≡ Err Stranger) ↔ IsStranger b c.seat → (r ≡ Err Lapped) ↔ IsLapped b c.seat → (r ≡ Err Spent) ↔ (IsCurrent b c.seat × IsTooMany b (logged (rows b)))
+    → OnErr r (b2 ≡ b) → OnOk r (MailLogs b b2 (logged (rows b))) → OnOk r (Moves b.cursors b.window b2.window (logged (rows b))) → OnOk r (IsPart (map text_of b2.messages) (map text_of b.messages))
+    → b2 ≡ record b { messages = b2.messages; window = b2.window } → OnOk r ((k : Config) → Makes k old n (λ x s. []) (λ x. logged (rows_of x.log)) (record old { boxes = set old.boxes m b2 }))
+logs_done old n m c b b2 logged event (Ok t) as_step S e same there strange lapses spends err logs moves texts rest = λ k.
+    still_done k old n m c b b2 (λ x. logged (rows_of x.log)) event (as_step k) e same there (ap (λ (z : Mail). z.cursors) rest)
+    (λ x s box at ok shown. (
+      box_still k b b2 x s c.seat false logged (Ok t) box at tests (λ f. cc) err logs moves texts rest,
+      subst (λ (rs : List Row). (x.base ≤ s.cursor) × (length x.log + length (logged rs) ≤ most_changes)) (same_rows k b x box) (taken k b x s c.seat (logged (rows b)) (Ok t) t box at tests refl),
+    ))
+  where
+    tests : Told (Ok t) b c.seat (logged (rows b))
+    tests = told (Ok t) old n m c b (logged (rows b)) S e same there strange lapses spends
+logs_done old n m c b b2 logged event (Err f) as_step S e same there strange lapses spends err logs moves texts rest = tt
+
+pub read_done : (old : Held) (n m : ℕ) (c : Client) (b b2 : Mail) (uid : ℕ) (mark_seen : Bool) (r : Result (Option read.Row) MailFault)
+    → AreSeated (cursors_of old.boxes) old.clients → client_at old.clients n ≡ Some c → m ≡ c.mailbox → b ≡ get_or old.boxes m b
+    → (r ≡ Err Stranger) ↔ IsStranger b c.seat → (r ≡ Err Lapped) ↔ IsLapped b c.seat → (r ≡ Err Spent) ↔ (IsCurrent b c.seat × IsTooMany b (seen_logged mark_seen (rows b) uid))
+    → OnErr r (b2 ≡ b) → OnOk r (MailLogs b b2 (seen_logged mark_seen (rows b) uid)) → OnOk r (Moves b.cursors b.window b2.window (seen_logged mark_seen (rows b) uid)) → OnOk r (b2.messages ≡ seen_after mark_seen uid b.messages)
+    → b2 ≡ record b { messages = b2.messages; window = b2.window } → OnOk r ((k : Config) → Makes k old n (λ x s. []) (λ x. seen_logged mark_seen (rows_of x.log) uid) (record old { boxes = set old.boxes m b2 }))
+read_done old n m c b b2 uid mark_seen r S e same there strange lapses spends err logs moves messages rest =
+    logs_done old n m c b b2 (λ rs. seen_logged mark_seen rs uid) (Read n uid mark_seen) r (λ k w v h. (h.0, h.1, with_memory k w n h.0 [] (seen_logged mark_seen (rows_of (w.box h.0.mailbox).log) uid) v h.2)) S e same there
+    strange lapses spends err logs moves (ok_map _ _ r (seen_part mark_seen uid b.messages b2.messages) messages) rest
+
+pub store_done : (old : Held) (n m : ℕ) (c : Client) (b b2 : Mail) (uid : ℕ) (op : FlagOp) (r : Result (Option Flags) MailFault)
+    → AreSeated (cursors_of old.boxes) old.clients → client_at old.clients n ≡ Some c → m ≡ c.mailbox → b ≡ get_or old.boxes m b
+    → (r ≡ Err Stranger) ↔ IsStranger b c.seat → (r ≡ Err Lapped) ↔ IsLapped b c.seat → (r ≡ Err Spent) ↔ (IsCurrent b c.seat × IsTooMany b (flags_logged (rows b) uid op))
+    → OnErr r (b2 ≡ b) → OnOk r (MailLogs b b2 (flags_logged (rows b) uid op)) → OnOk r (Moves b.cursors b.window b2.window (flags_logged (rows b) uid op)) → OnOk r (b2.messages ≡ flagged uid op b.messages)
+    → b2 ≡ record b { messages = b2.messages; window = b2.window } → OnOk r ((k : Config) → Makes k old n (λ x s. []) (λ x. flags_logged (rows_of x.log) uid op) (record old { boxes = set old.boxes m b2 }))
+store_done old n m c b b2 uid op r S e same there strange lapses spends err logs moves messages rest =
+    logs_done old n m c b b2 (λ rs. flags_logged rs uid op) (Store n uid op) r (λ k w v h. h) S e same there
+    strange lapses spends err logs moves (ok_map _ _ r (flagged_part uid op b.messages b2.messages) messages) rest

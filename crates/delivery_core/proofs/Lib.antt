@@ -13,3 +13,4 @@ pub mod Puts
 pub mod News
 pub mod Ends
 pub mod Notes
+pub mod Behind

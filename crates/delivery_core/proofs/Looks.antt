@@ -73,16 +73,16 @@ no_stranger_here b seat some gone = nobody (held b.cursors seat) some gone
     nobody None h e = cc
     nobody (Some o) h e = cc
 
+pub window_get : (boxes : List Mail) (i : ℕ) (d : Mail) → i < length boxes → window_at boxes i ≡ (get_or boxes i d).window
+window_get [] i d l = absurd (omega arith)
+window_get (x ∷ xs) zero d l = refl
+window_get (x ∷ xs) (suc i) d l = window_get xs i d (omega arith)
+
 -- what is pending for a client, as its mailbox has it
 pub pending_here : (old : Held) (n m : ℕ) (c : Client) (b : Mail) → AreSeated (cursors_of old.boxes) old.clients → client_at old.clients n ≡ Some c → m ≡ c.mailbox → b ≡ get_or old.boxes m b → pending_for old n ≡ changes_from c.seat.at b.window
 pending_here old n m c b S e same there =
     ap (pending_in old) e ∙ ap (λ (j : ℕ). changes_from c.seat.at (window_at old.boxes j)) (sym same)
     ∙ ap (changes_from c.seat.at) (window_get old.boxes m b (mailbox_within old.boxes old.clients n m c S e same) ∙ ap (λ (z : Mail). z.window) (sym there))
-  where
-    window_get : (boxes : List Mail) (i : ℕ) (d : Mail) → i < length boxes → window_at boxes i ≡ (get_or boxes i d).window
-    window_get [] i d l = absurd (omega arith)
-    window_get (x ∷ xs) zero d l = refl
-    window_get (x ∷ xs) (suc i) d l = window_get xs i d (omega arith)
 
 -- the view of a client that has its cursor
 view_here : (boxes : List Mail) (clients : List (Option Client)) (old : Held) (n m : ℕ) (c : Client) (b : Mail) (o : Open) → m < length old.boxes → client_at old.clients n ≡ Some c → m ≡ c.mailbox → b ≡ get_or old.boxes m b → held b.cursors c.seat ≡ Some o → view_of old n ≡ o.view

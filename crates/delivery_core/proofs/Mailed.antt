@@ -1,5 +1,5 @@
 -- A session's call is an event of the world.
-use Rattle.std.proofs.Common.{◌≡◌, ℕ, zero, suc, ◌+◌, ◌<◌, ◌≤◌, Bool, true, List, [], ◌∷◌, length, set, get_or, refl, sym, ap, ◌∙◌, arith, subst, length-set, Option, Some, None, IsSome, is_some}
+use Rattle.std.proofs.Common.{◌≡◌, ℕ, zero, suc, ◌+◌, ◌<◌, ◌≤◌, Bool, true, false, List, [], ◌∷◌, length, set, get_or, refl, sym, ap, ◌∙◌, arith, subst, length-set, Option, Some, None, IsSome, is_some}
 use Rattle.std.specs.Prelude.{option_map}
 use Rattle.change_ring.specs.declared.change.Change.{Change}
 use Rattle.cursor_set.specs.Cursors.{Cursors, Open, Seat, Updates, after_showing, held, in_slot}
@@ -10,6 +10,7 @@ use Rattle.world.specs.Law.{IsShown}
 use Rattle.world.proofs.Kept.{BoxOk, Kept, SessionOk}
 use Rattle.world.proofs.Always.{kept_always}
 use Rattle.delivery_core.specs.declared.client.Client.{Client}
+use Rattle.delivery_core.specs.Clients.{Done, Makes}
 use Rattle.delivery_core.specs.Held.{Held}
 use Rattle.delivery_core.specs.Seated.{AreSeated, client_at, cursors_at, cursors_of}
 use Rattle.delivery_core.specs.Stands.{EachAt, Reached, StandsFor, StandsForBox, StandsForClient, StandsForPlace}
@@ -90,12 +91,12 @@ seated_mailed boxes clients n c b b2 seat2 S e there moves =
     has d same = subst (HasSlot c.mailbox c.seat.slot b2.cursors) (same_client _ d same) (record { mailbox_is = refl; slot_is = moves.slot; known = moves.known })
 
 pub mails_follow : (k : Config) (w : World) (old : Held) (n : ℕ) (c : Client) (b b2 : Mail) (seat2 : Seat) (allocates : Bool) (shown : Box → Session → List Change) (changes : Box → List Change)
-    (P : Box → Session → Type 0) (event : Event) → ((v : World) → Selected w n (λ s. MailStep k w n s allocates (shown (w.box s.mailbox) s) (changes (w.box s.mailbox)) v) → Step k w event v)
+    (P : Box → Session → Type 0) (R : World → Type 0) → ((v : World) → R v → Reached k v) → ((v : World) → Selected w n (λ s. MailStep k w n s allocates (shown (w.box s.mailbox) s) (changes (w.box s.mailbox)) v) → R v)
     → StandsFor k old w → client_at old.clients n ≡ Some c → b ≡ get_or old.boxes c.mailbox b → SeatMoves b.cursors b2.cursors c.seat seat2
     → ((x : Box) (s : Session) → StandsForBox k b x → c.seat.at ≡ s.cursor → BoxOk k x → IsShown x.log s → BoxMails k x s allocates (shown x s) (changes x) b2 seat2 × P x s)
-    → (v : World) × Step k w event v × StandsFor k (record old { boxes = set old.boxes c.mailbox b2; clients = set old.clients n (Some (record { mailbox = c.mailbox; seat = seat2 })) }) v
+    → (v : World) × R v × StandsFor k (record old { boxes = set old.boxes c.mailbox b2; clients = set old.clients n (Some (record { mailbox = c.mailbox; seat = seat2 })) }) v
     × Selected w n (λ s. P (w.box s.mailbox) s)
-mails_follow k w old n c b b2 seat2 allocates shown changes P event as_step S e there moves does = go (session_at k w old n c S e)
+mails_follow k w old n c b b2 seat2 allocates shown changes P R reach as_step S e there moves does = go (session_at k w old n c S e)
   where
     boxes2 : List Mail
     boxes2 = set old.boxes c.mailbox b2
@@ -113,7 +114,7 @@ mails_follow k w old n c b b2 seat2 allocates shown changes P event as_step S e 
     within = there_at k w old n c S e
 
     go : (s : Session) × (w.session n ≡ Some s) × StandsForClient c s
-        → (v : World) × Step k w event v × StandsFor k (record old { boxes = set old.boxes c.mailbox b2; clients = set old.clients n (Some (record { mailbox = c.mailbox; seat = seat2 })) }) v
+        → (v : World) × R v × StandsFor k (record old { boxes = set old.boxes c.mailbox b2; clients = set old.clients n (Some (record { mailbox = c.mailbox; seat = seat2 })) }) v
         × Selected w n (λ s. P (w.box s.mailbox) s)
     go (s, is, same) = done (does (w.box s.mailbox) s here same.cursor (kept.boxes s.mailbox) (subst (SessionOk w.box) is (kept.sessions n)))
       where
@@ -122,7 +123,7 @@ mails_follow k w old n c b b2 seat2 allocates shown changes P event as_step S e 
 
         -- it was refused, and nothing changed
         still : P (w.box s.mailbox) s → StandsForBox k b2 (w.box s.mailbox) → seat2.at ≡ s.cursor → MailStep k w n s allocates (shown (w.box s.mailbox) s) (changes (w.box s.mailbox)) w
-            → (v : World) × Step k w event v × StandsFor k (record old { boxes = set old.boxes c.mailbox b2; clients = set old.clients n (Some (record { mailbox = c.mailbox; seat = seat2 })) }) v
+            → (v : World) × R v × StandsFor k (record old { boxes = set old.boxes c.mailbox b2; clients = set old.clients n (Some (record { mailbox = c.mailbox; seat = seat2 })) }) v
             × Selected w n (λ s. P (w.box s.mailbox) s)
         still p box at step = (
           w,
@@ -138,14 +139,14 @@ mails_follow k w old n c b b2 seat2 allocates shown changes P event as_step S e 
 
         moved : P (w.box s.mailbox) s → (y : Box) → StandsForBox k b2 y → seat2.at ≡ s.cursor + length (shown (w.box s.mailbox) s)
             → MailStep k w n s allocates (shown (w.box s.mailbox) s) (changes (w.box s.mailbox)) (record w { box = set_at w.box s.mailbox y; session = set_at w.session n (Some (shows s (shown (w.box s.mailbox) s))) })
-            → (v : World) × Step k w event v × StandsFor k (record old { boxes = set old.boxes c.mailbox b2; clients = set old.clients n (Some (record { mailbox = c.mailbox; seat = seat2 })) }) v
+            → (v : World) × R v × StandsFor k (record old { boxes = set old.boxes c.mailbox b2; clients = set old.clients n (Some (record { mailbox = c.mailbox; seat = seat2 })) }) v
             × Selected w n (λ s. P (w.box s.mailbox) s)
         moved p y box at step =
             let v : World = record w { box = set_at w.box s.mailbox y; session = set_at w.session n (Some (shows s (shown (w.box s.mailbox) s))) } in
-            let made : Step k w event v = as_step v (s, is, step) in (
+            let made : R v = as_step v (s, is, step) in (
               v,
               made,
-              stands_after k w v old (set old.boxes c.mailbox b2) (set old.clients n (Some (record { mailbox = c.mailbox; seat = seat2 }))) S (reached_step k w event v S.reached made)
+              stands_after k w v old (set old.boxes c.mailbox b2) (set old.clients n (Some (record { mailbox = c.mailbox; seat = seat2 }))) S (reach v made)
                   (length-set old.boxes c.mailbox b2) (length-set old.clients n _) refl refl refl refl
                   (subst (λ (m : ℕ). EachAt (λ i x. StandsForBox k x (set_at w.box m y i)) (set old.boxes c.mailbox b2)) same.mailbox
                   (each_set (λ x z. StandsForBox k x z) old.boxes w.box c.mailbox b2 y S.boxes box))
@@ -156,7 +157,7 @@ mails_follow k w old n c b b2 seat2 allocates shown changes P event as_step S e 
             )
 
         done : BoxMails k (w.box s.mailbox) s allocates (shown (w.box s.mailbox) s) (changes (w.box s.mailbox)) b2 seat2 × P (w.box s.mailbox) s
-            → (v : World) × Step k w event v × StandsFor k (record old { boxes = set old.boxes c.mailbox b2; clients = set old.clients n (Some (record { mailbox = c.mailbox; seat = seat2 })) }) v
+            → (v : World) × R v × StandsFor k (record old { boxes = set old.boxes c.mailbox b2; clients = set old.clients n (Some (record { mailbox = c.mailbox; seat = seat2 })) }) v
             × Selected w n (λ s. P (w.box s.mailbox) s)
         done (box_mails y kept logs box at, p) = moved p y box at (mails y kept logs refl)
         done (box_lapsed low box at, p) = still p box at (mail_lapped low refl)
@@ -192,35 +193,87 @@ seat_stays old new seat same some = record {
 }
 
 -- a call that moves no cursor
-pub still_follow : (k : Config) (w : World) (old : Held) (n m : ℕ) (c : Client) (b b2 : Mail) (allocates : Bool) (changes : Box → List Change) (P : Box → Session → Type 0) (event : Event)
-    → ((v : World) → Selected w n (λ s. MailStep k w n s allocates [] (changes (w.box s.mailbox)) v) → Step k w event v)
+pub still_follow : (k : Config) (w : World) (old : Held) (n m : ℕ) (c : Client) (b b2 : Mail) (allocates : Bool) (changes : Box → List Change) (P : Box → Session → Type 0) (R : World → Type 0) → ((v : World) → R v → Reached k v)
+    → ((v : World) → Selected w n (λ s. MailStep k w n s allocates [] (changes (w.box s.mailbox)) v) → R v)
     → StandsFor k old w → client_at old.clients n ≡ Some c → m ≡ c.mailbox → b ≡ get_or old.boxes m b → b2.cursors ≡ b.cursors
     → ((x : Box) (s : Session) → StandsForBox k b x → c.seat.at ≡ s.cursor → BoxOk k x → IsShown x.log s → BoxMails k x s allocates [] (changes x) b2 c.seat × P x s)
-    → (v : World) × Step k w event v × StandsFor k (record old { boxes = set old.boxes m b2 }) v × Selected w n (λ s. P (w.box s.mailbox) s)
-still_follow k w old n m c b b2 allocates changes P event as_step S e same there kept does =
-    subst (λ (i : ℕ). (v : World) × Step k w event v × StandsFor k (record old { boxes = set old.boxes i b2 }) v × Selected w n (λ s. P (w.box s.mailbox) s)) (sym same)
-    (subst (λ (cs : List (Option Client)). (v : World) × Step k w event v × StandsFor k (record old { boxes = set old.boxes c.mailbox b2; clients = cs }) v × Selected w n (λ s. P (w.box s.mailbox) s)) (client_back old.clients n c e)
-    (mails_follow k w old n c b b2 c.seat allocates (λ x s. []) changes P event as_step S e here (seat_stays b.cursors b2.cursors c.seat kept (known_at old.boxes old.clients n c b S.seated e here)) does))
+    → (v : World) × R v × StandsFor k (record old { boxes = set old.boxes m b2 }) v × Selected w n (λ s. P (w.box s.mailbox) s)
+still_follow k w old n m c b b2 allocates changes P R reach as_step S e same there kept does =
+    subst (λ (i : ℕ). (v : World) × R v × StandsFor k (record old { boxes = set old.boxes i b2 }) v × Selected w n (λ s. P (w.box s.mailbox) s)) (sym same)
+    (subst (λ (cs : List (Option Client)). (v : World) × R v × StandsFor k (record old { boxes = set old.boxes c.mailbox b2; clients = cs }) v × Selected w n (λ s. P (w.box s.mailbox) s)) (client_back old.clients n c e)
+    (mails_follow k w old n c b b2 c.seat allocates (λ x s. []) changes P R reach as_step S e here (seat_stays b.cursors b2.cursors c.seat kept (known_at old.boxes old.clients n c b S.seated e here)) does))
   where
     here : b ≡ get_or old.boxes c.mailbox b
     here = there ∙ ap (λ (i : ℕ). get_or old.boxes i b) same
 
 -- a call that moves the client's cursor, whose client was taken from its place and put back
 pub moved_follow : (k : Config) (w : World) (old : Held) (n p m : ℕ) (c : Client) (b b2 : Mail) (seat2 : Seat) (vacant : Option Client) (allocates : Bool) (shown : Box → Session → List Change) (changes : Box → List Change)
-    (P : Box → Session → Type 0) (event : Event)
-    → ((v : World) → Selected w n (λ s. MailStep k w n s allocates (shown (w.box s.mailbox) s) (changes (w.box s.mailbox)) v) → Step k w event v)
+    (P : Box → Session → Type 0) (R : World → Type 0) → ((v : World) → R v → Reached k v)
+    → ((v : World) → Selected w n (λ s. MailStep k w n s allocates (shown (w.box s.mailbox) s) (changes (w.box s.mailbox)) v) → R v)
     → StandsFor k old w → client_at old.clients n ≡ Some c → p ≡ n → m ≡ c.mailbox → b ≡ get_or old.boxes m b → SeatMoves b.cursors b2.cursors c.seat seat2
     → ((x : Box) (s : Session) → StandsForBox k b x → c.seat.at ≡ s.cursor → BoxOk k x → IsShown x.log s → BoxMails k x s allocates (shown x s) (changes x) b2 seat2 × P x s)
-    → (v : World) × Step k w event v × StandsFor k (record old { boxes = set old.boxes m b2; clients = set (set old.clients p vacant) p (Some (record { mailbox = c.mailbox; seat = seat2 })) }) v
+    → (v : World) × R v × StandsFor k (record old { boxes = set old.boxes m b2; clients = set (set old.clients p vacant) p (Some (record { mailbox = c.mailbox; seat = seat2 })) }) v
     × Selected w n (λ s. P (w.box s.mailbox) s)
-moved_follow k w old n p m c b b2 seat2 vacant allocates shown changes P event as_step S e place same there moves does =
-    subst (λ (i : ℕ). (v : World) × Step k w event v × StandsFor k (record old { boxes = set old.boxes i b2; clients = set (set old.clients p vacant) p (Some next) }) v × Selected w n (λ s. P (w.box s.mailbox) s)) (sym same)
-    (subst (λ (cs : List (Option Client)). (v : World) × Step k w event v × StandsFor k (record old { boxes = set old.boxes c.mailbox b2; clients = cs }) v × Selected w n (λ s. P (w.box s.mailbox) s))
+moved_follow k w old n p m c b b2 seat2 vacant allocates shown changes P R reach as_step S e place same there moves does =
+    subst (λ (i : ℕ). (v : World) × R v × StandsFor k (record old { boxes = set old.boxes i b2; clients = set (set old.clients p vacant) p (Some next) }) v × Selected w n (λ s. P (w.box s.mailbox) s)) (sym same)
+    (subst (λ (cs : List (Option Client)). (v : World) × R v × StandsFor k (record old { boxes = set old.boxes c.mailbox b2; clients = cs }) v × Selected w n (λ s. P (w.box s.mailbox) s))
     (ap (λ (i : ℕ). set old.clients i (Some next)) (sym place) ∙ sym (set_again old.clients p vacant (Some next)))
-    (mails_follow k w old n c b b2 seat2 allocates shown changes P event as_step S e (there ∙ ap (λ (i : ℕ). get_or old.boxes i b) same) moves does))
+    (mails_follow k w old n c b b2 seat2 allocates shown changes P R reach as_step S e (there ∙ ap (λ (i : ℕ). get_or old.boxes i b) same) moves does))
   where
     next : Client
     next = record { mailbox = c.mailbox; seat = seat2 }
+
+-- ---- calls that were not refused
+
+pub with_memory : (k : Config) (w : World) (n : ℕ) (s : Session) (shown changes : List Change) (v : World) → MailStep k w n s false shown changes v → MailStep k w n s true shown changes v
+with_memory k w n s shown changes v (mails b low logs e) = mails b low logs e
+with_memory k w n s shown changes v (mail_lapped low e) = mail_lapped low e
+with_memory k w n s shown changes v (mail_spent low many e) = mail_spent low many e
+with_memory k w n s shown changes v (mail_no_memory may low few e) = mail_no_memory refl low few e
+
+done_of : (k : Config) (w : World) (n : ℕ) (s : Session) (shown changes : List Change) (v : World) → (w.box s.mailbox).base ≤ s.cursor → length (w.box s.mailbox).log + length changes ≤ most_changes
+    → MailStep k w n s false shown changes v → Done k w n s shown changes v
+done_of k w n s shown changes v kept room (mails b low logs e) = record { kept = low; mailbox = b; logs = logs; made = e }
+done_of k w n s shown changes v kept room (mail_lapped low e) = absurd (omega (arith, low, kept))
+done_of k w n s shown changes v kept room (mail_spent low many e) = absurd (omega (arith, many, room))
+done_of k w n s shown changes v kept room (mail_no_memory may low few e) = cc
+
+-- a step for which no memory was refused
+abbrev Passes : Config → World → ℕ → Event → (Box → Session → List Change) → (Box → List Change) → World → Type 0
+Passes k w n event shown changes v = Step k w event v × Selected w n (λ s. MailStep k w n s false (shown (w.box s.mailbox) s) (changes (w.box s.mailbox)) v)
+
+-- neither lapsed nor spent
+abbrev pub HasRoom : (Box → List Change) → Box → Session → Type 0
+HasRoom changes x s = (x.base ≤ s.cursor) × (length x.log + length (changes x) ≤ most_changes)
+
+done_in : (k : Config) (w : World) (n : ℕ) (event : Event) (shown : Box → Session → List Change) (changes : Box → List Change) (v : World) → Passes k w n event shown changes v → Selected w n (λ s. HasRoom changes (w.box s.mailbox) s)
+    → Selected w n (λ s. Done k w n s (shown (w.box s.mailbox) s) (changes (w.box s.mailbox)) v)
+done_in k w n event shown changes v (step, (t, e, m)) (s, is, room) = (
+  s,
+  is,
+  done_of k w n s (shown (w.box s.mailbox) s) (changes (w.box s.mailbox)) v room.0 room.1 (subst (λ (x : Session). MailStep k w n x false (shown (w.box x.mailbox) x) (changes (w.box x.mailbox)) v) same m),
+)
+  where
+    same : t ≡ s
+    same = cc
+
+pub still_done : (k : Config) (old : Held) (n m : ℕ) (c : Client) (b b2 : Mail) (changes : Box → List Change) (event : Event)
+    → ((w v : World) → Selected w n (λ s. MailStep k w n s false [] (changes (w.box s.mailbox)) v) → Step k w event v)
+    → client_at old.clients n ≡ Some c → m ≡ c.mailbox → b ≡ get_or old.boxes m b → b2.cursors ≡ b.cursors
+    → ((x : Box) (s : Session) → StandsForBox k b x → c.seat.at ≡ s.cursor → BoxOk k x → IsShown x.log s → BoxMails k x s false [] (changes x) b2 c.seat × HasRoom changes x s)
+    → Makes k old n (λ x s. []) changes (record old { boxes = set old.boxes m b2 })
+still_done k old n m c b b2 changes event as_step e same there kept does w S =
+    let r = still_follow k w old n m c b b2 false changes (λ x s. HasRoom changes x s) (λ v. Passes k w n event (λ x s. []) changes v) (λ v made. reached_step k w event v S.reached made.0) (λ v h. (as_step w v h, h)) S e same there kept does in
+    (r.0, r.2, done_in k w n event (λ x s. []) changes r.0 r.1 r.3)
+
+pub moved_done : (k : Config) (old : Held) (n p m : ℕ) (c : Client) (b b2 : Mail) (seat2 : Seat) (vacant : Option Client) (shown : Box → Session → List Change) (changes : Box → List Change) (event : Event)
+    → ((w v : World) → Selected w n (λ s. MailStep k w n s false (shown (w.box s.mailbox) s) (changes (w.box s.mailbox)) v) → Step k w event v)
+    → client_at old.clients n ≡ Some c → p ≡ n → m ≡ c.mailbox → b ≡ get_or old.boxes m b → SeatMoves b.cursors b2.cursors c.seat seat2
+    → ((x : Box) (s : Session) → StandsForBox k b x → c.seat.at ≡ s.cursor → BoxOk k x → IsShown x.log s → BoxMails k x s false (shown x s) (changes x) b2 seat2 × HasRoom changes x s)
+    → Makes k old n shown changes (record old { boxes = set old.boxes m b2; clients = set (set old.clients p vacant) p (Some (record { mailbox = c.mailbox; seat = seat2 })) })
+moved_done k old n p m c b b2 seat2 vacant shown changes event as_step e place same there moves does w S =
+    let r = moved_follow k w old n p m c b b2 seat2 vacant false shown changes (λ x s. HasRoom changes x s) (λ v. Passes k w n event shown changes v) (λ v made. reached_step k w event v S.reached made.0) (λ v h. (as_step w v h, h)) S e place same there moves does in
+    (r.0, r.2, done_in k w n event shown changes r.0 r.1 r.3)
 
 -- the clients' cursors after these
 pub still_seated : (boxes : List Mail) (clients : List (Option Client)) (n m : ℕ) (c : Client) (b b2 : Mail) → AreSeated (cursors_of boxes) clients → client_at clients n ≡ Some c → m ≡ c.mailbox → b ≡ get_or boxes m b → b2.cursors ≡ b.cursors

@@ -1,5 +1,5 @@
 -- The calls of a session that show it changes.
-use Rattle.std.proofs.Common.{◌≡◌, ◌<◌, ◌⊎◌, ℕ, zero, suc, ◌+◌, ◌-◌, ◌≤◌, inl, inr, Bool, true, List, [], ◌∷◌, ◌++◌, length, map, take, drop, get_or, set, refl, sym, ap, ◌∙◌, arith, subst, Result, Ok, Err, Option, Some, IsSome, length-take, length-drop, append-nil}
+use Rattle.std.proofs.Common.{◌≡◌, ◌<◌, ◌⊎◌, ℕ, zero, suc, ◌+◌, ◌-◌, ◌≤◌, inl, inr, Bool, true, false, List, [], ◌∷◌, ◌++◌, length, map, take, drop, get_or, set, refl, sym, ap, ◌∙◌, arith, subst, Result, Ok, Err, Option, Some, IsSome, length-take, length-drop, append-nil}
 use Rattle.std.specs.Prelude.{◌↔◌, min, option_map, OnOk, OnErr, IfOk, IfSome}
 use Rattle.std.proofs.lemmas.Bool.{cases_lt}
 use Rattle.change_ring.specs.declared.change.Change.{Change}
@@ -16,7 +16,7 @@ use Rattle.mailbox.specs.Events.{KeepsLog, Logs as MailLogs, Moves, IsTooMany, I
 use Rattle.mailbox.specs.Mail.{Mail, rows, remaining}
 use Rattle.mailbox.specs.Stands.{Stands, next_of}
 use Rattle.mailbox.proofs.StandsLaws.{Moves-nothing}
-use Rattle.world.specs.World.{Config, World, Box, Session, Expunge, Feed, Selected, Step, pending}
+use Rattle.world.specs.World.{Config, World, Box, Session, Expunge, Feed, Selected, Step, most_changes, pending}
 use Rattle.world.specs.Law.{IsPart, IsShown}
 use Rattle.world.proofs.Base.{part_self}
 use Rattle.world.proofs.Kept.{BoxOk}
@@ -24,10 +24,11 @@ use Rattle.delivery_core.specs.declared.client.Client.{Client}
 use Rattle.delivery_core.specs.Held.{Held, pending_for}
 use Rattle.delivery_core.specs.Seated.{AreSeated, client_at, cursors_of}
 use Rattle.delivery_core.specs.Stands.{StandsFor, StandsForBox, text_of}
-use Rattle.delivery_core.specs.Clients.{Expunges, Feeds, Refuses, Sees, answer_of}
+use Rattle.delivery_core.specs.Clients.{Expunges, Feeds, Makes, Refuses, Sees, answer_of}
 use Rattle.delivery_core.proofs.MailBoxes.{Becomes, Told, box_call, box_logs, remaining_part, same_rows, taken, turned_away}
 use Rattle.delivery_core.proofs.Looks.{pending_here, saw}
-use Rattle.delivery_core.proofs.Mailed.{BoxMails, SeatMoves, known_at, moved_follow, seat_moves, seat_same}
+use Rattle.delivery_core.proofs.Follow.{reached_step}
+use Rattle.delivery_core.proofs.Mailed.{BoxMails, SeatMoves, known_at, moved_done, moved_follow, seat_moves, seat_same, with_memory}
 
 take_self : {A : Type 0} (l : ℕ) (xs : List A) → take (length (take l xs)) xs ≡ take l xs
 take_self zero [] = refl
@@ -90,13 +91,13 @@ becomes_same k b b2 x S ok keeps_log rest = box_logs k b b2 x [] b.cursors S (om
     (subst (λ (z : Mail). IsPart (map text_of z.messages) (map text_of b.messages)) (sym rest) (part_self (map text_of b.messages)))
     (ap (λ (z : Mail). z.accepted) rest) (ap (λ (z : Mail). z.first_uid) rest) (ap (λ (z : Mail). z.limit) rest) (ap (λ (z : Mail). z.uidvalidity) rest)
 
-feed_box : (k : Config) (b b2 : Mail) (x : Box) (s : Session) (seat seat2 : Seat) (limit : ℕ) (before after : List ℕ) (r : Result ℕ FeedFault) → StandsForBox k b x → seat.at ≡ s.cursor → BoxOk k x → Told (answer_of r) b seat []
+feed_box : (k : Config) (b b2 : Mail) (x : Box) (s : Session) (seat seat2 : Seat) (limit : ℕ) (before after : List ℕ) (allocates : Bool) (r : Result ℕ FeedFault) → (answer_of r ≡ Err NoMemory → allocates ≡ true) → StandsForBox k b x → seat.at ≡ s.cursor → BoxOk k x → Told (answer_of r) b seat []
     → OnErr r ((b2 ≡ b) × (seat2 ≡ seat) × (after ≡ before)) → IfOk r (λ n. n ≡ min limit (total b.window - seat.at))
     → IfOk r (λ n. (log : List Change) → Stands b log → after ≡ before ++ lines (view_at log seat.at) (next_of log seat.at n))
     → IfOk r (λ n. seat2 ≡ record seat { at = seat.at + n }) → KeepsLog b b2 → b2 ≡ record b { cursors = b2.cursors }
-    → BoxMails k x s true (take limit (pending x s)) [] b2 seat2 × Feeds limit before after (answer_of r) x s
-feed_box k b b2 x s seat seat2 limit before after (Ok n) S at ok told err count shown is keeps_log rest = (
-  box_call k b b2 x s seat seat2 true (take limit (pending x s)) [] (Ok n) S at told (λ f. refl) tt (λ room. becomes_same k b b2 x S ok keeps_log rest) (omega (arith, ap (λ (z : Seat). z.at) is, at, long)),
+    → BoxMails k x s allocates (take limit (pending x s)) [] b2 seat2 × Feeds limit before after (answer_of r) x s
+feed_box k b b2 x s seat seat2 limit before after allocates (Ok n) may S at ok told err count shown is keeps_log rest = (
+  box_call k b b2 x s seat seat2 allocates (take limit (pending x s)) [] (Ok n) S at told may tt (λ room. becomes_same k b b2 x S ok keeps_log rest) (omega (arith, ap (λ (z : Seat). z.at) is, at, long)),
   (record { kept = (taken k b x s seat [] (Ok n) n S at told refl).0; text = shown x.log S.log ∙ ap (λ (cs : List Change). before ++ lines (view_at x.log seat.at) cs) what ∙ ap (λ (i : ℕ). before ++ lines (view_at x.log i) (take limit (pending x s))) at }, sym long),
 )
   where
@@ -105,12 +106,12 @@ feed_box k b b2 x s seat seat2 limit before after (Ok n) S at ok told err count 
 
     what : next_of x.log seat.at n ≡ take limit (pending x s)
     what = ap (λ (i : ℕ). take n (drop i x.log)) at ∙ ap (λ (j : ℕ). take j (drop s.cursor x.log)) (sym long) ∙ take_self limit (drop s.cursor x.log)
-feed_box k b b2 x s seat seat2 limit before after (Err lapse.Stranger) S at ok told err count shown is keeps_log rest =
-    (box_call k b b2 x s seat seat2 true (take limit (pending x s)) [] (Err Stranger) S at told (λ f. refl) (err.0, err.1) tt tt, turned_away k b x s seat [] (Err Stranger) Stranger S at told refl)
-feed_box k b b2 x s seat seat2 limit before after (Err lapse.Lapped) S at ok told err count shown is keeps_log rest =
-    (box_call k b b2 x s seat seat2 true (take limit (pending x s)) [] (Err Lapped) S at told (λ f. refl) (err.0, err.1) tt tt, turned_away k b x s seat [] (Err Lapped) Lapped S at told refl)
-feed_box k b b2 x s seat seat2 limit before after (Err lapse.NoMemory) S at ok told err count shown is keeps_log rest =
-    (box_call k b b2 x s seat seat2 true (take limit (pending x s)) [] (Err NoMemory) S at told (λ f. refl) (err.0, err.1) tt tt, turned_away k b x s seat [] (Err NoMemory) NoMemory S at told refl)
+feed_box k b b2 x s seat seat2 limit before after allocates (Err lapse.Stranger) may S at ok told err count shown is keeps_log rest =
+    (box_call k b b2 x s seat seat2 allocates (take limit (pending x s)) [] (Err Stranger) S at told may (err.0, err.1) tt tt, turned_away k b x s seat [] (Err Stranger) Stranger S at told refl)
+feed_box k b b2 x s seat seat2 limit before after allocates (Err lapse.Lapped) may S at ok told err count shown is keeps_log rest =
+    (box_call k b b2 x s seat seat2 allocates (take limit (pending x s)) [] (Err Lapped) S at told may (err.0, err.1) tt tt, turned_away k b x s seat [] (Err Lapped) Lapped S at told refl)
+feed_box k b b2 x s seat seat2 limit before after allocates (Err lapse.NoMemory) may S at ok told err count shown is keeps_log rest =
+    (box_call k b b2 x s seat seat2 allocates (take limit (pending x s)) [] (Err NoMemory) S at told may (err.0, err.1) tt tt, turned_away k b x s seat [] (Err NoMemory) NoMemory S at told refl)
 
 pub feed_follows : (k : Config) (w : World) (old : Held) (n p m : ℕ) (c : Client) (b b2 : Mail) (seat2 : Seat) (vacant : Option Client) (limit : ℕ) (before after : List ℕ) (r : Result ℕ FeedFault) (q : Result ℕ MailFault)
     → StandsFor k old w → client_at old.clients n ≡ Some c → p ≡ n → m ≡ c.mailbox → b ≡ get_or old.boxes m b → q ≡ answer_of r
@@ -123,9 +124,9 @@ pub feed_follows : (k : Config) (w : World) (old : Held) (n p m : ℕ) (c : Clie
 feed_follows k w old n p m c b b2 seat2 vacant limit before after r q S e place same there tells strange lapses err count shown is keeps_log rest moved =
     subst (λ (z : Result ℕ MailFault). (v : World) × Step k w (Feed n limit) v × StandsFor k (record old { boxes = set old.boxes m b2; clients = set (set old.clients p vacant) p (Some (record { mailbox = c.mailbox; seat = seat2 })) }) v
     × Selected w n (λ s. Feeds limit before after z (w.box s.mailbox) s)) (sym tells)
-    (moved_follow k w old n p m c b b2 seat2 vacant true (λ x s. take limit (pending x s)) (λ x. []) (λ x s. Feeds limit before after (answer_of r) x s) (Feed n limit) (λ v h. h) S e place same there
+    (moved_follow k w old n p m c b b2 seat2 vacant true (λ x s. take limit (pending x s)) (λ x. []) (λ x s. Feeds limit before after (answer_of r) x s) (λ v. Step k w (Feed n limit) v) (λ v. reached_step k w (Feed n limit) v S.reached) (λ v h. h) S e place same there
     (feed_moves b b2 c.seat seat2 limit before after r some lapses err count is moved)
-    (λ x s box at ok shown_is. feed_box k b b2 x s c.seat seat2 limit before after r box at ok (feed_told k b x c.seat r box ok some strange lapses) err count shown is keeps_log rest))
+    (λ x s box at ok shown_is. feed_box k b b2 x s c.seat seat2 limit before after true r (λ f. refl) box at ok (feed_told k b x c.seat r box ok some strange lapses) err count shown is keeps_log rest))
   where
     some : IsSome (held b.cursors c.seat)
     some = known_at old.boxes old.clients n c b S.seated e (there ∙ ap (λ (i : ℕ). get_or old.boxes i b) same)
@@ -148,14 +149,14 @@ expunge_moves b b2 seat seat2 before after (Ok n) some lapses err is within move
     whole = omega (arith, length-drop (seat.at - b.window.base) b.window.changes, low, within)
 expunge_moves b b2 seat seat2 before after (Err f) some lapses err is within moved = seat_same b.cursors b2.cursors seat seat2 some (ap (λ (z : Mail). z.cursors) err.0) err.1
 
-expunge_box : (k : Config) (b b2 : Mail) (x : Box) (s : Session) (seat seat2 : Seat) (test : ℕ → Bool) (before after : List ℕ) (cursors : Cursors) (r : Result ℕ MailFault) → StandsForBox k b x → seat.at ≡ s.cursor → IsShown x.log s → Told r b seat (removals test (rows b))
+expunge_box : (k : Config) (b b2 : Mail) (x : Box) (s : Session) (seat seat2 : Seat) (test : ℕ → Bool) (before after : List ℕ) (cursors : Cursors) (allocates : Bool) (r : Result ℕ MailFault) → (r ≡ Err NoMemory → allocates ≡ true) → StandsForBox k b x → seat.at ≡ s.cursor → IsShown x.log s → Told r b seat (removals test (rows b))
     → OnErr r ((b2 ≡ b) × (seat2 ≡ seat) × (after ≡ before)) → OnOk r ((log : List Change) → Stands b log → after ≡ before ++ lines (view_at log seat.at) (drop seat.at log))
     → OnOk r (seat2 ≡ record seat { at = total b.window }) → OnOk r (MailLogs b b2 (removals test (rows b))) → OnOk r (Moves cursors b.window b2.window (removals test (rows b)))
     → OnOk r (b2.messages ≡ remaining test b.messages) → OnOk r (b2 ≡ record b { messages = b2.messages; window = b2.window; cursors = b2.cursors }) → IfOk r (λ n. n ≡ length (removals test (rows b)))
-    → BoxMails k x s true (pending x s) (removals test (rows_of x.log)) b2 seat2 × Expunges test before after r x s
-expunge_box k b b2 x s seat seat2 test before after cursors (Ok n) S at past told err shown is logs moves messages rest count = (
-  subst (λ (rs : List Row). BoxMails k x s true (pending x s) (removals test rs) b2 seat2) (same_rows k b x S)
-      (box_call k b b2 x s seat seat2 true (pending x s) (removals test (rows b)) (Ok n) S at told (λ f. refl) tt
+    → BoxMails k x s allocates (pending x s) (removals test (rows_of x.log)) b2 seat2 × Expunges test before after r x s
+expunge_box k b b2 x s seat seat2 test before after cursors allocates (Ok n) may S at past told err shown is logs moves messages rest count = (
+  subst (λ (rs : List Row). BoxMails k x s allocates (pending x s) (removals test rs) b2 seat2) (same_rows k b x S)
+      (box_call k b b2 x s seat seat2 allocates (pending x s) (removals test (rows b)) (Ok n) S at told may tt
       (λ room. box_logs k b b2 x (removals test (rows b)) cursors S room logs moves (remaining_part test b.messages b2.messages messages) (ap (λ (z : Mail). z.accepted) rest) (ap (λ (z : Mail). z.first_uid) rest) (ap (λ (z : Mail). z.limit) rest) (ap (λ (z : Mail). z.uidvalidity) rest))
       (omega (arith, ap (λ (z : Seat). z.at) is, S.log.window.long, length-drop s.cursor x.log, past.within))),
   (
@@ -163,9 +164,9 @@ expunge_box k b b2 x s seat seat2 test before after cursors (Ok n) S at past tol
     count ∙ ap (λ (rs : List Row). length (removals test rs)) (same_rows k b x S),
   ),
 )
-expunge_box k b b2 x s seat seat2 test before after cursors (Err f) S at past told err shown is logs moves messages rest count = (
-  subst (λ (rs : List Row). BoxMails k x s true (pending x s) (removals test rs) b2 seat2) (same_rows k b x S)
-      (box_call k b b2 x s seat seat2 true (pending x s) (removals test (rows b)) (Err f) S at told (λ g. refl) (err.0, err.1) tt tt),
+expunge_box k b b2 x s seat seat2 test before after cursors allocates (Err f) may S at past told err shown is logs moves messages rest count = (
+  subst (λ (rs : List Row). BoxMails k x s allocates (pending x s) (removals test rs) b2 seat2) (same_rows k b x S)
+      (box_call k b b2 x s seat seat2 allocates (pending x s) (removals test (rows b)) (Err f) S at told may (err.0, err.1) tt tt),
   subst (λ (rs : List Row). Refuses f (removals test rs) x s) (same_rows k b x S) (turned_away k b x s seat (removals test (rows b)) (Err f) f S at told refl),
 )
 
@@ -180,9 +181,9 @@ pub expunge_follows : (k : Config) (w : World) (old : Held) (n p m : ℕ) (c : C
     → (v : World) × Step k w (Expunge n test) v × StandsFor k (record old { boxes = set old.boxes m b2; clients = set (set old.clients p vacant) p (Some (record { mailbox = c.mailbox; seat = seat2 })) }) v
     × Selected w n (λ s. Expunges test before after r (w.box s.mailbox) s)
 expunge_follows k w old n p m c b b2 seat2 vacant test before after cursors r S e place same there strange lapses spends err shown is within moved logs moves messages rest count =
-    moved_follow k w old n p m c b b2 seat2 vacant true (λ x s. pending x s) (λ x. removals test (rows_of x.log)) (λ x s. Expunges test before after r x s) (Expunge n test) (λ v h. h) S e place same there
+    moved_follow k w old n p m c b b2 seat2 vacant true (λ x s. pending x s) (λ x. removals test (rows_of x.log)) (λ x s. Expunges test before after r x s) (λ v. Step k w (Expunge n test) v) (λ v. reached_step k w (Expunge n test) v S.reached) (λ v h. h) S e place same there
     (expunge_moves b b2 c.seat seat2 before after r some lapses err is within moved)
-    (λ x s box at ok past. expunge_box k b b2 x s c.seat seat2 test before after cursors r box at past (record { known = some; stranger = strange; lapsed = lapses; spent = spends }) err shown is logs moves messages rest count)
+    (λ x s box at ok past. expunge_box k b b2 x s c.seat seat2 test before after cursors true r (λ f. refl) box at past (record { known = some; stranger = strange; lapsed = lapses; spent = spends }) err shown is logs moves messages rest count)
   where
     some : IsSome (held b.cursors c.seat)
     some = known_at old.boxes old.clients n c b S.seated e (there ∙ ap (λ (i : ℕ). get_or old.boxes i b) same)
@@ -309,3 +310,54 @@ expunge_memory old n m c b r S e same there lapses memory refused = go (cases_lt
     go : (c.seat.at < b.window.base) ⊎ (b.window.base ≤ c.seat.at) → 0 < length (pending_for old n)
     go (inl under) = absurd (differ r refused (lapses.1 (known_at old.boxes old.clients n c b S e (there ∙ ap (λ (i : ℕ). get_or old.boxes i b) same), under)))
     go (inr over) = omega (arith, ap length (pending_here old n m c b S e same there), length-drop (c.seat.at - b.window.base) b.window.changes, memory refused, over)
+
+-- ---- calls that were not refused
+
+pub by_answer : (P : Type 0) (r : Result ℕ FeedFault) (q : Result ℕ MailFault) → q ≡ answer_of r → OnOk r P → OnOk q P
+by_answer P (Ok n) q tells h = subst (λ (z : Result ℕ MailFault). OnOk z P) (sym tells) h
+by_answer P (Err lapse.Stranger) q tells h = subst (λ (z : Result ℕ MailFault). OnOk z P) (sym tells) tt
+by_answer P (Err lapse.Lapped) q tells h = subst (λ (z : Result ℕ MailFault). OnOk z P) (sym tells) tt
+by_answer P (Err lapse.NoMemory) q tells h = subst (λ (z : Result ℕ MailFault). OnOk z P) (sym tells) tt
+
+pub feed_done : (old : Held) (n p m : ℕ) (c : Client) (b b2 : Mail) (seat2 : Seat) (vacant : Option Client) (limit : ℕ) (before after : List ℕ) (r : Result ℕ FeedFault)
+    → AreSeated (cursors_of old.boxes) old.clients → client_at old.clients n ≡ Some c → p ≡ n → m ≡ c.mailbox → b ≡ get_or old.boxes m b
+    → (r ≡ Err lapse.Stranger) ↔ IsStranger b c.seat → (r ≡ Err lapse.Lapped) ↔ IsLapped b c.seat → OnErr r ((b2 ≡ b) × (seat2 ≡ c.seat) × (after ≡ before)) → IfOk r (λ j. j ≡ min limit (total b.window - c.seat.at))
+    → IfOk r (λ j. (log : List Change) → Stands b log → after ≡ before ++ lines (view_at log c.seat.at) (next_of log c.seat.at j))
+    → IfOk r (λ j. seat2 ≡ record c.seat { at = c.seat.at + j }) → KeepsLog b b2 → b2 ≡ record b { cursors = b2.cursors }
+    → IfOk r (λ j. Updates b.cursors b2.cursors c.seat.slot (option_map (after_showing (next_changes b.window c.seat.at j)) (held b.cursors c.seat)))
+    → OnOk r ((k : Config) → Makes k old n (λ x s. take limit (pending x s)) (λ x. []) (record old { boxes = set old.boxes m b2; clients = set (set old.clients p vacant) p (Some (record { mailbox = c.mailbox; seat = seat2 })) }))
+feed_done old n p m c b b2 seat2 vacant limit before after (Ok j) S e place same there strange lapses err count shown is keeps_log rest moved = λ k.
+    moved_done k old n p m c b b2 seat2 vacant (λ x s. take limit (pending x s)) (λ x. []) (Feed n limit) (λ w v h. (h.0, h.1, with_memory k w n h.0 (take limit (pending (w.box h.0.mailbox) h.0)) [] v h.2)) e place same there
+    (feed_moves b b2 c.seat seat2 limit before after (Ok j) some lapses err count is moved)
+    (λ x s box at ok shown_is. (
+      (feed_box k b b2 x s c.seat seat2 limit before after false (Ok j) (λ f. cc) box at ok (feed_told k b x c.seat (Ok j) box ok some strange lapses) err count shown is keeps_log rest).0,
+      taken k b x s c.seat [] (Ok j) j box at (feed_told k b x c.seat (Ok j) box ok some strange lapses) refl,
+    ))
+  where
+    some : IsSome (held b.cursors c.seat)
+    some = known_at old.boxes old.clients n c b S e (there ∙ ap (λ (i : ℕ). get_or old.boxes i b) same)
+feed_done old n p m c b b2 seat2 vacant limit before after (Err f) S e place same there strange lapses err count shown is keeps_log rest moved = tt
+
+pub expunge_done : (old : Held) (n p m : ℕ) (c : Client) (b b2 : Mail) (seat2 : Seat) (vacant : Option Client) (test : ℕ → Bool) (before after : List ℕ) (cursors : Cursors) (r : Result ℕ MailFault)
+    → AreSeated (cursors_of old.boxes) old.clients → client_at old.clients n ≡ Some c → p ≡ n → m ≡ c.mailbox → b ≡ get_or old.boxes m b
+    → (r ≡ Err Stranger) ↔ IsStranger b c.seat → (r ≡ Err Lapped) ↔ IsLapped b c.seat → (r ≡ Err Spent) ↔ (IsCurrent b c.seat × IsTooMany b (removals test (rows b)))
+    → OnErr r ((b2 ≡ b) × (seat2 ≡ c.seat) × (after ≡ before)) → OnOk r ((log : List Change) → Stands b log → after ≡ before ++ lines (view_at log c.seat.at) (drop c.seat.at log))
+    → OnOk r (seat2 ≡ record c.seat { at = total b.window }) → OnOk r (c.seat.at ≤ total b.window)
+    → OnOk r (Updates b.cursors b2.cursors c.seat.slot (option_map (after_showing (changes_from c.seat.at b.window)) (held b.cursors c.seat)))
+    → OnOk r (MailLogs b b2 (removals test (rows b))) → OnOk r (Moves cursors b.window b2.window (removals test (rows b)))
+    → OnOk r (b2.messages ≡ remaining test b.messages) → OnOk r (b2 ≡ record b { messages = b2.messages; window = b2.window; cursors = b2.cursors }) → IfOk r (λ j. j ≡ length (removals test (rows b)))
+    → OnOk r ((k : Config) → Makes k old n (λ x s. pending x s) (λ x. removals test (rows_of x.log)) (record old { boxes = set old.boxes m b2; clients = set (set old.clients p vacant) p (Some (record { mailbox = c.mailbox; seat = seat2 })) }))
+expunge_done old n p m c b b2 seat2 vacant test before after cursors (Ok j) S e place same there strange lapses spends err shown is within moved logs moves messages rest count = λ k.
+    moved_done k old n p m c b b2 seat2 vacant (λ x s. pending x s) (λ x. removals test (rows_of x.log)) (Expunge n test) (λ w v h. (h.0, h.1, with_memory k w n h.0 (pending (w.box h.0.mailbox) h.0) (removals test (rows_of (w.box h.0.mailbox).log)) v h.2)) e place same there
+    (expunge_moves b b2 c.seat seat2 before after (Ok j) some lapses err is within moved)
+    (λ x s box at ok past. (
+      (expunge_box k b b2 x s c.seat seat2 test before after cursors false (Ok j) (λ f. cc) box at past tests err shown is logs moves messages rest count).0,
+      subst (λ (rs : List Row). (x.base ≤ s.cursor) × (length x.log + length (removals test rs) ≤ most_changes)) (same_rows k b x box) (taken k b x s c.seat (removals test (rows b)) (Ok j) j box at tests refl),
+    ))
+  where
+    some : IsSome (held b.cursors c.seat)
+    some = known_at old.boxes old.clients n c b S e (there ∙ ap (λ (i : ℕ). get_or old.boxes i b) same)
+
+    tests : Told (Ok j) b c.seat (removals test (rows b))
+    tests = record { known = some; stranger = strange; lapsed = lapses; spent = spends }
+expunge_done old n p m c b b2 seat2 vacant test before after cursors (Err f) S e place same there strange lapses spends err shown is within moved logs moves messages rest count = tt

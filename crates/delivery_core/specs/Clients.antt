@@ -15,7 +15,8 @@ use Rattle.mailbox.specs.declared.clients.MailFault.TheVariants.{Stranger, Lappe
 use Rattle.mailbox.specs.declared.clients.Opening.{Opening}
 use Rattle.mailbox.specs.declared.clients.Row as read
 use Rattle.mailbox.specs.declared.mailbox.Status.{Status}
-use Rattle.world.specs.World.{Config, World, Box, Session, Event, Enter, Step, Selected, most_changes, next_uid, pending}
+use Rattle.shard_queue.specs.At.{set_at}
+use Rattle.world.specs.World.{Config, World, Box, Session, Event, Enter, Logs, Step, Selected, most_changes, next_uid, pending, shows}
 use Rattle.delivery_core.specs.Held.{Held, view_of}
 use Rattle.delivery_core.specs.Stands.{StandsFor}
 
@@ -23,6 +24,18 @@ use Rattle.delivery_core.specs.Stands.{StandsFor}
 -- n had selected and of the session, as they were.
 abbrev pub Does : Config → Held → Event → ℕ → (Box → Session → Type 0) → Held → Type 0
 Does k old event n P new = (w : World) → StandsFor k old w → (v : World) × Step k w event v × StandsFor k new v × Selected w n (λ s. P (w.box s.mailbox) s)
+
+-- Session n was shown the first of these changes, and its mailbox logged the second; nothing else changed.
+pub record Done (k : Config) (w : World) (n : ℕ) (s : Session) (shown changes : List Change) (v : World) : Type 0 where
+  pub kept : (w.box s.mailbox).base ≤ s.cursor
+  pub mailbox : Box
+  pub logs : Logs k (w.box s.mailbox) changes [] mailbox
+  pub made : v ≡ record w { box = set_at w.box s.mailbox mailbox; session = set_at w.session n (Some (shows s shown)) }
+
+-- From each world for which the old one stood there is one for which the new one stands, in which session n was shown these changes and its
+-- mailbox logged those.
+abbrev pub Makes : Config → Held → ℕ → (Box → Session → List Change) → (Box → List Change) → Held → Type 0
+Makes k old n shown changes new = (w : World) → StandsFor k old w → (v : World) × StandsFor k new v × Selected w n (λ s. Done k w n s (shown (w.box s.mailbox) s) (changes (w.box s.mailbox)) v)
 
 -- why a session was refused that would log these changes
 abbrev pub Refuses : MailFault → List Change → Box → Session → Type 0

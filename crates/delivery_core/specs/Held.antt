@@ -1,6 +1,6 @@
 -- What the delivery side holds, as lists: for each shard its lane and its hand, for each seat its reply lane, what it heard and the least
 -- key that it may use next, the mailboxes, and for each session the client that it has, where it entered a mailbox.
-use Rattle.std.specs.Prelude.{ℕ, Bool, false, not, List, [], map, slice_index_or, Option, Some, None}
+use Rattle.std.specs.Prelude.{ℕ, ◌-◌, Bool, false, not, List, [], map, slice_index_or, Option, Some, None}
 use Rattle.std.specs.List.{list_any}
 use Rattle.delivery_token.specs.declared.CopyKey.{CopyKey}
 use Rattle.delivery_token.specs.declared.Job.{Job}
@@ -10,7 +10,7 @@ use Rattle.shard_queue.specs.Waits.{Waits}
 use Rattle.mailbox.specs.Mail.{Mail}
 use Rattle.world.specs.declared.hand.Hand.{Hand}
 use Rattle.change_ring.specs.declared.change.Change.{Change}
-use Rattle.change_ring.specs.Window.{Window, changes_from}
+use Rattle.change_ring.specs.Window.{Window, changes_from, total}
 use Rattle.cursor_set.specs.Cursors.{Open}
 use Rattle.delivery_core.specs.declared.client.Client.{Client}
 use Rattle.delivery_core.specs.Seated.{client_at, cursor_of, cursors_of}
@@ -66,3 +66,12 @@ pending_in h (Some c) = changes_from c.seat.at (window_at h.boxes c.mailbox)
 -- the changes that a session is still to be shown
 abbrev pub pending_for : Held → ℕ → List Change
 pending_for h session = pending_in h (client_of h session)
+
+-- how many changes the log of a client's mailbox has behind the last that it was shown, those that were overwritten among them
+abbrev pub behind_in : Held → Option Client → ℕ
+behind_in h None = 0
+behind_in h (Some c) = total (window_at h.boxes c.mailbox) - c.seat.at
+
+-- so many changes a session is behind its mailbox's log
+abbrev pub behind : Held → ℕ → ℕ
+behind h session = behind_in h (client_of h session)

@@ -1,21 +1,23 @@
 //! What a session does in the mailbox that it enters: each call is one event of the world. Lanes and
 //! verdicts are told in `steps`.
 
-ghost use Rattle.std.specs.Prelude.{◌≡◌, ◌≢◌, ℕ, ◌+◌, ◌-◌, ◌^◌, ◌<◌, ◌≤◌, ◌⊎◌, ◌↔◌, length, Err, Some, None, IfErr, IfOk, IfSome, OnErr, OnOk, IsErr, IsSome, IsTrue, option_map, slice_index_or, take, vec_capacity};
+ghost use Rattle.std.specs.Prelude.{◌≡◌, ◌≢◌, ℕ, ◌+◌, ◌-◌, ◌^◌, ◌<◌, ◌≤◌, ◌⊎◌, ◌↔◌, [], length, Err, Some, None, IfErr, IfOk, IfSome, OnErr, OnOk, IsErr, IsSome, IsTrue, min, option_map, slice_index_or, take, true, vec_capacity};
 ghost use Rattle.change_ring.specs.Log.{rows_of, view_at};
+ghost use Rattle.change_ring.specs.Window.{total};
+ghost use Rattle.change_ring.specs.Logged.{flags_logged, removals, seen_logged};
 ghost use Rattle.mailbox.specs.Events.{in_set};
 ghost use Rattle.mailbox.specs.Mail.{Mail, SameMailbox};
-ghost use Rattle.world.specs.World.{Box, Config, World, Expunge, Feed, Leave, Read, Selected, Store};
+ghost use Rattle.world.specs.World.{Box, Config, World, Expunge, Feed, Leave, Read, Selected, Store, pending};
 ghost use Rattle.delivery_core.specs.Changes.{SameCounts, SameDelivery};
-ghost use Rattle.delivery_core.specs.Clients.{Alters, Does, Enters, Expunges, Feeds, IsStatus, Leaves, Reads, Sees, answer_of};
-ghost use Rattle.delivery_core.specs.Held.{client_of, pending_for, view_of};
+ghost use Rattle.delivery_core.specs.Clients.{Alters, Does, Enters, Expunges, Feeds, IsStatus, Leaves, Makes, Reads, Sees, answer_of};
+ghost use Rattle.delivery_core.specs.Held.{behind, client_of, pending_for, view_of};
 ghost use Rattle.delivery_core.specs.Stands.{StandsFor};
 
 use crate::client::Client;
 use crate::steps::DeliveryCore;
 use change_ring::{FlagOp, Flags};
 use cursor_set::FeedFault;
-use mailbox::{MailFault, Opening, Row, Status};
+use mailbox::{MailFault, Mailbox, Opening, Row, Status};
 
 // A feed's answer, with its fault as one of all calls.
 fn answer_of(fed: Result<usize, FeedFault>) -> Result<usize, MailFault>
@@ -29,6 +31,14 @@ fn answer_of(fed: Result<usize, FeedFault>) -> Result<usize, MailFault>
     }
 }
 
+// How many changes a mailbox has logged.
+fn total(mailbox: &Mailbox) -> u128
+    ensures { result ≡ total mailbox.now.window }
+{
+    let (base, first, rest) = mailbox.tail();
+    u128::from(base) + first.len() as u128 + rest.len() as u128
+}
+
 impl DeliveryCore {
     /// A session is shown its next changes, at most `limit`: a line for each behind `out` (RFC 9051,
     /// 7.4 and 7.5), and it is told how many. Stranger where it has entered no mailbox, else Lapped
@@ -38,8 +48,10 @@ impl DeliveryCore {
         ensures spent { result ≢ Err MailFault.Spent }
         ensures memory { result ≡ Err MailFault.NoMemory → 0 < length (take limit (pending_for self.old session)) }
         ensures event { IsSome (client_of self.old session) → (k : Config) → Does k self.old (Feed session limit) session (Feeds limit out.old.items out.new.items result) self.new }
+        ensures done { OnOk result ((k : Config) → Makes k self.old session (λ b s. take limit (pending b s)) (λ b. []) self.new) }
         ensures shown { IfOk result (λ n. Sees self.old self.new session (take n (pending_for self.old session)) out.old.items out.new.items) }
         ensures count { IfOk result (λ n. (n ≤ limit) × (length (take n (pending_for self.old session)) ≡ n)) }
+        ensures less { IfOk result (λ n. (n ≡ min limit (behind self.old session)) × (behind self.new session + n ≡ behind self.old session)) }
         ensures rest { SameDelivery self.old self.new }
         ensures same { OnOk result ((m : ℕ) (d : Mail) → SameMailbox (slice_index_or self.old.boxes m d) (slice_index_or self.new.boxes m d)) }
         ensures counts { SameCounts self.old self.new }
@@ -68,6 +80,7 @@ impl DeliveryCore {
         ensures clients { self.new.clients ≡ self.old.clients }
         ensures view { view_of self.new session ≡ view_of self.old session }
         ensures event { IsSome (client_of self.old session) → (k : Config) → Does k self.old (Read session uid mark_seen) session (Reads mark_seen uid result) self.new }
+        ensures done { OnOk result ((k : Config) → Makes k self.old session (λ b s. []) (λ b. seen_logged mark_seen (rows_of b.log) uid) self.new) }
         ensures rest { SameDelivery self.old self.new }
         ensures same { OnOk result ((m : ℕ) (d : Mail) → SameMailbox (slice_index_or self.old.boxes m d) (slice_index_or self.new.boxes m d)) }
         ensures counts { SameCounts self.old self.new }
@@ -91,6 +104,7 @@ impl DeliveryCore {
         ensures stranger { (result ≡ Err MailFault.Stranger) ↔ (client_of self.old session ≡ None) }
         ensures memory { result ≢ Err MailFault.NoMemory }
         ensures event { IsSome (client_of self.old session) → (k : Config) → Does k self.old (Store session uid op) session (Alters uid op result) self.new }
+        ensures done { OnOk result ((k : Config) → Makes k self.old session (λ b s. []) (λ b. flags_logged (rows_of b.log) uid op) self.new) }
         ensures clients { self.new.clients ≡ self.old.clients }
         ensures view { view_of self.new session ≡ view_of self.old session }
         ensures rest { SameDelivery self.old self.new }
@@ -123,6 +137,7 @@ impl DeliveryCore {
         ensures memory { result ≡ Err MailFault.NoMemory → 0 < length (pending_for self.old session) }
         ensures event { IsSome (client_of self.old session) → (k : Config) → Does k self.old (Expunge session (in_set (option_map (λ uids. uids.now) uids.entry))) session
             (Expunges (in_set (option_map (λ uids. uids.now) uids.entry)) out.old.items out.new.items result) self.new }
+        ensures done { OnOk result ((k : Config) → Makes k self.old session (λ b s. pending b s) (λ b. removals (in_set (option_map (λ uids. uids.now) uids.entry)) (rows_of b.log)) self.new) }
         ensures shown { OnOk result (Sees self.old self.new session (pending_for self.old session) out.old.items out.new.items) }
         ensures rest { SameDelivery self.old self.new }
         ensures same { OnOk result ((m : ℕ) (d : Mail) → SameMailbox (slice_index_or self.old.boxes m d) (slice_index_or self.new.boxes m d)) }
@@ -235,6 +250,23 @@ impl DeliveryCore {
         Ok(view)
     }
 
+    /// Whether a session entered a mailbox and was shown all that is in its log: then a feed has nothing
+    /// to show it. It takes no memory.
+    pub fn is_up_to_date(&self, session: u8) -> bool
+        ensures counted { (result ≡ true) ↔ (IsSome (client_of self.now session) × (behind self.now session ≡ 0)) }
+        ensures log { result ≡ true → (k : Config) (w : World) → StandsFor k self.now w →
+            Selected w session (λ s. ((w.box s.mailbox).base ≤ s.cursor) × (pending (w.box s.mailbox) s ≡ [])) }
+    {
+        let place = usize::from(session);
+        if place >= self.clients.len() {
+            return false;
+        }
+        let Some(client) = &self.clients[place] else {
+            return false;
+        };
+        total(&self.boxes[usize::from(client.mailbox)]) <= u128::from(client.seat.at())
+    }
+
     /// What STATUS tells of a mailbox (RFC 9051, 6.3.11). None where it is not there.
     pub fn status(&self, mailbox: u8) -> Option<Status>
         ensures there { IsSome result ↔ (mailbox < length self.now.boxes) }
@@ -335,7 +367,9 @@ mod tests {
         assert_eq!(rt; core.enter(0, 1), Ok(opening));
         deliver(&mut core, alloc, 0, 1)?;
         assert!(rt; core.view(0) == Ok(&[][..]));
+        assert!(rt; !core.is_up_to_date(0));
         assert_eq!(rt; core.feed(0, 64, &mut out), Ok(1));
+        assert!(rt; core.is_up_to_date(0));
         assert!(rt; core.view(0) == Ok(&[1][..]));
         let Ok(Some(row)) = core.read(0, 1, true) else {
             return Err(AllocError);

@@ -1,11 +1,12 @@
 -- Each call of the core, as a call of the session that is served.
-use Rattle.std.proofs.Common.{◌≡◌, ℕ, zero, suc, ◌<◌, ◌≤◌, ◌⊎◌, inl, inr, Bool, List, [], ◌∷◌, length, take, get_or, refl, sym, ap, ◌∙◌, arith, subst, Result, Ok, Err, Option, Some, None, IsSome}
-use Rattle.std.specs.Prelude.{◌↔◌, OnOk, OnErr, IfOk, option_map, slice_index_or}
+use Rattle.std.proofs.Common.{◌≡◌, ℕ, zero, suc, ◌<◌, ◌≤◌, ◌⊎◌, inl, inr, Bool, true, false, List, [], ◌∷◌, length, take, get_or, refl, sym, ap, ◌∙◌, arith, subst, Result, Ok, Err, Option, Some, None, IsSome}
+use Rattle.std.specs.Prelude.{◌↔◌, ◌+◌, OnOk, OnErr, IfOk, min, option_map, slice_index_or}
+use Rattle.change_ring.specs.declared.change.Change.{Change}
 use Rattle.change_ring.specs.declared.change.Flags.{Flags}
 use Rattle.change_ring.specs.declared.flag_op.FlagOp.{FlagOp}
 use Rattle.std.proofs.lemmas.Bool.{cases_lt}
 use Rattle.change_ring.specs.Log.{rows_of, view_at}
-use Rattle.change_ring.specs.Logged.{removals}
+use Rattle.change_ring.specs.Logged.{flags_logged, removals, removals_if, seen_logged}
 use Rattle.mailbox.specs.Events.{in_set}
 use Rattle.mailbox.specs.Mail.{Mail}
 use Rattle.mailbox.specs.declared.clients.MailFault.{MailFault}
@@ -14,11 +15,11 @@ use Rattle.mailbox.specs.declared.clients.Opening.{Opening}
 use Rattle.mailbox.specs.declared.clients.Row.{Row}
 use Rattle.mailbox.specs.declared.mailbox.Status.{Status}
 use Rattle.world.specs.World as world
-use Rattle.world.specs.World.{Config, World, Box, Session, Event, Step, Allowed, EnterStep, enters, enter_no_memory, Selected, pending}
+use Rattle.world.specs.World.{Config, World, Box, Session, Event, Step, Allowed, EnterStep, enters, enter_no_memory, LeaveStep, leave_spent, MailStep, mails, mail_lapped, mail_spent, mail_no_memory, Selected, pending}
 use Rattle.delivery_core.specs.Changes.{SameCounts, SameDelivery}
-use Rattle.delivery_core.specs.Clients.{Alters, Does, Enters, Expunges, Feeds, IsStatus, Leaves, Reads, Sees}
+use Rattle.delivery_core.specs.Clients.{Alters, Does, Done, Enters, Expunges, Feeds, IsStatus, Leaves, Makes, Reads, Refuses, Sees}
 use Rattle.delivery_core.specs.declared.client.Client.{Client}
-use Rattle.delivery_core.specs.Held.{Held, client_of, pending_for, view_of}
+use Rattle.delivery_core.specs.Held.{Held, behind, client_of, pending_for, view_of}
 use Rattle.delivery_core.specs.Stands.{StandsFor}
 use Rattle.delivery_core.proofs.Looks.{pending_seen, view_seen}
 use Rattle.delivery_core.proofs.Mailed.{session_at, there_at}
@@ -27,7 +28,7 @@ use Rattle.imap_session.specs.Store.{answer}
 use Rattle.imap_session.specs.Store as store
 use Rattle.session_store.specs.declared.desk.Desk.{Desk}
 use Rattle.session_store.specs.Desk.{Serves}
-use Rattle.session_store.specs.Meets.{IsTurnedAway, Mails, OrStranger, Shows}
+use Rattle.session_store.specs.Meets.{IsDone, IsRefused, IsTurnedAway, Mails, Shows}
 use Rattle.session_store.proofs.Places.{no_session}
 
 -- the core that serves this session
@@ -61,13 +62,54 @@ mails_of : (k : Config) (old new : Held) (n : ℕ) (e : Event) (P : Box → Sess
     → (v : World) × Mails k n w e P v × StandsFor k new v
 mails_of k old new n e P does w S = let d = does w S in (d.0, (d.1, d.3), d.2)
 
+-- what is said of a session holds of the session that is there
+at_session : (w : World) (n : ℕ) (t : Session) → w.session n ≡ Some t → (P : Session → Type 0) → Selected w n P → P t
+at_session w n t is P (s, e, p) = subst P same p
+  where
+    same : s ≡ t
+    same = cc
+
+-- what an event of the core that was not refused is in a world
+done_in : (k : Config) (old new : Held) (n : ℕ) (e : Event) (shown : Box → Session → List Change) (changes : Box → List Change) (P : Box → Session → Type 0) → Does k old e n P new → Makes k old n shown changes new
+    → ((w v : World) (s : Session) → w.session n ≡ Some s → Done k w n s (shown (w.box s.mailbox) s) (changes (w.box s.mailbox)) v → Step k w e v) → (w : World) → StandsFor k old w
+    → (v : World) × IsDone k n w e shown changes P v × StandsFor k new v
+done_in k old new n e shown changes P does makes as_step w S =
+    let d = does w S in
+    let m = makes w S in
+    (m.0, (as_step w m.0 m.2.0 m.2.1 m.2.2, (m.2.0, m.2.1, (m.2.2, at_session w n m.2.0 m.2.1 (λ s. P (w.box s.mailbox) s) d.3))), m.1)
+
 refused_for : (k : Config) (old new : Held) (n : ℕ) (e : Event) (P : Box → Session → Type 0) (fault : MailFault) → new ≡ old
-    → (fault ≡ Stranger → client_of old n ≡ None) → (client_of old n ≡ None → fault ≡ Stranger) → (IsSome (client_of old n) → Does k old e n P new) → (w : World) → StandsFor k old w
-    → (v : World) × OrStranger n w v fault (Mails k n w e P v) × StandsFor k new v
-refused_for k old new n e P Stranger same gone strange does w S = (w, (no_session k w old n S (gone refl), refl), subst (λ h. StandsFor k h w) (sym same) S)
-refused_for k old new n e P Lapped same gone strange does w S = mails_of k old new n e P (does (some_client (client_of old n) (λ h. let f = strange h in cc))) w S
-refused_for k old new n e P Spent same gone strange does w S = mails_of k old new n e P (does (some_client (client_of old n) (λ h. let f = strange h in cc))) w S
-refused_for k old new n e P NoMemory same gone strange does w S = mails_of k old new n e P (does (some_client (client_of old n) (λ h. let f = strange h in cc))) w S
+    → (fault ≡ Stranger → client_of old n ≡ None) → (client_of old n ≡ None → fault ≡ Stranger) → (IsSome (client_of old n) → Does k old e n P new)
+    → ((w : World) (s : Session) → w.session n ≡ Some s → P (w.box s.mailbox) s → Step k w e w) → (w : World) → StandsFor k old w
+    → (v : World) × IsRefused n w fault (Mails k n w e P v) v × StandsFor k new v
+refused_for k old new n e P fault same gone strange does as_step w S = go fault gone strange
+  where
+    still : StandsFor k new w
+    still = subst (λ h. StandsFor k h w) (sym same) S
+
+    -- what the event tells of the session, which is there
+    mails_here : (client_of old n ≡ None → ⊥) → Mails k n w e P w
+    mails_here some = let d = (does (some_client (client_of old n) some) w S).3 in (as_step w d.0 d.1 d.2, d)
+
+    go : (f : MailFault) → (f ≡ Stranger → client_of old n ≡ None) → (client_of old n ≡ None → f ≡ Stranger) → (v : World) × IsRefused n w f (Mails k n w e P v) v × StandsFor k new v
+    go Stranger gone strange = (w, (refl, no_session k w old n S (gone refl)), still)
+    go Lapped gone strange = (w, (refl, mails_here (λ h. let f = strange h in cc)), still)
+    go Spent gone strange = (w, (refl, mails_here (λ h. let f = strange h in cc)), still)
+    go NoMemory gone strange = (w, (refl, mails_here (λ h. let f = strange h in cc)), still)
+
+-- a refused event may happen, and changes nothing
+still_mails : (k : Config) (w : World) (n : ℕ) (s : Session) (allocates : Bool) (shown changes : List Change) (fault : MailFault) → (fault ≡ NoMemory → allocates ≡ true) → Refuses fault changes (w.box s.mailbox) s
+    → MailStep k w n s allocates shown changes w
+still_mails k w n s allocates shown changes Stranger may why = absurd why
+still_mails k w n s allocates shown changes Lapped may why = mail_lapped why refl
+still_mails k w n s allocates shown changes Spent may why = mail_spent why.0 why.1 refl
+still_mails k w n s allocates shown changes NoMemory may why = mail_no_memory (may refl) why.0 why.1 refl
+
+still_leaves : (k : Config) (w : World) (n : ℕ) (s : Session) (remove : Bool) (fault : MailFault) → Leaves remove (Err fault) (w.box s.mailbox) s → LeaveStep k w n s (removals_if remove (rows_of (w.box s.mailbox).log)) w
+still_leaves k w n s remove Stranger why = absurd why
+still_leaves k w n s remove Lapped why = absurd why
+still_leaves k w n s remove Spent why = leave_spent why refl
+still_leaves k w n s remove NoMemory why = absurd why
 
 same_fault : {A : Type 0} (r : Result A MailFault) (f g : MailFault) → r ≡ Err f → r ≡ Err g → f ≡ g
 same_fault r f g a b = cc
@@ -76,40 +118,46 @@ same_fault r f g a b = cc
 
 pub reads : (old new : Held) (n uid : ℕ) (mark : Bool) (result : Result (Option Row) MailFault) → (result ≡ Err Stranger) ↔ (client_of old n ≡ None)
     → (IsSome (client_of old n) → (k : Config) → Does k old (world.Read n uid mark) n (Reads mark uid result) new)
+    → OnOk result ((k : Config) → Makes k old n (λ b s. []) (λ b. seen_logged mark (rows_of b.log) uid) new)
     → view_of new n ≡ view_of old n → SameDelivery old new → SameCounts old new → OnErr result (new ≡ old)
     → Serves (serving old n) (Read uid mark) (answer Found result) (serving new n)
-reads old new n uid mark (Ok row) strange event view rest counts refused = record {
+reads old new n uid mark (Ok row) strange event done view rest counts refused = record {
   same = refl;
-  meets = λ k. mails_of k old new n (world.Read n uid mark) (Reads mark uid (Ok row)) (event (served old n (Ok row) row refl strange) k);
+  meets = λ k. done_in k old new n (world.Read n uid mark) (λ b s. []) (λ b. seen_logged mark (rows_of b.log) uid) (Reads mark uid (Ok row)) (event (served old n (Ok row) row refl strange) k) (done k) (λ w v s is d. (s, is, mails d.mailbox d.kept d.logs d.made));
   rest = rest;
   counts = counts;
   view = view;
+  behind = tt;
 }
-reads old new n uid mark (Err fault) strange event view rest counts refused = record {
+reads old new n uid mark (Err fault) strange event done view rest counts refused = record {
   same = refl;
-  meets = λ k. refused_for k old new n (world.Read n uid mark) (Reads mark uid (Err fault)) fault refused (λ e. strange.0 (ap (λ f. Err f) e)) (λ h. same_fault (Err fault) fault Stranger refl (strange.1 h)) (λ some. event some k);
+  meets = λ k. refused_for k old new n (world.Read n uid mark) (Reads mark uid (Err fault)) fault refused (λ e. strange.0 (ap (λ f. Err f) e)) (λ h. same_fault (Err fault) fault Stranger refl (strange.1 h)) (λ some. event some k) (λ w s is why. (s, is, still_mails k w n s true [] (seen_logged mark (rows_of (w.box s.mailbox).log) uid) fault (λ e. refl) why));
   rest = rest;
   counts = counts;
   view = view;
+  behind = tt;
 }
 
-pub alters : (old new : Held) (n uid : ℕ) (op : FlagOp) (result : Result (Option Flags) MailFault) → (result ≡ Err Stranger) ↔ (client_of old n ≡ None)
+pub alters : (old new : Held) (n uid : ℕ) (op : FlagOp) (result : Result (Option Flags) MailFault) → (result ≡ Err Stranger) ↔ (client_of old n ≡ None) → (result ≡ Err NoMemory → ⊥)
     → (IsSome (client_of old n) → (k : Config) → Does k old (world.Store n uid op) n (Alters uid op result) new)
+    → OnOk result ((k : Config) → Makes k old n (λ b s. []) (λ b. flags_logged (rows_of b.log) uid op) new)
     → view_of new n ≡ view_of old n → SameDelivery old new → SameCounts old new → OnErr result (new ≡ old)
     → Serves (serving old n) (Alter uid op) (answer Altered result) (serving new n)
-alters old new n uid op (Ok flags) strange event view rest counts refused = record {
+alters old new n uid op (Ok flags) strange memory event done view rest counts refused = record {
   same = refl;
-  meets = λ k. mails_of k old new n (world.Store n uid op) (Alters uid op (Ok flags)) (event (served old n (Ok flags) flags refl strange) k);
+  meets = λ k. done_in k old new n (world.Store n uid op) (λ b s. []) (λ b. flags_logged (rows_of b.log) uid op) (Alters uid op (Ok flags)) (event (served old n (Ok flags) flags refl strange) k) (done k) (λ w v s is d. (s, is, mails d.mailbox d.kept d.logs d.made));
   rest = rest;
   counts = counts;
   view = view;
+  behind = tt;
 }
-alters old new n uid op (Err fault) strange event view rest counts refused = record {
+alters old new n uid op (Err fault) strange memory event done view rest counts refused = record {
   same = refl;
-  meets = λ k. refused_for k old new n (world.Store n uid op) (Alters uid op (Err fault)) fault refused (λ e. strange.0 (ap (λ f. Err f) e)) (λ h. same_fault (Err fault) fault Stranger refl (strange.1 h)) (λ some. event some k);
+  meets = λ k. refused_for k old new n (world.Store n uid op) (Alters uid op (Err fault)) fault refused (λ e. strange.0 (ap (λ f. Err f) e)) (λ h. same_fault (Err fault) fault Stranger refl (strange.1 h)) (λ some. event some k) (λ w s is why. (s, is, still_mails k w n s false [] (flags_logged (rows_of (w.box s.mailbox).log) uid op) fault (λ e. absurd (memory (ap (λ f. Err f) e))) why));
   rest = rest;
   counts = counts;
   view = view;
+  behind = tt;
 }
 
 pub leaves : (old new : Held) (n : ℕ) (remove : Bool) (result : Result ℕ MailFault) → (result ≡ Err Stranger) ↔ (client_of old n ≡ None)
@@ -124,13 +172,15 @@ leaves old new n remove (Ok gone) strange event left rest counts refused = recor
   rest = rest;
   counts = counts;
   view = tt;
+  behind = tt;
 }
 leaves old new n remove (Err fault) strange event left rest counts refused = record {
   same = refl;
-  meets = λ k. refused_for k old new n (world.Leave n remove) (Leaves remove (Err fault)) fault refused (λ e. strange.0 (ap (λ f. Err f) e)) (λ h. same_fault (Err fault) fault Stranger refl (strange.1 h)) (λ some. event some k);
+  meets = λ k. refused_for k old new n (world.Leave n remove) (Leaves remove (Err fault)) fault refused (λ e. strange.0 (ap (λ f. Err f) e)) (λ h. same_fault (Err fault) fault Stranger refl (strange.1 h)) (λ some. event some k) (λ w s is why. (s, is, still_leaves k w n s remove fault why));
   rest = rest;
   counts = counts;
   view = ap (λ h. view_of h n) refused;
+  behind = tt;
 }
 
 -- ---- Enter
@@ -192,6 +242,7 @@ opens old new n m (Ok opening) strange lapsed event entered validity rest counts
   rest = rest;
   counts = counts;
   view = tt;
+  behind = tt;
 }
 opens old new n m (Err fault) strange lapsed event entered validity rest counts refused = record {
   same = refl;
@@ -204,6 +255,7 @@ opens old new n m (Err fault) strange lapsed event entered validity rest counts 
   rest = rest;
   counts = counts;
   view = ap (λ h. view_of h n) refused;
+  behind = tt;
 }
 
 -- ---- Look, Count
@@ -217,22 +269,18 @@ looked core n view copied same is log = record {
   rest = same_delivery core;
   counts = same_counts core;
   view = (same ∙ is, refl);
+  behind = tt;
 }
 
-or_stranger : (k : Config) (w : World) (core : Held) (n : ℕ) (fault : MailFault) → StandsFor k core w → (fault ≡ Stranger → client_of core n ≡ None) → OrStranger n w w fault (w ≡ w)
-or_stranger k w core n Stranger S strange = (no_session k w core n S (strange refl), refl)
-or_stranger k w core n Lapped S strange = refl
-or_stranger k w core n Spent S strange = refl
-or_stranger k w core n NoMemory S strange = refl
-
-pub not_looked : (core : Held) (n : ℕ) (fault : MailFault) → (fault ≡ Stranger → client_of core n ≡ None) → Serves (serving core n) Look (Refused fault) (serving core n)
-not_looked core n fault strange = record {
+pub not_looked : (core : Held) (n : ℕ) (fault : MailFault) → fault ≡ Stranger → client_of core n ≡ None → Serves (serving core n) Look (Refused fault) (serving core n)
+not_looked core n fault is gone = subst (λ (f : MailFault). Serves (serving core n) Look (Refused f) (serving core n)) (sym is) (record {
   same = refl;
-  meets = λ k w S. (w, or_stranger k w core n fault S strange, S);
+  meets = λ k w S. (w, (refl, no_session k w core n S gone), S);
   rest = same_delivery core;
   counts = same_counts core;
   view = refl;
-}
+  behind = tt;
+})
 
 pub counted : (core : Held) (n m : ℕ) (status : Status) → m < length core.boxes → ((k : Config) (w : World) → StandsFor k core w → IsStatus k (w.box m) status)
     → ((d : Mail) → status.uidvalidity ≡ (slice_index_or core.boxes m d).uidvalidity)
@@ -243,6 +291,7 @@ counted core n m status l is validity = record {
   rest = same_delivery core;
   counts = same_counts core;
   view = refl;
+  behind = tt;
 }
 
 pub not_counted : (core : Held) (n m : ℕ) → (m < length core.boxes → ⊥) → Serves (serving core n) (Count m) (Refused Stranger) (serving core n)
@@ -252,6 +301,7 @@ not_counted core n m l = record {
   rest = same_delivery core;
   counts = same_counts core;
   view = refl;
+  behind = tt;
 }
   where
     beyond : (k : Config) (w : World) → StandsFor k core w → k.mailboxes ≤ m
@@ -283,13 +333,15 @@ seen k w old n s S some is low =
 
 pub feeds : (old new : Held) (n limit : ℕ) (before after : List ℕ) (result : Result ℕ MailFault) → (result ≡ Err Stranger) ↔ (client_of old n ≡ None)
     → (IsSome (client_of old n) → (k : Config) → Does k old (world.Feed n limit) n (Feeds limit before after result) new)
+    → OnOk result ((k : Config) → Makes k old n (λ b s. take limit (pending b s)) (λ b. []) new)
     → IfOk result (λ count. Sees old new n (take count (pending_for old n)) before after)
     → IfOk result (λ count. (count ≤ limit) × (length (take count (pending_for old n)) ≡ count))
+    → IfOk result (λ count. (count ≡ min limit (behind old n)) × (behind new n + count ≡ behind old n))
     → SameDelivery old new → SameCounts old new → OnErr result ((new ≡ old) × (after ≡ before))
     → store.Feeds (λ a. Serves (serving old n) (Feed limit) a (serving new n)) limit (view_of old n) before after result
-feeds old new n limit before after (Ok count) strange event sees counted rest counts refused = (
+feeds old new n limit before after (Ok count) strange event done sees counted less rest counts refused = (
   take count (pending_for old n),
-  record { same = refl; meets = fed; rest = rest; counts = counts; view = (refl, sees.view) },
+  record { same = refl; meets = fed; rest = rest; counts = counts; view = (refl, sees.view); behind = (some, counted.1 ∙ less.0, ap (λ (i : ℕ). behind new n + i) counted.1 ∙ less.1) },
   counted.1,
   counted.0,
   sees.text,
@@ -298,46 +350,42 @@ feeds old new n limit before after (Ok count) strange event sees counted rest co
     some : IsSome (client_of old n)
     some = served old n (Ok count) count refl strange
 
-    fed : (k : Config) (w : World) → StandsFor k old w → (v : World) × Mails k n w (world.Feed n limit) (λ b s. Shows (view_of old n) (take count (pending_for old n)) (take limit (pending b s)) b s) v × StandsFor k new v
+    handed : (b : Box) (s : Session) → pending_for old n ≡ pending b s → count ≡ length (take limit (pending b s)) → take count (pending_for old n) ≡ take limit (pending b s)
+    handed b s same long = ap (take count) same ∙ ap (λ i. take i (pending b s)) long ∙ take_self limit (pending b s)
+
+    fed : (k : Config) (w : World) → StandsFor k old w → (v : World) × IsDone k n w (world.Feed n limit) (λ b s. take limit (pending b s)) (λ b. []) (λ b s. Shows (view_of old n) (take count (pending_for old n)) (take limit (pending b s)) b s) v × StandsFor k new v
     fed k w S =
-        let d = event some k w S in
-        let s = d.3.0 in
-        let told = d.3.2 in
-        let both = seen k w old n s S some d.3.1 told.0.kept in (
-          d.0,
-          (
-            d.1,
-            (
-              s,
-              d.3.1,
-              record {
-                kept = told.0.kept;
-                counted = both.0;
-                handed = ap (take count) both.1 ∙ ap (λ i. take i (pending (w.box s.mailbox) s)) told.1 ∙ take_self limit (pending (w.box s.mailbox) s);
-              },
-            ),
-          ),
-          d.2,
+        let m = done k w S in
+        let s = m.2.0 in
+        let is = m.2.1 in
+        let did = m.2.2 in
+        let told = at_session w n s is (λ t. Feeds limit before after (Ok count) (w.box t.mailbox) t) (event some k w S).3 in
+        let both = seen k w old n s S some is told.0.kept in (
+          m.0,
+          ((s, is, mails did.mailbox did.kept did.logs did.made), (s, is, (did, record { kept = told.0.kept; counted = both.0; handed = handed (w.box s.mailbox) s both.1 told.1 }))),
+          m.1,
         )
-feeds old new n limit before after (Err fault) strange event sees counted rest counts refused = (
+feeds old new n limit before after (Err fault) strange event done sees counted less rest counts refused = (
   record {
     same = refl;
-    meets = λ k. refused_for k old new n (world.Feed n limit) (Feeds limit before after (Err fault)) fault refused.0 (λ e. strange.0 (ap (λ f. Err f) e)) (λ h. same_fault (Err fault) fault Stranger refl (strange.1 h)) (λ some. event some k);
+    meets = λ k. refused_for k old new n (world.Feed n limit) (Feeds limit before after (Err fault)) fault refused.0 (λ e. strange.0 (ap (λ f. Err f) e)) (λ h. same_fault (Err fault) fault Stranger refl (strange.1 h)) (λ some. event some k) (λ w s is why. (s, is, still_mails k w n s true (take limit (pending (w.box s.mailbox) s)) [] fault (λ e. refl) why));
     rest = rest;
     counts = counts;
     view = ap (λ h. view_of h n) refused.0;
+    behind = tt;
   },
   refused.1,
 )
 
 pub expunges : (old new : Held) (n : ℕ) (uids : Option (List ℕ)) (before after : List ℕ) (result : Result ℕ MailFault) → (result ≡ Err Stranger) ↔ (client_of old n ≡ None)
     → (IsSome (client_of old n) → (k : Config) → Does k old (world.Expunge n (in_set uids)) n (Expunges (in_set uids) before after result) new)
+    → OnOk result ((k : Config) → Makes k old n (λ b s. pending b s) (λ b. removals (in_set uids) (rows_of b.log)) new)
     → OnOk result (Sees old new n (pending_for old n) before after)
     → SameDelivery old new → SameCounts old new → OnErr result ((new ≡ old) × (after ≡ before))
     → store.Expunges (λ a. Serves (serving old n) (Expunge uids) a (serving new n)) (view_of old n) before after result
-expunges old new n uids before after (Ok gone) strange event sees rest counts refused = (
+expunges old new n uids before after (Ok gone) strange event done sees rest counts refused = (
   pending_for old n,
-  record { same = refl; meets = expunged; rest = rest; counts = counts; view = (refl, sees.view) },
+  record { same = refl; meets = expunged; rest = rest; counts = counts; view = (refl, sees.view); behind = tt },
   sees.text,
 )
   where
@@ -345,23 +393,26 @@ expunges old new n uids before after (Ok gone) strange event sees rest counts re
     some = served old n (Ok gone) gone refl strange
 
     expunged : (k : Config) (w : World) → StandsFor k old w → (v : World)
-        × Mails k n w (world.Expunge n (in_set uids)) (λ b s. Shows (view_of old n) (pending_for old n) (pending b s) b s × (gone ≡ length (removals (in_set uids) (rows_of b.log)))) v × StandsFor k new v
+        × IsDone k n w (world.Expunge n (in_set uids)) pending (λ b. removals (in_set uids) (rows_of b.log)) (λ b s. Shows (view_of old n) (pending_for old n) (pending b s) b s × (gone ≡ length (removals (in_set uids) (rows_of b.log)))) v × StandsFor k new v
     expunged k w S =
-        let d = event some k w S in
-        let s = d.3.0 in
-        let told = d.3.2 in
-        let both = seen k w old n s S some d.3.1 told.0.kept in (
-          d.0,
-          (d.1, (s, d.3.1, (record { kept = told.0.kept; counted = both.0; handed = both.1 }, told.1))),
-          d.2,
+        let m = done k w S in
+        let s = m.2.0 in
+        let is = m.2.1 in
+        let did = m.2.2 in
+        let told = at_session w n s is (λ t. Expunges (in_set uids) before after (Ok gone) (w.box t.mailbox) t) (event some k w S).3 in
+        let both = seen k w old n s S some is told.0.kept in (
+          m.0,
+          ((s, is, mails did.mailbox did.kept did.logs did.made), (s, is, (did, (record { kept = told.0.kept; counted = both.0; handed = both.1 }, told.1)))),
+          m.1,
         )
-expunges old new n uids before after (Err fault) strange event sees rest counts refused = (
+expunges old new n uids before after (Err fault) strange event done sees rest counts refused = (
   record {
     same = refl;
-    meets = λ k. refused_for k old new n (world.Expunge n (in_set uids)) (Expunges (in_set uids) before after (Err fault)) fault refused.0 (λ e. strange.0 (ap (λ f. Err f) e)) (λ h. same_fault (Err fault) fault Stranger refl (strange.1 h)) (λ some. event some k);
+    meets = λ k. refused_for k old new n (world.Expunge n (in_set uids)) (Expunges (in_set uids) before after (Err fault)) fault refused.0 (λ e. strange.0 (ap (λ f. Err f) e)) (λ h. same_fault (Err fault) fault Stranger refl (strange.1 h)) (λ some. event some k) (λ w s is why. (s, is, still_mails k w n s true (pending (w.box s.mailbox) s) (removals (in_set uids) (rows_of (w.box s.mailbox).log)) fault (λ e. refl) why));
     rest = rest;
     counts = counts;
     view = ap (λ h. view_of h n) refused.0;
+    behind = tt;
   },
   refused.1,
 )

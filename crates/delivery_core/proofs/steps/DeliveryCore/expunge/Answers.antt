@@ -6,7 +6,7 @@ use Rattle.delivery_core.specs.Stands.{StandsFor}
 use Rattle.delivery_core.proofs.Calls.{not_strange}
 use Rattle.delivery_core.proofs.Boxes.{rest_ok, same_ok}
 use Rattle.delivery_core.proofs.Mailed.{client_here, known_at, mailbox_within, moved_seated, nothing_moved}
-use Rattle.delivery_core.proofs.Shown.{expunge_memory, expunge_saw, expunge_follows, expunge_moves, expunge_refused}
+use Rattle.delivery_core.proofs.Shown.{expunge_done, expunge_memory, expunge_saw, expunge_follows, expunge_moves, expunge_refused}
 use Rattle.delivery_core.proofs.steps.DeliveryCore.expunge.Goals as goal
 
 pub index_mut-mailbox-requires : goal.index_mut-mailbox-requires
@@ -76,3 +76,12 @@ returns-clause-memory c =
     let here = client_here i.clients.items c.from-place.result c.args.session c.index_mut.result.now c.in-Some.client c.from-place.ensures (omega (arith, c.if-place-len.false, c.len.ensures)) c.index_mut.ensures.value (sym c.take.ensures.value ∙ c.in-Some.is) in
     let h : Held = record { lanes = i.lanes.items; hands = i.hands.items; replies = i.replies.items; heard = i.heard.items; boxes = i.boxes.items; next = i.next.items; clients = i.clients.items } in
     rw (← c.self.view_is) (expunge_memory h c.args.session c.from.result c.in-Some.client c.index_mut-mailbox.result.now c.expunge-gone.result c.self.invariant.3 here c.from.ensures c.index_mut-mailbox.ensures.value e.lapped e.memory)
+
+pub returns-clause-done : goal.returns-clause-done
+returns-clause-done c =
+    let i = c.self.inside in
+    let e = c.expunge-gone.ensures in
+    let here = client_here i.clients.items c.from-place.result c.args.session c.index_mut.result.now c.in-Some.client c.from-place.ensures (omega (arith, c.if-place-len.false, c.len.ensures)) c.index_mut.ensures.value (sym c.take.ensures.value ∙ c.in-Some.is) in
+    let h : Held = record { lanes = i.lanes.items; hands = i.hands.items; replies = i.replies.items; heard = i.heard.items; boxes = i.boxes.items; next = i.next.items; clients = i.clients.items } in
+    rw (← c.self.view_is) (expunge_done h c.args.session c.from-place.result c.from.result c.in-Some.client c.index_mut-mailbox.result.now c.expunge-gone.new.self c.expunge-gone.new.seat c.take.new.self (in_set (option_map (λ uids. uids.now) c.args.uids)) c.args.out.now.items
+    c.expunge-gone.new.out.items c.expunge-gone.new.self.cursors c.expunge-gone.result c.self.invariant.3 here c.from-place.ensures c.from.ensures c.index_mut-mailbox.ensures.value e.stranger e.lapped e.spent e.err e.shown e.seat e.within e.moved e.logged e.window e.messages e.rest e.count)

@@ -4,9 +4,10 @@ use Rattle.delivery_core.specs.Clients.{answer_of}
 use Rattle.delivery_core.specs.Held.{Held}
 use Rattle.delivery_core.specs.Stands.{StandsFor}
 use Rattle.delivery_core.proofs.Calls.{not_strange}
+use Rattle.delivery_core.proofs.Behind.{feed_less}
 use Rattle.delivery_core.proofs.Boxes.{rest_always, same_ok}
 use Rattle.delivery_core.proofs.Mailed.{client_here, known_at, mailbox_within, moved_seated, nothing_moved}
-use Rattle.delivery_core.proofs.Shown.{feed_count, feed_memory, feed_saw, feed_follows, feed_moves, feed_refused, feed_strange, never_spent}
+use Rattle.delivery_core.proofs.Shown.{by_answer, feed_count, feed_done, feed_memory, feed_saw, feed_follows, feed_moves, feed_refused, feed_strange, never_spent}
 use Rattle.delivery_core.proofs.steps.DeliveryCore.feed.Goals as goal
 
 pub index_mut-mailbox-requires : goal.index_mut-mailbox-requires
@@ -88,3 +89,22 @@ returns-clause-memory c =
     let here = client_here i.clients.items c.from-place.result c.args.session c.index_mut.result.now c.in-Some.client c.from-place.ensures (omega (arith, c.if-place-len.false, c.len.ensures)) c.index_mut.ensures.value (sym c.take.ensures.value ∙ c.in-Some.is) in
     let h : Held = record { lanes = i.lanes.items; hands = i.hands.items; replies = i.replies.items; heard = i.heard.items; boxes = i.boxes.items; next = i.next.items; clients = i.clients.items } in
     rw (← c.self.view_is) (feed_memory h c.args.session c.from.result c.in-Some.client c.index_mut-mailbox.result.now c.args.limit c.feed-fed.result c.answer_of.result c.self.invariant.3 here c.from.ensures c.index_mut-mailbox.ensures.value c.answer_of.ensures e.lapped e.memory)
+
+pub returns-clause-done : goal.returns-clause-done
+returns-clause-done c =
+    let i = c.self.inside in
+    let e = c.feed-fed.ensures in
+    let here = client_here i.clients.items c.from-place.result c.args.session c.index_mut.result.now c.in-Some.client c.from-place.ensures (omega (arith, c.if-place-len.false, c.len.ensures)) c.index_mut.ensures.value (sym c.take.ensures.value ∙ c.in-Some.is) in
+    let h : Held = record { lanes = i.lanes.items; hands = i.hands.items; replies = i.replies.items; heard = i.heard.items; boxes = i.boxes.items; next = i.next.items; clients = i.clients.items } in
+    rw (← c.self.view_is) (by_answer _ c.feed-fed.result c.answer_of.result c.answer_of.ensures
+    (feed_done h c.args.session c.from-place.result c.from.result c.in-Some.client c.index_mut-mailbox.result.now c.feed-fed.new.self c.feed-fed.new.seat c.take.new.self c.args.limit c.args.out.now.items c.feed-fed.new.out.items c.feed-fed.result c.self.invariant.3 here
+    c.from-place.ensures c.from.ensures c.index_mut-mailbox.ensures.value e.stranger e.lapped e.err e.count e.shown e.seat e.logged e.rest e.moved))
+
+pub returns-clause-less : goal.returns-clause-less
+returns-clause-less c =
+    let i = c.self.inside in
+    let e = c.feed-fed.ensures in
+    let here = client_here i.clients.items c.from-place.result c.args.session c.index_mut.result.now c.in-Some.client c.from-place.ensures (omega (arith, c.if-place-len.false, c.len.ensures)) c.index_mut.ensures.value (sym c.take.ensures.value ∙ c.in-Some.is) in
+    let h : Held = record { lanes = i.lanes.items; hands = i.hands.items; replies = i.replies.items; heard = i.heard.items; boxes = i.boxes.items; next = i.next.items; clients = i.clients.items } in
+    rw (← c.self.view_is) (feed_less h c.args.session c.from-place.result c.from.result c.in-Some.client c.index_mut-mailbox.result.now c.feed-fed.new.self c.feed-fed.new.seat c.take.new.self c.args.limit c.feed-fed.result c.answer_of.result c.self.invariant.3 here
+    c.from-place.ensures c.from.ensures c.index_mut-mailbox.ensures.value c.answer_of.ensures e.count e.seat e.rest)

@@ -2,7 +2,7 @@ use Rattle.std.proofs.Common.{◌∙◌, ap, arith, set, subst, sym}
 use Rattle.mailbox.specs.Mail.{Mail}
 use Rattle.delivery_core.specs.Held.{Held, view_of}
 use Rattle.delivery_core.specs.Stands.{StandsFor}
-use Rattle.delivery_core.proofs.Calls.{not_strange, read_follows}
+use Rattle.delivery_core.proofs.Calls.{not_strange, read_done, read_follows}
 use Rattle.delivery_core.proofs.Looks.{same_view}
 use Rattle.delivery_core.proofs.SeatedLaws.{cursors_same}
 use Rattle.delivery_core.proofs.Boxes.{rest_always, same_ok}
@@ -57,3 +57,12 @@ returns-clause-same c =
     let b = c.index_mut-mailbox.result.now in
     let b2 = c.read.new.self in
     rw (← c.self.view_is) (same_ok c.read.result i.boxes.items c.from.result b b2 within c.index_mut-mailbox.ensures.value (rest_always c.read.result b b2 b2.messages b2.window b.cursors c.read.ensures.rest))
+
+pub returns-clause-done : goal.returns-clause-done
+returns-clause-done c =
+    let i = c.self.inside in
+    let e = c.read.ensures in
+    let here = client_here i.clients.items c.from-place.result c.args.session c.index.result.now c.in-Some.client c.from-place.ensures (omega (arith, c.if-place-len.false, c.len.ensures)) c.index.ensures c.in-Some.is in
+    let h : Held = record { lanes = i.lanes.items; hands = i.hands.items; replies = i.replies.items; heard = i.heard.items; boxes = i.boxes.items; next = i.next.items; clients = i.clients.items } in
+    rw (← c.self.view_is) (read_done h c.args.session c.from.result c.in-Some.client c.index_mut-mailbox.result.now c.read.new.self c.args.uid c.args.mark_seen c.read.result c.self.invariant.3 here c.from.ensures c.index_mut-mailbox.ensures.value
+    e.stranger e.lapped e.spent e.err e.logged e.window e.messages e.rest)
