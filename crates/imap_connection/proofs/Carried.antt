@@ -1,9 +1,11 @@
 -- What was answered over one store was answered over another, where each call of the one is the same call of the other.
-use Rattle.std.proofs.Common.{ℕ, List, [], ◌∷◌, refl, sym, subst}
+use Rattle.std.proofs.Common.{ℕ, List, [], ◌∷◌, refl, sym, subst, inl, inr}
 use Rattle.imap_session.specs.declared.standing.After.{After}
-use Rattle.imap_session.specs.declared.standing.After.TheVariants.{Go, Bye}
-use Rattle.imap_session.specs.Exchange.{Call, Answer, Event, Standing}
-use Rattle.imap_session.specs.Store.{Met}
+use Rattle.imap_session.specs.declared.standing.After.TheVariants.{Bye}
+use Rattle.mailbox.specs.declared.clients.MailFault.TheVariants.{NoMemory}
+use Rattle.imap_session.specs.Exchange.{Call, Answer, Event, Feed, Refused, Standing, waits_for}
+use Rattle.imap_session.specs.Commands.{most_changes}
+use Rattle.imap_session.specs.Store.{IdleTurns, Met, Starves}
 use Rattle.imap_connection.specs.Dialogue.{AnswersLine, Converses, goes_on, parts, reads, silent, too_long}
 
 -- each call of a store for which another stood is that call of the other, which stands afterwards
@@ -35,6 +37,22 @@ converses_carried step other Stands carries now lines old new said how next t (p
     let one = line_carried step other Stands carries now line old new [] said Bye next t answered stands in
     (one.0, parts now next line t one.0 said one.1, one.2)
 converses_carried step other Stands carries now lines old new said how next t (goes_on a between b line others c mid d one two e answered more) stands =
-    let first = line_carried step other Stands carries now line old mid [] one Go between t answered stands in
+    let first = line_carried step other Stands carries now line old mid [] one (waits_for between.idling) between t answered stands in
     let rest = converses_carried step other Stands carries between others mid new two how next first.0 more first.2 in
     (rest.0, goes_on now between next line others t first.0 rest.0 one two how first.1 rest.1, rest.2)
+
+-- ---- turns while it idles
+
+pub turns_carried : {S T : Type 0} (step : S → Call → Answer → S → Type 0) (other : T → Call → Answer → T → Type 0) (Stands : S → T → Type 0) → Carries step other Stands
+    → (now : Standing) (old new : S) (before after : List ℕ) (count : ℕ) (next : Standing) (t : T) → IdleTurns step now old new before after count next → Stands old t
+    → (u : T) × IdleTurns other now t u before after count next × Stands new u
+turns_carried step other Stands carries now old new before after count next t a stands =
+    let m = met_carried step other Stands carries old new a.events t a.met stands in
+    (m.0, record { answers = a.answers; events = a.events; bytes = a.bytes; how = a.how; played = a.played; met = m.1; wrote = a.wrote; shown = a.shown }, m.2)
+
+pub starves_carried : {S T : Type 0} (step : S → Call → Answer → S → Type 0) (other : T → Call → Answer → T → Type 0) (Stands : S → T → Type 0) → Carries step other Stands
+    → (old new : S) (t : T) → Starves step old new → Stands old t → (u : T) × Starves other t u × Stands new u
+starves_carried step other Stands carries old new t (inl same) stands = (t, inl refl, subst (λ s. Stands s t) (sym same) stands)
+starves_carried step other Stands carries old new t (inr refused) stands =
+    let one = carries old new (Feed most_changes) (Refused NoMemory) t refused stands in
+    (one.0, inr one.1, one.2)

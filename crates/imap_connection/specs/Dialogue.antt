@@ -1,14 +1,14 @@
 -- The bytes of an IMAP client, cut into lines, and what is answered to each of them.
-use Rattle.std.specs.Prelude.{◌≡◌, ℕ, ◌+◌, ◌<◌, ◌≤◌, List, [], ◌∷◌, ◌++◌, ◌⊎◌, length, take, true, false, Some, None}
+use Rattle.std.specs.Prelude.{◌≡◌, ℕ, ◌+◌, ◌<◌, ◌≤◌, List, [], ◌∷◌, ◌++◌, ◌⊎◌, length, take, true, false, Option, Some, None}
 use Rattle.line_io.specs.Wire.{IsUncut, crlf, joined}
 use Rattle.line_io.specs.Cutting as cutting
 use Rattle.imap_session.specs.declared.standing.After.{After}
-use Rattle.imap_session.specs.declared.standing.After.TheVariants.{Go, Bye}
+use Rattle.imap_session.specs.declared.standing.After.TheVariants.{Bye}
 use Rattle.imap_connection.specs.declared.connection.Fed.{Fed}
 use Rattle.imap_connection.specs.declared.connection.Progress.{Progress}
-use Rattle.imap_session.specs.Exchange.{Call, Answer, Standing}
-use Rattle.imap_session.specs.Commands.{long_line_text}
-use Rattle.imap_session.specs.Store.{Answers}
+use Rattle.imap_session.specs.Exchange.{Call, Answer, Standing, waits_for}
+use Rattle.imap_session.specs.Commands.{turn_of_long_line}
+use Rattle.imap_session.specs.Store.{Answers, IdleTurns}
 
 -- the most bytes of a line, with its CRLF
 abbrev pub most_bytes : ℕ
@@ -33,23 +33,24 @@ pub record StandsFor (link : Link) (d : Dialogue) : Type 0 where
 -- A line, without its CRLF, was answered over a store: by the session, or, where it is too long, by that.
 pub data AnswersLine {S : Type 0} (step : S → Call → Answer → S → Type 0) (now : Standing) (line : List ℕ) (old new : S) (before after : List ℕ) (how : After) (next : Standing) : Type 0 where
   reads : length line + 2 ≤ most_bytes → Answers step now line old new before after how next → AnswersLine step now line old new before after how next
-  too_long : most_bytes < length line + 2 → new ≡ old → after ≡ before ++ long_line_text → how ≡ Go → next ≡ now → AnswersLine step now line old new before after how next
+  too_long : most_bytes < length line + 2 → new ≡ old → after ≡ before ++ (turn_of_long_line now).bytes → how ≡ (turn_of_long_line now).after → next ≡ (turn_of_long_line now).standing → AnswersLine step now line old new before after how next
 
 -- What a call took of a piece: nothing where the session has ended, all of it where no line ends in it, or the end of the line that has begun, which was answered.
 pub data Takes {S : Type 0} (step : S → Call → Answer → S → Type 0) (d : Dialogue) (piece : List ℕ) (old new : S) (before after : List ℕ) (fed : Fed) (link : Link) : Type 0 where
   has_ended : d.standing.ended ≡ true → fed.used ≡ 0 → fed.after ≡ Bye → new ≡ old → after ≡ before → StandsFor link d → Takes step d piece old new before after fed link
-  begins : d.standing.ended ≡ false → fed.used ≡ length piece → fed.after ≡ Go → new ≡ old → after ≡ before
+  begins : d.standing.ended ≡ false → fed.used ≡ length piece → fed.after ≡ waits_for d.standing.idling → new ≡ old → after ≡ before
       → StandsFor link (record { standing = d.standing; begun = d.begun ++ piece }) → Takes step d piece old new before after fed link
   ends : (line : List ℕ) (next : Standing) → d.standing.ended ≡ false → d.begun ++ take fed.used piece ≡ line ++ crlf → IsUncut line
       → AnswersLine step d.standing line old new before after fed.after next → StandsFor link (record { standing = next; begun = [] }) → Takes step d piece old new before after fed link
 
 -- ---- lines, one after the other
 
--- These lines were answered over a store, one after the other, and this was said. Only the last may end the session.
+-- These lines were answered over a store, one after the other, and this was said. After each the client may send another, a command or DONE, but
+-- the last may end the session.
 pub data Converses {S : Type 0} (step : S → Call → Answer → S → Type 0) : Standing → List (List ℕ) → S → S → List ℕ → After → Standing → Type 0 where
-  silent : (now : Standing) (old : S) → Converses step now [] old old [] Go now
+  silent : (now : Standing) (old : S) → Converses step now [] old old [] (waits_for now.idling) now
   parts : (now next : Standing) (line : List ℕ) (old new : S) (said : List ℕ) → AnswersLine step now line old new [] said Bye next → Converses step now (line ∷ []) old new said Bye next
-  goes_on : (now between next : Standing) (line : List ℕ) (others : List (List ℕ)) (old mid new : S) (one two : List ℕ) (how : After) → AnswersLine step now line old mid [] one Go between
+  goes_on : (now between next : Standing) (line : List ℕ) (others : List (List ℕ)) (old mid new : S) (one two : List ℕ) (how : After) → AnswersLine step now line old mid [] one (waits_for between.idling) between
       → Converses step between others mid new two how next → Converses step now (line ∷ others) old new (one ++ two) how next
 
 -- The lines of what had begun and these bytes were answered, and with the rest a line has begun. After the end of the session the rest says nothing.
@@ -67,3 +68,16 @@ pub record Took {S : Type 0} (step : S → Call → Answer → S → Type 0) (d 
   pub stands : StandsFor link next
   pub wrote : after ≡ before ++ said
   pub is : progress.after ≡ None ⊎ (progress.after ≡ Some how)
+
+-- ---- turns while it idles
+
+-- how long the tag is of an IDLE that isn't done yet
+abbrev pub tag_len : Option (List ℕ) → ℕ
+tag_len None = 0
+tag_len (Some tag) = length tag
+
+-- The session had a turn over a store, while it idles, and showed so many changes; the connection stands for what that leads to.
+pub record Turns {S : Type 0} (step : S → Call → Answer → S → Type 0) (d : Dialogue) (old new : S) (before after : List ℕ) (count : ℕ) (link : Link) : Type 0 where
+  pub next : Standing
+  pub turned : IdleTurns step d.standing old new before after count next
+  pub stands : StandsFor link (record { standing = next; begun = d.begun })

@@ -1,10 +1,12 @@
 //! One IMAP connection, over bytes that come in any pieces: they are cut into lines, and the session answers each. It knows nothing of
 //! sockets; how it gets at mailboxes is its store's matter.
 
-ghost use Rattle.std.specs.Prelude.{◌≡◌, ◌+◌, ◌<◌, ◌≤◌, ◌++◌, false, true, None, Some, [], length, IfOk, OnOk, OnErr, vec_len};
+ghost use Rattle.std.specs.Prelude.{◌≡◌, ◌≢◌, ◌↔◌, ◌+◌, ◌^◌, ◌<◌, ◌≤◌, ◌++◌, false, true, None, Some, Err, [], length, IfOk, IfSome, OnOk, OnErr, vec_len};
 ghost use Rattle.std.specs.Vec.{vec_capacity};
+ghost use Rattle.imap_session.specs.Exchange.{is_idling, may_send, waits_for};
 ghost use Rattle.imap_session.specs.Commands.{greeting};
-ghost use Rattle.imap_connection.specs.Dialogue.{Dialogue, StandsFor, Takes, Took};
+ghost use Rattle.imap_session.specs.Store.{IdleTurns, Starves};
+ghost use Rattle.imap_connection.specs.Dialogue.{Dialogue, StandsFor, Takes, Took, Turns, tag_len};
 
 use imap_session::{After, Folder, Selected, Session, SessionFault, Store};
 use line_io::{LineCutter, What};
@@ -14,7 +16,7 @@ use std::marker::Model;
 /// The most bytes of a line with its CRLF.
 const MAX_LINE: usize = 8_192;
 
-/// Room for what a line's answer reserves before anything is done.
+/// Room for what a line's answer reserves before anything is done, beside the tag of an IDLE.
 const ANSWER_ROOM: usize = MAX_LINE + 67;
 
 // What a call took of a piece, and what the client may send next.
@@ -31,6 +33,27 @@ pub struct Progress {
     pub used: usize,
     /// What the client may send next; None where memory was refused.
     pub after: Option<After>,
+}
+
+// What the client may send while the session goes on.
+fn awaited(session: &Session) -> After
+    ensures { result ≡ waits_for session.now.idling }
+{
+    match session.idling() {
+        None => After::Go,
+        Some(_) => After::Idle,
+    }
+}
+
+// How long the tag of the IDLE is that isn't done yet.
+fn tag_len(session: &Session) -> usize
+    ensures length { result ≡ tag_len session.now.idling }
+    ensures bound { result < 2 ^ 63 }
+{
+    match session.idling() {
+        None => 0,
+        Some(tag) => tag.len(),
+    }
 }
 
 /// One client's connection.
@@ -57,7 +80,7 @@ impl ImapConnection {
     ///
     /// Errors: `AllocError` where memory for a line was refused.
     pub fn new(alloc: Global, folders: Vec<Folder>) -> Result<ImapConnection, AllocError>
-        ensures { IfOk result (λ c. StandsFor c (record { standing = record { folders = folders.items; selected = None; ended = false }; begun = [] })) }
+        ensures { IfOk result (λ c. StandsFor c (record { standing = record { folders = folders.items; selected = None; idling = None; ended = false }; begun = [] })) }
     {
         let cutter = LineCutter::new(alloc, MAX_LINE)?;
         Ok(ImapConnection {
@@ -90,6 +113,34 @@ impl ImapConnection {
         self.session.selected()
     }
 
+    /// Whether the session idles (RFC 2177): then it may have turns.
+    pub fn is_idling(&self) -> bool
+        ensures { result ≡ is_idling self.now.session }
+    {
+        self.session.is_idling()
+    }
+
+    /// The session has a turn while it idles: what is pending in its mailbox is shown, 64 changes at most. Answers how many were shown.
+    ///
+    /// Errors, after which the connection and `out` are as they were: `Ended` exactly where the session has ended, and the store isn't asked;
+    /// `NoMemory` where memory was refused, by the store or before it was asked.
+    pub fn idle_turn<S: Store>(
+        &mut self,
+        store: &mut S,
+        out: &mut Vec<u8>,
+    ) -> Result<usize, SessionFault>
+        ensures session { IfOk result (λ count. IdleTurns S.step self.old.session store.old store.new out.old.items out.new.items count self.new.session) }
+        ensures turned { IfOk result (λ count. (d : Dialogue) → StandsFor self.old d → Turns S.step d store.old store.new out.old.items out.new.items count self.new) }
+        ensures few { IfOk result (λ count. count ≤ 64) }
+        ensures quiet { IfOk result (λ count. count ≡ 0 → self.new.session.ended ≡ false → (self.new ≡ self.old) × (out.new.items ≡ out.old.items)) }
+        ensures ended { (result ≡ Err SessionFault.Ended) ↔ (self.old.session.ended ≡ true) }
+        ensures over { result ≡ Err SessionFault.Ended → store.new ≡ store.old }
+        ensures starved { result ≡ Err SessionFault.NoMemory → Starves S.step store.old store.new }
+        ensures refused { OnErr result ((self.new ≡ self.old) × (out.new.items ≡ out.old.items)) }
+    {
+        self.session.idle_turn(store, out)
+    }
+
     // Takes bytes from the front of the piece, up to the end of one line, which is answered; a line of more than `MAX_LINE` bytes is
     // answered as too long. On a session that has ended it uses nothing. Where the room for the longest line's last words is refused,
     // no byte was used and nothing was done.
@@ -101,12 +152,11 @@ impl ImapConnection {
         out: &mut Vec<u8>,
     ) -> Result<Fed, AllocError>
         ensures used { IfOk result (λ fed. fed.used ≤ length piece.now) }
-        ensures moves { IfOk result (λ fed. fed.after ≡ After.Go → 0 < length piece.now → 0 < fed.used) }
+        ensures moves { IfOk result (λ fed. fed.after ≢ After.Bye → 0 < length piece.now → 0 < fed.used) }
         ensures ok { IfOk result (λ fed. (d : Dialogue) → StandsFor self.old d → Takes S.step d piece.now store.old store.new out.old.items out.new.items fed self.new) }
         ensures err { OnErr result ((self.new ≡ self.old) × (store.new ≡ store.old) × (out.new.items ≡ out.old.items)) }
-        ensures full { OnErr result (vec_capacity out.old < vec_len out.old + 8259) }
-        ensures lasts { IfOk result (λ fed. fed.after ≡ After.Go → self.old.session.ended ≡ false → self.new.session.ended ≡ false) }
-        ensures ends { IfOk result (λ fed. fed.after ≡ After.Bye → self.new.session.ended ≡ true) }
+        ensures full { OnErr result (vec_capacity out.old < vec_len out.old + (8259 + tag_len self.old.session.idling)) }
+        ensures sends { IfOk result (λ fed. fed.after ≡ may_send self.new.session) }
     {
         if self.session.ended() {
             return Ok(Fed {
@@ -114,12 +164,12 @@ impl ImapConnection {
                 after: After::Bye,
             });
         }
-        out.reserve(ANSWER_ROOM)?;
+        out.reserve(ANSWER_ROOM + tag_len(&self.session))?;
         let cut = self.cutter.take(piece);
         match cut.what {
             What::NeedMore => Ok(Fed {
                 used: cut.used,
-                after: After::Go,
+                after: awaited(&self.session),
             }),
             What::Line => {
                 let after = match self.session.line(alloc, self.cutter.line(), store, out) {
@@ -158,8 +208,8 @@ impl ImapConnection {
     ) -> Progress
         requires { self.old.session.ended ≡ false }
         ensures used { result.used ≤ length piece.now }
-        ensures all { result.after ≡ Some After.Go → result.used ≡ length piece.now }
-        ensures ends { result.after ≡ Some After.Bye → self.new.session.ended ≡ true }
+        ensures all { IfSome result.after (λ after. after ≢ After.Bye → result.used ≡ length piece.now) }
+        ensures sends { IfSome result.after (λ after. after ≡ may_send self.new.session) }
         ensures took { (d : Dialogue) → StandsFor self.old d → Took S.step d piece.now store.old store.new out.old.items out.new.items result self.new }
     {
         let mut used = 0;
@@ -168,20 +218,11 @@ impl ImapConnection {
                 return Progress { used, after: None };
             };
             used += fed.used;
-            match fed.after {
-                After::Go if used < piece.len() => {}
-                After::Go => {
-                    return Progress {
-                        used,
-                        after: Some(After::Go),
-                    };
-                }
-                After::Bye => {
-                    return Progress {
-                        used,
-                        after: Some(After::Bye),
-                    };
-                }
+            if used == piece.len() || self.has_ended() {
+                return Progress {
+                    used,
+                    after: Some(fed.after),
+                };
             }
         }
     }

@@ -40,7 +40,7 @@ fn a_line_comes_in_pieces(rt: HostRuntime) -> Result<(), AllocError> {
     }
     assert_eq!(rt;
         out.as_slice(),
-        b"* CAPABILITY IMAP4rev2\r\na1 OK CAPABILITY completed\r\na2 BAD Wrong state\r\n".as_slice()
+        b"* CAPABILITY IMAP4rev2 IDLE\r\na1 OK CAPABILITY completed\r\na2 BAD Wrong state\r\n".as_slice()
     );
     assert_eq!(rt; connection.selected(), None);
     Ok(())
@@ -74,6 +74,33 @@ fn what_follows_the_end_is_left(rt: HostRuntime) -> Result<(), AllocError> {
 }
 
 #[test]
+fn done_comes_in_pieces(rt: HostRuntime) -> Result<(), AllocError> {
+    let alloc = rt.alloc();
+    let mut connection = connection(alloc)?;
+    let mut out = Vec::new(alloc);
+    for (piece, after) in [
+        (b"a1 IDLE\r\nDO".as_slice(), After::Idle),
+        (b"", After::Idle),
+        (b"NE\r", After::Idle),
+        (b"\na2 ID", After::Go),
+    ] {
+        assert!(rt; !connection.has_ended());
+        let progress = connection.take(alloc, piece, &mut Nowhere, &mut out);
+        let used = piece.len();
+        let after = Some(after);
+        assert_eq!(rt; progress, Progress { used, after });
+        assert_eq!(rt; connection.is_idling(), after == Some(After::Idle));
+        let turn = connection.idle_turn(&mut Nowhere, &mut out);
+        assert_eq!(rt; turn, Ok(0));
+    }
+    assert_eq!(rt;
+        out.as_slice(),
+        b"+ idling\r\na1 OK IDLE completed\r\n".as_slice()
+    );
+    Ok(())
+}
+
+#[test]
 fn a_line_has_8192_bytes_at_most(rt: HostRuntime) -> Result<(), AllocError> {
     let alloc = rt.alloc();
     let mut connection = connection(alloc)?;
@@ -90,5 +117,14 @@ fn a_line_has_8192_bytes_at_most(rt: HostRuntime) -> Result<(), AllocError> {
     assert!(rt; !connection.has_ended());
     let _ = connection.take(alloc, &line, &mut Nowhere, &mut out);
     assert_eq!(rt; out.as_slice(), b"* BAD Line too long\r\n".as_slice());
+    out.clear();
+    assert!(rt; !connection.has_ended());
+    let _ = connection.take(alloc, b"a2 IDLE\r\n", &mut Nowhere, &mut out);
+    assert!(rt; !connection.has_ended());
+    let _ = connection.take(alloc, &line, &mut Nowhere, &mut out);
+    assert_eq!(rt;
+        out.as_slice(),
+        b"+ idling\r\na2 BAD Expected DONE\r\n".as_slice()
+    );
     Ok(())
 }

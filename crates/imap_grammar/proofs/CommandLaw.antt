@@ -558,6 +558,7 @@ command_again say.Capability rest q = nothing_again say.Capability rest q
 command_again say.Noop rest q = nothing_again say.Noop rest q
 command_again say.Logout rest q = nothing_again say.Logout rest q
 command_again say.Namespace rest q = nothing_again say.Namespace rest q
+command_again say.Idle rest q = nothing_again say.Idle rest q
 command_again say.Login rest q = refl
 command_again say.Authenticate rest q = refl
 command_again say.StartTls rest q = refl
@@ -614,6 +615,7 @@ command_sound verbs.Capability c rest s e = ended verbs.Capability say.Capabilit
 command_sound verbs.Noop c rest s e = ended verbs.Noop say.Noop c rest (λ b. record { verb = refl; is = alone rest b }) e
 command_sound verbs.Logout c rest s e = ended verbs.Logout say.Logout c rest (λ b. record { verb = refl; is = alone rest b }) e
 command_sound verbs.Namespace c rest s e = ended verbs.Namespace say.Namespace c rest (λ b. record { verb = refl; is = alone rest b }) e
+command_sound verbs.Idle c rest s e = ended verbs.Idle say.Idle c rest (λ b. record { verb = refl; is = alone rest b }) e
 command_sound verbs.Login c rest s e = subst (λ y. Fits verbs.Login y rest) (inside say.Login c e) (record { verb = refl; is = any_rest rest s })
 command_sound verbs.Authenticate c rest s e = subst (λ y. Fits verbs.Authenticate y rest) (inside say.Authenticate c e) (record { verb = refl; is = any_rest rest s })
 command_sound verbs.StartTls c rest s e = subst (λ y. Fits verbs.StartTls y rest) (inside say.StartTls c e) (record { verb = refl; is = any_rest rest s })

@@ -19,3 +19,4 @@ pub mod CommandLaw
 pub mod VerbLaw
 pub mod LineLaw
 pub mod GlobLaw
+pub mod DoneLaw

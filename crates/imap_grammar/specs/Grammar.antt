@@ -166,6 +166,7 @@ verb_of say.Capability = verbs.Capability
 verb_of say.Noop = verbs.Noop
 verb_of say.Logout = verbs.Logout
 verb_of say.Namespace = verbs.Namespace
+verb_of say.Idle = verbs.Idle
 verb_of say.Login = verbs.Login
 verb_of say.Authenticate = verbs.Authenticate
 verb_of say.StartTls = verbs.StartTls
@@ -186,6 +187,7 @@ ArgumentsOf say.Capability = Exactly []
 ArgumentsOf say.Noop = Exactly []
 ArgumentsOf say.Logout = Exactly []
 ArgumentsOf say.Namespace = Exactly []
+ArgumentsOf say.Idle = Exactly []
 ArgumentsOf say.Login = AfterGap Anything
 ArgumentsOf say.Authenticate = AfterGap Anything
 ArgumentsOf say.StartTls = AfterGap Anything
@@ -220,3 +222,7 @@ IsFault line (Arguments tag) =
 abbrev pub Reads : List ℕ → Result (List ℕ × Command) ImapFault → Type 0
 Reads line (Ok read) = Line read.0 read.1 line
 Reads line (Err fault) = IsFault line fault
+
+-- the line that ends an IDLE (RFC 2177). It has no tag, and spaces at its end say nothing
+abbrev pub DoneLine : Rule
+DoneLine = Keyword (codes "DONE") ⨾ Spaces

@@ -182,6 +182,7 @@ command_at verbs.Capability rest = if_end say.Capability rest
 command_at verbs.Noop rest = if_end say.Noop rest
 command_at verbs.Logout rest = if_end say.Logout rest
 command_at verbs.Namespace rest = if_end say.Namespace rest
+command_at verbs.Idle rest = if_end say.Idle rest
 command_at verbs.Login rest = Some say.Login
 command_at verbs.Authenticate rest = Some say.Authenticate
 command_at verbs.StartTls rest = Some say.StartTls
@@ -207,12 +208,12 @@ verb_among (v ∷ vs) word = if is_same word (word_of v) then Some v else verb_a
 
 abbrev pub offered : List Verb
 offered =
-    verbs.Capability ∷ verbs.Noop ∷ verbs.Logout ∷ verbs.Namespace ∷ verbs.Login ∷ verbs.Authenticate ∷ verbs.StartTls ∷ verbs.Select ∷ verbs.Examine
+    verbs.Capability ∷ verbs.Noop ∷ verbs.Logout ∷ verbs.Namespace ∷ verbs.Idle ∷ verbs.Login ∷ verbs.Authenticate ∷ verbs.StartTls ∷ verbs.Select ∷ verbs.Examine
     ∷ verbs.List ∷ verbs.Status ∷ verbs.Close ∷ verbs.Unselect ∷ verbs.Expunge ∷ verbs.Fetch ∷ verbs.Store ∷ []
 
 abbrev pub left_out : List Verb
 left_out =
-    verbs.Idle ∷ verbs.Append ∷ verbs.Create ∷ verbs.Delete ∷ verbs.Rename ∷ verbs.Subscribe ∷ verbs.Unsubscribe ∷ verbs.Copy ∷ verbs.Move
+    verbs.Append ∷ verbs.Create ∷ verbs.Delete ∷ verbs.Rename ∷ verbs.Subscribe ∷ verbs.Unsubscribe ∷ verbs.Copy ∷ verbs.Move
     ∷ verbs.Search ∷ verbs.Enable ∷ []
 
 abbrev pub behind_uid : List Verb
@@ -257,3 +258,7 @@ unfoldable pub read : List ℕ → Result (List ℕ × Command) ImapFault
 read line =
     let first = word_at line in
     if is_word_of is_tag first.0 then of_verb first.0 (verb_at (after_spaces first.1)) else Err NoTag
+
+-- the line that ends an IDLE
+abbrev pub is_done : List ℕ → Bool
+is_done line = is_same (word_at line).0 (codes "DONE") && is_blank (word_at line).1

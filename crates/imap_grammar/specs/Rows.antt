@@ -6,7 +6,7 @@ use Rattle.imap_grammar.specs.declared.items.Span.{Span}
 use Rattle.imap_grammar.specs.declared.items.FetchItem.{FetchItem}
 use Rattle.change_ring.specs.declared.flag_op.FlagOp.TheVariants.{Set, Insert, Remove}
 use Rattle.imap_grammar.specs.Sets.{by_uid, by_place}
-use Rattle.imap_grammar.specs.Reading.{read}
+use Rattle.imap_grammar.specs.Reading.{is_done, read}
 use Rattle.imap_grammar.specs.declared.set.SeqNumber.{SeqNumber}
 use Rattle.imap_grammar.specs.declared.set.SeqNumber.TheVariants.{Number, Star}
 use Rattle.imap_grammar.specs.declared.set.SeqRange.{SeqRange}
@@ -49,9 +49,15 @@ list_all : read (codes "a4 LIST \"\" %") ≡ Ok (codes "a4", say.List [] (codes 
 unfolding read
 list_all = refl
 
-idle : read (codes "a2 IDLE") ≡ Err (LeftOut (codes "a2"))
+idle : read (codes "a2 IDLE") ≡ Ok (codes "a2", say.Idle)
 unfolding read
 idle = refl
+
+done_in_any_case : is_done (codes "done  ") ≡ true
+done_in_any_case = refl
+
+done_and_more : is_done (codes "DONE x") ≡ false
+done_and_more = refl
 
 store_deleted : read (codes "b2 STORE 1:2 +FLAGS (\\Deleted)") ≡ Ok (codes "b2", say.Store (record { by_uid = false; set = range (Number 1) (Number 2) ∷ []; silent = false; change = Insert (flags false false true false false) }))
 unfolding read

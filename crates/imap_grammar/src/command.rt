@@ -103,6 +103,8 @@ pub enum Command<'a> {
     Noop,
     Logout,
     Namespace,
+    /// RFC 2177.
+    Idle,
     Login,
     Authenticate,
     StartTls,

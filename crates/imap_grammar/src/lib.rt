@@ -27,5 +27,5 @@ pub use items::{FetchItem, FetchItems, Section, Span, StatusItem, StatusItems};
 pub use laws::patterns_match_what_they_stand_for;
 pub use list::write_list;
 pub use name::Name;
-pub use reading::read_line;
+pub use reading::{is_done, read_line};
 pub use set::{SeqNumber, SeqRange, SeqSet, SetFault};

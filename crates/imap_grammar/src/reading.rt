@@ -1,16 +1,16 @@
 //! A whole line, read from left to right: its tag, its verb, and which arguments that takes.
 //! Which lines the grammar has is told in specs/Grammar.antt, not here.
 
-ghost use Rattle.std.specs.Prelude.{◌≡◌, Some, None, List, ℕ, Result};
+ghost use Rattle.std.specs.Prelude.{◌≡◌, ◌↔◌, true, Some, None, List, ℕ, Result};
 ghost use Rattle.std.specs.Option.{option_map};
-ghost use Rattle.imap_grammar.specs.Grammar.{Reads};
+ghost use Rattle.imap_grammar.specs.Grammar.{DoneLine, Reads};
 ghost use Rattle.imap_grammar.specs.Verbs.{is_left_out};
 ghost use Rattle.imap_grammar.specs.declared.command.Command.{Command};
 ghost use Rattle.imap_grammar.specs.declared.command.ImapFault.{ImapFault};
-ghost use Rattle.imap_grammar.specs.Reading.{verb_among, offered, left_out, behind_uid, verb_alone, alone_at, second_at, verb_at, command_at, read};
+ghost use Rattle.imap_grammar.specs.Reading.{verb_among, offered, left_out, behind_uid, verb_alone, alone_at, second_at, verb_at, command_at, read, is_done};
 
 use crate::arguments::{examine, fetch, if_end, list, select, status, store, uid_expunge};
-use crate::bytes::{Class, after_spaces, word_at};
+use crate::bytes::{Class, after_spaces, is_blank, word_at};
 use crate::command::{Command, ImapFault, Tag, Verb};
 use crate::words::is_word_of;
 
@@ -26,6 +26,8 @@ fn offered(word: &[u8]) -> Option<Verb>
         Some(Verb::Logout)
     } else if word.eq_ignore_ascii_case(b"NAMESPACE") {
         Some(Verb::Namespace)
+    } else if word.eq_ignore_ascii_case(b"IDLE") {
+        Some(Verb::Idle)
     } else if word.eq_ignore_ascii_case(b"LOGIN") {
         Some(Verb::Login)
     } else if word.eq_ignore_ascii_case(b"AUTHENTICATE") {
@@ -59,9 +61,7 @@ fn offered(word: &[u8]) -> Option<Verb>
 fn left_out(word: &[u8]) -> Option<Verb>
     ensures { result ≡ verb_among left_out word.now }
 {
-    if word.eq_ignore_ascii_case(b"IDLE") {
-        Some(Verb::Idle)
-    } else if word.eq_ignore_ascii_case(b"APPEND") {
+    if word.eq_ignore_ascii_case(b"APPEND") {
         Some(Verb::Append)
     } else if word.eq_ignore_ascii_case(b"CREATE") {
         Some(Verb::Create)
@@ -151,8 +151,7 @@ fn is_left_out(verb: Verb) -> bool
 {
     matches!(
         verb,
-        Verb::Idle
-            | Verb::Append
+        Verb::Append
             | Verb::Create
             | Verb::Delete
             | Verb::Rename
@@ -177,6 +176,7 @@ fn command_at(verb: Verb, rest: &[u8]) -> Option<Command<'_>>
         Verb::Noop => if_end(Command::Noop, rest),
         Verb::Logout => if_end(Command::Logout, rest),
         Verb::Namespace => if_end(Command::Namespace, rest),
+        Verb::Idle => if_end(Command::Idle, rest),
         Verb::Login => Some(Command::Login),
         Verb::Authenticate => Some(Command::Authenticate),
         Verb::StartTls => Some(Command::StartTls),
@@ -230,4 +230,21 @@ pub fn read_line(line: &[u8]) -> Result<(Tag<'_>, Command<'_>), ImapFault<'_>>
     ensures exact { result ≡ read line.now }
 {
     reading(line)
+}
+
+fn reading_done(line: &[u8]) -> bool
+    ensures { result ≡ is_done line.now }
+{
+    let (word, rest) = word_at(line);
+    word.eq_ignore_ascii_case(b"DONE") && is_blank(rest)
+}
+
+/// Whether a line without its CRLF is DONE, which ends an IDLE (RFC 2177, 3): in upper or lower case, with spaces at its end or none.
+pub fn is_done(line: &[u8]) -> bool
+    // It is what the grammar says of the line.
+    ensures spelled { (result ≡ true) ↔ DoneLine line.now }
+    // The same, as a function of the line.
+    ensures exact { result ≡ is_done line.now }
+{
+    reading_done(line)
 }

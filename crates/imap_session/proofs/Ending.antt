@@ -4,15 +4,13 @@ use Rattle.std.specs.Borrow.{Bor}
 use Rattle.mailbox.specs.declared.clients.MailFault.{MailFault}
 use Rattle.mailbox.specs.declared.clients.MailFault.TheVariants.{NoMemory}
 use Rattle.imap_grammar.specs.declared.command.Command.{Command}
-use Rattle.imap_grammar.specs.declared.command.ImapFault.{ImapFault}
-use Rattle.imap_grammar.specs.Reading.{read}
 use Rattle.imap_session.specs.declared.standing.After.{After}
-use Rattle.imap_session.specs.declared.standing.After.TheVariants.{Go, Bye}
+use Rattle.imap_session.specs.declared.standing.After.TheVariants.{Go, Idle, Bye}
 use Rattle.imap_session.specs.declared.standing.Selected.{Selected}
 use Rattle.imap_session.specs.Exchange as ex
 use Rattle.imap_session.specs.Exchange.{Call, Answer, Exchange, Folder, Standing, Turn, Event, played, refused, saying, closed, tagged, refusal_text, refusal_after, nothing_more}
-use Rattle.imap_session.specs.Commands.{says, on_found, wrong_state, on_command, fault_text}
-use Rattle.imap_session.specs.Store.{Met, Reaches, Stops, Does, Moves, Plays, Answers, after_command, ending, last, last_words, after_result, onward}
+use Rattle.imap_session.specs.Commands.{says, on_found, wrong_state, on_command}
+use Rattle.imap_session.specs.Store.{Met, Reaches, Stops, Does, Moves, Plays, after_command, ending, last, last_words, after_result, onward}
 use Rattle.imap_session.proofs.Runs.{Met-append, reaches_here, reaches_write, stops_write}
 
 -- what is done where the selected mailbox stays
@@ -64,6 +62,14 @@ ends step tag now next x old new before mid final events bytes words Bye whole p
   met = Met-append step old new new events [] m refl;
   wrote = e ∙ (ap (λ t. t ++ words) w ∙ (append_assoc before bytes words ∙ ap (λ t. before ++ (bytes ++ t)) (sym (append-nil words))));
 }
+ends step tag now next x old new before mid final events bytes words Idle whole p m w e = record {
+  answers = whole;
+  events = events ++ [];
+  bytes = bytes ++ (words ++ []);
+  leads = p;
+  met = Met-append step old new new events [] m refl;
+  wrote = e ∙ (ap (λ t. t ++ words) w ∙ (append_assoc before bytes words ∙ ap (λ t. before ++ (bytes ++ t)) (sym (append-nil words))));
+}
 
 -- an exchange that was done but for its last line, and then that line, or what is said of the fault that stopped it
 pub plays_moved : {S : Type 0} (step : S → Call → Answer → S → Type 0) (tag : List ℕ) (now : Standing) (to : Option Selected) (after : After) (x : Exchange) (old new : S) (before mid final : List ℕ) (r : Result (Bor (List ℕ)) MailFault)
@@ -79,32 +85,19 @@ plays_moved step tag now to after x old new before mid final (Err fault) m e =
     let next : Standing = record now { selected = to } in
     ends step tag now next x old new before mid final p.events p.bytes (refusal_text tag fault) (refusal_after fault) p.leads.0 p.leads.1 p.met p.wrote e
 
-standing_of : List Folder → Option Selected → Bool → Standing
-standing_of folders selected ended = record { folders = folders; selected = selected; ended = ended }
+standing_of : List Folder → Option Selected → Option (List ℕ) → Bool → Standing
+standing_of folders selected idling ended = record { folders = folders; selected = selected; idling = idling; ended = ended }
 
 -- a command that was carried out, and its last line
-pub plays_command : {S : Type 0} (step : S → Call → Answer → S → Type 0) (tag : List ℕ) (now : Standing) (folders : List Folder) (from to : Option Selected) (ended : Bool) (command : Command) (old new : S) (before mid final : List ℕ) (r : Result (Bor (List ℕ)) MailFault) (after how : After)
-    → (let s : Standing = record { folders = folders; selected = from; ended = ended } in s) ≡ now → now.ended ≡ false
-    → Moves step from to (on_command (record { folders = folders; selected = from; ended = false }) command) (ending (after_command command)) old new before mid r
+pub plays_command : {S : Type 0} (step : S → Call → Answer → S → Type 0) (tag : List ℕ) (now : Standing) (folders : List Folder) (from to : Option Selected) (idling : Option (List ℕ)) (ended : Bool) (command : Command) (old new : S) (before mid final : List ℕ) (r : Result (Bor (List ℕ)) MailFault) (after how : After)
+    → (let s : Standing = record { folders = folders; selected = from; idling = idling; ended = ended } in s) ≡ now → now.ended ≡ false → now.idling ≡ None
+    → Moves step from to (on_command (record { folders = folders; selected = from; idling = None; ended = false }) command) (ending (after_command command)) old new before mid r
     → after ≡ after_command command → final ≡ mid ++ last_words tag r → how ≡ after_result after r
     → Plays step tag now (record now { selected = to }) (on_command now command) old new before final how
 unfolding standing_of
-plays_command step tag now folders from to ended command old new before mid final r after how e going m a f h =
+plays_command step tag now folders from to idling ended command old new before mid final r after how e going awake m a f h =
     let P : Standing → Type 0 = λ s. Plays step tag s (record s { selected = to }) (on_command s command) old new before final how in
     let open_now : false ≡ ended = sym (ap (λ (s : Standing). s.ended) e ∙ going) in
-    let same : standing_of folders from false ≡ now = ap (λ b. standing_of folders from b) open_now ∙ e in
-    subst P same (rw (h, a) (plays_moved step tag (standing_of folders from false) to (after_command command) (on_command (standing_of folders from false) command) old new before mid final r m f))
-
--- ---- lines
-
-pub answers_fault : {S : Type 0} (step : S → Call → Answer → S → Type 0) (now : Standing) (line : List ℕ) (fault : ImapFault) (s : S) (before after : List ℕ)
-    → read line ≡ Err fault → after ≡ before ++ fault_text fault
-    → Answers step now line s s before after Go now
-answers_fault step now line fault s before after h e = record {
-  answers = [];
-  events = [];
-  bytes = fault_text fault ++ [];
-  played = rw h refl;
-  met = refl;
-  wrote = e ∙ ap (λ t. before ++ t) (sym (append-nil (fault_text fault)));
-}
+    let awake_now : None ≡ idling = sym (ap (λ (s : Standing). s.idling) e ∙ awake) in
+    let same : standing_of folders from None false ≡ now = ap (λ b. standing_of folders from None b) open_now ∙ ap (λ i. standing_of folders from i ended) awake_now ∙ e in
+    subst P same (rw (h, a) (plays_moved step tag (standing_of folders from None false) to (after_command command) (on_command (standing_of folders from None false) command) old new before mid final r m f))

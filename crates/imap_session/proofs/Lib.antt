@@ -9,3 +9,5 @@ pub mod Selecting
 pub mod Ending
 pub mod Naming
 pub mod Viewing
+pub mod Lines
+pub mod Turns

@@ -1,5 +1,6 @@
 -- Each command shows changes only in their place.
 use Rattle.std.proofs.Common.{◌≡◌, ℕ, Bool, true, false, codes, List, [], ◌∷◌, Option, Some, None, refl, if◌then◌else◌}
+use Rattle.imap_grammar.specs.Reading.{is_done}
 use Rattle.imap_grammar.specs.Sets.{named_in}
 use Rattle.imap_grammar.specs.declared.command.Command.{Command}
 use Rattle.imap_grammar.specs.declared.command.Command.TheVariants as commands
@@ -7,8 +8,8 @@ use Rattle.imap_grammar.specs.declared.command.Fetch.{Fetch}
 use Rattle.imap_grammar.specs.declared.command.Store.{Store}
 use Rattle.imap_session.specs.declared.standing.Selected.{Selected}
 use Rattle.imap_session.specs.Exchange.{Exchange, Expunge, Feed, Folder, Standing}
-use Rattle.imap_session.specs.Commands.{on_command, counting, folder_of, showing, completed, closing, entering, on_folder, on_chosen, messages_done, on_found, fetching, storing, if_writable, expunge_set, store_messages, fetch_messages, unlimited, wrong_state, says}
-use Rattle.imap_session.specs.Shows.{may_show, ShowsInPlace}
+use Rattle.imap_session.specs.Commands.{on_command, on_idle_line, counting, folder_of, showing, completed, closing, entering, on_folder, on_chosen, messages_done, on_found, fetching, storing, if_writable, expunge_set, store_messages, fetch_messages, unlimited, wrong_state, says}
+use Rattle.imap_session.specs.Shows.{may_show, DoneShowsInPlace, ShowsBefore, ShowsInPlace}
 
 in_either : (command : Command) (b : Bool) (x y : Exchange) → ShowsInPlace command x → ShowsInPlace command y → ShowsInPlace command (if b then x else y)
 in_either command true x y p q = p
@@ -63,6 +64,7 @@ shown_in_place now commands.Capability = tt
 shown_in_place now commands.Noop = in_showing commands.Noop refl now.selected
 shown_in_place now commands.Logout = tt
 shown_in_place now commands.Namespace = tt
+shown_in_place now commands.Idle = tt
 shown_in_place now commands.Login = tt
 shown_in_place now commands.Authenticate = tt
 shown_in_place now commands.StartTls = tt
@@ -90,3 +92,12 @@ shown_in_place now (commands.Store store) =
     in_writable (commands.Store store) now.selected (store_messages store)
     (λ view. in_chosen (commands.Store store) (named_in store.by_uid store.set view) _
     (λ uids. in_storing (commands.Store store) store view _ (λ gone. in_done (commands.Store store) store.by_uid gone refl) uids false))
+
+in_idle_line : (b : Bool) (selected : Option Selected)
+    → ShowsBefore (completed commands.Idle) b false (if b then showing selected (completed commands.Idle) else says (codes "BAD Expected DONE"))
+in_idle_line true None = tt
+in_idle_line true (Some s) = (refl, refl, refl)
+in_idle_line false selected = tt
+
+pub done_in_place : (selected : Option Selected) (line : List ℕ) → DoneShowsInPlace line (on_idle_line selected line)
+done_in_place selected line = in_idle_line (is_done line) selected

@@ -1,10 +1,11 @@
 -- What a session does about each line (RFC 9051, 6 and 7).
-use Rattle.std.specs.Prelude.{ℕ, ◌-◌, ◌^◌, Bool, true, false, codes, decimal, List, [], ◌∷◌, ◌++◌, map, Option, Some, None, Result, Ok, Err, ◌&&◌, ◌||◌, not, if◌then◌else◌}
+use Rattle.std.specs.Prelude.{ℕ, ◌+◌, ◌-◌, ◌^◌, length, Bool, true, false, codes, decimal, List, [], ◌∷◌, ◌++◌, map, Option, Some, None, Result, Ok, Err, ◌&&◌, ◌||◌, not, if◌then◌else◌}
 use Rattle.std.specs.List.{list_any}
 use Rattle.std.specs.Str.{bytes_eq}
 use Rattle.mailbox.specs.declared.clients.Opening.{Opening}
 use Rattle.mailbox.specs.declared.clients.Row.{Row}
-use Rattle.cursor_set.specs.Lines.{place, flag_words, spaced}
+use Rattle.cursor_set.specs.Lines.{lines, place, flag_words, spaced}
+use Rattle.mailbox.specs.declared.clients.MailFault.TheVariants.{Lapped, Stranger}
 use Rattle.change_ring.specs.declared.change.Flags.{Flags}
 use Rattle.imap_grammar.specs.declared.set.SeqRange.{SeqRange}
 use Rattle.imap_grammar.specs.declared.items.StatusItem.{StatusItem}
@@ -18,11 +19,12 @@ use Rattle.imap_grammar.specs.declared.command.ImapFault.TheVariants as faults
 use Rattle.imap_grammar.specs.Sets.{named_in}
 use Rattle.imap_grammar.specs.Verbs.{word_of, stands_behind_uid}
 use Rattle.imap_grammar.specs.Grammar.{verb_of}
-use Rattle.imap_grammar.specs.Reading.{read}
+use Rattle.imap_grammar.specs.Reading.{is_done, read}
 use Rattle.imap_grammar.specs.Answers.{crlf, row_answer, status_answer, list_answer, is_inbox, marks_seen}
 use Rattle.imap_session.specs.declared.standing.After.TheVariants.{Go, Bye}
+use Rattle.imap_session.specs.declared.standing.After.TheVariants as afters
 use Rattle.imap_session.specs.declared.standing.Selected.{Selected}
-use Rattle.imap_session.specs.Exchange.{Answer, saying, nothing_more, Turn, Standing, Folder, Exchange, Done, Write, Enter, Look, Read, Count, Alter, Expunge, Feed, Leave, tagged, bye, played}
+use Rattle.imap_session.specs.Exchange.{Answer, Fed, Refused, having, saying, nothing_more, refused, is_idling, Turn, Standing, Folder, Exchange, Done, Idle, Write, Enter, Look, Read, Count, Alter, Expunge, Feed, Leave, tagged, bye, played}
 
 -- ---- how an answer ends
 
@@ -66,7 +68,7 @@ on_found found gone (Some x) = found x
 abbrev pub on_folder : List ℕ → List Folder → (Folder → Exchange) → Exchange
 on_folder name folders next = on_found next (says (codes "NO [NONEXISTENT] No such mailbox")) (folder_of name folders)
 
--- memory is wanted here for a name, and nothing is written
+-- memory is wanted here for a name or a tag, and nothing is written
 abbrev pub wanting : Exchange → Exchange
 wanting x = Write [] x
 
@@ -181,10 +183,11 @@ counting now name items folder =
     Count folder.mailbox (λ status. Write (status_answer folder.name items status) (showing now.selected (completed (commands.Status name items))))
 
 abbrev pub on_command : Standing → Command → Exchange
-on_command now commands.Capability = untagged (codes "CAPABILITY IMAP4rev2") (completed commands.Capability)
+on_command now commands.Capability = untagged (codes "CAPABILITY IMAP4rev2 IDLE") (completed commands.Capability)
 on_command now commands.Noop = showing now.selected (completed commands.Noop)
 on_command now commands.Logout = Write (bye (codes "Logging out")) (Done (codes "OK LOGOUT completed") Bye)
 on_command now commands.Namespace = untagged (codes "NAMESPACE ((\"\" \"/\")) NIL NIL") (completed commands.Namespace)
+on_command now commands.Idle = wanting Idle
 on_command now commands.Login = wrong_state
 on_command now commands.Authenticate = wrong_state
 on_command now commands.StartTls = wrong_state
@@ -220,15 +223,52 @@ abbrev pub on_read : Standing → Result (List ℕ × Command) ImapFault → Lis
 on_read now (Ok line) answers = played line.0 now (on_command now line.1) answers
 on_read now (Err fault) answers = only_says (fault_text fault) now answers
 
+-- the line that ends an IDLE: DONE, or any other, which isn't read as a command
+abbrev pub on_idle_line : Option Selected → List ℕ → Exchange
+on_idle_line selected line = if is_done line then showing selected (completed commands.Idle) else says (codes "BAD Expected DONE")
+
+abbrev pub turn_while : Option (List ℕ) → Standing → List ℕ → List Answer → Option Turn
+turn_while None now line answers = on_read now (read line) answers
+turn_while (Some tag) now line answers = played tag (record now { idling = None }) (on_idle_line now.selected line) answers
+
 -- where a line leads, with these answers of the store
 abbrev pub turn_of : Standing → List ℕ → List Answer → Option Turn
-turn_of now line answers = on_read now (read line) answers
+turn_of now line answers = turn_while now.idling now line answers
 
 -- ---- what comes without a line of its own
 
 abbrev pub greeting : List ℕ
 greeting = codes "* PREAUTH IMAP4rev2 server ready\r\n"
 
--- the answer to a line that is too long
-abbrev pub long_line_text : List ℕ
-long_line_text = codes "* BAD Line too long\r\n"
+-- the answer to a line that is too long, of a session that idles with this tag or doesn't idle
+abbrev pub long_line_text : Option (List ℕ) → List ℕ
+long_line_text None = codes "* BAD Line too long\r\n"
+long_line_text (Some tag) = tagged tag (codes "BAD Expected DONE")
+
+-- where a line leads that is too long. It ends an IDLE
+abbrev pub turn_of_long_line : Standing → Turn
+turn_of_long_line now = record { events = []; bytes = long_line_text now.idling; after = Go; standing = record now { idling = None } }
+
+-- at most so many changes are shown in a turn of a session that idles
+abbrev pub most_changes : ℕ
+most_changes = 64
+
+abbrev pub idle_turn_in : Option Selected → Bool → Standing → List Answer → Option Turn
+idle_turn_in (Some selected) true now (Fed view changes ∷ []) =
+    Some (having (Feed most_changes) (Fed view changes) (saying (lines view changes) (nothing_more afters.Idle now)))
+idle_turn_in (Some selected) true now (Refused Lapped ∷ []) = Some (having (Feed most_changes) (Refused Lapped) (refused [] now Lapped))
+idle_turn_in (Some selected) true now (Refused Stranger ∷ []) = Some (having (Feed most_changes) (Refused Stranger) (refused [] now Stranger))
+idle_turn_in (Some selected) true now answers = None
+idle_turn_in selected idling now [] = Some (nothing_more afters.Idle now)
+idle_turn_in selected idling now answers = None
+
+-- What a session does in its turn while it idles, with these answers of the store: it shows what is pending in the mailbox that it selected.
+-- Where it selected none, or doesn't idle, it does nothing. Where memory is refused there is no turn.
+abbrev pub idle_turn : Standing → List Answer → Option Turn
+idle_turn now answers = idle_turn_in now.selected (is_idling now) now answers
+
+-- how many changes were shown by these answers
+abbrev pub count_shown : List Answer → ℕ
+count_shown [] = 0
+count_shown (Fed view changes ∷ answers) = length changes + count_shown answers
+count_shown (answer ∷ answers) = count_shown answers

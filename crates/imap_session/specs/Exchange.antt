@@ -1,5 +1,5 @@
 -- What a session asks of its store, in which order, and what it writes.
-use Rattle.std.specs.Prelude.{ℕ, zero, suc, Bool, true, codes, List, [], ◌∷◌, ◌++◌, Option, Some, None}
+use Rattle.std.specs.Prelude.{ℕ, zero, suc, Bool, true, codes, List, [], ◌∷◌, ◌++◌, Option, Some, None, is_some, ◌&&◌, not, if◌then◌else◌}
 use Rattle.std.specs.Option.{option_map}
 use Rattle.change_ring.specs.declared.change.Flags.{Flags}
 use Rattle.change_ring.specs.declared.change.Change.{Change}
@@ -12,6 +12,7 @@ use Rattle.change_ring.specs.declared.flag_op.FlagOp.{FlagOp}
 use Rattle.cursor_set.specs.Lines.{lines}
 use Rattle.imap_session.specs.declared.standing.After.{After}
 use Rattle.imap_session.specs.declared.standing.After.TheVariants.{Go, Bye}
+use Rattle.imap_session.specs.declared.standing.After.TheVariants as afters
 use Rattle.imap_session.specs.declared.standing.Selected.{Selected}
 
 -- ---- the store
@@ -59,13 +60,30 @@ pub record Folder : Type 0 where
 pub record Standing : Type 0 where
   pub folders : List Folder
   pub selected : Option Selected
+  -- the tag of the IDLE that isn't done yet
+  pub idling : Option (List ℕ)
   pub ended : Bool
+
+-- a session that idles, with this tag or none, waits for DONE, and any other for a command
+abbrev pub waits_for : Option (List ℕ) → After
+waits_for None = Go
+waits_for (Some tag) = afters.Idle
+
+-- what the client may send now
+abbrev pub may_send : Standing → After
+may_send now = if now.ended then Bye else waits_for now.idling
+
+-- it waits for DONE, and may have a turn while it does
+abbrev pub is_idling : Standing → Bool
+is_idling now = is_some now.idling && not now.ended
 
 -- What a session does about one command. What it does after a call depends on the answer; what it does where the store refuses is the
 -- same everywhere, and stands in `refused`.
 pub data Exchange : Type 0 where
   -- the last line: the tag, and these words. Room for it is reserved before anything is done, so memory can't be refused to it
   Done : (words : List ℕ) → After → Exchange
+  -- no last line: the client may send DONE
+  Idle : Exchange
   Write : List ℕ → Exchange → Exchange
   Enter : Selected → (Opening → Exchange) → Exchange
   Look : (List ℕ → Exchange) → Exchange
@@ -96,6 +114,7 @@ having call answer turn = record turn { events = record { call = call; answer = 
 abbrev pub closed : Standing → After → Turn
 closed now Go = nothing_more Go now
 closed now Bye = nothing_more Bye (record now { ended = true })
+closed now afters.Idle = nothing_more afters.Idle now
 
 abbrev pub bye : List ℕ → List ℕ
 bye words = codes "* BYE " ++ words ++ codes "\r\n"
@@ -121,8 +140,10 @@ refused tag now fault = saying (refusal_text tag fault) (closed now (refusal_aft
 
 -- where an exchange leads with these answers; nowhere where they are none to its calls
 abbrev pub played : List ℕ → Standing → Exchange → List Answer → Option Turn
-played tag now (Done words after) [] = Some (saying (tagged tag words) (closed now after))
-played tag now (Done words after) (answer ∷ more) = None
+played tag now (Done words how) [] = Some (saying (tagged tag words) (closed now how))
+played tag now (Done words how) (answer ∷ more) = None
+played tag now Idle [] = Some (saying (codes "+ idling\r\n") (nothing_more afters.Idle (record now { idling = Some tag })))
+played tag now Idle (answer ∷ more) = None
 played tag now (Write bytes x) (Starved (suc n) ∷ []) = option_map (saying bytes) (played tag now x (Starved n ∷ []))
 played tag now x (Starved zero ∷ []) = Some (refused tag now NoMemory)
 played tag now (Write bytes x) answers = option_map (saying bytes) (played tag now x answers)

@@ -7,16 +7,27 @@ use Rattle.change_ring.specs.declared.change.Change.TheVariants.{Add, Gone, Flag
 use Rattle.mailbox.specs.declared.clients.MailFault.TheVariants.{Lapped, Spent}
 use Rattle.imap_grammar.specs.Reading.{read}
 use Rattle.imap_session.specs.Exchange.{Answer, Entered, Looked, Found, Counted, Altered, Expunged, Fed, Left, Refused, Starved, Turn, Standing}
-use Rattle.imap_session.specs.Commands.{turn_of}
+use Rattle.imap_session.specs.Commands.{idle_turn, turn_of, turn_of_long_line}
 
 abbrev onto : {A B : Type 0} → Option A → (A → Option B) → Option B
 onto None f = None
 onto (Some x) f = f x
 
--- all that is written for these lines, each with the store's answers
-abbrev written : Standing → List (List ℕ × List Answer) → Option (List ℕ)
+-- what happens to a session, with the store's answers: a line, or a turn while it idles
+data Happening : Type 0 where
+  Line : List ℕ → List Answer → Happening
+  Turned : List Answer → Happening
+  LongLine : Happening
+
+abbrev happens : Standing → Happening → Option Turn
+happens now (Line line answers) = turn_of now line answers
+happens now (Turned answers) = idle_turn now answers
+happens now LongLine = Some (turn_of_long_line now)
+
+-- all that is written
+abbrev written : Standing → List Happening → Option (List ℕ)
 written now [] = Some []
-written now (said ∷ more) = onto (turn_of now said.0 said.1) (λ (turn : Turn). option_map (λ rest. turn.bytes ++ rest) (written turn.standing more))
+written now (h ∷ hs) = onto (happens now h) (λ (turn : Turn). option_map (λ rest. turn.bytes ++ rest) (written turn.standing hs))
 
 abbrev flags : Bool → Bool → Bool → Bool → Bool → Flags
 flags a b c d e = record { answered = a; flagged = b; deleted = c; seen = d; draft = e }
@@ -25,6 +36,7 @@ abbrev awake : Standing
 awake = record {
   folders = record { name = codes "INBOX"; mailbox = 0 } ∷ record { name = codes "Work"; mailbox = 1 } ∷ [];
   selected = None;
+  idling = None;
   ended = false;
 }
 
@@ -36,145 +48,194 @@ in_examined = record awake { selected = Some (record { mailbox = 0; read_only = 
 
 -- an empty mailbox is selected: no place is in it, and each UID set of it is empty
 empty_inbox : written awake
-    ((codes "a1 SELECT inbox", Entered (record { count = 0; uidnext = 1; uidvalidity = 7 }) ∷ []) ∷ (codes "a2 FETCH * FLAGS", Looked [] ∷ []) ∷ (codes "a3 UID FETCH * FLAGS", Looked [] ∷ Fed [] ([]) ∷ []) ∷ (codes "a4 LIST \"\" %", Fed [] ([]) ∷ []) ∷ [])
+    (Line (codes "a1 SELECT inbox") (Entered (record { count = 0; uidnext = 1; uidvalidity = 7 }) ∷ []) ∷ Line (codes "a2 FETCH * FLAGS") (Looked [] ∷ []) ∷ Line (codes "a3 UID FETCH * FLAGS") (Looked [] ∷ Fed [] ([]) ∷ []) ∷ Line (codes "a4 LIST \"\" %") (Fed [] ([]) ∷ []) ∷ [])
     ≡ Some (codes "* FLAGS (\\Answered \\Flagged \\Deleted \\Seen \\Draft)\r\n* 0 EXISTS\r\n* OK [UIDVALIDITY 7] UIDs valid\r\n* OK [UIDNEXT 1] Predicted next UID\r\n* OK [PERMANENTFLAGS (\\Answered \\Flagged \\Deleted \\Seen \\Draft)] Flags kept\r\n* LIST () \"/\" INBOX\r\na1 OK [READ-WRITE] SELECT completed\r\na2 BAD Sequence number too high\r\na3 OK UID FETCH completed\r\n* LIST () \"/\" INBOX\r\n* LIST () \"/\" Work\r\na4 OK LIST completed\r\n")
 unfolding read digits
 empty_inbox = refl
 
 -- EXPUNGE shows what is pending, removes, and shows that
 two_expunged : written in_inbox
-    ((codes "b2 STORE 1:2 +FLAGS (\\Deleted)", Looked (1 ∷ 2 ∷ 3 ∷ []) ∷ Altered (Some (flags false false true false false)) ∷ Altered (Some (flags false false true false false)) ∷ []) ∷ (codes "b3 EXPUNGE", Expunged (1 ∷ 2 ∷ 3 ∷ []) (SetFlags 1 (flags false false true false false) ∷ SetFlags 2 (flags false false true false false) ∷ []) 2 ∷ Fed (1 ∷ 2 ∷ 3 ∷ []) (Gone 1 ∷ Gone 2 ∷ []) ∷ []) ∷ [])
+    (Line (codes "b2 STORE 1:2 +FLAGS (\\Deleted)") (Looked (1 ∷ 2 ∷ 3 ∷ []) ∷ Altered (Some (flags false false true false false)) ∷ Altered (Some (flags false false true false false)) ∷ []) ∷ Line (codes "b3 EXPUNGE") (Expunged (1 ∷ 2 ∷ 3 ∷ []) (SetFlags 1 (flags false false true false false) ∷ SetFlags 2 (flags false false true false false) ∷ []) 2 ∷ Fed (1 ∷ 2 ∷ 3 ∷ []) (Gone 1 ∷ Gone 2 ∷ []) ∷ []) ∷ [])
     ≡ Some (codes "* 1 FETCH (FLAGS (\\Deleted))\r\n* 2 FETCH (FLAGS (\\Deleted))\r\nb2 OK STORE completed\r\n* 1 FETCH (UID 1 FLAGS (\\Deleted))\r\n* 2 FETCH (UID 2 FLAGS (\\Deleted))\r\n* 1 EXPUNGE\r\n* 1 EXPUNGE\r\nb3 OK EXPUNGE completed\r\n")
 unfolding read digits
 two_expunged = refl
 
 -- the set of a UID EXPUNGE is found before the changes are shown: UID 4 isn't in 1:*
 set_before_feed : written in_inbox
-    ((codes "b3 UID EXPUNGE 1:*", Looked (1 ∷ 2 ∷ []) ∷ Expunged (1 ∷ 2 ∷ []) (Add 4 ∷ SetFlags 4 (flags false false true false false) ∷ []) 2 ∷ Fed (1 ∷ 2 ∷ 4 ∷ []) (Gone 1 ∷ Gone 2 ∷ []) ∷ []) ∷ [])
+    (Line (codes "b3 UID EXPUNGE 1:*") (Looked (1 ∷ 2 ∷ []) ∷ Expunged (1 ∷ 2 ∷ []) (Add 4 ∷ SetFlags 4 (flags false false true false false) ∷ []) 2 ∷ Fed (1 ∷ 2 ∷ 4 ∷ []) (Gone 1 ∷ Gone 2 ∷ []) ∷ []) ∷ [])
     ≡ Some (codes "* 3 EXISTS\r\n* 3 FETCH (UID 4 FLAGS (\\Deleted))\r\n* 1 EXPUNGE\r\n* 1 EXPUNGE\r\nb3 OK UID EXPUNGE completed\r\n")
 unfolding read digits
 set_before_feed = refl
 
 -- a plain FETCH of messages that are gone shows no EXPUNGE
 two_missed : written in_inbox
-    ((codes "a2 FETCH 1:3 (UID)", Looked (1 ∷ 2 ∷ 3 ∷ []) ∷ Found None ∷ Found None ∷ Found (Some (record { uid = 3; flags = (flags false false false false false); newly_seen = false; text = codes "x" })) ∷ []) ∷ (codes "a3 NOOP", Fed (1 ∷ 2 ∷ 3 ∷ []) (SetFlags 1 (flags false false true false false) ∷ SetFlags 2 (flags false false true false false) ∷ Gone 1 ∷ Gone 2 ∷ []) ∷ []) ∷ [])
+    (Line (codes "a2 FETCH 1:3 (UID)") (Looked (1 ∷ 2 ∷ 3 ∷ []) ∷ Found None ∷ Found None ∷ Found (Some (record { uid = 3; flags = (flags false false false false false); newly_seen = false; text = codes "x" })) ∷ []) ∷ Line (codes "a3 NOOP") (Fed (1 ∷ 2 ∷ 3 ∷ []) (SetFlags 1 (flags false false true false false) ∷ SetFlags 2 (flags false false true false false) ∷ Gone 1 ∷ Gone 2 ∷ []) ∷ []) ∷ [])
     ≡ Some (codes "* 3 FETCH (UID 3)\r\na2 NO [EXPUNGEISSUED] Some messages are gone\r\n* 1 FETCH (UID 1 FLAGS (\\Deleted))\r\n* 2 FETCH (UID 2 FLAGS (\\Deleted))\r\n* 1 EXPUNGE\r\n* 1 EXPUNGE\r\na3 OK NOOP completed\r\n")
 unfolding read digits
 two_missed = refl
 
 -- each change of flags is shown
 both_flags : written in_inbox
-    ((codes "a2 STORE 1 +FLAGS (\\Seen)", Looked (1 ∷ []) ∷ Altered (Some (flags false true false true false)) ∷ []) ∷ (codes "a3 NOOP", Fed (1 ∷ []) (SetFlags 1 (flags false true false false false) ∷ SetFlags 1 (flags false true false true false) ∷ []) ∷ []) ∷ [])
+    (Line (codes "a2 STORE 1 +FLAGS (\\Seen)") (Looked (1 ∷ []) ∷ Altered (Some (flags false true false true false)) ∷ []) ∷ Line (codes "a3 NOOP") (Fed (1 ∷ []) (SetFlags 1 (flags false true false false false) ∷ SetFlags 1 (flags false true false true false) ∷ []) ∷ []) ∷ [])
     ≡ Some (codes "* 1 FETCH (FLAGS (\\Flagged \\Seen))\r\na2 OK STORE completed\r\n* 1 FETCH (UID 1 FLAGS (\\Flagged))\r\n* 1 FETCH (UID 1 FLAGS (\\Flagged \\Seen))\r\na3 OK NOOP completed\r\n")
 unfolding read digits
 both_flags = refl
 
 -- a silent STORE tells of no message, but that some are gone
 silent : written in_inbox
-    ((codes "a2 STORE 1:2 FLAGS.SILENT ()", Looked (1 ∷ 2 ∷ []) ∷ Altered (Some (flags false false false false false)) ∷ Altered None ∷ []) ∷ (codes "a3 UID STORE 1:* -FLAGS (\\Seen)", Looked (1 ∷ 2 ∷ []) ∷ Altered (Some (flags false false false false false)) ∷ Altered None ∷ Fed (1 ∷ 2 ∷ []) (Gone 2 ∷ []) ∷ []) ∷ [])
+    (Line (codes "a2 STORE 1:2 FLAGS.SILENT ()") (Looked (1 ∷ 2 ∷ []) ∷ Altered (Some (flags false false false false false)) ∷ Altered None ∷ []) ∷ Line (codes "a3 UID STORE 1:* -FLAGS (\\Seen)") (Looked (1 ∷ 2 ∷ []) ∷ Altered (Some (flags false false false false false)) ∷ Altered None ∷ Fed (1 ∷ 2 ∷ []) (Gone 2 ∷ []) ∷ []) ∷ [])
     ≡ Some (codes "a2 NO [EXPUNGEISSUED] Some messages are gone\r\n* 1 FETCH (UID 1 FLAGS ())\r\n* 2 EXPUNGE\r\na3 OK UID STORE completed\r\n")
 unfolding read digits
 silent = refl
 
 -- too many changes were missed: no tagged line
 lapped : written in_inbox
-    ((codes "a2 NOOP", Refused Lapped ∷ []) ∷ [])
+    (Line (codes "a2 NOOP") (Refused Lapped ∷ []) ∷ [])
     ≡ Some (codes "* BYE Too many changes were missed\r\n")
 unfolding read digits
 lapped = refl
 
 -- a STORE laps its own session: what was said and done stands
 lapped_half_way : written in_inbox
-    ((codes "a2 STORE 1:2 +FLAGS (\\Seen)", Looked (1 ∷ 2 ∷ []) ∷ Altered (Some (flags false false false true false)) ∷ Refused Lapped ∷ []) ∷ [])
+    (Line (codes "a2 STORE 1:2 +FLAGS (\\Seen)") (Looked (1 ∷ 2 ∷ []) ∷ Altered (Some (flags false false false true false)) ∷ Refused Lapped ∷ []) ∷ [])
     ≡ Some (codes "* 1 FETCH (FLAGS (\\Seen))\r\n* BYE Too many changes were missed\r\n")
 unfolding read digits
 lapped_half_way = refl
 
 -- STATUS has the mailbox's own name, and the numbers in the order asked
 status_of_inbox : written awake
-    ((codes "a1 STATUS inbox (UIDNEXT MESSAGES)", Counted (record { messages = 1; uidnext = 4294967295; uidvalidity = 7; unseen = 1; deleted = 0; size = 32 }) ∷ []) ∷ [])
+    (Line (codes "a1 STATUS inbox (UIDNEXT MESSAGES)") (Counted (record { messages = 1; uidnext = 4294967295; uidvalidity = 7; unseen = 1; deleted = 0; size = 32 }) ∷ []) ∷ [])
     ≡ Some (codes "* STATUS INBOX (UIDNEXT 4294967295 MESSAGES 1)\r\na1 OK STATUS completed\r\n")
 unfolding read digits
 status_of_inbox = refl
 
 -- STATUS counts the mailbox as it is, and then shows what is pending
 status_of_selected : written in_inbox
-    ((codes "a1 STATUS INBOX (MESSAGES)", Counted (record { messages = 2; uidnext = 3; uidvalidity = 7; unseen = 2; deleted = 0; size = 2 }) ∷ Fed (1 ∷ []) (Add 2 ∷ []) ∷ []) ∷ [])
+    (Line (codes "a1 STATUS INBOX (MESSAGES)") (Counted (record { messages = 2; uidnext = 3; uidvalidity = 7; unseen = 2; deleted = 0; size = 2 }) ∷ Fed (1 ∷ []) (Add 2 ∷ []) ∷ []) ∷ [])
     ≡ Some (codes "* STATUS INBOX (MESSAGES 2)\r\n* 2 EXISTS\r\na1 OK STATUS completed\r\n")
 unfolding read digits
 status_of_selected = refl
 
 -- a part of a text, and \Seen told
 part_of_text : written in_inbox
-    ((codes "a2 FETCH 1 BODY[TEXT]<1.3>", Looked (1 ∷ []) ∷ Found (Some (record { uid = 1; flags = (flags false false false true false); newly_seen = true; text = codes "Return-Path: <s@a.example>\r\nSubject: x\r\n\r\nhello\r\n" })) ∷ []) ∷ (codes "a3 FETCH 1 RFC822.SIZE", Looked (1 ∷ []) ∷ Found (Some (record { uid = 1; flags = (flags false false false true false); newly_seen = false; text = codes "Return-Path: <s@a.example>\r\nSubject: x\r\n\r\nhello\r\n" })) ∷ []) ∷ [])
+    (Line (codes "a2 FETCH 1 BODY[TEXT]<1.3>") (Looked (1 ∷ []) ∷ Found (Some (record { uid = 1; flags = (flags false false false true false); newly_seen = true; text = codes "Return-Path: <s@a.example>\r\nSubject: x\r\n\r\nhello\r\n" })) ∷ []) ∷ Line (codes "a3 FETCH 1 RFC822.SIZE") (Looked (1 ∷ []) ∷ Found (Some (record { uid = 1; flags = (flags false false false true false); newly_seen = false; text = codes "Return-Path: <s@a.example>\r\nSubject: x\r\n\r\nhello\r\n" })) ∷ []) ∷ [])
     ≡ Some (codes "* 1 FETCH (BODY[TEXT]<1> {3}\r\nell FLAGS (\\Seen))\r\na2 OK FETCH completed\r\n* 1 FETCH (RFC822.SIZE 49)\r\na3 OK FETCH completed\r\n")
 unfolding read digits
 part_of_text = refl
 
 -- the header of a text
 header : written in_inbox
-    ((codes "a2 FETCH 1 BODY.PEEK[HEADER]", Looked (1 ∷ []) ∷ Found (Some (record { uid = 1; flags = (flags false false false false false); newly_seen = false; text = codes "Return-Path: <s@a.example>\r\nSubject: x\r\n\r\nhello\r\n" })) ∷ []) ∷ [])
+    (Line (codes "a2 FETCH 1 BODY.PEEK[HEADER]") (Looked (1 ∷ []) ∷ Found (Some (record { uid = 1; flags = (flags false false false false false); newly_seen = false; text = codes "Return-Path: <s@a.example>\r\nSubject: x\r\n\r\nhello\r\n" })) ∷ []) ∷ [])
     ≡ Some (codes "* 1 FETCH (BODY[HEADER] {42}\r\nReturn-Path: <s@a.example>\r\nSubject: x\r\n\r\n)\r\na2 OK FETCH completed\r\n")
 unfolding read digits
 header = refl
 
 -- under EXAMINE a FETCH sets no \Seen
 whole_under_examine : written in_examined
-    ((codes "a2 FETCH 1 BODY[]", Looked (1 ∷ []) ∷ Found (Some (record { uid = 1; flags = (flags false false false false false); newly_seen = false; text = codes "Return-Path: <s@a.example>\r\n" })) ∷ []) ∷ [])
+    (Line (codes "a2 FETCH 1 BODY[]") (Looked (1 ∷ []) ∷ Found (Some (record { uid = 1; flags = (flags false false false false false); newly_seen = false; text = codes "Return-Path: <s@a.example>\r\n" })) ∷ []) ∷ [])
     ≡ Some (codes "* 1 FETCH (BODY[] {28}\r\nReturn-Path: <s@a.example>\r\n)\r\na2 OK FETCH completed\r\n")
 unfolding read digits
 whole_under_examine = refl
 
 -- a message is gone between the look and the read
 gone_between : written in_inbox
-    ((codes "a2 FETCH 1 FLAGS", Looked (1 ∷ []) ∷ Found None ∷ []) ∷ [])
+    (Line (codes "a2 FETCH 1 FLAGS") (Looked (1 ∷ []) ∷ Found None ∷ []) ∷ [])
     ≡ Some (codes "a2 NO [EXPUNGEISSUED] Some messages are gone\r\n")
 unfolding read digits
 gone_between = refl
 
 -- the same under UID FETCH
 gone_between_by_uid : written in_inbox
-    ((codes "a2 UID FETCH 1 FLAGS", Looked (1 ∷ []) ∷ Found None ∷ Fed (1 ∷ []) (Gone 1 ∷ []) ∷ []) ∷ [])
+    (Line (codes "a2 UID FETCH 1 FLAGS") (Looked (1 ∷ []) ∷ Found None ∷ Fed (1 ∷ []) (Gone 1 ∷ []) ∷ []) ∷ [])
     ≡ Some (codes "* 1 EXPUNGE\r\na2 OK UID FETCH completed\r\n")
 unfolding read digits
 gone_between_by_uid = refl
 
 -- EXAMINE refuses a STORE before its set is looked at; a SELECT of no mailbox leaves the old one
 read_only : written in_examined
-    ((codes "a2 STORE 1 FLAGS ()", []) ∷ (codes "a3 SELECT Nope", Left 0 ∷ []) ∷ (codes "a4 CLOSE", []) ∷ [])
+    (Line (codes "a2 STORE 1 FLAGS ()") [] ∷ Line (codes "a3 SELECT Nope") (Left 0 ∷ []) ∷ Line (codes "a4 CLOSE") [] ∷ [])
     ≡ Some (codes "a2 NO Mailbox is read-only\r\n* OK [CLOSED] Previous mailbox is closed\r\na3 NO [NONEXISTENT] No such mailbox\r\na4 BAD Wrong state\r\n")
 unfolding read digits
 read_only = refl
 
 -- a SELECT leaves the mailbox that was selected; EXAMINE keeps no flags; CLOSE of it removes nothing
 selected_anew : written in_inbox
-    ((codes "a2 EXAMINE INBOX", Left 0 ∷ Entered (record { count = 3; uidnext = 4; uidvalidity = 7 }) ∷ []) ∷ (codes "a3 CLOSE", Left 0 ∷ []) ∷ (codes "a4 EXPUNGE", []) ∷ [])
+    (Line (codes "a2 EXAMINE INBOX") (Left 0 ∷ Entered (record { count = 3; uidnext = 4; uidvalidity = 7 }) ∷ []) ∷ Line (codes "a3 CLOSE") (Left 0 ∷ []) ∷ Line (codes "a4 EXPUNGE") [] ∷ [])
     ≡ Some (codes "* OK [CLOSED] Previous mailbox is closed\r\n* FLAGS (\\Answered \\Flagged \\Deleted \\Seen \\Draft)\r\n* 3 EXISTS\r\n* OK [UIDVALIDITY 7] UIDs valid\r\n* OK [UIDNEXT 4] Predicted next UID\r\n* OK [PERMANENTFLAGS ()] Flags kept\r\n* LIST () \"/\" INBOX\r\na2 OK [READ-ONLY] EXAMINE completed\r\na3 OK CLOSE completed\r\na4 BAD Wrong state\r\n")
 unfolding read digits
 selected_anew = refl
 
 -- lines that are no commands, and what needs no mailbox
 refusals : written awake
-    ((codes "", []) ∷ (codes "a1 XYZ", []) ∷ (codes "a2 SEARCH", []) ∷ (codes "a3 NOOP x", []) ∷ (codes "a4 LOGIN a b", []) ∷ (codes "a5 CAPABILITY", []) ∷ (codes "a6 NAMESPACE", []) ∷ (codes "a7 IDLE", []) ∷ (codes "a8 LOGOUT", []) ∷ [])
-    ≡ Some (codes "* BAD Missing tag\r\na1 BAD Unknown command\r\na2 NO [CANNOT] Not offered here\r\na3 BAD Invalid arguments\r\na4 BAD Wrong state\r\n* CAPABILITY IMAP4rev2\r\na5 OK CAPABILITY completed\r\n* NAMESPACE ((\"\" \"/\")) NIL NIL\r\na6 OK NAMESPACE completed\r\na7 NO [CANNOT] Not offered here\r\n* BYE Logging out\r\na8 OK LOGOUT completed\r\n")
+    (Line (codes "") [] ∷ Line (codes "a1 XYZ") [] ∷ Line (codes "a2 SEARCH") [] ∷ Line (codes "a3 NOOP x") [] ∷ Line (codes "a4 LOGIN a b") [] ∷ Line (codes "a5 CAPABILITY") [] ∷ Line (codes "a6 NAMESPACE") [] ∷ Line (codes "a7 LOGOUT") [] ∷ [])
+    ≡ Some (codes "* BAD Missing tag\r\na1 BAD Unknown command\r\na2 NO [CANNOT] Not offered here\r\na3 BAD Invalid arguments\r\na4 BAD Wrong state\r\n* CAPABILITY IMAP4rev2 IDLE\r\na5 OK CAPABILITY completed\r\n* NAMESPACE ((\"\" \"/\")) NIL NIL\r\na6 OK NAMESPACE completed\r\n* BYE Logging out\r\na7 OK LOGOUT completed\r\n")
 unfolding read digits
 refusals = refl
 
 -- memory is refused for the answer of the second message
 starved : written in_inbox
-    ((codes "a2 FETCH 1:2 (UID)", Looked (1 ∷ 2 ∷ []) ∷ Found (Some (record { uid = 1; flags = (flags false false false false false); newly_seen = false; text = codes "x" })) ∷ Found (Some (record { uid = 2; flags = (flags false false false false false); newly_seen = false; text = codes "y" })) ∷ Starved 0 ∷ []) ∷ [])
+    (Line (codes "a2 FETCH 1:2 (UID)") (Looked (1 ∷ 2 ∷ []) ∷ Found (Some (record { uid = 1; flags = (flags false false false false false); newly_seen = false; text = codes "x" })) ∷ Found (Some (record { uid = 2; flags = (flags false false false false false); newly_seen = false; text = codes "y" })) ∷ Starved 0 ∷ []) ∷ [])
     ≡ Some (codes "* 1 FETCH (UID 1)\r\na2 NO Out of memory\r\n")
 unfolding read digits
 starved = refl
 
 -- the mailbox numbers no more changes
 spent : written in_inbox
-    ((codes "a2 STORE 1 +FLAGS (\\Seen)", Looked (1 ∷ []) ∷ Refused Spent ∷ []) ∷ [])
+    (Line (codes "a2 STORE 1 +FLAGS (\\Seen)") (Looked (1 ∷ []) ∷ Refused Spent ∷ []) ∷ [])
     ≡ Some (codes "a2 NO Mailbox is spent\r\n")
 unfolding read digits
 spent = refl
 
 -- an event that the line doesn't ask for is none of its dialogues
-not_asked : written in_examined ((codes "a4 CAPABILITY", Left 0 ∷ []) ∷ []) ≡ None
+not_asked : written in_examined (Line (codes "a4 CAPABILITY") (Left 0 ∷ []) ∷ []) ≡ None
 unfolding read
 not_asked = refl
+
+-- two messages come while a session idles
+two_arrive : written in_inbox
+    (Line (codes "a2 IDLE") [] ∷ Turned (Fed [] (Add 1 ∷ []) ∷ []) ∷ Turned (Fed (1 ∷ []) (Add 2 ∷ []) ∷ []) ∷ Line (codes "DONE") (Fed (1 ∷ 2 ∷ []) [] ∷ []) ∷ [])
+    ≡ Some (codes "+ idling\r\n* 1 EXISTS\r\n* 2 EXISTS\r\na2 OK IDLE completed\r\n")
+unfolding read digits
+two_arrive = refl
+
+-- DONE shows what is pending, in whatever case it is written
+done_shows : written in_inbox
+    (Line (codes "a2 idle ") [] ∷ Line (codes "done  ") (Fed [] (Add 1 ∷ []) ∷ []) ∷ [])
+    ≡ Some (codes "+ idling\r\n* 1 EXISTS\r\na2 OK IDLE completed\r\n")
+unfolding read digits
+done_shows = refl
+
+-- too many changes were missed by a session that idles
+lapped_idler : written in_inbox
+    (Line (codes "a2 IDLE") [] ∷ Turned (Refused Lapped ∷ []) ∷ [])
+    ≡ Some (codes "+ idling\r\n* BYE Too many changes were missed\r\n")
+unfolding read digits
+lapped_idler = refl
+
+-- a line that isn't DONE ends an IDLE, shows nothing, and isn't read as a command
+not_done : written in_inbox
+    (Line (codes "a2 IDLE") [] ∷ Line (codes "a3 NOOP") [] ∷ Line (codes "a4 NOOP") (Fed [] [] ∷ []) ∷ [])
+    ≡ Some (codes "+ idling\r\na2 BAD Expected DONE\r\na4 OK NOOP completed\r\n")
+unfolding read digits
+not_done = refl
+
+-- so does a line that is too long
+too_long_while_idling : written in_inbox
+    (Line (codes "a2 IDLE") [] ∷ LongLine ∷ LongLine ∷ [])
+    ≡ Some (codes "+ idling\r\na2 BAD Expected DONE\r\n* BAD Line too long\r\n")
+unfolding read digits
+too_long_while_idling = refl
+
+-- a session with no mailbox idles too, and nothing is shown
+idle_without_a_mailbox : written awake
+    (Line (codes "a1 IDLE") [] ∷ Turned [] ∷ Line (codes "DONE") [] ∷ [])
+    ≡ Some (codes "+ idling\r\na1 OK IDLE completed\r\n")
+unfolding read digits
+idle_without_a_mailbox = refl
+
+-- memory is refused for the tag: it doesn't idle
+starved_idler : written in_inbox
+    (Line (codes "a2 IDLE") (Starved 0 ∷ []) ∷ Line (codes "a3 NOOP") (Fed [] [] ∷ []) ∷ [])
+    ≡ Some (codes "a2 NO Out of memory\r\na3 OK NOOP completed\r\n")
+unfolding read digits
+starved_idler = refl

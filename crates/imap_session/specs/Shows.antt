@@ -6,7 +6,8 @@ use Rattle.mailbox.specs.declared.clients.Row.{Row}
 use Rattle.mailbox.specs.declared.mailbox.Status.{Status}
 use Rattle.imap_grammar.specs.declared.command.Command.{Command}
 use Rattle.imap_grammar.specs.declared.command.Command.TheVariants as commands
-use Rattle.imap_session.specs.Exchange.{Exchange, Done, Write, Enter, Look, Read, Count, Alter, Expunge, Feed, Leave}
+use Rattle.imap_grammar.specs.Reading.{is_done}
+use Rattle.imap_session.specs.Exchange.{Exchange, Done, Idle, Write, Enter, Look, Read, Count, Alter, Expunge, Feed, Leave}
 use Rattle.imap_session.specs.Commands.{completed, unlimited}
 
 -- the command may show changes right before its tagged OK
@@ -26,16 +27,25 @@ may_remove commands.Expunge = true
 may_remove (commands.UidExpunge set) = true
 may_remove _ = false
 
--- Whatever the store answers, changes are shown by this command right before its tagged OK, all that are pending, or as it removes messages:
--- nowhere else, and by no other command.
+-- Whatever the store answers, changes are shown right before this tagged OK, all that are pending, where they may be; or, where that may be, as
+-- messages are removed. They are shown nowhere else.
+abbrev pub ShowsBefore : (ok : Exchange) (shows removes : Bool) → Exchange → Type 0
+ShowsBefore ok shows removes (Done words how) = Unit {0}
+ShowsBefore ok shows removes Idle = Unit {0}
+ShowsBefore ok shows removes (Write bytes x) = ShowsBefore ok shows removes x
+ShowsBefore ok shows removes (Enter selected next) = (opening : Opening) → ShowsBefore ok shows removes (next opening)
+ShowsBefore ok shows removes (Look next) = (view : List ℕ) → ShowsBefore ok shows removes (next view)
+ShowsBefore ok shows removes (Read uid mark next) = (row : Option Row) → ShowsBefore ok shows removes (next row)
+ShowsBefore ok shows removes (Count mailbox next) = (status : Status) → ShowsBefore ok shows removes (next status)
+ShowsBefore ok shows removes (Alter uid op next) = (flags : Option Flags) → ShowsBefore ok shows removes (next flags)
+ShowsBefore ok shows removes (Expunge uids x) = (removes ≡ true) × ShowsBefore ok shows removes x
+ShowsBefore ok shows removes (Feed limit x) = (shows ≡ true) × (limit ≡ unlimited) × (x ≡ ok)
+ShowsBefore ok shows removes (Leave remove x) = ShowsBefore ok shows removes x
+
+-- a command shows changes in its place alone. IDLE itself shows none
 abbrev pub ShowsInPlace : Command → Exchange → Type 0
-ShowsInPlace command (Done words after) = Unit {0}
-ShowsInPlace command (Write bytes x) = ShowsInPlace command x
-ShowsInPlace command (Enter selected next) = (opening : Opening) → ShowsInPlace command (next opening)
-ShowsInPlace command (Look next) = (view : List ℕ) → ShowsInPlace command (next view)
-ShowsInPlace command (Read uid mark next) = (row : Option Row) → ShowsInPlace command (next row)
-ShowsInPlace command (Count mailbox next) = (status : Status) → ShowsInPlace command (next status)
-ShowsInPlace command (Alter uid op next) = (flags : Option Flags) → ShowsInPlace command (next flags)
-ShowsInPlace command (Expunge uids x) = (may_remove command ≡ true) × ShowsInPlace command x
-ShowsInPlace command (Feed limit x) = (may_show command ≡ true) × (limit ≡ unlimited) × (x ≡ completed command)
-ShowsInPlace command (Leave remove x) = ShowsInPlace command x
+ShowsInPlace command = ShowsBefore (completed command) (may_show command) (may_remove command)
+
+-- the line that ends an IDLE shows changes where it is DONE, right before the tagged OK. Any other line shows none
+abbrev pub DoneShowsInPlace : List ℕ → Exchange → Type 0
+DoneShowsInPlace line = ShowsBefore (completed commands.Idle) (is_done line) false

@@ -3,15 +3,16 @@ use Rattle.std.specs.Borrow.{Bor}
 use Rattle.imap_session.specs.declared.standing.After.TheVariants.{Go, Bye}
 use Rattle.imap_grammar.specs.declared.command.Command.{Command}
 use Rattle.imap_grammar.specs.declared.command.Command.TheVariants as commands
-use Rattle.std.specs.Prelude.{◌≡◌, ◌≤◌, length, ℕ, List, [], ◌∷◌, ◌++◌, Option, Some, Result, Ok, Err}
+use Rattle.std.specs.Prelude.{◌≡◌, ◌≤◌, ◌⊎◌, ◌+◌, length, ℕ, Bool, true, false, List, [], ◌∷◌, ◌++◌, Option, Some, None, Result, Ok, Err}
 use Rattle.change_ring.specs.declared.change.Change.{Change}
 use Rattle.mailbox.specs.declared.clients.MailFault.{MailFault}
+use Rattle.mailbox.specs.declared.clients.MailFault.TheVariants.{NoMemory}
 use Rattle.change_ring.specs.Log.{replay}
 use Rattle.cursor_set.specs.Lines.{lines}
 use Rattle.imap_session.specs.declared.standing.After.{After}
 use Rattle.imap_session.specs.declared.standing.Selected.{Selected}
-use Rattle.imap_session.specs.Exchange.{Call, Answer, Entered, Looked, Expunged, Fed, Left, Refused, Event, Exchange, Done, Standing, Turn, played, refused, refusal_text, refusal_after, closed, tagged}
-use Rattle.imap_session.specs.Commands.{turn_of}
+use Rattle.imap_session.specs.Exchange.{Call, Answer, Entered, Looked, Expunged, Fed, Left, Refused, Event, Exchange, Feed, Done, Standing, Turn, played, refused, refusal_text, refusal_after, closed, tagged}
+use Rattle.imap_session.specs.Commands.{count_shown, idle_turn, most_changes, turn_of}
 
 -- ---- answers of the code
 
@@ -58,6 +59,26 @@ pub record Answers {S : Type 0} (step : S → Call → Answer → S → Type 0) 
   pub played : turn_of now line answers ≡ Some (record { events = events; bytes = bytes; after = how; standing = next })
   pub met : Met step old events new
   pub wrote : after ≡ before ++ bytes
+
+-- The session `now` had a turn while it idles, over any store, and showed so many changes.
+pub record IdleTurns {S : Type 0} (step : S → Call → Answer → S → Type 0) (now : Standing) (old new : S) (before after : List ℕ) (count : ℕ) (next : Standing) : Type 0 where
+  pub answers : List Answer
+  pub events : List Event
+  pub bytes : List ℕ
+  pub how : After
+  pub played : idle_turn now answers ≡ Some (record { events = events; bytes = bytes; after = how; standing = next })
+  pub met : Met step old events new
+  pub wrote : after ≡ before ++ bytes
+  pub shown : count ≡ count_shown answers
+
+-- Memory was refused for such a turn: there was no call, or the store refused it.
+abbrev pub Starves : {S : Type 0} → (S → Call → Answer → S → Type 0) → S → S → Type 0
+Starves step old new = (new ≡ old) ⊎ step old (Feed most_changes) (Refused NoMemory) new
+
+-- The room that is reserved before a line is answered: for its own tag or that of the IDLE that it ends, and for the lines that end the answer.
+abbrev pub room_for : Option (List ℕ) → List ℕ → ℕ
+room_for None line = length line + 67
+room_for (Some tag) line = length tag + 48
 
 -- ---- part of a turn
 
@@ -125,6 +146,11 @@ pub record Plays {S : Type 0} (step : S → Call → Answer → S → Type 0) (t
 abbrev pub after_command : Command → After
 after_command commands.Logout = Bye
 after_command _ = Go
+
+-- IDLE, which has no last line
+abbrev pub is_idle : Command → Bool
+is_idle commands.Idle = true
+is_idle _ = false
 
 -- the last line of a command, after which a client may send this
 abbrev pub ending : After → Bor (List ℕ) → Exchange

@@ -20,7 +20,7 @@ mod tests;
 mod turn;
 mod view;
 
-pub use laws::changes_are_shown_in_place;
+pub use laws::{changes_are_shown_in_place, done_shows_in_place};
 pub use session::Session;
 pub use standing::{After, Folder, Selected, SessionFault};
 pub use store::Store;

@@ -1,11 +1,11 @@
 //! Changes, shown. The store writes their lines; what it wrote can't be taken back, so the room for the last line is held by
 //! bytes that go again.
 
-ghost use Rattle.std.specs.Prelude.{◌≡◌, ◌+◌, ◌≤◌, ◌++◌, length, take, drop, vec_len};
+ghost use Rattle.std.specs.Prelude.{◌≡◌, ◌≢◌, ◌+◌, ◌≤◌, ◌++◌, length, take, drop, vec_len, IfErr};
 ghost use Rattle.std.specs.Option.{option_copied};
 ghost use Rattle.std.specs.Vec.{vec_capacity};
 ghost use Rattle.imap_session.specs.Exchange.{Exchange, Expunge, Feed};
-ghost use Rattle.imap_session.specs.Store.{Does};
+ghost use Rattle.imap_session.specs.Store.{Does, Feeds};
 
 use crate::store::Store;
 use mailbox::MailFault;
@@ -31,6 +31,9 @@ pub(crate) fn show<S: Store>(
 ) -> Result<usize, MailFault>
     requires room { vec_len out.old + keep ≤ vec_capacity out.old }
     ensures done { (x : Exchange) → Does S.step (Feed limit x) (λ n. x) store.old store.new out.old.items out.new.items result }
+    // It is one call of the store.
+    ensures event { Feeds (λ a. S.step store.old (Feed limit) a store.new) limit (S.shown store.old) out.old.items out.new.items result }
+    ensures faults { IfErr result (λ f. f ≢ MailFault.Spent) }
     ensures room { vec_len out.new + keep ≤ vec_capacity out.new }
 {
     let start = out.len();

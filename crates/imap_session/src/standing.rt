@@ -1,4 +1,4 @@
-//! Where a session stands: its folders, the mailbox that it selected, and whether it has ended.
+//! Where a session stands: its folders, the mailbox that it selected, and whether it idles or has ended.
 //! What it answers is told in specs/Commands.antt.
 
 use std::marker::Model;
@@ -8,6 +8,8 @@ use std::marker::Model;
 pub enum After {
     /// A command.
     Go,
+    /// DONE, since the session idles (RFC 2177).
+    Idle,
     /// Nothing: the session has ended.
     Bye,
 }

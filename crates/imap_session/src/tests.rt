@@ -2,7 +2,9 @@
 
 mod shelf;
 
-use crate::{After, Folder, Selected, Session, SessionFault, changes_are_shown_in_place};
+use crate::{
+    After, Folder, Selected, Session, SessionFault, changes_are_shown_in_place, done_shows_in_place,
+};
 use change_ring::{Change, Flags};
 use shelf::Shelf;
 use std::alloc::{AllocError, Global};
@@ -141,7 +143,7 @@ fn commands_of_any_state(rt: HostRuntime) -> Result<(), AllocError> {
         (b"a4 LOGIN a b", b"a4 BAD Wrong state\r\n"),
         (
             b"a5 CAPABILITY",
-            b"* CAPABILITY IMAP4rev2\r\na5 OK CAPABILITY completed\r\n",
+            b"* CAPABILITY IMAP4rev2 IDLE\r\na5 OK CAPABILITY completed\r\n",
         ),
         (
             b"a6 NAMESPACE",
@@ -170,6 +172,7 @@ fn commands_of_any_state(rt: HostRuntime) -> Result<(), AllocError> {
     let told = b"* BAD Line too long\r\n".as_slice();
     assert!(rt; out.as_slice() == told);
     changes_are_shown_in_place();
+    done_shows_in_place();
     Ok(())
 }
 
@@ -225,6 +228,113 @@ fn missed_changes_end_a_session(rt: HostRuntime) -> Result<(), AllocError> {
         read_only: false,
     };
     assert_eq!(rt; session.selected(), Some(selected));
+    Ok(())
+}
+
+// A session with its INBOX selected, which has one message, that has begun to idle.
+fn idler(alloc: Global, shelf: &mut Shelf) -> Result<Session, SessionFault> {
+    let Ok(mut session) = session(alloc) else {
+        return Err(SessionFault::NoMemory);
+    };
+    let mut out = Vec::new(alloc);
+    session.line(alloc, SELECT, shelf, &mut out)?;
+    session.line(alloc, b"a2 IDLE", shelf, &mut out)?;
+    Ok(session)
+}
+
+#[test]
+fn what_comes_is_shown_in_turns(rt: HostRuntime) -> Result<(), SessionFault> {
+    let alloc = rt.alloc();
+    let Ok(mut shelf) = one_letter(alloc, NONE) else {
+        return Err(SessionFault::NoMemory);
+    };
+    let mut session = idler(alloc, &mut shelf)?;
+    assert!(rt; session.is_idling());
+    assert_eq!(rt; session.idling(), Some(b"a2".as_slice()));
+    let mut out = Vec::new(alloc);
+    shelf.log(Change::Add(2));
+    assert_eq!(rt; session.idle_turn(&mut shelf, &mut out), Ok(1));
+    assert_eq!(rt; session.idle_turn(&mut shelf, &mut out), Ok(0));
+    assert_eq!(rt; out.as_slice(), b"* 2 EXISTS\r\n".as_slice());
+    shelf.log(Change::Gone(1));
+    out.clear();
+    let after = session.line(alloc, b"done ", &mut shelf, &mut out);
+    assert_eq!(rt; after, Ok(After::Go));
+    assert_eq!(rt;
+        out.as_slice(),
+        b"* 1 EXPUNGE\r\na2 OK IDLE completed\r\n".as_slice()
+    );
+    assert!(rt; !session.is_idling());
+    assert_eq!(rt; session.idling(), None);
+    Ok(())
+}
+
+#[test]
+fn any_other_line_ends_an_idle(rt: HostRuntime) -> Result<(), SessionFault> {
+    let alloc = rt.alloc();
+    let Ok(mut shelf) = one_letter(alloc, NONE) else {
+        return Err(SessionFault::NoMemory);
+    };
+    let mut session = idler(alloc, &mut shelf)?;
+    shelf.log(Change::Add(2));
+    let turns = [
+        (
+            b"a3 NOOP".as_slice(),
+            b"a2 BAD Expected DONE\r\n".as_slice(),
+        ),
+        (b"a4 NOOP", b"* 2 EXISTS\r\na4 OK NOOP completed\r\n"),
+        (b"a5 IDLE", b"+ idling\r\n"),
+    ];
+    let unlike = first_unlike(alloc, &mut session, &mut shelf, &turns);
+    assert_eq!(rt; unlike, Ok(None));
+    let mut out = Vec::new(alloc);
+    assert_eq!(rt; session.long_line(&mut out), Ok(After::Go));
+    assert_eq!(rt; session.long_line(&mut out), Ok(After::Go));
+    assert_eq!(rt;
+        out.as_slice(),
+        b"a5 BAD Expected DONE\r\n* BAD Line too long\r\n".as_slice()
+    );
+    Ok(())
+}
+
+#[test]
+fn a_session_idles_without_a_mailbox(rt: HostRuntime) -> Result<(), AllocError> {
+    let alloc = rt.alloc();
+    let mut session = session(alloc)?;
+    let mut shelf = one_letter(alloc, NONE)?;
+    let mut out = Vec::new(alloc);
+    assert_eq!(rt; session.idle_turn(&mut shelf, &mut out), Ok(0));
+    let after = session.line(alloc, b"a1 IDLE", &mut shelf, &mut out);
+    assert_eq!(rt; after, Ok(After::Idle));
+    assert_eq!(rt; session.idle_turn(&mut shelf, &mut out), Ok(0));
+    let after = session.line(alloc, b"DONE", &mut shelf, &mut out);
+    assert_eq!(rt; after, Ok(After::Go));
+    assert_eq!(rt;
+        out.as_slice(),
+        b"+ idling\r\na1 OK IDLE completed\r\n".as_slice()
+    );
+    Ok(())
+}
+
+#[test]
+fn missed_changes_end_a_session_that_idles(rt: HostRuntime) -> Result<(), SessionFault> {
+    let alloc = rt.alloc();
+    let Ok(mut shelf) = one_letter(alloc, NONE) else {
+        return Err(SessionFault::NoMemory);
+    };
+    let mut session = idler(alloc, &mut shelf)?;
+    shelf.log(Change::Gone(1));
+    shelf.log(Change::Add(2));
+    let mut out = Vec::new(alloc);
+    assert_eq!(rt; session.idle_turn(&mut shelf, &mut out), Ok(0));
+    assert!(rt; session.ended());
+    assert!(rt; !session.is_idling());
+    let over = session.idle_turn(&mut shelf, &mut out);
+    assert_eq!(rt; over, Err(SessionFault::Ended));
+    assert_eq!(rt;
+        out.as_slice(),
+        b"* BYE Too many changes were missed\r\n".as_slice()
+    );
     Ok(())
 }
 

@@ -1,11 +1,11 @@
 //! One command, carried out: the part that fits it, in the state that it wants, and then its last line in the room that was kept for it.
 //! What each part does is told in the modules of the commands.
 
-ghost use Rattle.std.specs.Prelude.{◌≡◌, ◌+◌, ◌≤◌, ◌++◌, length, false, IfOk, OnOk, OnErr, IfErr, vec_len};
+ghost use Rattle.std.specs.Prelude.{◌≡◌, ◌↔◌, ◌+◌, ◌≤◌, ◌++◌, length, true, false, None, IfOk, OnOk, OnErr, IfErr, vec_len};
 ghost use Rattle.std.specs.Vec.{vec_capacity};
 ghost use Rattle.imap_grammar.specs.declared.command.Command.TheVariants as commands;
-ghost use Rattle.imap_session.specs.Commands.{completed, fault_text, on_command, showing};
-ghost use Rattle.imap_session.specs.Store.{Does, Moves, after_command, after_result, ending, last, last_words};
+ghost use Rattle.imap_session.specs.Commands.{completed, fault_text, on_command, on_idle_line, showing};
+ghost use Rattle.imap_session.specs.Store.{Does, Moves, after_command, after_result, ending, is_idle, last, last_words};
 
 use crate::count::{count_mailbox, list_folders};
 use crate::expunge::show_pending;
@@ -14,7 +14,7 @@ use crate::select::select_mailbox;
 use crate::selected::{close, expunge, fetch, store_flags, uid_expunge, unselect};
 use crate::standing::{After, Folder, Selected};
 use crate::store::Store;
-use imap_grammar::{Command, ImapFault};
+use imap_grammar::{Command, ImapFault, is_done};
 use mailbox::MailFault;
 use std::alloc::Global;
 
@@ -24,7 +24,7 @@ pub(crate) const LAST: usize = 48;
 /// Room for the line that LOGOUT writes before its last one.
 pub(crate) const FAREWELL: usize = 19;
 
-const CAPABILITY: &[u8] = b"* CAPABILITY IMAP4rev2\r\n";
+const CAPABILITY: &[u8] = b"* CAPABILITY IMAP4rev2 IDLE\r\n";
 
 const NAMESPACE: &[u8] = b"* NAMESPACE ((\"\" \"/\")) NIL NIL\r\n";
 
@@ -87,6 +87,34 @@ pub(crate) fn after_command(command: &Command<'_>) -> After
     }
 }
 
+/// Whether it is IDLE, which has no last line.
+pub(crate) fn is_idle(command: &Command<'_>) -> bool
+    ensures { result ≡ is_idle command.now }
+{
+    matches!(command, Command::Idle)
+}
+
+/// Answers a line of a session that idles but for the last line, and answers what that says: DONE shows what is pending, where a mailbox is
+/// selected, and any other line is refused.
+pub(crate) fn end_idle<S: Store>(
+    line: &[u8],
+    selected: Option<Selected>,
+    store: &mut S,
+    keep: usize,
+    out: &mut Vec<u8>,
+) -> Result<&'static [u8], MailFault>
+    requires room { vec_len out.old + keep ≤ vec_capacity out.old }
+    ensures done { Does S.step (on_idle_line selected line.now) last store.old store.new out.old.items out.new.items result }
+    ensures short { IfOk result (λ words. length words.now ≤ 45) }
+    ensures room { vec_len out.new + keep ≤ vec_capacity out.new }
+{
+    if !is_done(line) {
+        return Ok(b"BAD Expected DONE");
+    }
+    show_pending(selected, store, keep, out)?;
+    Ok(b"OK IDLE completed")
+}
+
 // Writes a line, and answers these words for the last one.
 fn tell(
     line: &[u8],
@@ -125,7 +153,7 @@ fn note_nothing<S: Store>(
     }
 }
 
-// Carries out a command but for its last line, and answers what that says.
+// Carries out a command other than IDLE but for its last line, and answers what that says.
 pub(crate) fn carry_out<S: Store>(
     alloc: Global,
     folders: &[Folder],
@@ -136,8 +164,9 @@ pub(crate) fn carry_out<S: Store>(
     out: &mut Vec<u8>,
 ) -> Result<&'static [u8], MailFault>
     requires room { vec_len out.old + (keep + FAREWELL) ≤ vec_capacity out.old }
+    requires other { is_idle command.now ≡ false }
     ensures done { Moves S.step selected.old selected.new
-        (on_command (record { folders = folders.now; selected = selected.old; ended = false }) command.now)
+        (on_command (record { folders = folders.now; selected = selected.old; idling = None; ended = false }) command.now)
         (ending (after_command command.now)) store.old store.new out.old.items out.new.items result }
     ensures short { IfOk result (λ words. length words.now ≤ 45) }
     ensures room { vec_len out.new + keep ≤ vec_capacity out.new }
@@ -150,6 +179,7 @@ pub(crate) fn carry_out<S: Store>(
             put(b"* BYE Logging out\r\n", out);
             Ok(b"OK LOGOUT completed")
         }
+        Command::Idle => unreachable!(),
         Command::Login => Ok(b"BAD Wrong state"),
         Command::Authenticate => Ok(b"BAD Wrong state"),
         Command::StartTls => Ok(b"BAD Wrong state"),

@@ -1,6 +1,7 @@
 -- The folders of a user among some first mailboxes and one more.
 use Rattle.std.proofs.Common.{◌≡◌, ◌∙◌, ℕ, zero, suc, ◌+◌, ◌<◌, Bool, true, false, if◌then◌else◌, List, [], ◌∷◌, ◌++◌, length, take, Option, Some, None, ap, sym, refl, arith}
-use Rattle.std.specs.Prelude.{IfSome, slice_get}
+use Rattle.std.specs.Prelude.{IfSome, slice_get, ◌||◌}
+use Rattle.std.specs.List.{list_any}
 use Rattle.std.specs.Str.{bytes_eq}
 use Rattle.envelope.specs.Directory.{Home}
 use Rattle.imap_session.specs.Exchange.{Folder}
@@ -40,3 +41,39 @@ next_by user homes k old new (Some h) g l e was =
 pub folders_next : (user : List ℕ) (homes : List Home) (k : ℕ) (old new : List Folder) → k < length homes
     → IfSome (slice_get homes k) (λ (h : Home). new ≡ old ++ folders_from k user (h ∷ [])) → old ≡ folders_from 0 user (take k homes) → new ≡ folders_from 0 user (take (k + 1) homes)
 folders_next user homes k old new l e was = next_by user homes k old new _ refl l e was
+
+-- ---- whether there is a user
+
+or_true : (a b : Bool) → a ≡ true → (a || b) ≡ true
+or_true true b e = refl
+or_true false b e = absurd (cc)
+
+or_later : (a b : Bool) → b ≡ true → (a || b) ≡ true
+or_later true b e = refl
+or_later false b e = e
+
+pub any_at : (test : Home → Bool) (homes : List Home) (k : ℕ) → k < length homes → IfSome (slice_get homes k) (λ (h : Home). test h ≡ true) → list_any test homes ≡ true
+any_at test [] k l e = absurd (omega (arith, l))
+any_at test (x ∷ xs) zero l e = or_true (test x) (list_any test xs) e
+any_at test (x ∷ xs) (suc k) l e = or_later (test x) (list_any test xs) (any_at test xs k (omega (arith, l)) e)
+
+neither : (a b : Bool) → (a || b) ≡ false → (a ≡ false) × (b ≡ false)
+neither true b e = absurd (cc)
+neither false b e = (refl, e)
+
+both_false : (a b : Bool) → a ≡ false → b ≡ false → (a || b) ≡ false
+both_false false b e f = f
+both_false true b e f = absurd (cc)
+
+pub none_more : (test : Home → Bool) (homes : List Home) (k : ℕ) → k < length homes → IfSome (slice_get homes k) (λ (h : Home). test h ≡ false) → list_any test (take k homes) ≡ false
+    → list_any test (take (suc k) homes) ≡ false
+none_more test [] k l e was = refl
+none_more test (x ∷ xs) zero l e was = both_false (test x) (list_any test []) e refl
+none_more test (x ∷ xs) (suc k) l e was =
+    let two = neither (test x) (list_any test (take k xs)) was in
+    both_false (test x) (list_any test (take (suc k) xs)) two.0 (none_more test xs k (omega (arith, l)) e two.1)
+
+-- the user's name is or isn't the mailbox's, where that is there
+pub is_name : (user name : List ℕ) (b : Bool) (o : Option Home) → IfSome o (λ (h : Home). name ≡ h.user) → bytes_eq user name ≡ b → IfSome o (λ (h : Home). bytes_eq user h.user ≡ b)
+is_name user name b None is e = tt
+is_name user name b (Some h) is e = ap (bytes_eq user) (sym is) ∙ e

@@ -1,2 +1,3 @@
 pub mod Going
 pub mod FolderLaws
+pub mod Carried

@@ -2,7 +2,7 @@
 
 ghost use Rattle.std.specs.Prelude.{◌≡◌, ◌<◌, ◌++◌, ◌∷◌, [], IfOk, IfSome, OnOk, length, slice_get};
 ghost use Rattle.std.specs.Option.{option_copied};
-ghost use Rattle.visitors.specs.Folders.{folders_from, folders_of, name_of};
+ghost use Rattle.visitors.specs.Folders.{folders_from, folders_of, has_user, name_of};
 
 use envelope::Directory;
 use imap_session::Folder;
@@ -37,6 +37,18 @@ fn add_folder(
     Ok(())
 }
 
+/// Whether there is a user of this name, compared byte by byte. It takes no memory.
+pub fn has_user(directory: &Directory, user: &[u8]) -> bool
+    ensures { result ≡ has_user directory.now user.now }
+{
+    for mailbox in 0..directory.mailboxes() {
+        if user == directory.user_of(mailbox as u8) {
+            return true;
+        }
+    }
+    false
+}
+
 /// The mailboxes of the user with this name, in the directory's order: the user's INBOX under that name, any other under its folder's.
 /// The name is compared byte by byte, and where there is no such user there is no folder.
 ///
@@ -60,10 +72,10 @@ mod tests {
     use super::*;
     use envelope::DirectoryFault;
 
-    #[test]
-    fn a_user_has_folders(rt: HostRuntime) -> Result<(), DirectoryFault> {
-        let directory = Directory::new(
-            rt.alloc(),
+    // Two users, one of whom has a folder.
+    fn two_users(alloc: Global) -> Result<Directory, DirectoryFault> {
+        Directory::new(
+            alloc,
             &[b"example.org".as_slice()],
             &[
                 b"alice".as_slice(),
@@ -71,7 +83,31 @@ mod tests {
                 b"bob".as_slice(),
             ],
             2,
-        )?;
+        )
+    }
+
+    #[test]
+    fn users_are_known_by_their_own_names(rt: HostRuntime) -> Result<(), DirectoryFault> {
+        let directory = two_users(rt.alloc())?;
+        for user in [b"alice".as_slice(), b"bob".as_slice()] {
+            assert!(rt; has_user(&directory, user));
+        }
+        let others = [
+            b"".as_slice(),
+            b"Alice".as_slice(),
+            b"alice/Work".as_slice(),
+            b"Work".as_slice(),
+            b"bobby".as_slice(),
+        ];
+        for other in others {
+            assert!(rt; !has_user(&directory, other));
+        }
+        Ok(())
+    }
+
+    #[test]
+    fn a_user_has_folders(rt: HostRuntime) -> Result<(), DirectoryFault> {
+        let directory = two_users(rt.alloc())?;
         let folders = folders_of(rt.alloc(), &directory, b"alice")?;
         assert_eq!(rt; folders.len(), 2);
         if let [inbox, work] = folders.as_slice() {

@@ -7,5 +7,5 @@ mod folders;
 mod tests;
 mod visitor;
 
-pub use folders::folders_of;
+pub use folders::{folders_of, has_user};
 pub use visitor::Visitor;

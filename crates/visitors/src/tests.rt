@@ -35,3 +35,23 @@ fn each_line_is_marked(rt: HostRuntime) -> Result<(), AllocError> {
     );
     Ok(())
 }
+
+#[test]
+fn a_visitor_idles(rt: HostRuntime) -> Result<(), AllocError> {
+    let alloc = rt.alloc();
+    let mut visitor = visitor(alloc)?;
+    let mut out = Vec::new(alloc);
+    assert!(rt; !visitor.is_idling());
+    visitor.append(b"a1 IDLE\r\n")?;
+    visitor.go_on(alloc, 2, &mut Nowhere, &mut out)?;
+    assert!(rt; visitor.is_idling());
+    assert_eq!(rt; visitor.idle_turn(2, &mut Nowhere, &mut out)?, 0);
+    visitor.append(b"DONE\r\n")?;
+    visitor.go_on(alloc, 2, &mut Nowhere, &mut out)?;
+    assert!(rt; !visitor.is_idling());
+    assert_eq!(rt;
+        out.as_slice(),
+        b"I2 * PREAUTH IMAP4rev2 server ready\nI2 + idling\nI2 a1 OK IDLE completed\n".as_slice()
+    );
+    Ok(())
+}

@@ -1,9 +1,11 @@
 //! A visitor: an IMAP connection, the bytes that came for it, and what it said and has not printed yet. It knows no mailbox: its store does.
 
-ghost use Rattle.std.specs.Prelude.{◌≡◌, ◌++◌, true, false, OnOk, OnErr, IfOk};
+ghost use Rattle.std.specs.Prelude.{◌≡◌, ◌≤◌, ◌++◌, true, false, [], OnOk, OnErr, IfOk};
+ghost use Rattle.imap_session.specs.Exchange.{is_idling};
+ghost use Rattle.imap_session.specs.Store.{Starves};
 ghost use Rattle.visitors.specs.Visitor as spec;
-ghost use Rattle.visitors.specs.Visitor.{greeted};
-ghost use Rattle.visitors.specs.Place.{Answered, StandsFor, WentOn, with_more};
+ghost use Rattle.visitors.specs.Visitor.{greeted, marked};
+ghost use Rattle.visitors.specs.Place.{Answered, HadTurn, Idled, IdledInPart, StandsFor, Turned, WentOn, with_more};
 
 use imap_connection::ImapConnection;
 use imap_session::{Folder, Selected, Store};
@@ -72,6 +74,13 @@ impl Visitor {
         self.connection.selected()
     }
 
+    /// Whether its session idles (RFC 2177): then it may have turns.
+    pub fn is_idling(&self) -> bool
+        ensures { result ≡ is_idling self.now.link.session }
+    {
+        self.connection.is_idling()
+    }
+
     // Lets go of the bytes that were taken, once all are.
     fn let_go(&mut self)
         ensures { self.new ≡ self.old }
@@ -96,6 +105,16 @@ impl Visitor {
         progress.after.is_some()
     }
 
+    // Prints what was said, or nothing of it where a growth was refused.
+    fn print(&mut self, number: u8, out: &mut Vec<u8>) -> Result<(), AllocError>
+        ensures ok { OnOk result ((self.new ≡ record self.old { unsaid = [] }) × (out.new.items ≡ out.old.items ++ marked number self.old.unsaid)) }
+        ensures err { OnErr result ((self.new ≡ self.old) × (out.new.items ≡ out.old.items)) }
+    {
+        append_marked(b'I', number, &self.unsaid, out)?;
+        self.unsaid.clear();
+        Ok(())
+    }
+
     /// Answers what waits, over its store, and prints what is said: each line with an I and its number, which counts from 1. Where memory
     /// is refused, what was done stands, and the next call goes on from there.
     pub fn go_on<S: Store>(
@@ -110,13 +129,53 @@ impl Visitor {
     {
         let is_done = self.answer(alloc, store);
         self.let_go();
-        let Ok(()) = append_marked(b'I', number, &self.unsaid, out) else {
-            return Err(AllocError);
-        };
-        self.unsaid.clear();
+        self.print(number, out)?;
         if !is_done {
             return Err(AllocError);
         }
         Ok(())
+    }
+
+    // Its session has a turn while it idles. One that has ended has none.
+    fn turn<S: Store>(&mut self, store: &mut S) -> Result<usize, AllocError>
+        ensures ok { IfOk result (λ count. (v : spec.Visitor) → StandsFor self.old v → Turned S.step count v store.old store.new self.new) }
+        ensures session { IfOk result (λ count. HadTurn S.step self.old store.old store.new count self.new) }
+        ensures few { IfOk result (λ count. count ≤ 64) }
+        ensures quiet { IfOk result (λ count. count ≡ 0 → self.new.link.session.ended ≡ false → self.new ≡ self.old) }
+        ensures err { OnErr result ((self.new ≡ self.old) × Starves S.step store.old store.new) }
+    {
+        if self.connection.has_ended() {
+            return Ok(0);
+        }
+        let Ok(count) = self.connection.idle_turn(store, &mut self.unsaid) else {
+            return Err(AllocError);
+        };
+        Ok(count)
+    }
+
+    /// Its session has a turn while it idles (RFC 2177), over its store: what is pending in its mailbox is shown, 64 changes at most, and all that
+    /// was said is printed, each line with an I and its number, which counts from 1. Answers how many changes were shown. Where the session doesn't
+    /// idle, has selected no mailbox or has ended, none are; a client that missed changes is told BYE, and its session has then ended.
+    /// A turn in which nothing was said prints nothing.
+    ///
+    /// Errors: `AllocError` where memory was refused. Either nothing happened, or the turn was made, and what was said is printed the next time.
+    pub fn idle_turn<S: Store>(
+        &mut self,
+        number: u8,
+        store: &mut S,
+        out: &mut Vec<u8>,
+    ) -> Result<usize, AllocError>
+        ensures ok { IfOk result (λ count. (v : spec.Visitor) → StandsFor self.old v → Idled S.step true number count v store.old store.new out.old.items out.new.items self.new) }
+        ensures session { IfOk result (λ count. HadTurn S.step self.old store.old store.new count self.new) }
+        ensures few { IfOk result (λ count. count ≤ 64) }
+        ensures quiet { IfOk result (λ count. count ≡ 0 → self.new.link.session.ended ≡ false → (self.new ≡ self.old) × (out.new.items ≡ out.old.items)) }
+        ensures err { OnErr result ((v : spec.Visitor) → StandsFor self.old v → IdledInPart S.step number v store.old store.new out.old.items out.new.items self.new) }
+    {
+        let count = self.turn(store)?;
+        if count == 0 && !self.connection.has_ended() {
+            return Ok(0);
+        }
+        self.print(number, out)?;
+        Ok(count)
     }
 }

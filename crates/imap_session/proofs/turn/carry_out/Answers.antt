@@ -8,7 +8,7 @@ use Rattle.imap_session.proofs.turn.carry_out.Goals as goal
 
 pub returns-in-Capability-clause-done : goal.returns-in-Capability-clause-done
 returns-in-Capability-clause-done g c =
-    let told = does_tell g.S.Store.step (codes "* CAPABILITY IMAP4rev2\r\n") (codes "OK CAPABILITY completed") c.args.store.now _ _ c.tell.result c.tell.ensures.text c.tell.ensures.words c.tell.ensures.err c.tell.ensures.fault in
+    let told = does_tell g.S.Store.step (codes "* CAPABILITY IMAP4rev2 IDLE\r\n") (codes "OK CAPABILITY completed") c.args.store.now _ _ c.tell.result c.tell.ensures.text c.tell.ensures.words c.tell.ensures.err c.tell.ensures.fault in
     rw c.in-Capability.is (moves_still g.S.Store.step c.args.selected.now _ _ _ _ _ _ c.tell.result told)
 
 pub returns-in-Namespace-clause-done : goal.returns-in-Namespace-clause-done

@@ -3,9 +3,9 @@ use Rattle.std.proofs.Math.Seq.{take-length}
 use Rattle.line_io.specs.Cutting as cutting
 use Rattle.line_io.specs.Wire.{wire_lines}
 use Rattle.line_io.specs.Cutting.{EndsLine}
-use Rattle.imap_session.specs.Exchange.{Standing}
+use Rattle.imap_session.specs.Exchange.{Standing, waits_for}
 use Rattle.imap_session.specs.Store.{Answers}
-use Rattle.imap_session.specs.Commands.{long_line_text}
+use Rattle.imap_session.specs.Commands.{long_line_text, turn_of_long_line}
 use Rattle.imap_connection.specs.Dialogue.{Link, begins, ends, most_bytes, reads, too_long}
 use Rattle.imap_connection.proofs.Feeding.{has_begun, line_ends, some_same, stands_anew}
 use Rattle.imap_connection.proofs.connection.ImapConnection.feed.Goals as goal
@@ -21,7 +21,7 @@ returns-in-NeedMore-clause-ok g c d s =
     let used : c.take-cut.result.used ≡ length c.args.piece.now = c.take-cut.ensures.all_used c.in-NeedMore.is in
     let all : take c.take-cut.result.used c.args.piece.now ≡ c.args.piece.now = ap (λ n. take n c.args.piece.now) used ∙ take-length c.args.piece.now in
     let tells = subst (λ w. cutting.Tells w c.take-cut.new.self d.begun (take c.take-cut.result.used c.args.piece.now)) c.in-NeedMore.is (c.take-cut.ensures.lines d.begun cut) in
-    begins (ap (λ x. x.ended) (sym same) ∙ sym c.ended.ensures ∙ c.if-ended.false) used refl refl (c.reserve.ensures.items)
+    begins (ap (λ x. x.ended) (sym same) ∙ sym c.ended.ensures ∙ c.if-ended.false) used (c.awaited.ensures ∙ ap (λ (x : Standing). waits_for x.idling) same) refl (c.reserve.ensures.items)
     (has_begun c.self.inside.session c.take-cut.new.self d c.args.piece.now same s.uncut
     (subst (λ (t : List ℕ). cutting.StandsFor c.take-cut.new.self (d.begun ++ t)) all (c.take-cut.ensures.stands d.begun cut))
     (subst (λ (t : List ℕ). wire_lines (d.begun ++ t) ≡ wire_lines d.begun) all tells))
@@ -53,5 +53,6 @@ returns-in-Ok-long_line-clause-ok g c d s =
     let max : c.take-cut.new.self.max ≡ 8192 = c.take-cut.ensures.max ∙ c.self.invariant.0 in
     let whole = line_ends d used told.0 s.uncut told.1 in
     ends told.0 c.long_line.new.self (ap (λ x. x.ended) (sym same) ∙ sym c.ended.ensures ∙ c.if-ended.false) whole.0 whole.1
-    (too_long (subst (λ (n : ℕ). n < length told.0 + 2) max told.2) refl (c.in-Ok-long_line.ensures.answered.1 ∙ ap (λ (t : List ℕ). t ++ long_line_text) c.reserve.ensures.items) c.in-Ok-long_line.ensures.answered.0 (c.in-Ok-long_line.ensures.same ∙ same))
+    (too_long (subst (λ (n : ℕ). n < length told.0 + 2) max told.2) refl (c.in-Ok-long_line.ensures.answered.1 ∙ ap (λ (t : List ℕ). t ++ long_line_text c.self.inside.session.idling) c.reserve.ensures.items ∙ ap (λ (x : Standing). c.args.out.now.items ++ long_line_text x.idling) same)
+    c.in-Ok-long_line.ensures.answered.0 (c.in-Ok-long_line.ensures.standing ∙ ap (λ (x : Standing). (turn_of_long_line x).standing) same))
     (stands_anew c.long_line.new.self c.take-cut.new.self d.begun used told.0 (c.take-cut.ensures.stands d.begun cut) told.1)

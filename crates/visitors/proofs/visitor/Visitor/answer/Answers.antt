@@ -14,4 +14,4 @@ returns g c v s =
     (answered g.S.Store.step c.is_some.result v c.args.store.now c.take-progress.new.store c.self.inside.connection c.take-progress.new.self c.deref.result.now c.self.inside.taken
     c.self.inside.unsaid.items c.take-progress.new.out.items c.take-progress.result
     (subst (λ (t : List ℕ). StandsFor (record { link = c.self.inside.connection; came = drop c.self.inside.taken t; unsaid = c.self.inside.unsaid.items }) v) (sym came) (subst (λ (p : Place). StandsFor p v) (sym c.self.view_is) s))
-    c.take-progress.ensures.took c.take-progress.ensures.all c.take-progress.ensures.ends c.is_some.ensures)
+    c.take-progress.ensures.took c.take-progress.ensures.all c.take-progress.ensures.sends c.is_some.ensures)

@@ -1,0 +1,13 @@
+use Rattle.std.proofs.Common.{List, ℕ, subst}
+use Rattle.imap_session.specs.Commands.{on_idle_line}
+use Rattle.imap_session.specs.Store.{Plays}
+use Rattle.imap_session.proofs.Lines.{answers_idle_line}
+use Rattle.imap_session.proofs.session.Session.idle_line.Goals as goal
+
+pub returns-clause-answered : goal.returns-clause-answered
+returns-clause-answered g c =
+    let at : List ℕ → List ℕ → Type 0 = λ tag before. Plays g.S.Store.step tag c.args.self.now c.args.self.now (on_idle_line c.args.self.now.selected c.args.line.now) c.args.store.now c.end_idling.new.store before
+    c.end_idling.new.out.items c.end_idling.result in
+    let plays = subst (at c.args.tag.items) c.reserve.ensures.items (subst (λ (tag : List ℕ). at tag c.reserve.new.self.items) c.deref.ensures.value c.end_idling.ensures.plays) in
+    answers_idle_line g.S.Store.step c.args.self.now c.end_idling.new.self c.args.tag.items c.args.line.now c.args.store.now c.end_idling.new.store c.args.out.now.items c.end_idling.new.out.items c.end_idling.result
+    c.requires.awake plays c.end_idling.ensures.standing
