@@ -76,7 +76,7 @@ ended_somewhere k h w p st lp some =
 -- an end joins, where nobody stands at the seat
 pub end_led : (k : Setup) (h : State) (s : Scene) (c : Held) (seat shard : ℕ) (old : List ℕ) → StandsFor k h s → s.caller seat ≡ None → ((x : Config) → core.Follows x h.core (world.PutEnd seat shard ∷ []) c) → c.heard ≡ h.core.heard → c.next ≡ h.core.next
     → (t : Scene) × (printed : List ℕ) × (s.caller seat ≡ None) × Moves k s (world.PutEnd seat shard) t printed
-    × StandsFor k (record { core = c; callers = h.callers; serials = h.serials; directory = h.directory; host = h.host; max_message = h.max_message }) t × (old ≡ old ++ printed)
+    × StandsFor k (record { core = c; callers = h.callers; serials = h.serials; visitors = h.visitors; directory = h.directory; host = h.host; max_message = h.max_message }) t × (old ≡ old ++ printed)
 end_led k h s c seat shard old st none follows eh en =
     let m = moves k h c s (world.PutEnd seat shard) st follows eh en in
     (with_world s m.0, [], none, m.1, m.2, sym (append-nil old))

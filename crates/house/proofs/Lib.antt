@@ -7,3 +7,6 @@ pub mod Ended
 pub mod TailLaws
 pub mod NewHouse
 pub mod Settlement
+pub mod Visiting
+pub mod IdleTurn
+pub mod IdleSettling

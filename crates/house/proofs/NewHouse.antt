@@ -14,8 +14,9 @@ use Rattle.house.specs.declared.config.Config.{Config}
 use Rattle.callers.specs.Line.{Line}
 use Rattle.house.specs.State.{State}
 use Rattle.house.specs.Scene.{empty_scene}
-use Rattle.house.specs.Settings.{seats, setup_of, words_of}
-use Rattle.house.specs.Stands.{StandsFor, StandsForOne}
+use Rattle.house.specs.Settings.{seats, sessions, setup_of, words_of}
+use Rattle.house.specs.Stands.{StandsFor, StandsForOne, StandsForVisit}
+use Rattle.visitors.specs.Place.{Place}
 
 -- words that are read are the mailboxes that they name
 homes_are : (many right : Bool) (fault : Option DirectoryFault) (homes read : List Home)
@@ -30,10 +31,10 @@ read_homes domains words read e = homes_are (nat_lt 64 (length words)) (list_all
 
 pub new_house : (c : Config) (h : State) → core.StandsFor (setup_of c).config h.core (empty_scene).world
     → ((p : ℕ) (d : CopyKey) → p < seats → get_or h.core.next p d ≡ first_key p)
-    → h.callers ≡ replicate seats None → h.serials ≡ replicate seats 0 → h.directory ≡ (setup_of c).directory → h.host ≡ c.host.items → h.max_message ≡ c.max_message
+    → h.callers ≡ replicate seats None → h.serials ≡ replicate seats 0 → h.visitors ≡ replicate sessions None → h.directory ≡ (setup_of c).directory → h.host ≡ c.host.items → h.max_message ≡ c.max_message
     → 0 < c.shards
     → StandsFor (setup_of c) h empty_scene
-new_house c h stands keys callers serials directory host most some = record {
+new_house c h stands keys callers serials places directory host most some = record {
   core = stands;
   directory = directory;
   host = host;
@@ -50,6 +51,11 @@ new_house c h stands keys callers serials directory host most some = record {
         counted = ap (λ (xs : List ℕ). get_or xs seat n) serials ∙ get_or-replicate seats seat 0 n lt;
         who = subst (λ (o : Option Line). StandsForOne (setup_of c) seat (get_or h.core.next seat y) [] 0 o None) (sym nobody) (inl (keys seat y lt));
       };
+  places = ap length places;
+  visitors = λ place d below.
+      let lt : place < sessions = let e : length h.visitors ≡ sessions = ap length places in omega (arith, below, e) in
+      let free : get_or h.visitors place d ≡ None = ap (λ (xs : List (Option Place)). get_or xs place d) places ∙ get_or-replicate sessions place None d lt in
+      subst (λ (o : Option Place). StandsForVisit o None) (sym free) tt;
 }
 
 pub directory_is : (c : Config) (d : Directory) → d.domains ≡ c.domain.items ∷ [] → d.homes ≡ map home_of (words_of c) → d.shards ≡ c.shards → d ≡ (setup_of c).directory

@@ -73,8 +73,8 @@ pub after_going : (k : Setup) (h : State) (c : Held) (serials : List ℕ) (s : S
     → length serials ≡ length h.serials → ((n : ℕ) → get_or serials seat n ≡ numbers seat) → ((q n : ℕ) → q ≢ seat → get_or serials q n ≡ get_or h.serials q n) → ((q : ℕ) → q ≢ seat → numbers q ≡ s.next q)
     → StandsForCaller k seat (get_or c.next seat y) (v.heard seat) g a → a.serial < numbers seat
     → (w : PlaceWentOn k whole seat (get_or c.next seat y) (v.heard seat) a l old new)
-    → StandsFor k (record { core = c; callers = set h.callers seat l; serials = serials; directory = h.directory; host = h.host; max_message = h.max_message })
-    (record { world = v; caller = set_at s.caller seat w.left; next = numbers })
+    → StandsFor k (record { core = c; callers = set h.callers seat l; serials = serials; visitors = h.visitors; directory = h.directory; host = h.host; max_message = h.max_message })
+    (record { world = v; caller = set_at s.caller seat w.left; next = numbers; visitor = s.visitor })
 after_going k h c serials s v numbers seat y l g a whole old new st cs lt notes nexts len here there other sa less w = record {
   core = cs;
   directory = st.directory;
@@ -86,6 +86,8 @@ after_going k h c serials s v numbers seat y l g a whole old new st cs lt notes 
   seats = length-set h.callers seat l ∙ st.seats;
   numbers = len ∙ st.numbers;
   each = λ q z n d m. place q z n d m (eqb_tells q seat);
+  places = st.places;
+  visitors = st.visitors;
 }
   where
     in_next : seat < length c.next
@@ -94,7 +96,7 @@ after_going k h c serials s v numbers seat y l g a whole old new st cs lt notes 
     one : StandsForOne k seat (get_or c.next seat y) (v.heard seat) (numbers seat) l w.left
     one = who_is_left k seat (get_or c.next seat y) (v.heard seat) (numbers seat) l w.left g a w.there sa less (λ b e. proceeds_serial k whole seat (v.heard seat) a w.left w.printed b w.goes e)
 
-    at_seat : (z : CopyKey) (n : ℕ) (d : Option Line) → StandsForSeat k (record { world = v; caller = set_at s.caller seat w.left; next = numbers }) seat (get_or c.next seat z) (get_or serials seat n) (get_or (set h.callers seat l) seat d)
+    at_seat : (z : CopyKey) (n : ℕ) (d : Option Line) → StandsForSeat k (record { world = v; caller = set_at s.caller seat w.left; next = numbers; visitor = s.visitor }) seat (get_or c.next seat z) (get_or serials seat n) (get_or (set h.callers seat l) seat d)
     at_seat z n d = record {
       counted = here n;
       who = subst (λ (x : CopyKey). StandsForOne k seat x (v.heard seat) (numbers seat) (get_or (set h.callers seat l) seat d) (set_at s.caller seat w.left seat)) (get_or-any c.next seat y z in_next)
@@ -102,14 +104,14 @@ after_going k h c serials s v numbers seat y l g a whole old new st cs lt notes 
           (subst (λ (x : Option Caller). StandsForOne k seat (get_or c.next seat y) (v.heard seat) (numbers seat) l x) (sym (set_at-same s.caller seat w.left)) one));
     }
 
-    elsewhere : (q : ℕ) (z : CopyKey) (n : ℕ) (d : Option Line) → q < length h.callers → q ≢ seat → StandsForSeat k (record { world = v; caller = set_at s.caller seat w.left; next = numbers }) q (get_or c.next q z) (get_or serials q n) (get_or (set h.callers seat l) q d)
+    elsewhere : (q : ℕ) (z : CopyKey) (n : ℕ) (d : Option Line) → q < length h.callers → q ≢ seat → StandsForSeat k (record { world = v; caller = set_at s.caller seat w.left; next = numbers; visitor = s.visitor }) q (get_or c.next q z) (get_or serials q n) (get_or (set h.callers seat l) q d)
     elsewhere q z n d m ne =
         let lk : q < k.config.seats = let e = st.seats in omega (arith, m, e) in
-        seat_kept k s (record { world = v; caller = set_at s.caller seat w.left; next = numbers }) q (get_or h.core.next q z) (get_or c.next q z) (get_or h.serials q n) (get_or serials q n) (get_or h.callers q d) (get_or (set h.callers seat l) q d) (st.each q z n d m)
+        seat_kept k s (record { world = v; caller = set_at s.caller seat w.left; next = numbers; visitor = s.visitor }) q (get_or h.core.next q z) (get_or c.next q z) (get_or h.serials q n) (get_or serials q n) (get_or h.callers q d) (get_or (set h.callers seat l) q d) (st.each q z n d m)
         (nexts q z ne) (there q n ne) (get_or-set_other h.callers seat q l d ne)
         (sym (heard_is k.config c v cs q lk) ∙ notes q ne ∙ heard_is k.config h.core s.world st.core q lk) (at_there s.caller seat w.left q ne) (other q ne)
 
     place : (q : ℕ) (z : CopyKey) (n : ℕ) (d : Option Line) → q < length (set h.callers seat l) → ((eqb q seat ≡ true) × (q ≡ seat)) ⊎ ((eqb q seat ≡ false) × (q ≢ seat))
-        → StandsForSeat k (record { world = v; caller = set_at s.caller seat w.left; next = numbers }) q (get_or c.next q z) (get_or serials q n) (get_or (set h.callers seat l) q d)
-    place q z n d m (inl (b, e)) = subst (λ (x : ℕ). StandsForSeat k (record { world = v; caller = set_at s.caller seat w.left; next = numbers }) x (get_or c.next x z) (get_or serials x n) (get_or (set h.callers seat l) x d)) (sym e) (at_seat z n d)
+        → StandsForSeat k (record { world = v; caller = set_at s.caller seat w.left; next = numbers; visitor = s.visitor }) q (get_or c.next q z) (get_or serials q n) (get_or (set h.callers seat l) q d)
+    place q z n d m (inl (b, e)) = subst (λ (x : ℕ). StandsForSeat k (record { world = v; caller = set_at s.caller seat w.left; next = numbers; visitor = s.visitor }) x (get_or c.next x z) (get_or serials x n) (get_or (set h.callers seat l) x d)) (sym e) (at_seat z n d)
     place q z n d m (inr (b, ne)) = elsewhere q z n d (let e = length-set h.callers seat l in omega (arith, e, m)) ne

@@ -39,7 +39,7 @@ one_step k w v e s = subst (λ (x : World). Step k w e x) (sym s.2) s.1
 
 -- the delivery side made an event of which no seat hears
 pub moved : (k : Setup) (h : State) (c : Held) (s : Scene) (v : World) → StandsFor k h s → core.StandsFor k.config c v → c.heard ≡ h.core.heard → c.next ≡ h.core.next
-    → StandsFor k (record { core = c; callers = h.callers; serials = h.serials; directory = h.directory; host = h.host; max_message = h.max_message }) (with_world s v)
+    → StandsFor k (record { core = c; callers = h.callers; serials = h.serials; visitors = h.visitors; directory = h.directory; host = h.host; max_message = h.max_message }) (with_world s v)
 moved k h c s v st cs eh en = record {
   core = cs;
   directory = st.directory;
@@ -55,4 +55,6 @@ moved k h c s v st cs eh en = record {
       seat_kept k s (with_world s v) q (get_or h.core.next q y) (get_or c.next q y) (get_or h.serials q n) (get_or h.serials q n) (get_or h.callers q d) (get_or h.callers q d) (st.each q y n d l)
       (ap (λ (ks : List CopyKey). get_or ks q y) en) refl refl
       (sym (heard_is k.config c v cs q lt) ∙ ap (λ (bs : List Book). get_or (map (λ (b : Book). b.notes) bs) q []) eh ∙ heard_is k.config h.core s.world st.core q lt) refl refl;
+  places = st.places;
+  visitors = st.visitors;
 }

@@ -9,14 +9,19 @@ use Rattle.lmtp_machine.specs.declared.connection.What.{What}
 use Rattle.lmtp_machine.specs.Dialogue.{Submission}
 use Rattle.delivery_token.specs.declared.log.Noted.{Noted}
 use Rattle.house.specs.declared.event.Event.{Event}
-use Rattle.house.specs.declared.event.Event.TheVariants.{Bytes, Vanish, Put, Take, Deliver, Answer, Hear, End}
+use Rattle.house.specs.declared.event.Event.TheVariants.{Bytes, Vanish, Put, Take, Deliver, Answer, Hear, End, Enter, Say, Idle, Leave}
 use Rattle.callers.specs.Talk.{Talk}
 use Rattle.callers.specs.Caller.{Caller, GoesOn, Leaves, Proceeds, Setup, Talks, goes, stays, works, waits, answers, stalls, talks, lingers, fades, unread}
-use Rattle.house.specs.Scene.{BytesPlay, HasNothing, HearPlay, Plays, PutPlay, Scene, VanishPlay, seat_of, opens, goes_on}
-use Rattle.house.specs.Settling.{Happened, InTurn, Settles, Tries, Visit, Visits, happens, in_a_row, passes, round}
-use Rattle.house.specs.Settled.{HappenedFrom, SettledFrom, is_held}
+use Rattle.house.specs.Scene.{BytesPlay, HasNothing, HearPlay, Parts, Plays, PutPlay, Scene, VanishPlay, VisitorGoes, VisitorIdles, seat_of, place_of, opens, goes_on, parts, remains}
+use Rattle.visitors.specs.Folders.{folders_of}
+use Rattle.world.specs.World.{World}
+use Rattle.visitors.specs.Visitor.{Visitor}
+use Rattle.visitors.specs.Visitor.{greeted as greeted_visitor, more_waits as visitor_more_waits}
+use Rattle.house.specs.Settling.{GoesRounds, Happened, InTurn, Tries, Visit, Visits, happens, in_a_row, passes, round}
+use Rattle.house.specs.Settled.{HappenedFrom}
 use Rattle.house.specs.Stands.{StandsFor, StandsForOne}
-use Rattle.house.specs.Steps.{Follows, FollowsInPart, IsBusy, IsEmptySeat, IsNoSeat, IsNobody, Led}
+use Rattle.house.specs.Steps.{Follows, FollowsInPart, IsBusy, IsEmptySeat, IsFreePlace, IsNoPlace, IsNoSeat, IsNobody, Led}
+use Rattle.house.proofs.Visiting.{nobody_visits}
 use Rattle.callers.specs.Line.{Line}
 use Rattle.envelope.specs.Directory.{Directory}
 use Rattle.delivery_token.specs.declared.CopyKey.{CopyKey}
@@ -94,6 +99,25 @@ hear_part k s seat t printed p = record {
   after = p.after;
 }
 
+parts_part : (k : Setup) (place : ℕ) (after : Visitor) (w v : World) (o : Option Visitor) → Parts k true place after w v o → Parts k false place after w v o
+parts_part k place after w v o (parts e u l n) = parts e u l n
+parts_part k place after w v o (remains r e n) = remains (λ f. absurd (let x : false ≡ true = f in cc)) e n
+
+visits_part : (k : Setup) (place : ℕ) (w : World) (b : Visitor) (v : World) (o : Option Visitor) (printed : List ℕ) → VisitorGoes k true place w b v o printed → VisitorGoes k false place w b v o printed
+visits_part k place w b v o printed p = record { after = p.after; mid = p.mid; speaks = p.speaks; all = λ f. absurd (let x : false ≡ true = f in cc); left = parts_part k place p.after p.mid v o p.left }
+
+idles_part : (k : Setup) (place : ℕ) (w : World) (b : Visitor) (v : World) (o : Option Visitor) (printed : List ℕ) → VisitorIdles k true place w b v o printed → VisitorIdles k false place w b v o printed
+idles_part k place w b v o printed p = record {
+  idling = p.idling;
+  after = p.after;
+  mid = p.mid;
+  shown = p.shown;
+  idles = p.idles;
+  something = p.something;
+  all = λ f. absurd (let x : false ≡ true = f in cc);
+  left = parts_part k place p.after p.mid v o p.left;
+}
+
 pub plays_part : (k : Setup) (s : Scene) (e : Event) (t : Scene) (printed : List ℕ) → Plays k true s e t printed → Plays k false s e t printed
 plays_part k s (Bytes connection piece) t printed p = bytes_part k s _ _ t printed p
 plays_part k s (Vanish connection) t printed p = vanish_part k s _ t printed p
@@ -103,6 +127,10 @@ plays_part k s (Deliver shard) t printed p = p
 plays_part k s (Answer shard) t printed p = p
 plays_part k s (Hear connection) t printed p = hear_part k s _ t printed p
 plays_part k s (End connection shard) t printed p = p
+plays_part k s (Enter session user) t printed p = record { there = p.there; free = p.free; known = p.known; moved = p.moved; left = p.left; goes = visits_part k (place_of session) s.world (greeted_visitor (folders_of k.directory user.now)) p.moved p.left printed p.goes; after = p.after }
+plays_part k s (Say session piece) t printed p = record { visitor = p.visitor; there = p.there; moved = p.moved; left = p.left; goes = visits_part k (place_of session) s.world (visitor_more_waits p.visitor piece.now) p.moved p.left printed p.goes; after = p.after }
+plays_part k s (Idle session) t printed p = record { visitor = p.visitor; there = p.there; moved = p.moved; left = p.left; goes = idles_part k (place_of session) s.world p.visitor p.moved p.left printed p.goes; after = p.after }
+plays_part k s (Leave session) t printed p = p
 
 -- ---- in a row
 
@@ -185,7 +213,7 @@ went Q P I h o h1 o1 false f c k s q st = record {
   out = c.silent ∙ sym (append-nil o);
 }
 
-joined : (P₁ P₂ P : Setup → Scene → Scene → List ℕ → Type 0) → ((k : Setup) (s m t : Scene) (one two : List ℕ) → P₁ k s m one → P₂ k m t two → P k s t (one ++ two))
+pub joined : (P₁ P₂ P : Setup → Scene → Scene → List ℕ → Type 0) → ((k : Setup) (s m t : Scene) (one two : List ℕ) → P₁ k s m one → P₂ k m t two → P k s t (one ++ two))
     → (k : Setup) (s : Scene) (h1 h2 : State) (o o1 o2 : List ℕ) → (w : Went P₁ k s h1 o o1) → Went P₂ k w.after h2 o1 o2 → Went P k s h2 o o2
 joined P₁ P₂ P f k s h1 h2 o o1 o2 w v = record {
   after = v.after;
@@ -268,10 +296,20 @@ nobody_there k h s n pos le st (inr e) =
     no_caller k s (n - 1) (get_or h.core.next (n - 1) y) (s.caller (n - 1)) refl
     (subst (λ (x : Option Line). StandsForOne k (n - 1) (get_or h.core.next (n - 1) y) (s.world.heard (n - 1)) (s.next (n - 1)) x (s.caller (n - 1))) e (st.each (n - 1) y 0 None lt).who)
 
+nobody_visits_there : (k : Setup) (h : State) (s : Scene) (n : ℕ) → 0 < n → n ≤ k.config.sessions → StandsFor k h s → IsNoPlace h n ⊎ IsFreePlace h n → s.visitor (place_of n) ≡ None
+nobody_visits_there k h s n pos le st (inl (inl e)) = absurd (omega (arith, pos, e))
+nobody_visits_there k h s n pos le st (inl (inr l)) = absurd (let e = st.places in omega (arith, le, l, e))
+nobody_visits_there k h s n pos le st (inr e) =
+    nobody_visits (get_or h.visitors (n - 1) None) (s.visitor (n - 1)) (st.visitors (n - 1) None (let f = st.places in omega (arith, pos, le, f))) e
+
 pub nobody_nothing : (k : Setup) (h : State) (s : Scene) (e : Event) → IsAmong k e → StandsFor k h s → IsNobody h e → HasNothing k s e
 nobody_nothing k h s (Bytes connection piece) q st n = absurd q
 nobody_nothing k h s (Vanish connection) q st n = absurd q
 nobody_nothing k h s (End connection shard) q st n = absurd q
+nobody_nothing k h s (Enter session user) q st n = absurd q
+nobody_nothing k h s (Say session piece) q st n = absurd q
+nobody_nothing k h s (Leave session) q st n = absurd q
+nobody_nothing k h s (Idle session) q st n = λ t printed p. absurd (let x = nobody_visits_there k h s session q.0 q.1 st n in let y = p.there in let z : None ≡ Some p.visitor = sym x ∙ y in cc)
 nobody_nothing k h s (Put connection) q st n = λ t printed p. absurd (let x = nobody_there k h s connection q.0 q.1 st n in let y = p.there in let z : None ≡ Some p.caller = sym x ∙ y in cc)
 nobody_nothing k h s (Hear connection) q st n = λ t printed p. absurd (let x = nobody_there k h s connection q.0 q.1 st n in let y = p.there in let z : None ≡ Some p.caller = sym x ∙ y in cc)
 nobody_nothing k h s (Take shard) q st n = absurd (let e = st.core.shards in omega (arith, e, q, n))
@@ -283,6 +321,10 @@ pub own_less : (e : Event) (old new : State) → IsOwn e → MakesLess e old new
 own_less (Bytes connection piece) old new o l = absurd o
 own_less (Vanish connection) old new o l = absurd o
 own_less (End connection shard) old new o l = absurd o
+own_less (Enter session user) old new o l = absurd o
+own_less (Say session piece) old new o l = absurd o
+own_less (Leave session) old new o l = absurd o
+own_less (Idle session) old new o l = absurd o
 own_less (Put connection) old new o l = l
 own_less (Take shard) old new o l = l
 own_less (Deliver shard) old new o l = l
@@ -299,6 +341,10 @@ own_not_busy (Deliver shard) h o b = b
 own_not_busy (Answer shard) h o b = b
 own_not_busy (Hear connection) h o b = b
 own_not_busy (End connection shard) h o b = o
+own_not_busy (Enter session user) h o b = o
+own_not_busy (Say session piece) h o b = o
+own_not_busy (Leave session) h o b = o
+own_not_busy (Idle session) h o b = o
 
 -- an event that happened is one that was tried
 pub tried : (e : Event) (h h1 : State) (o o1 : List ℕ) → IsOwn e → Follows h e h1 o o1 → MakesLess e h h1 → Moved (λ k. IsAmong k e) (λ k s t printed. Tries k s e t printed) h o h1 o1
@@ -307,7 +353,7 @@ tried e h h1 o o1 own f l = record {
   less = own_less e h h1 own l;
 }
 
-led_or_not : (e : Event) (h h1 : State) (o o1 : List ℕ) (k : Setup) (s : Scene) → Led k false s e h1 o o1 ⊎ (StandsFor k h1 s × (o1 ≡ o)) → HappenedFrom k s h1 o o1
+pub led_or_not : (e : Event) (h h1 : State) (o o1 : List ℕ) (k : Setup) (s : Scene) → Led k false s e h1 o o1 ⊎ (StandsFor k h1 s × (o1 ≡ o)) → HappenedFrom k s h1 o o1
 led_or_not e h h1 o o1 k s (inl w) = record {
   events = e ∷ [];
   after = w.after;
@@ -365,11 +411,11 @@ each_wants group es e h o h1 o1 h2 o2 a f c d =
 abbrev pub Often : Setup → List Event → Scene → Scene → List ℕ → Type 0
 Often k group s t printed = (n : ℕ) × InTurn k (in_a_row (replicate n group)) s t printed
 
-often_more : (k : Setup) (group : List Event) (s m t : Scene) (one two : List ℕ) → Often k group s m one → InTurn k group m t two → Often k group s t (one ++ two)
+pub often_more : (k : Setup) (group : List Event) (s m t : Scene) (one two : List ℕ) → Often k group s m one → InTurn k group m t two → Often k group s t (one ++ two)
 often_more k group s m t one two (n, a) b =
     (suc n, subst (λ (xs : List Event). InTurn k xs s t (one ++ two)) (row-more n group) (turn-append k (in_a_row (replicate n group)) group s m t one two a b))
 
-often_happened : (k : Setup) (group : List Event) (s t : Scene) (printed : List ℕ) → Often k group s t printed → SomeHappened k s t printed
+pub often_happened : (k : Setup) (group : List Event) (s t : Scene) (printed : List ℕ) → Often k group s t printed → SomeHappened k s t printed
 often_happened k group s t printed (n, a) = turn_happened k (in_a_row (replicate n group)) s t printed a
 
 abbrev pub DidOften : List Event → State → List ℕ → State → List ℕ → Bool → Type 0
@@ -405,7 +451,7 @@ often_wants group h o h1 o1 h2 o2 a c d =
 abbrev pub DidVisit : List Event → State → List ℕ → State → List ℕ → Bool → Type 0
 DidVisit group h o h1 o1 moved = Did (λ k. All (IsAmong k) group) (λ k s t printed. Visit k group s t printed) (λ k s. All (HasNothing k s) group) h o h1 o1 moved
 
-visit_of : (k : Setup) (group : List Event) (s t : Scene) (printed : List ℕ) → Often k group s t printed → All (HasNothing k t) group → Visit k group s t printed
+pub visit_of : (k : Setup) (group : List Event) (s t : Scene) (printed : List ℕ) → Often k group s t printed → All (HasNothing k t) group → Visit k group s t printed
 visit_of k group s t printed (n, a) d = record { times = n; goes = a; done = d }
 
 visit_rests : (group : List Event) (h : State) (o : List ℕ) (h1 : State) (o1 : List ℕ) (h2 : State) (o2 : List ℕ) (a : Bool) → DidOften group h o h1 o1 a
@@ -514,8 +560,8 @@ rounds_more : (k : Setup) (held : ℕ → Bool) (s m t : Scene) (one two : List 
 rounds_more k held s m t one two (n, a) b =
     (suc n, subst (λ (xs : List (List Event)). Visits k xs s t (one ++ two)) (row-more n (round k held)) (visits-append k (in_a_row (replicate n (round k held))) (round k held) s m t one two a b))
 
-rounds_happened : (k : Setup) (held : ℕ → Bool) (s t : Scene) (printed : List ℕ) → Rounds k held s t printed → SomeHappened k s t printed
-rounds_happened k held s t printed (n, a) = visits_happened k (in_a_row (replicate n (round k held))) s t printed a
+rounds_some : (k : Setup) (held : ℕ → Bool) (s t : Scene) (printed : List ℕ) → Rounds k held s t printed → SomeHappened k s t printed
+rounds_some k held s t printed (n, a) = visits_happened k (in_a_row (replicate n (round k held))) s t printed a
 
 pub no_round : (k : Setup) (held : ℕ → Bool) (s : Scene) (h : State) (o : List ℕ) → StandsFor k h s → Went (λ k s t printed. Rounds k held s t printed) k s h o o
 no_round k held s h o st = record { after = s; printed = []; goes = (0, (refl, refl)); stands = st; out = sym (append-nil o) }
@@ -533,22 +579,25 @@ round_less held h o h1 o1 true e d = d.less
 
 pub rounds_want : (held : ℕ → Bool) (k : Setup) (s : Scene) (h1 h2 : State) (o o1 o2 : List ℕ) → Went (λ k s t printed. Rounds k held s t printed) k s h1 o o1 → Wants (λ k. Unit {0}) h1 o1 h2 o2 → HappenedFrom k s h2 o o2
 rounds_want held k s h1 h2 o o1 o2 w d =
-    wants_after (λ k s t printed. Rounds k held s t printed) k s h1 h2 o o1 o2 (λ k s t printed x. rounds_happened k held s t printed x) w (d.happened k w.after tt w.stands)
+    wants_after (λ k s t printed. Rounds k held s t printed) k s h1 h2 o o1 o2 (λ k s t printed x. rounds_some k held s t printed x) w (d.happened k w.after tt w.stands)
 
-settles_of : (k : Setup) (held : ℕ → Bool) (s t : Scene) (printed : List ℕ) → Rounds k held s t printed → All (λ group. All (HasNothing k t) group) (round k held) → Settles k held s t printed
-settles_of k held s t printed (n, a) d = record { rounds = n; goes = a; done = d }
-
--- the last round moved nothing: the house has settled
-pub settled : (held : List Bool) (k : Setup) (s : Scene) (h1 h2 : State) (o o1 o2 : List ℕ) (b : Bool) → b ≡ false → Went (λ k s t printed. Rounds k (is_held held) s t printed) k s h1 o o1 → DidRound (is_held held) h1 o1 h2 o2 b
-    → SettledFrom k held s h2 o o2
-settled held k s h1 h2 o o1 o2 true e w d = cc
-settled held k s h1 h2 o o1 o2 false e w d = record {
+-- the last round moved nothing
+pub rounds_done : (held : ℕ → Bool) (k : Setup) (s : Scene) (h1 h2 : State) (o o1 o2 : List ℕ) (b : Bool) → b ≡ false → Went (λ k s t printed. Rounds k held s t printed) k s h1 o o1 → DidRound held h1 o1 h2 o2 b
+    → Went (λ k s t printed. GoesRounds k held s t printed) k s h2 o o2
+rounds_done held k s h1 h2 o o1 o2 true e w d = cc
+rounds_done held k s h1 h2 o o1 o2 false e w d = record {
   after = w.after;
   printed = w.printed;
-  settles = settles_of k (is_held held) s w.after w.printed w.goes (d.idle k w.after tt w.stands);
+  goes = rounds_of k held s w.after w.printed w.goes (d.idle k w.after tt w.stands);
   stands = subst (λ (x : State). StandsFor k x w.after) (sym d.same) w.stands;
   out = d.silent ∙ w.out;
 }
+  where
+    rounds_of : (k : Setup) (held : ℕ → Bool) (s t : Scene) (printed : List ℕ) → Rounds k held s t printed → All (λ group. All (HasNothing k t) group) (round k held) → GoesRounds k held s t printed
+    rounds_of k held s t printed (n, a) d = record { rounds = n; goes = a; done = d }
+
+pub rounds_happened : (k : Setup) (held : ℕ → Bool) (s t : Scene) (printed : List ℕ) → GoesRounds k held s t printed → SomeHappened k s t printed
+rounds_happened k held s t printed g = visits_happened k (in_a_row (replicate g.rounds (round k held))) s t printed g.goes
 
 -- a round from its parts
 pub parts_wants : (held : ℕ → Bool) (h : State) (o : List ℕ) (h1 : State) (o1 : List ℕ) (h2 : State) (o2 : List ℕ) (h3 : State) (o3 : List ℕ) (a b : Bool)

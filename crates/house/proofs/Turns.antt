@@ -56,7 +56,7 @@ pub put_led : (k : Setup) (h : State) (s : Scene) (number seat : ℕ) (directory
     → StandsFor k h s → number ≡ seat + 1 → directory ≡ h.directory → seat < length h.callers → get_or h.callers seat None ≡ Some g → PutsNext h.core g c why → place ≡ Some (noted_put (heard_verdict why) g)
     → ((x : Setup) (p : ℕ) (next : CopyKey) (heard : List Noted) (b : Caller) → IsOf x number p directory → StandsForMaybe x p next heard place (Some b) → PlaceWentOn x whole p next heard b l old new)
     → (t : Scene) × (printed : List ℕ) × PutPlay k whole s seat t printed
-    × StandsFor k (record { core = c; callers = set h.callers seat l; serials = h.serials; directory = h.directory; host = h.host; max_message = h.max_message }) t
+    × StandsFor k (record { core = c; callers = set h.callers seat l; serials = h.serials; visitors = h.visitors; directory = h.directory; host = h.host; max_message = h.max_message }) t
     × (new ≡ old ++ printed)
 put_led k h s number seat directory g c why place l whole old new st e dir lt some puts is f =
     let y = first_key seat in
@@ -136,7 +136,7 @@ pub heard_led : (k : Setup) (h : State) (s : Scene) (number seat : ℕ) (directo
     → ((x : Config) → core.Follows x h.core (world.Hear seat ∷ []) c) → Hears h.core c seat (r ∷ []) → c.next ≡ h.core.next → HearsSlot g r q
     → ((x : Setup) (p : ℕ) (next : CopyKey) (heard : List Noted) (b : Caller) → IsOf x number p directory → StandsForMaybe x p next heard (Some q) (Some b) → PlaceWentOn x whole p next heard b l old new)
     → (t : Scene) × (printed : List ℕ) × HearPlay k whole s seat t printed
-    × StandsFor k (record { core = c; callers = set h.callers seat l; serials = h.serials; directory = h.directory; host = h.host; max_message = h.max_message }) t
+    × StandsFor k (record { core = c; callers = set h.callers seat l; serials = h.serials; visitors = h.visitors; directory = h.directory; host = h.host; max_message = h.max_message }) t
     × (new ≡ old ++ printed)
 heard_led k h s number seat directory g c r q l whole old new st e dir lt some follows hears nexts slot f =
     let y = first_key seat in

@@ -1,11 +1,14 @@
 -- How much is left to do before nothing moves: bytes that wait to be taken, copies that are to be put, and what the delivery side has before it.
-use Rattle.std.specs.Prelude.{ℕ, ◌+◌, ◌<◌, Option, Some, None, sum_by}
+use Rattle.std.specs.Prelude.{ℕ, ◌+◌, ◌<◌, Option, Some, None, slice_index_or, sum_by}
+use Rattle.delivery_core.specs.Held.{behind}
 use Rattle.delivery_core.specs.Load.{load}
 use Rattle.house.specs.declared.event.Event.{Event}
-use Rattle.house.specs.declared.event.Event.TheVariants.{Bytes, Vanish, Put, Take, Deliver, Answer, Hear, End}
+use Rattle.house.specs.declared.event.Event.TheVariants.{Bytes, Vanish, Put, Take, Deliver, Answer, Hear, End, Enter, Say, Idle, Leave}
 use Rattle.callers.specs.Line.{Line}
 use Rattle.house.specs.State.{State}
 use Rattle.callers.specs.Taking.{line_effort}
+use Rattle.house.specs.Scene.{place_of}
+use Rattle.visitors.specs.Place.{Place}
 
 abbrev pub place_effort : Option Line → ℕ
 place_effort None = 0
@@ -14,11 +17,23 @@ place_effort (Some h) = line_effort h
 abbrev pub effort : State → ℕ
 effort h = sum_by place_effort h.callers + load h.core
 
+-- the same of a session's turns while it idles: it may end, and so many changes it is behind its mailbox's log
+abbrev pub turns_left : Option Place → ℕ → ℕ
+turns_left None behind = 0
+turns_left (Some p) behind = 1 + behind
+
+abbrev pub idle_effort : ℕ → State → ℕ
+idle_effort place h = turns_left (slice_index_or h.visitors place None) (behind h.core place)
+
 -- what the house does by itself makes it less
 abbrev pub MakesLess : Event → State → State → Type 0
 MakesLess (Bytes connection piece) old new = Unit {0}
 MakesLess (Vanish connection) old new = Unit {0}
 MakesLess (End connection shard) old new = Unit {0}
+MakesLess (Enter session user) old new = Unit {0}
+MakesLess (Say session piece) old new = Unit {0}
+MakesLess (Idle session) old new = idle_effort (place_of session) new < idle_effort (place_of session) old
+MakesLess (Leave session) old new = Unit {0}
 MakesLess (Put connection) old new = effort new < effort old
 MakesLess (Take shard) old new = effort new < effort old
 MakesLess (Deliver shard) old new = effort new < effort old

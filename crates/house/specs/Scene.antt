@@ -1,26 +1,37 @@
 -- The house and those who talk to it, and what each event of the house does to them and prints.
-use Rattle.std.specs.Prelude.{◌≡◌, ℕ, ◌+◌, ◌-◌, ◌^◌, ◌<◌, Bool, true, false, List, [], ◌∷◌, Option, Some, None}
+use Rattle.std.specs.Prelude.{◌≡◌, ℕ, ◌+◌, ◌-◌, ◌^◌, ◌<◌, ◌⊎◌, Bool, true, false, List, [], ◌∷◌, Option, Some, None}
 use Rattle.delivery_token.specs.declared.Job.{Job}
 use Rattle.shard_queue.specs.At.{set_at}
 use Rattle.shard_queue.specs.Lane.{has_end}
 use Rattle.world.specs.World as world
 use Rattle.world.specs.World.{World, Config, Step}
+use Rattle.imap_session.specs.Exchange as calls
+use Rattle.imap_session.specs.Exchange.{is_idling}
+use Rattle.session_store.specs.Meets.{Meets}
 use Rattle.callers.specs.Caller.{Setup, Caller, Proceeds, greeted, more_waits, unread}
+use Rattle.visitors.specs.Folders.{folders_of, has_user}
+use Rattle.visitors.specs.Visitor.{Visitor, Idles, IsWhole, Speaks}
+use Rattle.visitors.specs.Visitor.{greeted as greeted_visitor, more_waits as visitor_more_waits}
 use Rattle.house.specs.declared.event.Event.{Event}
-use Rattle.house.specs.declared.event.Event.TheVariants.{Bytes, Vanish, Put, Take, Deliver, Answer, Hear, End}
+use Rattle.house.specs.declared.event.Event.TheVariants.{Bytes, Vanish, Put, Take, Deliver, Answer, Hear, End, Enter, Say, Idle, Leave}
 
--- the world, and who stands at each seat; of each seat, the serial of its next connection
+-- the world; who stands at each seat, and of each seat the serial of its next connection; and who visits at each session's place
 pub record Scene : Type 0 where
   pub world : World
   pub caller : ℕ → Option Caller
   pub next : ℕ → ℕ
+  pub visitor : ℕ → Option Visitor
 
 abbrev pub empty_scene : Scene
-empty_scene = record { world = world.empty_world; caller = λ _. None; next = λ _. 0 }
+empty_scene = record { world = world.empty_world; caller = λ _. None; next = λ _. 0; visitor = λ _. None }
 
 -- connections are numbered from 1, seats from 0
 abbrev pub seat_of : ℕ → ℕ
 seat_of connection = connection - 1
+
+-- sessions are numbered from 1, their places from 0
+abbrev pub place_of : ℕ → ℕ
+place_of session = session - 1
 
 -- the serials of a seat's connections are below this
 abbrev pub most_serials : ℕ
@@ -32,17 +43,21 @@ HasEnded k w p = (s : ℕ) × (s < k.shards) × (has_end ((w.lane s).sent p) ≡
 
 -- at this seat now stands this caller, or nobody
 abbrev pub with_caller : Scene → ℕ → Option Caller → Scene
-with_caller s seat o = record { world = s.world; caller = set_at s.caller seat o; next = s.next }
+with_caller s seat o = record { world = s.world; caller = set_at s.caller seat o; next = s.next; visitor = s.visitor }
 
 abbrev pub with_world : Scene → World → Scene
-with_world s w = record { world = w; caller = s.caller; next = s.next }
+with_world s w = record { world = w; caller = s.caller; next = s.next; visitor = s.visitor }
+
+-- at this place now stands this visitor, or nobody
+abbrev pub with_visitor : Scene → ℕ → Option Visitor → Scene
+with_visitor s place o = record { world = s.world; caller = s.caller; next = s.next; visitor = set_at s.visitor place o }
 
 -- bytes came from the peer of a connection
 pub data BytesPlay (k : Setup) (whole : Bool) (s : Scene) (seat : ℕ) (piece : List ℕ) (t : Scene) (printed : List ℕ) : Type 0 where
   -- nobody stands there, and the seat has ended nowhere: a connection is opened first, with the seat's next serial
   opens : seat < k.config.seats → s.caller seat ≡ None → s.next seat < most_serials → (HasEnded k.config s.world seat → ⊥) → (o : Option Caller)
       → Proceeds k whole seat (s.world.heard seat) (more_waits (greeted k seat (s.next seat)) piece) o printed
-      → t ≡ record { world = s.world; caller = set_at s.caller seat o; next = set_at s.next seat (s.next seat + 1) } → BytesPlay k whole s seat piece t printed
+      → t ≡ record { world = s.world; caller = set_at s.caller seat o; next = set_at s.next seat (s.next seat + 1); visitor = s.visitor } → BytesPlay k whole s seat piece t printed
   goes_on : (b : Caller) → s.caller seat ≡ Some b → b.gone ≡ false → (o : Option Caller)
       → Proceeds k whole seat (s.world.heard seat) (more_waits b piece) o printed → t ≡ with_caller s seat o → BytesPlay k whole s seat piece t printed
 
@@ -78,6 +93,75 @@ pub record VanishPlay (k : Setup) (whole : Bool) (s : Scene) (seat : ℕ) (t : S
   pub goes : Proceeds k whole seat (s.world.heard seat) (unread caller) left printed
   pub after : t ≡ with_caller s seat left
 
+-- ---- sessions
+
+-- a session leaves the mailbox that it had entered, if it had one, and removes nothing
+abbrev pub LeavesMailbox : Setup → (place : ℕ) → World → World → Type 0
+LeavesMailbox k place w v = (answer : calls.Answer) × Meets k.config place w (calls.Leave false) answer v
+
+-- who visits after a turn: one whose session has ended and who has said all is gone, and what waited is dropped
+pub data Parts (k : Setup) (whole : Bool) (place : ℕ) (after : Visitor) (w v : World) (o : Option Visitor) : Type 0 where
+  parts : after.standing.ended ≡ true → after.unsaid ≡ [] → LeavesMailbox k place w v → o ≡ None → Parts k whole place after w v o
+  remains : (whole ≡ true → after.standing.ended ≡ true → ⊥) → v ≡ w → o ≡ Some after → Parts k whole place after w v o
+
+-- The visitor answers what waits, by the mailboxes of the world, and this is printed. `whole` says that memory wasn't wanting.
+pub record VisitorGoes (k : Setup) (whole : Bool) (place : ℕ) (w : World) (before : Visitor) (v : World) (o : Option Visitor) (printed : List ℕ) : Type 0 where
+  pub after : Visitor
+  pub mid : World
+  pub speaks : Speaks (Meets k.config place) (place + 1) before w mid after printed
+  pub all : whole ≡ true → IsWhole after
+  pub left : Parts k whole place after mid v o
+
+-- The visitor's session idles and has a turn, by the mailboxes of the world: it is shown one change at least, or it ends. This is printed.
+pub record VisitorIdles (k : Setup) (whole : Bool) (place : ℕ) (w : World) (before : Visitor) (v : World) (o : Option Visitor) (printed : List ℕ) : Type 0 where
+  pub idling : is_idling before.standing ≡ true
+  pub after : Visitor
+  pub mid : World
+  pub shown : ℕ
+  pub idles : Idles (Meets k.config place) (place + 1) before w mid after shown printed
+  pub something : (0 < shown) ⊎ (after.standing.ended ≡ true)
+  pub all : whole ≡ true → after.unsaid ≡ []
+  pub left : Parts k whole place after mid v o
+
+-- a user opens a session, which is greeted
+pub record EnterPlay (k : Setup) (whole : Bool) (s : Scene) (place : ℕ) (user : List ℕ) (t : Scene) (printed : List ℕ) : Type 0 where
+  pub there : place < k.config.sessions
+  pub free : s.visitor place ≡ None
+  pub known : has_user k.directory user ≡ true
+  pub moved : World
+  pub left : Option Visitor
+  pub goes : VisitorGoes k whole place s.world (greeted_visitor (folders_of k.directory user)) moved left printed
+  pub after : t ≡ with_visitor (with_world s moved) place left
+
+-- bytes came from a session's client
+pub record SayPlay (k : Setup) (whole : Bool) (s : Scene) (place : ℕ) (piece : List ℕ) (t : Scene) (printed : List ℕ) : Type 0 where
+  pub visitor : Visitor
+  pub there : s.visitor place ≡ Some visitor
+  pub moved : World
+  pub left : Option Visitor
+  pub goes : VisitorGoes k whole place s.world (visitor_more_waits visitor piece) moved left printed
+  pub after : t ≡ with_visitor (with_world s moved) place left
+
+-- A session that idles is shown what is pending. Where nothing is, there is no such play.
+pub record IdlePlay (k : Setup) (whole : Bool) (s : Scene) (place : ℕ) (t : Scene) (printed : List ℕ) : Type 0 where
+  pub visitor : Visitor
+  pub there : s.visitor place ≡ Some visitor
+  pub moved : World
+  pub left : Option Visitor
+  pub goes : VisitorIdles k whole place s.world visitor moved left printed
+  pub after : t ≡ with_visitor (with_world s moved) place left
+
+-- a session's client is gone: what waited and what was still to be printed is dropped
+pub record LeavePlay (k : Setup) (s : Scene) (place : ℕ) (t : Scene) (printed : List ℕ) : Type 0 where
+  pub visitor : Visitor
+  pub there : s.visitor place ≡ Some visitor
+  pub moved : World
+  pub leaves : LeavesMailbox k place s.world moved
+  pub after : t ≡ with_visitor (with_world s moved) place None
+  pub silent : printed ≡ []
+
+-- ---- events
+
 -- the world moves, and nobody says a word
 pub record Moves (k : Setup) (s : Scene) (event : world.Event) (t : Scene) (printed : List ℕ) : Type 0 where
   pub moved : World
@@ -95,6 +179,10 @@ Plays k whole s (Take shard) t printed = Moves k s (world.Take shard) t printed
 Plays k whole s (Deliver shard) t printed = Moves k s (world.Deliver shard) t printed
 Plays k whole s (Answer shard) t printed = Moves k s (world.Answer shard) t printed
 Plays k whole s (Hear connection) t printed = HearPlay k whole s (seat_of connection) t printed
+Plays k whole s (Enter session user) t printed = EnterPlay k whole s (place_of session) user.now t printed
+Plays k whole s (Say session piece) t printed = SayPlay k whole s (place_of session) piece.now t printed
+Plays k whole s (Idle session) t printed = IdlePlay k whole s (place_of session) t printed
+Plays k whole s (Leave session) t printed = LeavePlay k s (place_of session) t printed
 Plays k whole s (End connection shard) t printed = (s.caller (seat_of connection) ≡ None) × Moves k s (world.PutEnd (seat_of connection) shard) t printed
 
 -- In no way does the event change anything, or print a word.

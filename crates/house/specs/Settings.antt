@@ -13,6 +13,10 @@ use Rattle.callers.specs.Caller.{Setup}
 abbrev pub seats : ℕ
 seats = 8
 
+-- and so many sessions
+abbrev pub sessions : ℕ
+sessions = 8
+
 -- the words of the mailboxes
 abbrev pub words_of : Config → List (List ℕ)
 words_of c = map (λ w. w.items) c.mailboxes.items
@@ -78,7 +82,7 @@ setup_of c = record {
     seats = seats;
     shards = c.shards;
     mailboxes = length (words_of c);
-    sessions = 0;
+    sessions = sessions;
     depth = c.depth;
     messages = c.messages;
     ring = c.ring;

@@ -1,8 +1,9 @@
--- How the house settles: each actor in turn does what it has to do, over and over until nobody has anything to do.
+-- How the house settles: each actor in turn does what it has to do, over and over until nobody has anything to do; then the sessions that idle
+-- are shown what is new.
 use Rattle.std.specs.Prelude.{◌≡◌, ℕ, Bool, true, false, not, List, [], ◌∷◌, ◌++◌, map, filter, replicate, flat_map, All}
 use Rattle.std.specs.List.{range_with_len}
 use Rattle.house.specs.declared.event.Event.{Event}
-use Rattle.house.specs.declared.event.Event.TheVariants.{Put, Take, Deliver, Answer, Hear}
+use Rattle.house.specs.declared.event.Event.TheVariants.{Put, Take, Deliver, Answer, Hear, Idle}
 use Rattle.callers.specs.Caller.{Setup}
 use Rattle.house.specs.Scene.{HasNothing, Plays, Scene}
 
@@ -39,10 +40,23 @@ round k held = map (λ n. Put n ∷ []) (range_with_len 1 k.config.seats)
     ++ map (λ n. Hear n ∷ []) (range_with_len 1 k.config.seats)
 
 -- rounds, until nothing moves
-pub record Settles (k : Setup) (held : ℕ → Bool) (s t : Scene) (printed : List ℕ) : Type 0 where
+pub record GoesRounds (k : Setup) (held : ℕ → Bool) (s t : Scene) (printed : List ℕ) : Type 0 where
   pub rounds : ℕ
   pub goes : Visits k (in_a_row (replicate rounds (round k held))) s t printed
   pub done : All (λ group. All (HasNothing k t) group) (round k held)
+
+-- each session from 1 that idles has turns, until it has nothing to be shown
+abbrev pub idle_turns : ℕ → List (List Event)
+idle_turns sessions = map (λ n. Idle n ∷ []) (range_with_len 1 sessions)
+
+-- rounds, until nothing moves, and then the turns of the sessions that idle
+pub record Settles (k : Setup) (held : ℕ → Bool) (s t : Scene) (printed : List ℕ) : Type 0 where
+  pub between : Scene
+  pub one : List ℕ
+  pub two : List ℕ
+  pub goes : GoesRounds k held s between one
+  pub turns : Visits k (idle_turns k.config.sessions) between t two
+  pub both : printed ≡ one ++ two
 
 -- Where memory was wanting: some events happened, one after another, and some may have been cut short.
 abbrev pub Happened : Setup → List Event → Scene → Scene → List ℕ → Type 0

@@ -9,6 +9,9 @@ use Rattle.house.specs.State.{State}
 use Rattle.callers.specs.Caller.{Setup, Caller}
 use Rattle.house.specs.Scene.{Scene}
 use Rattle.callers.specs.CallerStands.{StandsForCaller}
+use Rattle.visitors.specs.Visitor.{Visitor}
+use Rattle.visitors.specs.Place.{Place}
+use Rattle.visitors.specs.Place as visit
 
 -- who stands at a seat
 abbrev pub StandsForOne : Setup → ℕ → CopyKey → List Noted → ℕ → Option Line → Option Caller → Type 0
@@ -16,6 +19,13 @@ StandsForOne k seat next heard serials None None = AtLeast next (record { seat =
 StandsForOne k seat next heard serials None (Some b) = ⊥
 StandsForOne k seat next heard serials (Some h) None = ⊥
 StandsForOne k seat next heard serials (Some h) (Some b) = StandsForCaller k seat next heard h b × (b.serial < serials)
+
+-- who visits at a place
+abbrev pub StandsForVisit : Option Place → Option Visitor → Type 0
+StandsForVisit None None = Unit {0}
+StandsForVisit None (Some v) = ⊥
+StandsForVisit (Some p) None = ⊥
+StandsForVisit (Some p) (Some v) = visit.StandsFor p v
 
 pub record StandsForSeat (k : Setup) (s : Scene) (seat : ℕ) (next : CopyKey) (serials : ℕ) (line : Option Line) : Type 0 where
   pub counted : serials ≡ s.next seat
@@ -34,3 +44,6 @@ pub record StandsFor (k : Setup) (h : State) (s : Scene) : Type 0 where
   pub numbers : length h.serials ≡ k.config.seats
   pub each : (seat : ℕ) (y : CopyKey) (n : ℕ) (d : Option Line) → seat < length h.callers
       → StandsForSeat k s seat (slice_index_or h.core.next seat y) (slice_index_or h.serials seat n) (slice_index_or h.callers seat d)
+  -- each visitor is at its place
+  pub places : length h.visitors ≡ k.config.sessions
+  pub visitors : (place : ℕ) (d : Option Place) → place < length h.visitors → StandsForVisit (slice_index_or h.visitors place d) (s.visitor place)

@@ -3,13 +3,13 @@ use Rattle.std.specs.Prelude.{◌≡◌, ℕ, ◌<◌, ◌≤◌, ◌⊎◌, ◌
 use Rattle.delivery_token.specs.declared.CopyKey.{CopyKey}
 use Rattle.delivery_token.specs.declared.log.Noted.{Noted}
 use Rattle.house.specs.declared.event.Event.{Event}
-use Rattle.house.specs.declared.event.Event.TheVariants.{Bytes, Vanish, Put, Take, Deliver, Answer, Hear, End}
+use Rattle.house.specs.declared.event.Event.TheVariants.{Bytes, Vanish, Put, Take, Deliver, Answer, Hear, End, Enter, Say, Idle, Leave}
 use Rattle.delivery_token.specs.declared.Job.{Job}
 use Rattle.delivery_token.specs.declared.Refusal.{Refusal}
-use Rattle.world.specs.World.{Config}
+use Rattle.world.specs.World.{Config, World}
 use Rattle.world.specs.World as world
-use Rattle.delivery_core.specs.Held.{Held, has_ended}
-use Rattle.delivery_core.specs.Changes.{Hears, SameCounts, heard_at_once}
+use Rattle.delivery_core.specs.Held.{Held, behind, client_of, has_ended}
+use Rattle.delivery_core.specs.Changes.{Hears, SameCounts, SameDelivery, heard_at_once}
 use Rattle.delivery_core.specs.Puts.{IsNextKey, past}
 use Rattle.delivery_core.specs.Stands as core
 use Rattle.delivery_core.specs.declared.steps.Fault.{Fault}
@@ -20,9 +20,13 @@ use Rattle.callers.specs.Line.{Line}
 use Rattle.callers.specs.Taking.{due}
 use Rattle.house.specs.State.{State}
 use Rattle.callers.specs.Caller.{Setup, Caller, Proceeds}
-use Rattle.house.specs.Scene.{Scene, HasNothing, Plays, most_serials, seat_of}
+use Rattle.house.specs.Scene.{Scene, HasNothing, Plays, VisitorGoes, VisitorIdles, most_serials, place_of, seat_of}
 use Rattle.callers.specs.CallerStands.{StandsForCaller}
-use Rattle.house.specs.Stands.{StandsFor}
+use Rattle.imap_session.specs.Exchange.{is_idling}
+use Rattle.visitors.specs.Folders.{has_user}
+use Rattle.house.specs.Stands.{StandsFor, StandsForVisit}
+use Rattle.visitors.specs.Place.{Place}
+use Rattle.visitors.specs.Visitor.{Visitor}
 
 -- there is no such connection: they are numbered from 1
 abbrev pub IsNoSeat : State → ℕ → Type 0
@@ -73,6 +77,25 @@ pub record IsVacant (h : State) (connection : ℕ) : Type 0 where
 abbrev pub IsSpent : State → ℕ → Type 0
 IsSpent h connection = (most_serials ≤ slice_index_or h.serials (seat_of connection) 0) ⊎ (has_ended h.core (seat_of connection) ≡ true)
 
+-- there is no such session: they are numbered from 1
+abbrev pub IsNoPlace : State → ℕ → Type 0
+IsNoPlace h session = (session ≡ 0) ⊎ (length h.visitors < session)
+
+-- nobody visits at the session's place
+abbrev pub IsFreePlace : State → ℕ → Type 0
+IsFreePlace h session = slice_index_or h.visitors (place_of session) None ≡ None
+
+-- there is such a session
+pub record HasPlace (h : State) (session : ℕ) : Type 0 where
+  pub number : 0 < session
+  pub place : session ≤ length h.visitors
+
+-- somebody visits at the session's place
+pub record IsTakenPlace (h : State) (session : ℕ) : Type 0 where
+  pub number : 0 < session
+  pub place : session ≤ length h.visitors
+  pub who : IsSome (slice_index_or h.visitors (place_of session) None)
+
 -- there is nobody to whom the event could happen
 abbrev pub IsNobody : State → Event → Type 0
 IsNobody h (Bytes connection piece) = IsNoSeat h connection ⊎ (IsEmptySeat h connection × IsSpent h connection)
@@ -83,6 +106,10 @@ IsNobody h (Deliver shard) = length h.core.lanes ≤ shard
 IsNobody h (Answer shard) = length h.core.lanes ≤ shard
 IsNobody h (Hear connection) = IsNoSeat h connection ⊎ IsEmptySeat h connection
 IsNobody h (End connection shard) = IsNoSeat h connection ⊎ (length h.core.lanes ≤ shard)
+IsNobody h (Enter session user) = IsNoPlace h session ⊎ (has_user h.directory user.now ≡ false)
+IsNobody h (Say session piece) = IsNoPlace h session ⊎ IsFreePlace h session
+IsNobody h (Idle session) = IsNoPlace h session ⊎ IsFreePlace h session
+IsNobody h (Leave session) = IsNoPlace h session ⊎ IsFreePlace h session
 
 -- the seat still owes verdicts to a peer that is gone; an end waits for whoever stands there
 abbrev pub IsBusy : State → Event → Type 0
@@ -94,6 +121,10 @@ IsBusy h (Deliver shard) = ⊥
 IsBusy h (Answer shard) = ⊥
 IsBusy h (Hear connection) = ⊥
 IsBusy h (End connection shard) = (shard < length h.core.lanes) × IsThere h connection
+IsBusy h (Enter session user) = (has_user h.directory user.now ≡ true) × IsTakenPlace h session
+IsBusy h (Say session piece) = ⊥
+IsBusy h (Idle session) = ⊥
+IsBusy h (Leave session) = ⊥
 
 -- The event leads from the scene to one for which the house stands now, and what was appended is what it prints.
 pub record Led (k : Setup) (whole : Bool) (s : Scene) (event : Event) (h : State) (old new : List ℕ) : Type 0 where
@@ -154,3 +185,46 @@ pub record PutsNext (old : Held) (h : Line) (new : Held) (why : Option Refusal) 
   pub others : List Job
   pub front : due h ≡ copy ∷ others
   pub puts : CorePuts old copy new why
+
+-- The visitor at a place went on, and printed this; the delivery side stands for what its session did.
+pub record PlaceVisited (k : Setup) (whole : Bool) (place : ℕ) (w : World) (b : Visitor) (old : Held) (p : Option Place) (new : Held) (before after : List ℕ) : Type 0 where
+  pub left : Option Visitor
+  pub moved : World
+  pub printed : List ℕ
+  pub goes : VisitorGoes k whole place w b moved left printed
+  pub there : StandsForVisit p left
+  pub core : core.StandsFor k.config new moved
+  pub rest : SameDelivery old new
+  pub out : after ≡ before ++ printed
+
+-- The visitor at a place had a turn while its session idles, and printed this; the delivery side stands for what its session did.
+pub record PlaceIdled (k : Setup) (whole : Bool) (place : ℕ) (w : World) (b : Visitor) (old : Held) (p : Option Place) (new : Held) (before after : List ℕ) : Type 0 where
+  pub left : Option Visitor
+  pub moved : World
+  pub printed : List ℕ
+  pub goes : VisitorIdles k whole place w b moved left printed
+  pub there : StandsForVisit p left
+  pub core : core.StandsFor k.config new moved
+  pub rest : SameDelivery old new
+  pub out : after ≡ before ++ printed
+
+-- It had none, and all is as it was.
+pub record PlaceKept (k : Setup) (w : World) (b : Visitor) (old : Held) (p : Option Place) (new : Held) (before after : List ℕ) : Type 0 where
+  pub there : StandsForVisit p (Some b)
+  pub core : core.StandsFor k.config new w
+  pub rest : SameDelivery old new
+  pub out : after ≡ before
+
+-- where memory was wanting: no turn, or one whose words aren't printed yet
+abbrev pub PlaceIdledInPart : Setup → ℕ → World → Visitor → Held → Option Place → Held → List ℕ → List ℕ → Type 0
+PlaceIdledInPart k place w b old p new before after = PlaceIdled k false place w b old p new before after ⊎ PlaceKept k w b old p new before after
+
+-- The visitor at a place may have a turn: its session idles in a mailbox, and isn't known to have been shown all of its log.
+pub record MayIdle (p : Place) (place : ℕ) (core : Held) : Type 0 where
+  pub idling : is_idling p.link.session ≡ true
+  pub selected : IsSome p.link.session.selected
+  pub news : IsSome (client_of core place) → behind core place ≡ 0 → ⊥
+
+-- In no world for which the delivery side stood does the visitor at a place have a turn.
+abbrev pub HasNoTurn : ℕ → Option Place → Held → Type 0
+HasNoTurn place p old = (k : Setup) (w v : World) (b : Visitor) (o : Option Visitor) (printed : List ℕ) → core.StandsFor k.config old w → StandsForVisit p (Some b) → VisitorIdles k true place w b v o printed → ⊥

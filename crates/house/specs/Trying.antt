@@ -3,7 +3,7 @@
 use Rattle.std.specs.Prelude.{◌≡◌, ℕ, ◌<◌, ◌≤◌, ◌++◌, Bool, true, false, not, List, [], ◌∷◌, map, filter, All, Result, Ok, Err}
 use Rattle.std.specs.List.{range_with_len}
 use Rattle.house.specs.declared.event.Event.{Event}
-use Rattle.house.specs.declared.event.Event.TheVariants.{Bytes, Vanish, Put, Take, Deliver, Answer, Hear, End}
+use Rattle.house.specs.declared.event.Event.TheVariants.{Bytes, Vanish, Put, Take, Deliver, Answer, Hear, End, Enter, Say, Idle, Leave}
 use Rattle.house.specs.Effort.{effort}
 use Rattle.callers.specs.Caller.{Setup}
 use Rattle.house.specs.Scene.{HasNothing, Scene}
@@ -12,22 +12,30 @@ use Rattle.house.specs.Settled.{HappenedFrom}
 use Rattle.house.specs.Stands.{StandsFor}
 use Rattle.house.specs.State.{State}
 
--- what the house does by itself: not what a peer does, and no end
+-- what the house does by itself in a round: not what a peer does, no end, and no turn of a session that idles
 abbrev pub IsOwn : Event → Type 0
 IsOwn (Bytes connection piece) = ⊥
 IsOwn (Vanish connection) = ⊥
 IsOwn (End connection shard) = ⊥
+IsOwn (Enter session user) = ⊥
+IsOwn (Say session piece) = ⊥
+IsOwn (Idle session) = ⊥
+IsOwn (Leave session) = ⊥
 IsOwn (Put connection) = Unit {0}
 IsOwn (Take shard) = Unit {0}
 IsOwn (Deliver shard) = Unit {0}
 IsOwn (Answer shard) = Unit {0}
 IsOwn (Hear connection) = Unit {0}
 
--- there is such a connection, or such a shard
+-- there is such a connection, such a shard, or such a session
 abbrev pub IsAmong : Setup → Event → Type 0
 IsAmong k (Bytes connection piece) = ⊥
 IsAmong k (Vanish connection) = ⊥
 IsAmong k (End connection shard) = ⊥
+IsAmong k (Enter session user) = ⊥
+IsAmong k (Say session piece) = ⊥
+IsAmong k (Leave session) = ⊥
+IsAmong k (Idle session) = (0 < session) × (session ≤ k.config.sessions)
 IsAmong k (Put connection) = (0 < connection) × (connection ≤ k.config.seats)
 IsAmong k (Take shard) = shard < k.config.shards
 IsAmong k (Deliver shard) = shard < k.config.shards
@@ -56,6 +64,10 @@ pub record Went (P : Setup → Scene → Scene → List ℕ → Type 0) (k : Set
   pub goes : P k s after printed
   pub stands : StandsFor k h after
   pub out : new ≡ old ++ printed
+
+-- the same for each scene for which the house stood
+abbrev pub Goes : (Setup → Type 0) → (Setup → Scene → Scene → List ℕ → Type 0) → State → List ℕ → State → List ℕ → Type 0
+Goes Q P before old h new = (k : Setup) (s : Scene) → Q k → StandsFor k before s → Went P k s h old new
 
 -- something happened, and less is left to do
 pub record Moved (Q : Setup → Type 0) (P : Setup → Scene → Scene → List ℕ → Type 0) (before : State) (old : List ℕ) (h : State) (new : List ℕ) : Type 0 where

@@ -1,6 +1,6 @@
 //! What may happen to a house, and why it didn't. No code.
 
-/// One event. Connections are numbered from 1, shards from 0.
+/// One event. Connections and sessions are numbered from 1, shards from 0.
 #[derive(Clone, Copy, Debug, PartialEq, Eq)]
 pub enum Event<'a> {
     /// Bytes came from the peer of a connection. Where none stands at its seat, one is opened first, with its greeting.
@@ -20,17 +20,25 @@ pub enum Event<'a> {
     Hear(u8),
     /// A connection's seat, at which nobody stands, puts its end into a shard's lane. After that it takes no new connection.
     End(u8, u8),
+    /// A user opens a session, which is greeted. The user is named as in the words of the settings, byte by byte.
+    Enter(u8, &'a [u8]),
+    /// Bytes came from a session's client. Each line that ends in them is answered; the mailbox's events of a line happen one after another.
+    Say(u8, &'a [u8]),
+    /// A session that idles is shown what is pending in its mailbox, 64 changes at most; one that missed changes is told BYE and ends.
+    Idle(u8),
+    /// A session's client is gone. The session leaves its mailbox and removes nothing, and says nothing more.
+    Leave(u8),
 }
 
 /// Why an event wasn't made. The first that holds is the fault. After Nobody, Busy and Nothing nothing changed.
 #[derive(Clone, Copy, Debug, PartialEq, Eq)]
 pub enum HouseFault {
-    /// The connection or the shard isn't there, or its seat takes no new connection.
+    /// The connection, the session, the user or the shard isn't there, or the seat takes no new connection.
     Nobody,
-    /// Its place is taken, or its seat still waits for the verdicts of a connection whose peer is gone.
+    /// The place is taken, or the seat still waits for the verdicts of a connection whose peer is gone.
     Busy,
     /// There is nothing to do, or it may not happen now.
     Nothing,
-    /// Memory was wanting. What was done by then stands, and the next event of the connection goes on from there.
+    /// Memory was wanting. What was done by then stands, and the next event of the connection or session goes on from there.
     NoMemory,
 }

@@ -24,15 +24,18 @@ use delivery_core::{DeliveryCore, Fault};
 use delivery_token::{Noted, Refusal, Verdict};
 use envelope::Directory;
 use lmtp_machine::{Limits, What};
+use session_store::Desk;
 use std::alloc::{AllocError, Global};
 use std::marker::Model;
+use visitors::Visitor;
 
 /// A house on one thread.
 #[derive(Drop)]
 pub struct House {
-    pub(crate) core: DeliveryCore,
+    pub(crate) desk: Desk,
     pub(crate) callers: Vec<Option<Caller>>,
     pub(crate) serials: Vec<u64>,
+    pub(crate) visitors: Vec<Option<Visitor>>,
     pub(crate) directory: Directory,
     pub(crate) host: Vec<u8>,
     pub(crate) max_message: usize,
@@ -45,15 +48,16 @@ impl Model for House {
     ghost Value = { State };
 
     ghost view = { λ h. record {
-      core = h.core;
+      core = h.desk.core;
       callers = h.callers.items;
       serials = h.serials.items;
+      visitors = h.visitors.items;
       directory = h.directory;
       host = h.host.items;
       max_message = h.max_message;
     } };
 
-    ghost invariant = { λ h. (length h.serials.items ≡ length h.callers.items) × (length h.host.items < 256) × (length h.callers.items < 256) };
+    ghost invariant = { λ h. (length h.serials.items ≡ length h.callers.items) × (length h.host.items < 256) × (length h.callers.items < 256) × (length h.visitors.items < 256) };
 }
 
 // The caller at a place goes on, and leaves it where its connection has ended.
@@ -256,7 +260,7 @@ impl House {
         ensures refused { result ≢ Err HouseFault.NoMemory → OnErr result ((self.new ≡ self.old) × (out.new.items ≡ out.old.items)) }
     {
         let seat = usize::from(connection - 1);
-        let why = match put_next(&mut self.core, &self.callers[seat]) {
+        let why = match put_next(&mut self.desk.core, &self.callers[seat]) {
             Ok(why) => why,
             Err(fault) => return Err(fault),
         };
@@ -283,7 +287,7 @@ impl House {
         if self.callers[seat].is_none() {
             return Err(HouseFault::Nobody);
         }
-        let noted = match self.core.hear(connection - 1) {
+        let noted = match self.desk.core.hear(connection - 1) {
             Ok(noted) => noted,
             Err(Fault::NoMemory) => return Err(HouseFault::NoMemory),
             Err(Fault::Nothing) => return Err(HouseFault::Nothing),
@@ -306,7 +310,7 @@ impl House {
         ensures only { IfErr result (λ e. (e ≡ HouseFault.Nobody) ⊎ (e ≡ HouseFault.Nothing)) }
         ensures refused { OnErr result (self.new ≡ self.old) }
     {
-        if let Err(fault) = self.core.take(shard) {
+        if let Err(fault) = self.desk.core.take(shard) {
             return Err(fault_of(fault));
         }
         Ok(())
@@ -321,7 +325,7 @@ impl House {
         ensures only { IfErr result (λ e. (e ≡ HouseFault.Nobody) ⊎ (e ≡ HouseFault.Nothing)) }
         ensures refused { OnErr result (self.new ≡ self.old) }
     {
-        if let Err(fault) = self.core.deliver(shard) {
+        if let Err(fault) = self.desk.core.deliver(shard) {
             return Err(fault_of(fault));
         }
         Ok(())
@@ -336,7 +340,7 @@ impl House {
         ensures only { IfErr result (λ e. (e ≡ HouseFault.Nobody) ⊎ (e ≡ HouseFault.Nothing)) }
         ensures refused { OnErr result (self.new ≡ self.old) }
     {
-        if let Err(fault) = self.core.answer(shard) {
+        if let Err(fault) = self.desk.core.answer(shard) {
             return Err(fault_of(fault));
         }
         Ok(())
@@ -367,6 +371,10 @@ impl House {
             Event::Answer(shard) => self.answer(shard),
             Event::Hear(connection) => self.hear_at(connection, out),
             Event::End(connection, shard) => self.end(connection, shard),
+            Event::Enter(session, user) => self.enter(session, user, out),
+            Event::Say(session, piece) => self.say(session, piece, out),
+            Event::Idle(session) => self.idle(session, out),
+            Event::Leave(session) => self.leave(session),
         }
     }
 
@@ -396,7 +404,7 @@ impl House {
         if self.callers[seat].is_some() {
             return self.receive(connection, piece, out);
         }
-        if self.serials[seat] == u64::MAX || self.core.has_ended(connection - 1) {
+        if self.serials[seat] == u64::MAX || self.desk.core.has_ended(connection - 1) {
             return Err(HouseFault::Nobody);
         }
         self.welcome(connection, piece, out)
@@ -436,13 +444,13 @@ impl House {
         if connection == 0 || usize::from(connection) > self.callers.len() {
             return Err(HouseFault::Nobody);
         }
-        if usize::from(shard) >= self.core.shards() {
+        if usize::from(shard) >= self.desk.core.shards() {
             return Err(HouseFault::Nobody);
         }
         if self.callers[usize::from(connection - 1)].is_some() {
             return Err(HouseFault::Busy);
         }
-        match self.core.end(connection - 1, shard) {
+        match self.desk.core.end(connection - 1, shard) {
             Ok(()) => {}
             Err(Fault::NoMemory) => return Err(HouseFault::Nothing),
             Err(Fault::Nothing) => return Err(HouseFault::Nothing),

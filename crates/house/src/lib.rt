@@ -5,7 +5,9 @@
 mod config;
 mod event;
 mod house;
+mod idling;
 mod make;
+mod sessions;
 mod settle;
 mod tail;
 #[cfg(test)]

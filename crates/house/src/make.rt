@@ -14,10 +14,15 @@ use callers::Caller;
 use delivery_core::{DeliveryCore, Settings};
 use envelope::{Directory, is_name};
 use mailbox::Limits;
+use session_store::Desk;
 use std::alloc::{AllocError, Global};
+use visitors::Visitor;
 
 /// So many connections may stand at a time.
 const SEATS: u8 = 8;
+
+/// So many sessions may visit at a time.
+const SESSIONS: usize = 8;
 
 /// The most mailboxes of a house.
 const MOST_MAILBOXES: usize = 64;
@@ -78,8 +83,19 @@ fn empty_places(alloc: Global) -> Result<Vec<Option<Caller>>, AllocError>
     Ok(places)
 }
 
+// At each place nobody.
+fn free_places(alloc: Global) -> Result<Vec<Option<Visitor>>, AllocError>
+    ensures { IfOk result (λ v. v.items ≡ replicate SESSIONS None) }
+{
+    let mut places = Vec::new(alloc);
+    for _place in 0..SESSIONS {
+        places.push(None)?;
+    }
+    Ok(places)
+}
+
 impl House {
-    /// A house of these settings, with nobody at its seats and nothing in its mailboxes.
+    /// A house of these settings, with nobody at its seats and places and nothing in its mailboxes.
     ///
     /// Errors, the first that holds: `TooMany` for more than 64 mailboxes; `BadName` for the host, then for the domain; then the fault
     /// of the first word that has one, `BadName` if it is spelled wrong or its user has no word before it, `Twice` if it names an
@@ -103,7 +119,7 @@ impl House {
             seats: SEATS,
             shards: config.shards,
             mailboxes: directory.mailboxes() as u8,
-            sessions: 0,
+            sessions: SESSIONS,
             depth: config.depth,
             uidvalidity: config.uidvalidity,
             first_uid: config.first_uid,
@@ -114,9 +130,13 @@ impl House {
             },
         };
         Ok(House {
-            core: DeliveryCore::new(alloc, settings)?,
+            desk: Desk {
+                core: DeliveryCore::new(alloc, settings)?,
+                session: 0,
+            },
             callers: empty_places(alloc)?,
             serials: vec![in alloc; 0; usize::from(SEATS)]?,
+            visitors: free_places(alloc)?,
             directory,
             host: Vec::from_slice(alloc, &config.host)?,
             max_message: config.max_message,

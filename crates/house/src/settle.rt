@@ -5,9 +5,9 @@ ghost use Rattle.std.specs.Prelude.{◌≡◌, ◌<◌, ℕ, List, All, OnOk, On
 ghost use Rattle.house.specs.Scene as scene;
 ghost use Rattle.callers.specs.Caller.{Setup};
 ghost use Rattle.house.specs.Settled.{HappenedFrom, SettledFrom, is_held};
-ghost use Rattle.house.specs.Settling.{round};
+ghost use Rattle.house.specs.Settling.{GoesRounds, round};
 ghost use Rattle.house.specs.Stands.{StandsFor};
-ghost use Rattle.house.specs.Trying.{CameInTurn, CameOne, CameVisit, CameVisits, IsOwn, hears, puts, serve, serves};
+ghost use Rattle.house.specs.Trying.{CameInTurn, CameOne, CameVisit, CameVisits, Goes, IsOwn, Wants, hears, puts, serve, serves};
 
 use crate::event::{Event, HouseFault};
 use crate::house::House;
@@ -136,12 +136,10 @@ impl House {
         Ok(put | served | heard)
     }
 
-    /// Settles: each connection from 1 puts its copies; each shard from 0 that isn't held takes, delivers and answers until its lane
-    /// is empty; each connection from 1 hears its verdicts; and so on in rounds until nothing moves.
-    /// The one error is want of memory: what happened by then stands.
-    pub fn settle(&mut self, held: &[bool], out: &mut Vec<u8>) -> Result<(), AllocError>
-        ensures settles { OnOk result ((k : Setup) (s : scene.Scene) → StandsFor k self.old s → SettledFrom k held.now s self.new out.old.items out.new.items) }
-        ensures no_memory { OnErr result ((k : Setup) (s : scene.Scene) → StandsFor k self.old s → HappenedFrom k s self.new out.old.items out.new.items) }
+    // Rounds, until nothing moves.
+    fn go_rounds(&mut self, held: &[bool], out: &mut Vec<u8>) -> Result<(), AllocError>
+        ensures ok { OnOk result (Goes (λ k. Unit {0}) (λ k s t printed. GoesRounds k (is_held held.now) s t printed) self.old out.old.items self.new out.new.items) }
+        ensures err { OnErr result (Wants (λ k. Unit {0}) self.old out.old.items self.new out.new.items) }
     {
         loop {
             let Ok(moved) = self.go_round(held, out) else {
@@ -151,6 +149,23 @@ impl House {
                 return Ok(());
             }
         }
+    }
+
+    /// Settles: each connection from 1 puts its copies; each shard from 0 that isn't held takes, delivers and answers until its lane
+    /// is empty; each connection from 1 hears its verdicts; and so on in rounds until nothing moves. Then each session from 1 that idles is
+    /// shown what is pending, until nothing is.
+    /// The one error is want of memory: what happened by then stands.
+    pub fn settle(&mut self, held: &[bool], out: &mut Vec<u8>) -> Result<(), AllocError>
+        ensures settles { OnOk result ((k : Setup) (s : scene.Scene) → StandsFor k self.old s → SettledFrom k held.now s self.new out.old.items out.new.items) }
+        ensures no_memory { OnErr result ((k : Setup) (s : scene.Scene) → StandsFor k self.old s → HappenedFrom k s self.new out.old.items out.new.items) }
+    {
+        let Ok(()) = self.go_rounds(held, out) else {
+            return Err(AllocError);
+        };
+        let Ok(()) = self.idle_all(out) else {
+            return Err(AllocError);
+        };
+        Ok(())
     }
 }
 

@@ -1,5 +1,7 @@
 //! What a house does of itself, event by event, where a worked case of the script can't show it.
 
+mod sessions;
+
 use crate::{Config, ConfigFault, Event, House, HouseFault};
 use std::alloc::Global;
 

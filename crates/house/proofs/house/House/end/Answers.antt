@@ -16,7 +16,7 @@ nobody (Some g) e = absurd (let x : is_some (Some g) ≡ false = e in cc)
 pub returns-clause-follows : goal.returns-clause-follows
 returns-clause-follows c k s old st =
     let i = c.self.inside in
-    let h : State = record { core = i.core; callers = i.callers.items; serials = i.serials.items; directory = i.directory; host = i.host.items; max_message = i.max_message } in
+    let h : State = record { core = i.desk.core; callers = i.callers.items; serials = i.serials.items; visitors = i.visitors.items; directory = i.directory; host = i.host.items; max_message = i.max_message } in
     let st1 = subst (λ (x : State). StandsFor k x s) (sym c.self.view_is) st in
     let e = c.from-3.ensures in
     let seat = c.args.connection - 1 in
@@ -29,6 +29,6 @@ returns-clause-follows c k s old st =
 pub returns-in-Err-Nothing-clause-idle : goal.returns-in-Err-Nothing-clause-idle
 returns-in-Err-Nothing-clause-idle c x k s st t printed p =
     let i = c.self.inside in
-    let h : State = record { core = i.core; callers = i.callers.items; serials = i.serials.items; directory = i.directory; host = i.host.items; max_message = i.max_message } in
+    let h : State = record { core = i.desk.core; callers = i.callers.items; serials = i.serials.items; visitors = i.visitors.items; directory = i.directory; host = i.host.items; max_message = i.max_message } in
     let st1 = subst (λ (x : State). StandsFor k x s) (sym c.self.view_is) st in
     idles k h s (world.PutEnd (c.args.connection - 1) c.args.shard) st1 (c.in-Err-Nothing.ensures.idle (ap (λ x. Err x) c.in-Err-Nothing.field-0-is)) t printed p.1

@@ -19,7 +19,7 @@ there (Some g) e = (g, refl)
 pub returns-in_default-clause-no_memory : goal.returns-in_default-clause-no_memory
 returns-in_default-clause-no_memory c e k s st =
     let i = c.self.inside in
-    let h : State = record { core = i.core; callers = i.callers.items; serials = i.serials.items; directory = i.directory; host = i.host.items; max_message = i.max_message } in
+    let h : State = record { core = i.desk.core; callers = i.callers.items; serials = i.serials.items; visitors = i.visitors.items; directory = i.directory; host = i.host.items; max_message = i.max_message } in
     let st1 = subst (λ (x : State). StandsFor k x s) (sym c.self.view_is) st in
     let many = ap (λ (x : State). length x.callers) c.self.view_is in
     let e1 = c.from-seat.ensures in
@@ -30,14 +30,14 @@ returns-in_default-clause-no_memory c e k s st =
     let q = heard_at c.index_mut-place.result.now c.hear_at.new.place c.in-Ok.noted g.0 (c.index_mut-place.ensures.value ∙ get_or-any i.callers.items c.from-seat.result _ None lt ∙ some) c.hear_at.ensures in
     let f = c.in-Ok.ensures in
     let r = heard_led k h s c.args.connection c.from-seat.result i.directory g.0 c.hear.new.self c.in-Ok.noted q.0 c.go_on_at.new.place false c.args.out.now.items c.go_on_at.new.out.items
-    st1 number refl lt some (subst (λ (n : ℕ). (x : world.Config) → core.Follows x i.core (world.Hear n ∷ []) c.hear.new.self) (sym e1) f.follows) (subst (λ (n : ℕ). Hears i.core c.hear.new.self n (c.in-Ok.noted ∷ [])) (sym e1) f.heard) f.next q.2
+    st1 number refl lt some (subst (λ (n : ℕ). (x : world.Config) → core.Follows x i.desk.core (world.Hear n ∷ []) c.hear.new.self) (sym e1) f.follows) (subst (λ (n : ℕ). Hears i.desk.core c.hear.new.self n (c.in-Ok.noted ∷ [])) (sym e1) f.heard) f.next q.2
     (λ x p next heard b of m. c.in_default.ensures.err x p next heard b of (subst (λ (o : Option Line). StandsForMaybe x p next heard o (Some b)) (sym q.1) m)) in
     inl (record { after = r.0; printed = r.1; plays = subst (λ (n : ℕ). HearPlay k false s n r.0 r.1) e1 r.2; stands = r.3; out = r.4 })
 
 pub returns-clause-follows : goal.returns-clause-follows
 returns-clause-follows c k s st =
     let i = c.self.inside in
-    let h : State = record { core = i.core; callers = i.callers.items; serials = i.serials.items; directory = i.directory; host = i.host.items; max_message = i.max_message } in
+    let h : State = record { core = i.desk.core; callers = i.callers.items; serials = i.serials.items; visitors = i.visitors.items; directory = i.directory; host = i.host.items; max_message = i.max_message } in
     let st1 = subst (λ (x : State). StandsFor k x s) (sym c.self.view_is) st in
     let many = ap (λ (x : State). length x.callers) c.self.view_is in
     let e1 = c.from-seat.ensures in
@@ -48,13 +48,13 @@ returns-clause-follows c k s st =
     let q = heard_at c.index_mut-place.result.now c.hear_at.new.place c.in-Ok.noted g.0 (c.index_mut-place.ensures.value ∙ get_or-any i.callers.items c.from-seat.result _ None lt ∙ some) c.hear_at.ensures in
     let f = c.in-Ok.ensures in
     let r = heard_led k h s c.args.connection c.from-seat.result i.directory g.0 c.hear.new.self c.in-Ok.noted q.0 c.go_on_at.new.place true c.args.out.now.items c.go_on_at.new.out.items
-    st1 number refl lt some (subst (λ (n : ℕ). (x : world.Config) → core.Follows x i.core (world.Hear n ∷ []) c.hear.new.self) (sym e1) f.follows) (subst (λ (n : ℕ). Hears i.core c.hear.new.self n (c.in-Ok.noted ∷ [])) (sym e1) f.heard) f.next q.2
+    st1 number refl lt some (subst (λ (n : ℕ). (x : world.Config) → core.Follows x i.desk.core (world.Hear n ∷ []) c.hear.new.self) (sym e1) f.follows) (subst (λ (n : ℕ). Hears i.desk.core c.hear.new.self n (c.in-Ok.noted ∷ [])) (sym e1) f.heard) f.next q.2
     (λ x p next heard b of m. c.in-Ok-go_on_at.ensures.ok x p next heard b of (subst (λ (o : Option Line). StandsForMaybe x p next heard o (Some b)) (sym q.1) m)) in
     record { after = r.0; printed = r.1; plays = subst (λ (n : ℕ). HearPlay k true s n r.0 r.1) e1 r.2; stands = r.3; out = r.4 }
 
 pub returns-in-Err-Nothing-clause-idle : goal.returns-in-Err-Nothing-clause-idle
 returns-in-Err-Nothing-clause-idle c e k s st t printed p =
     let i = c.self.inside in
-    let h : State = record { core = i.core; callers = i.callers.items; serials = i.serials.items; directory = i.directory; host = i.host.items; max_message = i.max_message } in
+    let h : State = record { core = i.desk.core; callers = i.callers.items; serials = i.serials.items; visitors = i.visitors.items; directory = i.directory; host = i.host.items; max_message = i.max_message } in
     let st1 = subst (λ (x : State). StandsFor k x s) (sym c.self.view_is) st in
     absurd (hear_idles k h s (seat_of c.args.connection) t printed st1 (c.in-Err-Nothing.ensures.idle (ap (λ x. Err x) c.in-Err-Nothing.field-0-is)) p)

@@ -1,15 +1,13 @@
-use Rattle.house.specs.Settled.{is_held}
-use Rattle.house.proofs.Settlement.{round_again, rounds_want, settled}
+use Rattle.house.proofs.IdleSettling.{settled, turns_wanted}
 use Rattle.house.proofs.house.House.settle.Goals as goal
 
 pub returns-in_default-clause-no_memory : goal.returns-in_default-clause-no_memory
-returns-in_default-clause-no_memory c k s st =
-    rounds_want (is_held c.args.held.now) k s c.loop-moved.self c.go_round.new.self c.args.out.now.items c.loop-moved.out.items c.go_round.new.out.items (c.loop-moved.invariant k s st) c.in_default.ensures
+returns-in_default-clause-no_memory c k s st = c.in_default.ensures.err.happened k s tt st
 
-pub returns-then-not-moved-clause-settles : goal.returns-then-not-moved-clause-settles
-returns-then-not-moved-clause-settles c k s st =
-    settled c.args.held.now k s c.loop-moved.self c.go_round.new.self c.args.out.now.items c.loop-moved.out.items c.go_round.new.out.items c.in-Ok.moved c.if-not-moved.true (c.loop-moved.invariant k s st) c.in-Ok.ensures
+pub returns-in_default-idle_all-clause-no_memory : goal.returns-in_default-idle_all-clause-no_memory
+returns-in_default-idle_all-clause-no_memory c k s st =
+    turns_wanted c.args.held.now k s c.args.self.now c.args.out.now.items c.go_rounds.new.self c.go_rounds.new.out.items c.idle_all.new.self c.idle_all.new.out.items st c.in-Ok.ensures.ok c.in_default-idle_all.ensures.err
 
-pub loop-moved-preserved : goal.loop-moved-preserved
-loop-moved-preserved c k s st =
-    round_again (is_held c.args.held.now) k s c.loop-moved.self c.go_round.new.self c.args.out.now.items c.loop-moved.out.items c.go_round.new.out.items c.in-Ok.moved (c.loop-moved.invariant k s st) c.in-Ok.ensures
+pub returns-clause-settles : goal.returns-clause-settles
+returns-clause-settles c k s st =
+    settled c.args.held.now k s c.args.self.now c.args.out.now.items c.go_rounds.new.self c.go_rounds.new.out.items c.idle_all.new.self c.idle_all.new.out.items st c.in-Ok.ensures.ok c.in-Ok-idle_all.ensures.ok

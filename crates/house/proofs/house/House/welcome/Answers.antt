@@ -16,7 +16,7 @@ use Rattle.house.proofs.house.House.welcome.Goals as goal
 pub returns-in_default-go_on_at-clause-no_memory : goal.returns-in_default-go_on_at-clause-no_memory
 returns-in_default-go_on_at-clause-no_memory c k s st =
     let i = c.self.inside in
-    let h : State = record { core = i.core; callers = i.callers.items; serials = i.serials.items; directory = i.directory; host = i.host.items; max_message = i.max_message } in
+    let h : State = record { core = i.desk.core; callers = i.callers.items; serials = i.serials.items; visitors = i.visitors.items; directory = i.directory; host = i.host.items; max_message = i.max_message } in
     let st1 = subst (λ (x : State). StandsFor k x s) (sym c.self.view_is) st in
     let many = ap (λ (x : State). length x.callers) c.self.view_is in
     let e1 = c.from-seat.ensures in
@@ -25,7 +25,7 @@ returns-in_default-go_on_at-clause-no_memory c k s st =
     let lt : seat < length i.callers.items = let m = c.requires.vacant.seat in omega (arith, number, m, many) in
     let none : get_or i.callers.items seat None ≡ None = subst (λ (n : ℕ). get_or i.callers.items n None ≡ None) (sym e1) (subst (λ (x : State). get_or x.callers (c.args.connection - 1) None ≡ None) (sym c.self.view_is) c.requires.vacant.empty) in
     let more = subst (λ (n : ℕ). get_or i.serials.items n 0 < most_serials) (sym e1) (subst (λ (x : State). get_or x.serials (c.args.connection - 1) 0 < most_serials) (sym c.self.view_is) c.requires.vacant.more) in
-    let live = subst (λ (n : ℕ). has_ended i.core n ≡ false) (sym e1) (subst (λ (x : State). has_ended x.core (c.args.connection - 1) ≡ false) (sym c.self.view_is) c.requires.vacant.goes_on) in
+    let live = subst (λ (n : ℕ). has_ended i.desk.core n ≡ false) (sym e1) (subst (λ (x : State). has_ended x.core (c.args.connection - 1) ≡ false) (sym c.self.view_is) c.requires.vacant.goes_on) in
     let ls : seat < length i.serials.items = let z = c.self.invariant.0 in omega (arith, lt, z) in
     let serial : c.index-serial.result.now ≡ get_or i.serials.items seat 0 = c.index-serial.ensures ∙ get_or-any i.serials.items seat c.index-serial.result.now 0 ls in
     let opened = λ (x : Setup) (next : CopyKey) (heard : List Noted) (a : x.host ≡ i.host.items) (b : x.max_message ≡ i.max_message) (l : AtLeast next (record { seat = seat; serial = get_or i.serials.items seat 0; message = 0; recipient = 0 })).
@@ -39,14 +39,14 @@ returns-in_default-go_on_at-clause-no_memory c k s st =
       after = r.0;
       printed = r.1;
       plays = subst (λ (n : ℕ). BytesPlay k false s n c.args.piece.now r.0 r.1) e1 r.2;
-      stands = subst (λ (n : ℕ). StandsFor k (record { core = i.core; callers = set i.callers.items seat c.go_on_at.new.place; serials = set i.serials.items seat (n + 1); directory = i.directory; host = i.host.items; max_message = i.max_message }) r.0) (sym serial) r.3;
+      stands = subst (λ (n : ℕ). StandsFor k (record { core = i.desk.core; callers = set i.callers.items seat c.go_on_at.new.place; serials = set i.serials.items seat (n + 1); visitors = i.visitors.items; directory = i.directory; host = i.host.items; max_message = i.max_message }) r.0) (sym serial) r.3;
       out = r.4;
     })
 
 pub returns-clause-follows : goal.returns-clause-follows
 returns-clause-follows c k s st =
     let i = c.self.inside in
-    let h : State = record { core = i.core; callers = i.callers.items; serials = i.serials.items; directory = i.directory; host = i.host.items; max_message = i.max_message } in
+    let h : State = record { core = i.desk.core; callers = i.callers.items; serials = i.serials.items; visitors = i.visitors.items; directory = i.directory; host = i.host.items; max_message = i.max_message } in
     let st1 = subst (λ (x : State). StandsFor k x s) (sym c.self.view_is) st in
     let many = ap (λ (x : State). length x.callers) c.self.view_is in
     let e1 = c.from-seat.ensures in
@@ -55,7 +55,7 @@ returns-clause-follows c k s st =
     let lt : seat < length i.callers.items = let m = c.requires.vacant.seat in omega (arith, number, m, many) in
     let none : get_or i.callers.items seat None ≡ None = subst (λ (n : ℕ). get_or i.callers.items n None ≡ None) (sym e1) (subst (λ (x : State). get_or x.callers (c.args.connection - 1) None ≡ None) (sym c.self.view_is) c.requires.vacant.empty) in
     let more = subst (λ (n : ℕ). get_or i.serials.items n 0 < most_serials) (sym e1) (subst (λ (x : State). get_or x.serials (c.args.connection - 1) 0 < most_serials) (sym c.self.view_is) c.requires.vacant.more) in
-    let live = subst (λ (n : ℕ). has_ended i.core n ≡ false) (sym e1) (subst (λ (x : State). has_ended x.core (c.args.connection - 1) ≡ false) (sym c.self.view_is) c.requires.vacant.goes_on) in
+    let live = subst (λ (n : ℕ). has_ended i.desk.core n ≡ false) (sym e1) (subst (λ (x : State). has_ended x.core (c.args.connection - 1) ≡ false) (sym c.self.view_is) c.requires.vacant.goes_on) in
     let ls : seat < length i.serials.items = let z = c.self.invariant.0 in omega (arith, lt, z) in
     let serial : c.index-serial.result.now ≡ get_or i.serials.items seat 0 = c.index-serial.ensures ∙ get_or-any i.serials.items seat c.index-serial.result.now 0 ls in
     let opened = λ (x : Setup) (next : CopyKey) (heard : List Noted) (a : x.host ≡ i.host.items) (b : x.max_message ≡ i.max_message) (l : AtLeast next (record { seat = seat; serial = get_or i.serials.items seat 0; message = 0; recipient = 0 })).
@@ -69,6 +69,6 @@ returns-clause-follows c k s st =
       after = r.0;
       printed = r.1;
       plays = subst (λ (n : ℕ). BytesPlay k true s n c.args.piece.now r.0 r.1) e1 r.2;
-      stands = subst (λ (n : ℕ). StandsFor k (record { core = i.core; callers = set i.callers.items seat c.go_on_at.new.place; serials = set i.serials.items seat (n + 1); directory = i.directory; host = i.host.items; max_message = i.max_message }) r.0) (sym serial) r.3;
+      stands = subst (λ (n : ℕ). StandsFor k (record { core = i.desk.core; callers = set i.callers.items seat c.go_on_at.new.place; serials = set i.serials.items seat (n + 1); visitors = i.visitors.items; directory = i.directory; host = i.host.items; max_message = i.max_message }) r.0) (sym serial) r.3;
       out = r.4;
     }

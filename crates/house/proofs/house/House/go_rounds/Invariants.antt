@@ -5,7 +5,7 @@ use Rattle.house.specs.Settled.{is_held}
 use Rattle.house.specs.Stands.{StandsFor}
 use Rattle.house.specs.Trying.{Went}
 use Rattle.house.proofs.Settlement.{Rounds}
-use Rattle.house.proofs.house.House.settle.Given as goal
+use Rattle.house.proofs.house.House.go_rounds.Given as goal
 
 abbrev pub invariant-loop-moved : goal.invariant-loop-moved
 invariant-loop-moved l = (k : Setup) (s : Scene) → StandsFor k l.fn.self s → Went (λ k s t printed. Rounds k (is_held l.held) s t printed) k s l.self l.fn.out.items l.out.items

@@ -1,0 +1,363 @@
+-- A turn of a session that idles: over the delivery core, as what its visitor does in the scene, and when the house settles.
+use Rattle.std.proofs.Common.{◌≡◌, ℕ, ◌+◌, ◌-◌, ◌<◌, ◌≤◌, ◌⊎◌, inl, inr, Bool, true, false, List, [], ◌∷◌, ◌++◌, length, take, get_or, set, length-set, get_or-set_same, get_or-set_other, refl, sym, ap, ◌∙◌, subst, arith, Option, Some, None, IsSome}
+use Rattle.std.specs.Prelude.{◌&&◌, not, is_some}
+use Rattle.std.proofs.lemmas.Bool.{cases_eq, cases_lt}
+use Rattle.change_ring.specs.declared.change.Change.{Change}
+use Rattle.cursor_set.specs.Lines.{lines}
+use Rattle.mailbox.specs.declared.clients.MailFault.TheVariants.{Stranger, Lapped, Spent, NoMemory}
+use Rattle.delivery_core.specs.Changes.{SameDelivery}
+use Rattle.delivery_core.specs.Held.{Held, behind, client_of}
+use Rattle.delivery_core.specs.Stands as core
+use Rattle.callers.specs.Caller.{Setup}
+use Rattle.imap_session.specs.declared.standing.After.TheVariants as afters
+use Rattle.imap_session.specs.declared.standing.Selected.{Selected as Chosen}
+use Rattle.imap_session.specs.Exchange.{Answer, Entered, Looked, Found, Counted, Altered, Expunged, Fed, Left, Refused, Starved, Event, Feed, Standing, Turn, having, is_idling, nothing_more, refused, saying}
+use Rattle.imap_session.specs.Exchange as calls
+use Rattle.imap_session.specs.Commands.{count_shown, idle_turn, idle_turn_in, most_changes}
+use Rattle.imap_session.specs.Store.{IdleTurns, Met, Starves}
+use Rattle.session_store.specs.declared.desk.Desk.{Desk}
+use Rattle.session_store.specs.Desk.{CatchesUp, Serves}
+use Rattle.session_store.specs.Meets.{Meets}
+use Rattle.session_store.proofs.Served.{IsServing, carries, met_delivery}
+use Rattle.session_store.proofs.Serving.{same_delivery}
+use Rattle.visitors.specs.Place.{Idled, IdledInPart, Missed, Place}
+use Rattle.visitors.specs.Place as visit
+use Rattle.visitors.specs.Visitor.{Idles, Visitor}
+use Rattle.visitors.proofs.Carried.{idles_carried}
+use Rattle.world.specs.World.{Config, Selected, Session, World, pending}
+use Rattle.house.specs.State.{State}
+use Rattle.house.specs.Effort.{turns_left}
+use Rattle.house.specs.Scene.{IdlePlay, Scene, VisitorIdles, with_visitor, with_world}
+use Rattle.house.specs.Scene as scene
+use Rattle.house.specs.Stands.{StandsFor, StandsForVisit}
+use Rattle.house.specs.Steps.{HasNoTurn, MayIdle, PlaceIdled, PlaceIdledInPart, PlaceKept}
+use Rattle.house.proofs.Seats.{moved}
+use Rattle.house.proofs.Visiting.{delivery_then, visit_stands, who_visits, with_visits}
+
+-- ---- which turns there are
+
+some_is : {A : Type 0} (a b : A) → Some a ≡ Some b → a ≡ b
+some_is a b e = cc
+
+-- in a mailbox: what is pending is shown, or the session ends
+data IdleCase (now : Standing) (answers : List Answer) (t : Turn) : Type 0 where
+  is_shown : (view : List ℕ) (changes : List Change) → answers ≡ Fed view changes ∷ [] → t ≡ having (Feed most_changes) (Fed view changes) (saying (lines view changes) (nothing_more afters.Idle now)) → IdleCase now answers t
+  is_lapped : answers ≡ Refused Lapped ∷ [] → t ≡ having (Feed most_changes) (Refused Lapped) (refused [] now Lapped) → IdleCase now answers t
+  is_unknown : answers ≡ Refused Stranger ∷ [] → t ≡ having (Feed most_changes) (Refused Stranger) (refused [] now Stranger) → IdleCase now answers t
+
+in_mailbox : (s : Chosen) (now : Standing) (answers : List Answer) (t : Turn) → idle_turn_in (Some s) true now answers ≡ Some t → IdleCase now answers t
+in_mailbox s now [] t e = cc
+in_mailbox s now (Fed view changes ∷ []) t e = is_shown view changes refl (sym (some_is _ t e))
+in_mailbox s now (Fed view changes ∷ (b ∷ more)) t e = cc
+in_mailbox s now (Refused Lapped ∷ []) t e = is_lapped refl (sym (some_is _ t e))
+in_mailbox s now (Refused Lapped ∷ (b ∷ more)) t e = cc
+in_mailbox s now (Refused Stranger ∷ []) t e = is_unknown refl (sym (some_is _ t e))
+in_mailbox s now (Refused Stranger ∷ (b ∷ more)) t e = cc
+in_mailbox s now (Refused Spent ∷ more) t e = cc
+in_mailbox s now (Refused NoMemory ∷ more) t e = cc
+in_mailbox s now (Entered opening ∷ more) t e = cc
+in_mailbox s now (Looked view ∷ more) t e = cc
+in_mailbox s now (Found row ∷ more) t e = cc
+in_mailbox s now (Counted status ∷ more) t e = cc
+in_mailbox s now (Altered flags ∷ more) t e = cc
+in_mailbox s now (Expunged view changes gone ∷ more) t e = cc
+in_mailbox s now (Left gone ∷ more) t e = cc
+in_mailbox s now (Starved n ∷ more) t e = cc
+
+in_none : (idling : Bool) (now : Standing) (answers : List Answer) (t : Turn) → idle_turn_in None idling now answers ≡ Some t → (answers ≡ []) × (t ≡ nothing_more afters.Idle now)
+in_none idling now [] t e = (refl, sym (some_is _ t e))
+in_none idling now (a ∷ more) t e = cc
+
+chosen : (o : Option Chosen) → IsSome o → (s : Chosen) × (o ≡ Some s)
+chosen None h = cc
+chosen (Some s) h = (s, refl)
+
+case_of : (now : Standing) (answers : List Answer) (t : Turn) → idle_turn now answers ≡ Some t → is_idling now ≡ true → IsSome now.selected → IdleCase now answers t
+case_of now answers t e idles some =
+    let s = chosen now.selected some in
+    in_mailbox s.0 now answers t (sym (ap (λ (x : Option Chosen). idle_turn_in x (is_idling now) now answers) s.1 ∙ ap (λ (b : Bool). idle_turn_in (Some s.0) b now answers) idles) ∙ e)
+
+lives_of : (a b : Bool) → (a && not b) ≡ true → b ≡ false
+lives_of true true e = sym e
+lives_of false true e = sym e
+lives_of a false e = refl
+
+-- a session that idles has not ended
+lives : (now : Standing) → is_idling now ≡ true → now.ended ≡ false
+lives now e = lives_of (is_some now.idling) now.ended e
+
+-- ---- at the desk
+
+-- something was shown, and the session is less behind; or it has ended
+abbrev Gains : Desk → Desk → ℕ → Standing → Type 0
+Gains old new count next = ((0 < count) × (behind new.core old.session < behind old.core old.session)) ⊎ (next.ended ≡ true)
+
+pub gains : (now : Standing) (old new : Desk) (before after : List ℕ) (count : ℕ) (next : Standing) → IdleTurns Serves now old new before after count next → is_idling now ≡ true → IsSome now.selected
+    → (IsSome (client_of old.core old.session) → behind old.core old.session ≡ 0 → ⊥) → Gains old new count next
+gains now old new before after count next t idles some news = go (case_of now t.answers (record { events = t.events; bytes = t.bytes; after = t.how; standing = next }) t.played idles some)
+  where
+    go : IdleCase now t.answers (record { events = t.events; bytes = t.bytes; after = t.how; standing = next }) → Gains old new count next
+    go (is_shown view changes a e) =
+        let met = subst (λ (es : List Event). Met Serves old es new) (ap (λ (x : Turn). x.events) e) t.met in
+        let less = subst (λ (d : Desk). CatchesUp old.session old.core (Feed most_changes) (Fed view changes) d.core) (sym met.2) met.1.behind in
+        let counted : count ≡ length changes + 0 = t.shown ∙ ap count_shown a in
+        elim (cases_lt 0 (behind old.core old.session)) [
+          | inl l ↦ inl (omega (arith, counted, less.1, l), omega (arith, less.1, less.2, l))
+          | inr z ↦ absurd (news less.0 (omega (arith, z)))
+        ]
+    go (is_lapped a e) = inr (ap (λ (x : Turn). x.standing.ended) e)
+    go (is_unknown a e) = inr (ap (λ (x : Turn). x.standing.ended) e)
+
+-- ---- where there is nothing to do
+
+quiet : (shown : ℕ) (ended : Bool) → (0 < shown) ⊎ (ended ≡ true) → shown ≡ 0 → ended ≡ false → ⊥
+quiet shown ended (inl h) e f = omega (arith, h, e)
+quiet shown ended (inr h) e f = let g : true ≡ false = sym h ∙ f in cc
+
+-- session n has selected a mailbox, and was shown all of its log
+abbrev IsCurrent : World → ℕ → Type 0
+IsCurrent w n = Selected w n (λ s. ((w.box s.mailbox).base ≤ s.cursor) × (pending (w.box s.mailbox) s ≡ []))
+
+same_session : (w : World) (n : ℕ) (r s : Session) → w.session n ≡ Some r → w.session n ≡ Some s → r ≡ s
+same_session w n r s a b = some_is r s (sym a ∙ b)
+
+fed_nothing : (k : Config) (n : ℕ) (w v : World) (view : List ℕ) (changes : List Change) → Meets k n w (Feed most_changes) (Fed view changes) v → IsCurrent w n → changes ≡ []
+fed_nothing k n w v view changes m c =
+    let d = m.1 in
+    let none = subst (λ (x : Session). pending (w.box x.mailbox) x ≡ []) (same_session w n c.0 d.0 c.1 d.1) c.2.1 in
+    d.2.1.handed ∙ ap (λ (cs : List Change). take most_changes cs) none
+
+not_lapped : (k : Config) (n : ℕ) (w v : World) → Meets k n w (Feed most_changes) (Refused Lapped) v → IsCurrent w n → ⊥
+not_lapped k n w v m c =
+    let d = m.1.1 in
+    let low = subst (λ (x : Session). (w.box x.mailbox).base ≤ x.cursor) (same_session w n c.0 d.0 c.1 d.1) c.2.0 in
+    let under = d.2 in
+    omega (arith, low, under)
+
+not_unknown : (k : Config) (n : ℕ) (w v : World) → Meets k n w (Feed most_changes) (Refused Stranger) v → IsCurrent w n → ⊥
+not_unknown k n w v m c = let f : Some c.0 ≡ None = sym c.1 ∙ m.1 in cc
+
+up_to_date : (k : Setup) (place : ℕ) (w v : World) (b : Visitor) (o : Option Visitor) (printed : List ℕ) → IsSome b.standing.selected → IsCurrent w place → VisitorIdles k true place w b v o printed → ⊥
+up_to_date k place w v b o printed some c i =
+    go (case_of b.standing i.idles.turned.answers (record { events = i.idles.turned.events; bytes = i.idles.turned.bytes; after = i.idles.turned.how; standing = i.after.standing }) i.idles.turned.played i.idling some)
+  where
+    met_as : (es : List Event) → i.idles.turned.events ≡ es → Met (λ (x : World) call answer y. Meets k.config place x call answer y) w es i.mid
+    met_as es e = subst (λ (xs : List Event). Met (λ (x : World) call answer y. Meets k.config place x call answer y) w xs i.mid) e i.idles.turned.met
+
+    go : IdleCase b.standing i.idles.turned.answers (record { events = i.idles.turned.events; bytes = i.idles.turned.bytes; after = i.idles.turned.how; standing = i.after.standing }) → ⊥
+    go (is_shown view changes a e) =
+        let met = met_as (record { call = Feed most_changes; answer = Fed view changes } ∷ []) (ap (λ (x : Turn). x.events) e) in
+        let none = fed_nothing k.config place w met.0 view changes met.1 c in
+        quiet i.shown i.after.standing.ended i.something (i.idles.turned.shown ∙ ap count_shown a ∙ ap (λ (cs : List Change). length cs + 0) none) (ap (λ (x : Turn). x.standing.ended) e ∙ lives b.standing i.idling)
+    go (is_lapped a e) =
+        let met = met_as (record { call = Feed most_changes; answer = Refused Lapped } ∷ []) (ap (λ (x : Turn). x.events) e) in
+        not_lapped k.config place w met.0 met.1 c
+    go (is_unknown a e) =
+        let met = met_as (record { call = Feed most_changes; answer = Refused Stranger } ∷ []) (ap (λ (x : Turn). x.events) e) in
+        not_unknown k.config place w met.0 met.1 c
+
+pub none_awake : (p : Place) (place : ℕ) (h : Held) → is_idling p.link.session ≡ false → HasNoTurn place (Some p) h
+none_awake p place h awake k w v b o printed stands there i =
+    let f : false ≡ true = sym awake ∙ ap is_idling there.connection.session ∙ i.idling in cc
+
+pub none_unselected : (p : Place) (place : ℕ) (h : Held) → p.link.session.selected ≡ None → HasNoTurn place (Some p) h
+none_unselected p place h unselected k w v b o printed stands there i =
+    let t = i.idles.turned in
+    let e : b.standing.selected ≡ None = sym (ap (λ (x : Standing). x.selected) there.connection.session) ∙ unselected in
+    let c = in_none (is_idling b.standing) b.standing t.answers (record { events = t.events; bytes = t.bytes; after = t.how; standing = i.after.standing })
+    (sym (ap (λ (x : Option Chosen). idle_turn_in x (is_idling b.standing) b.standing t.answers) e) ∙ t.played) in
+    quiet i.shown i.after.standing.ended i.something (t.shown ∙ ap count_shown c.0) (ap (λ (x : Turn). x.standing.ended) c.1 ∙ lives b.standing i.idling)
+
+pub none_new : (p : Place) (place : ℕ) (h : Held) → IsSome p.link.session.selected → ((k : Config) (w : World) → core.StandsFor k h w → IsCurrent w place) → HasNoTurn place (Some p) h
+none_new p place h some current k w v b o printed stands there i =
+    up_to_date k place w v b o printed (subst (λ (x : Standing). IsSome x.selected) there.connection.session some) (current k.config w stands) i
+
+-- ---- one turn
+
+-- what it does over the desk is what it does in the world
+record Turned (k : Setup) (place number : ℕ) (b after : Visitor) (count : ℕ) (w : World) (old desk : Desk) (printed : List ℕ) : Type 0 where
+  pub mid : World
+  pub idles : Idles (λ (x : World) call answer y. Meets k.config place x call answer y) number b w mid after count printed
+  pub serving : IsServing k.config place desk mid
+  pub rest : SameDelivery old.core desk.core
+  pub idling : is_idling b.standing ≡ true
+  pub something : (0 < count) ⊎ (after.standing.ended ≡ true)
+
+turned : (k : Setup) (number count : ℕ) (b after : Visitor) (old new : Desk) (printed : List ℕ) (w : World) (p : Place) → Idles Serves number b old new after count printed → old.session ≡ number - 1 → core.StandsFor k.config old.core w
+    → visit.StandsFor p b → MayIdle p (number - 1) old.core → Turned k (number - 1) number b after count w old new printed
+turned k number count b after old new printed w p i at stands there may =
+    let idling : is_idling b.standing ≡ true = sym (ap is_idling there.connection.session) ∙ may.idling in
+    let c = idles_carried Serves (λ (x : World) call answer y. Meets k.config (number - 1) x call answer y) (IsServing k.config (number - 1)) (carries k.config (number - 1)) number b old new after count printed w i (record { session = at; stands = stands }) in
+    record {
+      mid = c.0;
+      idles = c.1;
+      serving = c.2;
+      rest = met_delivery old new i.turned.events i.turned.met;
+      idling = idling;
+      something = elim (gains b.standing old new [] i.said count after.standing i.turned idling (subst (λ (x : Standing). IsSome x.selected) there.connection.session may.selected)
+          (subst (λ (n : ℕ). IsSome (client_of old.core n) → behind old.core n ≡ 0 → ⊥) (sym at) may.news)) [
+            | inl some ↦ inl some.0
+            | inr over ↦ inr over
+          ];
+    }
+
+-- it remains at its place
+pub idled : (k : Setup) (whole : Bool) (number count : ℕ) (b : Visitor) (old new : Desk) (w : World) (p q : Place) (before after : List ℕ) → 0 < number → old.session ≡ number - 1 → core.StandsFor k.config old.core w
+    → visit.StandsFor p b → MayIdle p (number - 1) old.core → Idled Serves whole number count b old new before after q → (whole ≡ true → q.link.session.ended ≡ false)
+    → PlaceIdled k whole (number - 1) w b old.core (Some q) new.core before after
+idled k whole number count b old new w p q before after some at stands there may o live =
+    let g = turned k number count b o.after old new o.printed w p o.idles at stands there may in
+    let counted : number ≡ (number - 1) + 1 = omega (arith, some) in
+    record {
+      left = Some o.after;
+      moved = g.mid;
+      printed = o.printed;
+      goes = record {
+        idling = g.idling;
+        after = o.after;
+        mid = g.mid;
+        shown = count;
+        idles = subst (λ (n : ℕ). Idles (Meets k.config (number - 1)) n b w g.mid o.after count o.printed) counted g.idles;
+        something = g.something;
+        all = λ e. o.all e g.something;
+        left = scene.remains (λ h e. absurd (let f = live h in let r = ap (λ (x : Standing). x.ended) o.stands.connection.session in let u = e in cc)) refl refl;
+      };
+      there = o.stands;
+      core = g.serving.stands;
+      rest = g.rest;
+      out = o.out;
+    }
+
+-- it has parted, and left its mailbox
+pub idled_out : (k : Setup) (number count : ℕ) (b : Visitor) (old mid new : Desk) (answer : Answer) (w : World) (p q : Place) (before after : List ℕ) → 0 < number → old.session ≡ number - 1 → core.StandsFor k.config old.core w
+    → visit.StandsFor p b → MayIdle p (number - 1) old.core → Idled Serves true number count b old mid before after q → q.link.session.ended ≡ true → Serves mid (calls.Leave false) answer new
+    → PlaceIdled k true (number - 1) w b old.core None new.core before after
+idled_out k number count b old mid new answer w p q before after some at stands there may o over leaves =
+    let g = turned k number count b o.after old mid o.printed w p o.idles at stands there may in
+    let counted : number ≡ (number - 1) + 1 = omega (arith, some) in
+    let gone = carries k.config (number - 1) mid new (calls.Leave false) answer g.mid leaves g.serving in
+    record {
+      left = None;
+      moved = gone.0;
+      printed = o.printed;
+      goes = record {
+        idling = g.idling;
+        after = o.after;
+        mid = g.mid;
+        shown = count;
+        idles = subst (λ (n : ℕ). Idles (Meets k.config (number - 1)) n b w g.mid o.after count o.printed) counted g.idles;
+        something = g.something;
+        all = λ e. o.all e g.something;
+        left = scene.parts (sym (ap (λ (x : Standing). x.ended) o.stands.connection.session) ∙ over) (o.all refl g.something) (answer, gone.1) refl;
+      };
+      there = tt;
+      core = gone.2.stands;
+      rest = delivery_then old.core mid.core new.core g.rest leaves.rest;
+      out = o.out;
+    }
+
+-- memory was refused before anything was done
+missed : (k : Setup) (number : ℕ) (b : Visitor) (old new : Desk) (w : World) (q : Place) (before after : List ℕ) → old.session ≡ number - 1 → core.StandsFor k.config old.core w → Missed Serves b old new before after q
+    → PlaceKept k w b old.core (Some q) new.core before after
+missed k number b old new w q before after at stands m = go m.starves
+  where
+    go : Starves Serves old new → PlaceKept k w b old.core (Some q) new.core before after
+    go (inl same) = record {
+      there = m.stands;
+      core = subst (λ (d : Desk). core.StandsFor k.config d.core w) (sym same) stands;
+      rest = subst (λ (d : Desk). SameDelivery old.core d.core) (sym same) (same_delivery old.core);
+      out = m.out;
+    }
+    go (inr starved) =
+        let c = carries k.config (number - 1) old new (Feed most_changes) (Refused NoMemory) w starved (record { session = at; stands = stands }) in
+        record {
+          there = m.stands;
+          core = subst (λ (v : World). core.StandsFor k.config new.core v) c.1.0 c.2.stands;
+          rest = starved.rest;
+          out = m.out;
+        }
+
+pub idled_in_part : (k : Setup) (number : ℕ) (b : Visitor) (old new : Desk) (w : World) (p q : Place) (before after : List ℕ) → 0 < number → old.session ≡ number - 1 → core.StandsFor k.config old.core w
+    → visit.StandsFor p b → MayIdle p (number - 1) old.core → IdledInPart Serves number b old new before after q
+    → PlaceIdledInPart k (number - 1) w b old.core (Some q) new.core before after
+idled_in_part k number b old new w p q before after some at stands there may (inl m) = inr (missed k number b old new w q before after at stands m)
+idled_in_part k number b old new w p q before after some at stands there may (inr (count, o)) = inl (idled k false number count b old new w p q before after some at stands there may o (λ e. absurd (let f : false ≡ true = e in cc)))
+
+-- one that remains is less behind
+pub turns_fewer : (p q : Place) (number count : ℕ) (said : List ℕ) (old new : Desk) → old.session ≡ number - 1 → MayIdle p (number - 1) old.core → IdleTurns Serves p.link.session old new [] said count q.link.session → q.link.session.ended ≡ false
+    → turns_left (Some q) (behind new.core (number - 1)) < turns_left (Some p) (behind old.core (number - 1))
+turns_fewer p q number count said old new at may t live =
+    elim (gains p.link.session old new [] said count q.link.session t may.idling may.selected (subst (λ (n : ℕ). IsSome (client_of old.core n) → behind old.core n ≡ 0 → ⊥) (sym at) may.news)) [
+      | inl some ↦ (let l = subst (λ (n : ℕ). behind new.core n < behind old.core n) at some.1 in omega (arith, l))
+      | inr over ↦ absurd (let f : true ≡ false = sym over ∙ live in cc)
+    ]
+
+-- ---- the house
+
+pub idle_led : (k : Setup) (whole : Bool) (h : State) (s : Scene) (place : ℕ) (p : Place) (q : Option Place) (c : Held) (old new : List ℕ) → StandsFor k h s → place < length h.visitors
+    → get_or h.visitors place None ≡ Some p
+    → ((w : World) (b : Visitor) → core.StandsFor k.config h.core w → StandsForVisit (Some p) (Some b) → PlaceIdled k whole place w b h.core q c old new)
+    → (t : Scene) × (printed : List ℕ) × IdlePlay k whole s place t printed × StandsFor k (with_visits h c place q) t × (new ≡ old ++ printed)
+idle_led k whole h s place p q c old new st within some goes =
+    let v = who_visits (get_or h.visitors place None) (s.visitor place) p (st.visitors place None within) some in
+    led v.0 v.1 (goes s.world v.0 st.core v.2)
+  where
+    led : (b : Visitor) → s.visitor place ≡ Some b → PlaceIdled k whole place s.world b h.core q c old new
+        → (t : Scene) × (printed : List ℕ) × IdlePlay k whole s place t printed × StandsFor k (with_visits h c place q) t × (new ≡ old ++ printed)
+    led b there m = (
+      with_visitor (with_world s m.moved) place m.left,
+      m.printed,
+      record { visitor = b; there = there; moved = m.moved; left = m.left; goes = m.goes; after = refl },
+      visit_stands k h s c m.moved place q m.left st m.core m.rest within m.there,
+      m.out,
+    )
+
+-- nothing was done there, and the house stands as it did
+kept_stands : (k : Setup) (h : State) (s : Scene) (c : Held) (n : ℕ) (q : Option Place) → StandsFor k h s → core.StandsFor k.config c s.world → SameDelivery h.core c → n < length h.visitors → StandsForVisit q (s.visitor n)
+    → StandsFor k (with_visits h c n q) s
+kept_stands k h s c n q st cs rest within there =
+    let m = moved k h c s s.world st cs rest.heard rest.next in
+    record {
+      core = cs;
+      directory = st.directory;
+      host = st.host;
+      max_message = st.max_message;
+      homes = st.homes;
+      shards = st.shards;
+      some_shard = st.some_shard;
+      seats = st.seats;
+      numbers = st.numbers;
+      each = λ seat y i d l. let e = m.each seat y i d l in record { counted = e.counted; who = e.who };
+      places = length-set h.visitors n q ∙ st.places;
+      visitors = λ i d l. elim (cases_eq i n) [
+        | inl e ↦ subst (λ (j : ℕ). StandsForVisit (get_or (set h.visitors n q) j d) (s.visitor j)) (sym e) (subst (λ (x : Option Place). StandsForVisit x (s.visitor n)) (sym (get_or-set_same h.visitors n q d within)) there)
+        | inr other ↦ subst (λ (x : Option Place). StandsForVisit x (s.visitor i)) (sym (get_or-set_other h.visitors n i q d other)) (st.visitors i d (let e = length-set h.visitors n q in omega (arith, l, e)))
+      ];
+    }
+
+pub idle_led_in_part : (k : Setup) (h : State) (s : Scene) (place : ℕ) (p : Place) (q : Option Place) (c : Held) (old new : List ℕ) → StandsFor k h s → place < length h.visitors
+    → get_or h.visitors place None ≡ Some p
+    → ((w : World) (b : Visitor) → core.StandsFor k.config h.core w → StandsForVisit (Some p) (Some b) → PlaceIdledInPart k place w b h.core q c old new)
+    → ((t : Scene) × (printed : List ℕ) × IdlePlay k false s place t printed × StandsFor k (with_visits h c place q) t × (new ≡ old ++ printed)) ⊎ (StandsFor k (with_visits h c place q) s × (new ≡ old))
+idle_led_in_part k h s place p q c old new st within some goes =
+    let v = who_visits (get_or h.visitors place None) (s.visitor place) p (st.visitors place None within) some in
+    part v.0 v.1 (goes s.world v.0 st.core v.2)
+  where
+    part : (b : Visitor) → s.visitor place ≡ Some b → PlaceIdledInPart k place s.world b h.core q c old new
+        → ((t : Scene) × (printed : List ℕ) × IdlePlay k false s place t printed × StandsFor k (with_visits h c place q) t × (new ≡ old ++ printed)) ⊎ (StandsFor k (with_visits h c place q) s × (new ≡ old))
+    part b there (inl m) = inl (
+      with_visitor (with_world s m.moved) place m.left,
+      m.printed,
+      record { visitor = b; there = there; moved = m.moved; left = m.left; goes = m.goes; after = refl },
+      visit_stands k h s c m.moved place q m.left st m.core m.rest within m.there,
+      m.out,
+    )
+    part b there (inr m) = inr (kept_stands k h s c place q st m.core m.rest within (subst (λ (o : Option Visitor). StandsForVisit q o) (sym there) m.there), m.out)
+
+-- where its visitor has no turn, nobody is shown anything
+pub idle_none : (k : Setup) (h : State) (s : Scene) (place : ℕ) (p : Place) (t : Scene) (printed : List ℕ) → StandsFor k h s → place < length h.visitors → get_or h.visitors place None ≡ Some p → HasNoTurn place (Some p) h.core
+    → IdlePlay k true s place t printed → ⊥
+idle_none k h s place p t printed st within some none play =
+    let v = who_visits (get_or h.visitors place None) (s.visitor place) p (st.visitors place None within) some in
+    let same : v.0 ≡ play.visitor = some_is v.0 play.visitor (sym v.1 ∙ play.there) in
+    none k s.world play.moved play.visitor play.left printed st.core (subst (λ (b : Visitor). visit.StandsFor p b) same v.2) play.goes

@@ -1,0 +1,264 @@
+//! Sessions that idle (RFC 2177): the event by which one is shown what is new, and the turns that all of them have when the house settles. What
+//! a turn shows is the session's matter, over the mailboxes of the delivery core.
+
+ghost use Rattle.std.specs.Prelude.{◌≡◌, ◌≢◌, ◌↔◌, ◌<◌, ◌≤◌, ◌-◌, [], ◌∷◌, true, false, Some, Err, IfSome, OnErr, OnOk};
+ghost use Rattle.callers.specs.Caller.{Setup};
+ghost use Rattle.delivery_core.specs.Held.{behind};
+ghost use Rattle.delivery_core.specs.Stands as core;
+ghost use Rattle.house.specs.Effort.{MakesLess, turns_left};
+ghost use Rattle.house.specs.Settling.{Visit, Visits, idle_turns};
+ghost use Rattle.house.specs.Stands.{StandsFor, StandsForVisit};
+ghost use Rattle.house.specs.Steps.{Follows, FollowsInPart, HasNoTurn, IsIdle, IsNobody, MayIdle, PlaceIdled, PlaceIdledInPart};
+ghost use Rattle.house.specs.Trying.{Goes, IsAmong, Wants};
+ghost use Rattle.house.specs.declared.event.Event.TheVariants as events;
+ghost use Rattle.visitors.specs.Visitor as spec;
+ghost use Rattle.world.specs.World.{World};
+
+use crate::event::{Event, HouseFault};
+use crate::house::House;
+use delivery_core::DeliveryCore;
+use imap_session::Store;
+use session_store::Desk;
+use std::alloc::AllocError;
+use visitors::Visitor;
+
+// Whether the visitor at a place, counted from 0, has something to do in a turn: its session idles in a mailbox and wasn't shown all of its log.
+fn has_turn(visitor: &Visitor, place: u8, core: &DeliveryCore) -> bool
+    ensures some { result ≡ true → MayIdle visitor.now place core.now }
+    ensures none { result ≡ false → HasNoTurn place (Some visitor.now) core.now }
+{
+    if !visitor.is_idling() {
+        return false;
+    }
+    if visitor.selected().is_none() {
+        return false;
+    }
+    !core.is_up_to_date(place)
+}
+
+// The visitor at a place has a turn, and leaves where its session has ended.
+fn turn_at(
+    place: &mut Option<Visitor>,
+    number: u8,
+    desk: &mut Desk,
+    out: &mut Vec<u8>,
+) -> Result<(), AllocError>
+    requires counted { 0 < number }
+    requires idles { IfSome place.old (λ p. MayIdle p (number - 1) desk.old.core) }
+    ensures ok { OnOk result ((k : Setup) (w : World) (b : spec.Visitor) → core.StandsFor k.config desk.old.core w → StandsForVisit place.old (Some b) →
+        PlaceIdled k true (number - 1) w b desk.old.core place.new desk.new.core out.old.items out.new.items) }
+    ensures less { OnOk result (IfSome place.old (λ p. turns_left place.new (behind desk.new.core (number - 1)) < turns_left (Some p) (behind desk.old.core (number - 1)))) }
+    ensures err { OnErr result ((k : Setup) (w : World) (b : spec.Visitor) → core.StandsFor k.config desk.old.core w → StandsForVisit place.old (Some b) →
+        PlaceIdledInPart k (number - 1) w b desk.old.core place.new desk.new.core out.old.items out.new.items) }
+{
+    let Some(visitor) = place else {
+        return Ok(());
+    };
+    desk.session = number - 1;
+    let Ok(_shown) = visitor.idle_turn(number, desk, out) else {
+        return Err(AllocError);
+    };
+    if visitor.has_ended() {
+        let _ = desk.leave(false);
+        *place = None;
+    }
+    Ok(())
+}
+
+impl House {
+    // A session that idles is shown what is pending.
+    pub(crate) fn idle(&mut self, session: u8, out: &mut Vec<u8>) -> Result<(), HouseFault>
+        ensures follows { OnOk result (Follows self.old (events.Idle session) self.new out.old.items out.new.items) }
+        ensures effort { OnOk result (MakesLess (events.Idle session) self.old self.new) }
+        ensures nobody { (result ≡ Err HouseFault.Nobody) ↔ IsNobody self.old (events.Idle session) }
+        ensures busy { result ≢ Err HouseFault.Busy }
+        ensures idle { result ≡ Err HouseFault.Nothing → IsIdle self.old (events.Idle session) }
+        ensures no_memory { result ≡ Err HouseFault.NoMemory → FollowsInPart self.old (events.Idle session) self.new out.old.items out.new.items }
+        ensures refused { result ≢ Err HouseFault.NoMemory → OnErr result ((self.new ≡ self.old) × (out.new.items ≡ out.old.items)) }
+    {
+        if self.has_no_place(session) {
+            return Err(HouseFault::Nobody);
+        }
+        let place = &mut self.visitors[usize::from(session - 1)];
+        let Some(visitor) = place else {
+            return Err(HouseFault::Nobody);
+        };
+        if !has_turn(visitor, session - 1, &self.desk.core) {
+            return Err(HouseFault::Nothing);
+        }
+        let Ok(()) = turn_at(place, session, &mut self.desk, out) else {
+            return Err(HouseFault::NoMemory);
+        };
+        Ok(())
+    }
+
+    // A session that idles is shown what is pending, until nothing is.
+    fn idle_out(&mut self, session: u8, out: &mut Vec<u8>) -> Result<(), AllocError>
+        ensures ok { OnOk result (Goes (λ k. IsAmong k (events.Idle session)) (λ k s t printed. Visit k (events.Idle session ∷ []) s t printed) self.old out.old.items self.new out.new.items) }
+        ensures err { OnErr result (Wants (λ k. IsAmong k (events.Idle session)) self.old out.old.items self.new out.new.items) }
+    {
+        loop {
+            match self.step(Event::Idle(session), out) {
+                Ok(()) => {}
+                Err(HouseFault::NoMemory) => return Err(AllocError),
+                Err(HouseFault::Nobody) => return Ok(()),
+                Err(HouseFault::Busy) => return Ok(()),
+                Err(HouseFault::Nothing) => return Ok(()),
+            }
+        }
+    }
+
+    // Each session that idles is shown what is pending.
+    pub(crate) fn idle_all(&mut self, out: &mut Vec<u8>) -> Result<(), AllocError>
+        ensures ok { OnOk result (Goes (λ k. Unit {0}) (λ k s t printed. Visits k (idle_turns k.config.sessions) s t printed) self.old out.old.items self.new out.new.items) }
+        ensures err { OnErr result (Wants (λ k. Unit {0}) self.old out.old.items self.new out.new.items) }
+    {
+        let sessions = self.visitors.len() as u8;
+        for place in 0..sessions {
+            let Ok(()) = self.idle_out(place + 1, out) else {
+                return Err(AllocError);
+            };
+        }
+        Ok(())
+    }
+}
+
+#[cfg(test)]
+mod tests {
+    use crate::{Config, ConfigFault, Event, House, HouseFault};
+    use std::alloc::Global;
+
+    // A house with room for so many messages and changes, in which one message went to a mailbox so many times, and session 1 idles there.
+    fn house_with_idler(
+        alloc: Global,
+        room: usize,
+        ring: usize,
+        messages: usize,
+    ) -> Result<House, ConfigFault>
+        requires some { 0 < room }
+        requires few { room ≤ 128 }
+        requires least { 16 ≤ ring }
+        requires most { ring ≤ 256 }
+    {
+        let mut config = Config::new(alloc, &[b"alice".as_slice()])?;
+        config.depth = 128;
+        config.ring = ring;
+        config.messages = room;
+        let mut house = House::new(alloc, &config)?;
+        let mut bytes = Vec::from_slice(alloc, b"LHLO c.example\r\nMAIL FROM:<s@a.example>\r\n")?;
+        for _ in 0..messages {
+            bytes.extend_from_slice(b"RCPT TO:<alice@example.org>\r\n")?;
+        }
+        bytes.extend_from_slice(b"DATA\r\nhi\r\n.\r\n")?;
+        let mut out = Vec::new(alloc);
+        let Ok(()) = house.step(Event::Bytes(1, &bytes), &mut out) else {
+            return Err(ConfigFault::NoMemory);
+        };
+        house.settle(&[], &mut out)?;
+        for session in 1..3 {
+            let Ok(()) = house.step(Event::Enter(session, b"alice"), &mut out) else {
+                return Err(ConfigFault::NoMemory);
+            };
+            let Ok(()) = house.step(Event::Say(session, b"s SELECT INBOX\r\n"), &mut out) else {
+                return Err(ConfigFault::NoMemory);
+            };
+        }
+        let Ok(()) = house.step(Event::Say(1, b"a2 IDLE\r\n"), &mut out) else {
+            return Err(ConfigFault::NoMemory);
+        };
+        Ok(house)
+    }
+
+    // What session 1 is told of the messages from one place to another that were marked as deleted.
+    fn told_deleted(alloc: Global, first: u32, last: u32) -> Result<Vec<u8>, ConfigFault> {
+        let mut text = Vec::new(alloc);
+        for place in 1..71 {
+            if first <= place && place <= last {
+                let line = format!(in alloc;
+                    "I1 * {place} FETCH (UID {place} FLAGS (\\Deleted))\n"
+                )?;
+                text.extend_from_slice(line.as_bytes())?;
+            }
+        }
+        Ok(text)
+    }
+
+    #[test]
+    fn a_turn_shows_64_changes(rt: HostRuntime) -> Result<(), ConfigFault> {
+        let alloc = rt.alloc();
+        let mut house = house_with_idler(alloc, 128, 256, 70)?;
+        let mut out = Vec::new(alloc);
+        assert_eq!(rt;
+            house.step(Event::Idle(1), &mut out),
+            Err(HouseFault::Nothing)
+        );
+        let line = b"b2 STORE 1:70 +FLAGS.SILENT (\\Deleted)\r\n";
+        assert_eq!(rt; house.step(Event::Say(2, line), &mut out), Ok(()));
+        assert_eq!(rt; out.as_slice(), b"I2 b2 OK STORE completed\n".as_slice());
+        out.clear();
+        assert_eq!(rt; house.step(Event::Idle(1), &mut out), Ok(()));
+        let told = told_deleted(alloc, 1, 64)?;
+        assert_eq!(rt; out.as_slice(), told.as_slice());
+        out.clear();
+        assert_eq!(rt; house.step(Event::Idle(1), &mut out), Ok(()));
+        let told = told_deleted(alloc, 65, 70)?;
+        assert_eq!(rt; out.as_slice(), told.as_slice());
+        out.clear();
+        for (event, fault) in [
+            (Event::Idle(1), HouseFault::Nothing),
+            (Event::Idle(2), HouseFault::Nothing),
+            (Event::Idle(3), HouseFault::Nobody),
+            (Event::Idle(0), HouseFault::Nobody),
+            (Event::Idle(9), HouseFault::Nobody),
+        ] {
+            assert_eq!(rt; house.step(event, &mut out), Err(fault));
+        }
+        assert!(rt; out.is_empty());
+        Ok(())
+    }
+
+    #[test]
+    fn settling_shows_all_that_is_new(rt: HostRuntime) -> Result<(), ConfigFault> {
+        let alloc = rt.alloc();
+        let mut house = house_with_idler(alloc, 128, 256, 70)?;
+        let mut out = Vec::new(alloc);
+        let line = b"b2 STORE 1:70 +FLAGS.SILENT (\\Deleted)\r\n";
+        assert_eq!(rt; house.step(Event::Say(2, line), &mut out), Ok(()));
+        out.clear();
+        assert_eq!(rt; house.settle(&[], &mut out), Ok(()));
+        let told = told_deleted(alloc, 1, 70)?;
+        assert_eq!(rt; out.as_slice(), told.as_slice());
+        out.clear();
+        assert_eq!(rt; house.settle(&[], &mut out), Ok(()));
+        assert!(rt; out.is_empty());
+        assert_eq!(rt; house.step(Event::Say(1, b"DONE\r\n"), &mut out), Ok(()));
+        assert_eq!(rt; out.as_slice(), b"I1 a2 OK IDLE completed\n".as_slice());
+        Ok(())
+    }
+
+    #[test]
+    fn one_that_missed_changes_parts(rt: HostRuntime) -> Result<(), ConfigFault> {
+        let alloc = rt.alloc();
+        let mut house = house_with_idler(alloc, 8, 16, 1)?;
+        let mut out = Vec::new(alloc);
+        for change in 0..17 {
+            let line: &[u8] = if change % 2 == 0 {
+                b"b2 STORE 1 +FLAGS.SILENT (\\Seen)\r\n"
+            } else {
+                b"b2 STORE 1 -FLAGS.SILENT (\\Seen)\r\n"
+            };
+            assert_eq!(rt; house.step(Event::Say(2, line), &mut out), Ok(()));
+        }
+        out.clear();
+        assert_eq!(rt; house.step(Event::Idle(1), &mut out), Ok(()));
+        assert_eq!(rt;
+            out.as_slice(),
+            b"I1 * BYE Too many changes were missed\n".as_slice()
+        );
+        assert_eq!(rt;
+            house.step(Event::Idle(1), &mut out),
+            Err(HouseFault::Nobody)
+        );
+        Ok(())
+    }
+}
