@@ -1,2 +1,4 @@
 pub mod ScriptLaws
 pub mod RunLaws
+pub mod SessionLaws
+pub mod Once

@@ -28,15 +28,15 @@ use Rattle.house.specs.Steps.{IsEmptySeat, IsNoSeat, IsSpent, IsUnread, Led, is_
 use Rattle.house.specs.Settled.{SettledFrom, is_held}
 use Rattle.house.specs.Settling.{Settles}
 use Rattle.house.specs.Window.{PrintsWindow}
-use Rattle.script.specs.Script.{IsAway, IsNoConnection, IsOwing, LinePlays, NobodyThere, Script, ScriptLine, Sends, Vanishes, Hold, Free, Tail, Skip, Bad, Writes, WritesBeginning, WritesFirst, asked, goes_again, goes_nobody, held_after, is_bad, is_digit, line_of, none_held, refusal, script_of, sends, sent_in_hex, sends_to_nobody, sends_to_owing, skips, stands_nobody, stands_still, tails, tails_nobody, vanishes, vanishes_again, vanishes_away}
-use Rattle.std.specs.Prelude.{Bool, codes, false, true}
+use Rattle.script.specs.Script.{IsAway, IsNoConnection, IsOwing, LinePlays, NobodyThere, Script, ScriptLine, Asks, Enters, Leaves, Sends, Vanishes, Hold, Free, Tail, Skip, Bad, Writes, WritesBeginning, WritesFirst, asked, brought, goes_again, goes_nobody, held_after, is_bad, is_digit, line_of, none_held, refusal, script_of, sends, sends_to_nobody, sends_to_owing, skips, stands_nobody, stands_still, tails, tails_nobody, vanishes, vanishes_again, vanishes_away}
+use Rattle.std.specs.Prelude.{Bool, IfNone, codes, false, true}
 use Rattle.script.specs.Running.{HasRun, IsClipped, IsOver, LineCut, LineDone, LinePlayed, LineWritten, SetsHeld, TurnTells, held_by, sets, sets_nobody}
 use Rattle.house.proofs.Ended.{ended_somewhere}
 use Rattle.script.proofs.ScriptLaws.{first_line, script_push}
 
 -- ---- nobody is there
 
-below : (a b : ℕ) → (a < b) ⊎ (b ≤ a)
+pub below : (a b : ℕ) → (a < b) ⊎ (b ≤ a)
 below a zero = inr (omega arith)
 below zero (suc b) = inl (omega arith)
 below (suc a) (suc b) = elim (below a b) [ inl h ↦ inl (omega arith) | inr h ↦ inr (omega arith) ]
@@ -252,6 +252,9 @@ held_push held (l ∷ ls) line = held_push (held_after held l) ls line
 held_as_many : (held : List Bool) (line : ScriptLine) → length (held_after held line) ≡ length held
 held_as_many held (Sends connection bytes) = refl
 held_as_many held (Vanishes connection) = refl
+held_as_many held (Enters session user) = refl
+held_as_many held (Asks session bytes) = refl
+held_as_many held (Leaves session) = refl
 held_as_many held (Hold shard) = length-set held shard true
 held_as_many held (Free shard) = length-set held shard false
 held_as_many held (Tail word) = refl
@@ -356,21 +359,21 @@ turn_silent k number held s input h holds left old new f (inr is) tells = subst 
 
 -- ---- hexadecimal digits
 
--- digits that stand for no byte
-pub no_bytes : (connection : ℕ) (r : Result (List ℕ) FromHexError) (bytes : List ℕ) → r ≡ Ok bytes → length bytes ≡ 0 → sent_in_hex connection r ≡ Bad
-no_bytes connection r [] e l = ap (sent_in_hex connection) e
-no_bytes connection r (b ∷ bs) e l = absurd (omega (arith, l))
+-- no shard is held or freed by them
+pub hex_holds_nothing : (held : List Bool) (brings : List ℕ → ScriptLine) (r : Result (List ℕ) FromHexError) → ((bytes : List ℕ) → held_after held (brings bytes) ≡ held) → held_after held (brought brings r) ≡ held
+hex_holds_nothing held brings (Err f) h = refl
+hex_holds_nothing held brings (Ok []) h = refl
+hex_holds_nothing held brings (Ok (b ∷ bs)) h = h (b ∷ bs)
 
--- digits that can't be read
-pub no_digits : (connection : ℕ) (r : Result (List ℕ) FromHexError) (f : FromHexError) → r ≡ Err f → sent_in_hex connection r ≡ Bad
-no_digits connection r f e = ap (sent_in_hex connection) e
+-- what holds where there is nothing
+pub if_none : {A : Type 0} (o : Option A) (P : Type 0) → o ≡ None → IfNone o P → P
+if_none {A = A} None P e h = h
+if_none {A = A} (Some x) P e h = absurd (none_some x e)
+  where
+    none_some : (x : A) → ◌≡◌ {A = Option A} (Some x) None → ⊥
+    none_some x e = cc
 
-pub some_bytes : (connection : ℕ) (r : Result (List ℕ) FromHexError) (bytes : List ℕ) → r ≡ Ok bytes → (length bytes ≡ 0 → ⊥) → sent_in_hex connection r ≡ Sends connection bytes
-some_bytes connection r [] e l = absurd (l refl)
-some_bytes connection r (b ∷ bs) e l = ap (sent_in_hex connection) e
-
--- and no shard is held or freed by them
-pub hex_holds_nothing : (held : List Bool) (connection : ℕ) (r : Result (List ℕ) FromHexError) → held_after held (sent_in_hex connection r) ≡ held
-hex_holds_nothing held connection (Err f) = refl
-hex_holds_nothing held connection (Ok []) = refl
-hex_holds_nothing held connection (Ok (b ∷ bs)) = refl
+-- digits that can't be read are a bad line
+pub digits_refused : (k : Setup) (number : ℕ) (s : Scene) (brings : List ℕ → ScriptLine) (r : Result (List ℕ) FromHexError) (h : State) (old new : List ℕ)
+    → brought brings r ≡ Bad → StandsFor k h s → new ≡ old ++ refusal number (codes "Line") → LineDone k number (brought brings r) s h old new
+digits_refused k number s brings r h old new bad st e = subst (λ (l : ScriptLine). LineDone k number l s h old new) (sym bad) (refused k number s h old new st e)

@@ -9,10 +9,14 @@ use Rattle.hex.specs.declared.error.FromHexError.{FromHexError}
 use Rattle.envelope.specs.Names.{number_of}
 use Rattle.line_io.specs.Wire.{crlf}
 use Rattle.callers.specs.Caller.{Caller, Setup}
-use Rattle.house.specs.Scene.{BytesPlay, HasEnded, Scene, VanishPlay, empty_scene, most_serials, seat_of}
+use Rattle.house.specs.Scene.{BytesPlay, EnterPlay, HasEnded, LeavePlay, SayPlay, Scene, VanishPlay, empty_scene, most_serials, place_of, seat_of}
 use Rattle.house.specs.Settled.{is_held}
 use Rattle.house.specs.Settling.{Settles}
 use Rattle.house.specs.Window.{window_text}
+use Rattle.visitors.specs.Folders.{has_user}
+use Rattle.visitors.specs.Visitor.{Visitor}
+use Rattle.script.specs.declared.line.Said as said
+use Rattle.script.specs.declared.line.Said.TheVariants as said_as
 use Rattle.script.specs.declared.line.ScriptLine as read
 use Rattle.script.specs.declared.line.ScriptLine.TheVariants as reads
 
@@ -36,6 +40,12 @@ pub data ScriptLine : Type 0 where
   Sends : (connection : ℕ) → List ℕ → ScriptLine
   -- the peer of a connection is gone
   Vanishes : (connection : ℕ) → ScriptLine
+  -- a session of this user begins
+  Enters : (session : ℕ) → (user : List ℕ) → ScriptLine
+  -- these bytes come from the client of a session
+  Asks : (session : ℕ) → List ℕ → ScriptLine
+  -- the client of a session is gone
+  Leaves : (session : ℕ) → ScriptLine
   -- a shard's consumer stands still from now on
   Hold : (shard : ℕ) → ScriptLine
   -- it goes on
@@ -53,37 +63,47 @@ most_bytes = 65536
 abbrev pub has_space : List ℕ → Bool
 has_space bytes = list_any (λ b. b == 32) bytes
 
--- a connection's number is one digit from 1 to 8
-abbrev pub is_connection : ℕ → Bool
-is_connection b = nat_le 49 b && nat_le b 56
+-- the number of a connection or a session is one digit from 1 to 8
+abbrev pub is_one_to_eight : ℕ → Bool
+is_one_to_eight b = nat_le 49 b && nat_le b 56
 
--- the bytes that were written in hexadecimal digits, if they could be read and there are any
-abbrev pub sent_in_hex : ℕ → Result (List ℕ) FromHexError → ScriptLine
-sent_in_hex connection (Err fault) = Bad
-sent_in_hex connection (Ok []) = Bad
-sent_in_hex connection (Ok (b ∷ bytes)) = Sends connection (b ∷ bytes)
+-- the line that brings the bytes which were written in hexadecimal digits, if they could be read and there are any
+abbrev pub brought : (brings : List ℕ → ScriptLine) → Result (List ℕ) FromHexError → ScriptLine
+brought brings (Err fault) = Bad
+brought brings (Ok []) = Bad
+brought brings (Ok (b ∷ bytes)) = brings (b ∷ bytes)
 
 -- `x hex`: one space, and then pairs of digits in either case
-abbrev pub in_hex : ℕ → List ℕ → ScriptLine
-in_hex connection [] = Bad
-in_hex connection (b ∷ digits) = if b == 32 then sent_in_hex connection (decode_of digits) else Bad
+abbrev pub in_hex : (brings : List ℕ → ScriptLine) → List ℕ → ScriptLine
+in_hex brings [] = Bad
+in_hex brings (b ∷ digits) = if b == 32 then brought brings (decode_of digits) else Bad
 
 -- `!` and nothing behind it
-abbrev pub vanished : ℕ → List ℕ → ScriptLine
-vanished connection [] = Vanishes connection
-vanished connection (b ∷ more) = Bad
+abbrev pub gone_alone : (gone : ScriptLine) → List ℕ → ScriptLine
+gone_alone gone [] = gone
+gone_alone gone (b ∷ more) = Bad
 
--- what stands behind `L<n>`: nothing, ` text`, `x hex` or `!`
-abbrev pub behind_number : ℕ → List ℕ → ScriptLine
-behind_number connection [] = Sends connection crlf
-behind_number connection (b ∷ rest) =
-    if b == 32 then Sends connection (rest ++ crlf)
-    else if b == 120 then in_hex connection rest
-    else if b == 33 then vanished connection rest
+-- what stands behind a number: nothing, ` text`, `x hex` or `!`
+abbrev pub behind_number : (brings : List ℕ → ScriptLine) → (gone : ScriptLine) → List ℕ → ScriptLine
+behind_number brings gone [] = brings crlf
+behind_number brings gone (b ∷ rest) =
+    if b == 32 then brings (rest ++ crlf)
+    else if b == 120 then in_hex brings rest
+    else if b == 33 then gone_alone gone rest
     else Bad
 
-abbrev pub said_by : ℕ → List ℕ → ScriptLine
-said_by n rest = if is_connection n then behind_number (n - 48) rest else Bad
+abbrev pub of_connection : ℕ → List ℕ → ScriptLine
+of_connection connection rest = behind_number (Sends connection) (Vanishes connection) rest
+
+-- behind `I<n>` also `=user`; the user's word is all that follows
+abbrev pub of_session : ℕ → List ℕ → ScriptLine
+of_session session [] = Asks session crlf
+of_session session (b ∷ rest) = if b == 61 then Enters session rest else behind_number (Asks session) (Leaves session) (b ∷ rest)
+
+-- what follows an L or an I
+abbrev pub numbered : (behind : ℕ → List ℕ → ScriptLine) → List ℕ → ScriptLine
+numbered behind [] = Bad
+numbered behind (n ∷ rest) = if is_one_to_eight n then behind (n - 48) rest else Bad
 
 -- `TAIL word`, with one space and none in the word
 abbrev pub tail_of : List ℕ → ScriptLine
@@ -112,27 +132,39 @@ abbrev pub is_skipped : List ℕ → Bool
 is_skipped [] = true
 is_skipped (b ∷ bs) = b == 35
 
--- what follows an L
-abbrev pub after_l : List ℕ → ScriptLine
-after_l [] = Bad
-after_l (n ∷ rest) = said_by n rest
+-- what a line asks for that is no comment and not too long
+abbrev pub request_of : List ℕ → ScriptLine
+request_of line =
+    if begins (codes "TAIL ") line then tail_of (drop 5 line)
+    else if begins (codes "HOLD ") line then held_of (drop 5 line)
+    else if begins (codes "FREE ") line then freed_of (drop 5 line)
+    else if begins (codes "L") line then numbered of_connection (drop 1 line)
+    else if begins (codes "I") line then numbered of_session (drop 1 line)
+    else Bad
 
 -- what a line asks for: comments are skipped whatever their length
 abbrev pub asked : List ℕ → ScriptLine
 asked line =
     if is_skipped line then Skip
     else if nat_lt most_bytes (length line) then Bad
-    else if begins (codes "TAIL ") line then tail_of (drop 5 line)
-    else if begins (codes "HOLD ") line then held_of (drop 5 line)
-    else if begins (codes "FREE ") line then freed_of (drop 5 line)
-    else if begins (codes "L") line then after_l (drop 1 line)
-    else Bad
+    else request_of line
+
+-- what was read behind a number, as a line of the script
+abbrev pub as_line : (brings : List ℕ → ScriptLine) → (gone : ScriptLine) → said.Said → ScriptLine
+as_line brings gone (said_as.Text text) = brings (text.now ++ crlf)
+as_line brings gone (said_as.Hex digits) = brought brings (decode_of digits.now)
+as_line brings gone said_as.Gone = gone
+as_line brings gone said_as.Other = Bad
 
 -- a line that was read, as a line of the script
 abbrev pub as_spec : read.ScriptLine → ScriptLine
 as_spec (reads.Says connection text) = Sends connection (text.now ++ crlf)
-as_spec (reads.SaysInHex connection digits) = sent_in_hex connection (decode_of digits.now)
+as_spec (reads.SaysInHex connection digits) = brought (Sends connection) (decode_of digits.now)
 as_spec (reads.Vanishes connection) = Vanishes connection
+as_spec (reads.Enters session user) = Enters session user.now
+as_spec (reads.Asks session text) = Asks session (text.now ++ crlf)
+as_spec (reads.AsksInHex session digits) = brought (Asks session) (decode_of digits.now)
+as_spec (reads.Leaves session) = Leaves session
 as_spec (reads.Hold digits) = Hold (digits_value 10 digits.now)
 as_spec (reads.Free digits) = Free (digits_value 10 digits.now)
 as_spec (reads.Tail word) = Tail word.now
@@ -144,6 +176,10 @@ abbrev pub HasDigits : read.ScriptLine → Type 0
 HasDigits (reads.Says connection text) = Unit {0}
 HasDigits (reads.SaysInHex connection digits) = Unit {0}
 HasDigits (reads.Vanishes connection) = Unit {0}
+HasDigits (reads.Enters session user) = Unit {0}
+HasDigits (reads.Asks session text) = Unit {0}
+HasDigits (reads.AsksInHex session digits) = Unit {0}
+HasDigits (reads.Leaves session) = Unit {0}
 HasDigits (reads.Hold digits) = list_all is_digit digits.now ≡ true
 HasDigits (reads.Free digits) = list_all is_digit digits.now ≡ true
 HasDigits (reads.Tail word) = Unit {0}
@@ -175,6 +211,22 @@ NobodyThere k s connection = IsNoConnection k connection
 abbrev pub IsOwing : Scene → ℕ → Type 0
 IsOwing s connection = (b : Caller) × (s.caller (seat_of connection) ≡ Some b) × (b.gone ≡ true)
 
+-- there is no such session
+abbrev pub IsNoSession : Setup → ℕ → Type 0
+IsNoSession k session = (session ≡ 0) ⊎ (k.config.sessions < session)
+
+-- nobody visits at the session's place
+abbrev pub IsUnvisited : Setup → Scene → ℕ → Type 0
+IsUnvisited k s session = IsNoSession k session ⊎ (s.visitor (place_of session) ≡ None)
+
+-- somebody visits at the session's place
+abbrev pub IsVisited : Scene → ℕ → Type 0
+IsVisited s session = (v : Visitor) × (s.visitor (place_of session) ≡ Some v)
+
+-- there is no such user, compared byte by byte
+abbrev pub IsUnknown : Setup → (user : List ℕ) → Type 0
+IsUnknown k user = has_user k.directory user ≡ false
+
 -- what the line itself does, before the house settles
 pub data LineDoes (k : Setup) (number : ℕ) (s : Scene) (t : Scene) (printed : List ℕ) : ScriptLine → Type 0 where
   sends : (connection : ℕ) (bytes : List ℕ) → BytesPlay k true s (seat_of connection) bytes t printed
@@ -188,6 +240,17 @@ pub data LineDoes (k : Setup) (number : ℕ) (s : Scene) (t : Scene) (printed : 
       → LineDoes k number s t printed (Vanishes connection)
   vanishes_again : (connection : ℕ) → IsOwing s connection → t ≡ s → printed ≡ refusal number (codes "Busy")
       → LineDoes k number s t printed (Vanishes connection)
+  enters : (session : ℕ) (user : List ℕ) → EnterPlay k true s (place_of session) user t printed → LineDoes k number s t printed (Enters session user)
+  enters_nowhere : (session : ℕ) (user : List ℕ) → IsNoSession k session ⊎ IsUnknown k user → t ≡ s → printed ≡ refusal number (codes "Nobody")
+      → LineDoes k number s t printed (Enters session user)
+  enters_taken : (session : ℕ) (user : List ℕ) → (IsUnknown k user → ⊥) → IsVisited s session → t ≡ s → printed ≡ refusal number (codes "Busy")
+      → LineDoes k number s t printed (Enters session user)
+  asks : (session : ℕ) (bytes : List ℕ) → SayPlay k true s (place_of session) bytes t printed → LineDoes k number s t printed (Asks session bytes)
+  asks_nobody : (session : ℕ) (bytes : List ℕ) → IsUnvisited k s session → t ≡ s → printed ≡ refusal number (codes "Nobody")
+      → LineDoes k number s t printed (Asks session bytes)
+  leaves : (session : ℕ) → LeavePlay k s (place_of session) t printed → LineDoes k number s t printed (Leaves session)
+  leaves_nobody : (session : ℕ) → IsUnvisited k s session → t ≡ s → printed ≡ refusal number (codes "Nobody")
+      → LineDoes k number s t printed (Leaves session)
   -- what is held is said by `held_after`
   stands_still : (shard : ℕ) → shard < k.config.shards → t ≡ s → printed ≡ [] → LineDoes k number s t printed (Hold shard)
   stands_nobody : (shard : ℕ) → k.config.shards ≤ shard → t ≡ s → printed ≡ refusal number (codes "Nobody") → LineDoes k number s t printed (Hold shard)
@@ -208,6 +271,9 @@ none_held k = replicate k.config.shards false
 abbrev pub held_after : List Bool → ScriptLine → List Bool
 held_after held (Sends connection bytes) = held
 held_after held (Vanishes connection) = held
+held_after held (Enters session user) = held
+held_after held (Asks session bytes) = held
+held_after held (Leaves session) = held
 held_after held (Hold shard) = slice_set held shard true
 held_after held (Free shard) = slice_set held shard false
 held_after held (Tail word) = held

@@ -4,6 +4,8 @@
 
 mod line;
 mod run;
+#[cfg(test)]
+mod tests;
 
 pub use line::ScriptLine;
 pub use run::{RunFault, drive};

@@ -1,9 +1,10 @@
 //! What a line of a script asks for. Reading only: no house and no printing is known here.
 
-ghost use Rattle.std.specs.Prelude.{◌≡◌, true};
+ghost use Rattle.std.specs.Prelude.{◌≡◌, ℕ, List, true};
 ghost use Rattle.std.specs.List.{list_all};
 ghost use Rattle.std.specs.Io.BufRead.{ends_with_byte, strip_last};
-ghost use Rattle.script.specs.Script.{HasDigits, after_l, as_spec, asked, behind_number, freed_of, has_space, held_of, in_hex, is_connection, is_digit, is_number, is_skipped, line_of, said_by, tail_of};
+ghost use Rattle.script.specs.Script as spec;
+ghost use Rattle.script.specs.Script.{Asks, HasDigits, Leaves, as_line, as_spec, asked, behind_number, freed_of, has_space, held_of, in_hex, is_digit, is_number, is_one_to_eight, is_skipped, line_of, numbered, of_connection, of_session, request_of, tail_of};
 
 /// The most bytes of a line, without its end.
 pub const MOST_BYTES: usize = 65_536;
@@ -17,6 +18,14 @@ pub enum ScriptLine<'a> {
     SaysInHex(u8, &'a [u8]),
     /// The peer of a connection is gone.
     Vanishes(u8),
+    /// A session, numbered from 1 to 8, begins for the user with this name.
+    Enters(u8, &'a [u8]),
+    /// This line comes from the client of a session.
+    Asks(u8, &'a [u8]),
+    /// Bytes in hexadecimal digits come from it; a line whose digits can't be read, or that has none, is a bad one.
+    AsksInHex(u8, &'a [u8]),
+    /// The client of a session is gone.
+    Leaves(u8),
     /// The consumer of the shard with this number, in decimal digits, stands still from now on.
     Hold(&'a [u8]),
     /// It goes on.
@@ -74,58 +83,103 @@ fn has_space(bytes: &[u8]) -> bool
     bytes.iter().any(|b| *b == b' ')
 }
 
-fn is_connection(b: u8) -> bool
-    ensures { result ≡ is_connection b }
+// Whether it is a digit from 1 to 8.
+fn is_one_to_eight(b: u8) -> bool
+    ensures { result ≡ is_one_to_eight b }
 {
     matches!(b, b'1'..=b'8')
 }
 
+// What stands behind the number of a connection or a session.
+enum Said<'a> {
+    Text(&'a [u8]),
+    // Digits after one space.
+    Hex(&'a [u8]),
+    Gone,
+    Other,
+}
+
 // Hexadecimal digits after one space.
-fn in_hex(connection: u8, rest: &[u8]) -> ScriptLine<'_>
-    ensures reads { as_spec result ≡ in_hex connection rest.now }
+fn in_hex(rest: &[u8]) -> Said<'_>
+    ensures { (brings : List ℕ → spec.ScriptLine) (gone : spec.ScriptLine) → as_line brings gone result ≡ in_hex brings rest.now }
+{
+    match rest.split_first() {
+        Some((first, digits)) if *first == b' ' => Said::Hex(digits),
+        _ => Said::Other,
+    }
+}
+
+// What follows a number: a text, digits or `!`.
+fn behind_number(rest: &[u8]) -> Said<'_>
+    ensures { (brings : List ℕ → spec.ScriptLine) (gone : spec.ScriptLine) → as_line brings gone result ≡ behind_number brings gone rest.now }
+{
+    let Some((first, behind)) = rest.split_first() else {
+        return Said::Text(rest);
+    };
+    match *first {
+        b' ' => Said::Text(behind),
+        b'x' => in_hex(behind),
+        b'!' if behind.is_empty() => Said::Gone,
+        _ => Said::Other,
+    }
+}
+
+// What follows the number of a connection.
+fn of_connection(connection: u8, rest: &[u8]) -> ScriptLine<'_>
+    ensures reads { as_spec result ≡ of_connection connection rest.now }
+    ensures digits { HasDigits result }
+{
+    match behind_number(rest) {
+        Said::Text(text) => ScriptLine::Says(connection, text),
+        Said::Hex(digits) => ScriptLine::SaysInHex(connection, digits),
+        Said::Gone => ScriptLine::Vanishes(connection),
+        Said::Other => ScriptLine::Bad,
+    }
+}
+
+// What the client of a session does.
+fn of_client(session: u8, rest: &[u8]) -> ScriptLine<'_>
+    ensures reads { as_spec result ≡ behind_number (Asks session) (Leaves session) rest.now }
+    ensures digits { HasDigits result }
+{
+    match behind_number(rest) {
+        Said::Text(text) => ScriptLine::Asks(session, text),
+        Said::Hex(digits) => ScriptLine::AsksInHex(session, digits),
+        Said::Gone => ScriptLine::Leaves(session),
+        Said::Other => ScriptLine::Bad,
+    }
+}
+
+// What follows the number of a session: a user after `=`, or what its client does.
+fn of_session(session: u8, rest: &[u8]) -> ScriptLine<'_>
+    ensures reads { as_spec result ≡ of_session session rest.now }
     ensures digits { HasDigits result }
 {
     match rest.split_first() {
-        Some((first, digits)) if *first == b' ' => ScriptLine::SaysInHex(connection, digits),
-        _ => ScriptLine::Bad,
+        Some((first, user)) if *first == b'=' => ScriptLine::Enters(session, user),
+        _ => of_client(session, rest),
     }
-}
-
-// What follows a connection's number: a text, digits or `!`.
-fn behind_number(connection: u8, rest: &[u8]) -> ScriptLine<'_>
-    ensures reads { as_spec result ≡ behind_number connection rest.now }
-    ensures digits { HasDigits result }
-{
-    let Some((first, behind)) = rest.split_first() else {
-        return ScriptLine::Says(connection, rest);
-    };
-    match *first {
-        b' ' => ScriptLine::Says(connection, behind),
-        b'x' => in_hex(connection, behind),
-        b'!' if behind.is_empty() => ScriptLine::Vanishes(connection),
-        _ => ScriptLine::Bad,
-    }
-}
-
-// What follows the digit of an L line.
-fn said_by(digit: u8, rest: &[u8]) -> ScriptLine<'_>
-    ensures reads { as_spec result ≡ said_by digit rest.now }
-    ensures digits { HasDigits result }
-{
-    if !is_connection(digit) {
-        return ScriptLine::Bad;
-    }
-    behind_number(digit - b'0', rest)
 }
 
 // What follows the L of a line.
 fn after_l(rest: &[u8]) -> ScriptLine<'_>
-    ensures reads { as_spec result ≡ after_l rest.now }
+    ensures reads { as_spec result ≡ numbered of_connection rest.now }
     ensures digits { HasDigits result }
 {
     match rest.split_first() {
-        Some((digit, rest)) => said_by(*digit, rest),
-        None => ScriptLine::Bad,
+        Some((digit, rest)) if is_one_to_eight(*digit) => of_connection(*digit - b'0', rest),
+        _ => ScriptLine::Bad,
+    }
+}
+
+// What follows the I of a line.
+fn after_i(rest: &[u8]) -> ScriptLine<'_>
+    ensures reads { as_spec result ≡ numbered of_session rest.now }
+    ensures digits { HasDigits result }
+{
+    match rest.split_first() {
+        Some((digit, rest)) if is_one_to_eight(*digit) => of_session(*digit - b'0', rest),
+        _ => ScriptLine::Bad,
     }
 }
 
@@ -185,18 +239,11 @@ fn tail_of(word: &[u8]) -> ScriptLine<'_>
     }
 }
 
-/// What a line, without its end, asks for. A comment is skipped whatever its length; any other line of more than
-/// `MOST_BYTES` is bad.
-pub fn read_line(line: &[u8]) -> ScriptLine<'_>
-    ensures reads { as_spec result ≡ asked line.now }
+// What a line asks for that is no comment and not too long.
+fn request_of(line: &[u8]) -> ScriptLine<'_>
+    ensures reads { as_spec result ≡ request_of line.now }
     ensures digits { HasDigits result }
 {
-    if is_skipped(line) {
-        return ScriptLine::Skip;
-    }
-    if line.len() > MOST_BYTES {
-        return ScriptLine::Bad;
-    }
     if line.starts_with(b"TAIL ") {
         return tail_of(&line[5..]);
     }
@@ -209,7 +256,25 @@ pub fn read_line(line: &[u8]) -> ScriptLine<'_>
     if line.starts_with(b"L") {
         return after_l(&line[1..]);
     }
+    if line.starts_with(b"I") {
+        return after_i(&line[1..]);
+    }
     ScriptLine::Bad
+}
+
+/// What a line, without its end, asks for. A comment is skipped whatever its length; any other line of more than
+/// `MOST_BYTES` is bad.
+pub fn read_line(line: &[u8]) -> ScriptLine<'_>
+    ensures reads { as_spec result ≡ asked line.now }
+    ensures digits { HasDigits result }
+{
+    if is_skipped(line) {
+        return ScriptLine::Skip;
+    }
+    if line.len() > MOST_BYTES {
+        return ScriptLine::Bad;
+    }
+    request_of(line)
 }
 
 #[cfg(test)]
@@ -246,6 +311,21 @@ mod tests {
         assert_eq!(rt; read_line(b"L1X 00"), ScriptLine::Bad);
         assert_eq!(rt; read_line(b"L1!"), ScriptLine::Vanishes(1));
         assert_eq!(rt; read_line(b"L1! "), ScriptLine::Bad);
+        assert_eq!(rt;
+            read_line(b"I1=alice"),
+            ScriptLine::Enters(1, b"alice".as_slice())
+        );
+        assert_eq!(rt; read_line(b"I1="), ScriptLine::Enters(1, b"".as_slice()));
+        assert_eq!(rt; read_line(b"I9=alice"), ScriptLine::Bad);
+        assert_eq!(rt; read_line(b"I1"), ScriptLine::Asks(1, b"".as_slice()));
+        assert_eq!(rt; read_line(b"I1  x"), ScriptLine::Asks(1, b" x".as_slice()));
+        assert_eq!(rt;
+            read_line(b"I1x 0d0A"),
+            ScriptLine::AsksInHex(1, b"0d0A".as_slice())
+        );
+        assert_eq!(rt; read_line(b"I1!"), ScriptLine::Leaves(1));
+        assert_eq!(rt; read_line(b"I1! "), ScriptLine::Bad);
+        assert_eq!(rt; read_line(b"i1"), ScriptLine::Bad);
         assert_eq!(rt; read_line(b"HOLD 00"), ScriptLine::Hold(b"00".as_slice()));
         assert_eq!(rt; read_line(b"FREE 256"), ScriptLine::Free(b"256".as_slice()));
         assert_eq!(rt; read_line(b"HOLD  0"), ScriptLine::Bad);

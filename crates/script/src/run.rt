@@ -1,7 +1,7 @@
 //! A script's run: line after line is read and done, the house settles, and what the line printed is written. How a line is read and
 //! how things are printed is told elsewhere.
 
-ghost use Rattle.std.specs.Prelude.{false, true, ◌≡◌, ◌≢◌, ◌++◌, ◌∷◌, ◌<◌, ◌≤◌, ◌+◌, ◌*◌, ◌^◌, ℕ, List, Option, Some, None, Ok, Err, IfOk, OnOk, OnErr, length, replicate, []};
+ghost use Rattle.std.specs.Prelude.{false, true, ◌≡◌, ◌≢◌, ◌++◌, ◌∷◌, ◌<◌, ◌≤◌, ◌+◌, ◌*◌, ◌^◌, ℕ, List, Option, Some, None, Ok, Err, IfNone, IfOk, IfSome, OnOk, OnErr, length, replicate, []};
 ghost use Rattle.std.specs.Io.BufRead.{take_through, drop_through};
 ghost use Rattle.hex.specs.Hex.{decode_of};
 ghost use Rattle.hex.specs.declared.error.FromHexError.TheVariants.{OutOfMemory};
@@ -14,8 +14,9 @@ ghost use Rattle.house.specs.Scene as scene;
 ghost use Rattle.callers.specs.Caller.{Setup};
 ghost use Rattle.house.specs.Scene.{empty_scene};
 ghost use Rattle.script.specs.Script as spec;
-ghost use Rattle.script.specs.Script.{Writes, WritesBeginning, WritesFirst, as_spec, asked, held_after, is_digit, line_of, refusal, script_of, sent_in_hex};
+ghost use Rattle.script.specs.Script.{Writes, WritesBeginning, WritesFirst, as_spec, asked, brought, held_after, is_digit, line_of, refusal, script_of};
 ghost use Rattle.house.specs.Stands.{StandsFor};
+ghost use Rattle.script.specs.Promise.{WroteOnce};
 
 use crate::line::{ScriptLine, read_line, without_end};
 use hex::{FromHexError, decode};
@@ -126,6 +127,22 @@ fn is_want(fault: FromHexError) -> bool
     matches!(fault, FromHexError::OutOfMemory)
 }
 
+// The bytes that hexadecimal digits stand for, if the digits can be read and there are any.
+fn bytes_of(alloc: Global, digits: &[u8]) -> Result<Option<Vec<u8>>, AllocError>
+    ensures some { IfOk result (λ o. IfSome o (λ v. (brings : List ℕ → spec.ScriptLine) → brought brings (decode_of digits.now) ≡ brings v.items)) }
+    ensures none { IfOk result (λ o. IfNone o ((brings : List ℕ → spec.ScriptLine) → brought brings (decode_of digits.now) ≡ spec.Bad)) }
+{
+    let bytes = match decode(alloc, digits) {
+        Ok(bytes) => bytes,
+        Err(fault) if is_want(fault) => return Err(AllocError),
+        Err(_) => return Ok(None),
+    };
+    if bytes.is_empty() {
+        return Ok(None);
+    }
+    Ok(Some(bytes))
+}
+
 // Bytes in hexadecimal digits come from it, unless the digits can't be read or there are none.
 fn hear_hex(
     alloc: Global,
@@ -135,17 +152,12 @@ fn hear_hex(
     digits: &[u8],
     out: &mut Vec<u8>,
 ) -> Result<(), AllocError>
-    ensures { OnOk result ((k : Setup) (s : scene.Scene) → StandsFor k house.old s → LineDone k number (sent_in_hex connection (decode_of digits.now)) s house.new out.old.items out.new.items) }
+    ensures { OnOk result ((k : Setup) (s : scene.Scene) → StandsFor k house.old s → LineDone k number (brought (spec.Sends connection) (decode_of digits.now)) s house.new out.old.items out.new.items) }
 {
-    let bytes = match decode(alloc, digits) {
-        Ok(bytes) => bytes,
-        Err(fault) if is_want(fault) => return Err(AllocError),
-        Err(_) => return refuse(number, b"Line", out),
-    };
-    if bytes.is_empty() {
-        return refuse(number, b"Line", out);
+    match bytes_of(alloc, digits)? {
+        Some(bytes) => hear_bytes(house, number, connection, &bytes, out),
+        None => refuse(number, b"Line", out),
     }
-    hear_bytes(house, number, connection, &bytes, out)
 }
 
 // The peer of a connection is gone.
@@ -209,6 +221,89 @@ fn set_held(
     Ok(())
 }
 
+// A session of this user begins.
+fn enter_session(
+    house: &mut House,
+    number: u64,
+    session: u8,
+    user: &[u8],
+    out: &mut Vec<u8>,
+) -> Result<(), AllocError>
+    ensures { OnOk result ((k : Setup) (s : scene.Scene) → StandsFor k house.old s → LineDone k number (spec.Enters session user.now) s house.new out.old.items out.new.items) }
+{
+    match house.step(Event::Enter(session, user), out) {
+        Ok(()) => Ok(()),
+        Err(HouseFault::Nobody) => refuse(number, b"Nobody", out),
+        Err(HouseFault::Busy) => refuse(number, b"Busy", out),
+        Err(_) => Err(AllocError),
+    }
+}
+
+// Bytes come from the client of a session.
+fn ask_bytes(
+    house: &mut House,
+    number: u64,
+    session: u8,
+    bytes: &[u8],
+    out: &mut Vec<u8>,
+) -> Result<(), AllocError>
+    ensures { OnOk result ((k : Setup) (s : scene.Scene) → StandsFor k house.old s → LineDone k number (spec.Asks session bytes.now) s house.new out.old.items out.new.items) }
+{
+    match house.step(Event::Say(session, bytes), out) {
+        Ok(()) => Ok(()),
+        Err(HouseFault::Nobody) => refuse(number, b"Nobody", out),
+        Err(_) => Err(AllocError),
+    }
+}
+
+// A line comes from the client of a session.
+fn ask_line(
+    house: &mut House,
+    number: u64,
+    session: u8,
+    text: &[u8],
+    piece: &mut Vec<u8>,
+    out: &mut Vec<u8>,
+) -> Result<(), AllocError>
+    ensures { OnOk result ((k : Setup) (s : scene.Scene) → StandsFor k house.old s → LineDone k number (spec.Asks session (text.now ++ crlf)) s house.new out.old.items out.new.items) }
+{
+    put_line(text, piece)?;
+    ask_bytes(house, number, session, piece, out)
+}
+
+// Bytes in hexadecimal digits come from it, unless the digits can't be read or there are none.
+fn ask_hex(
+    alloc: Global,
+    house: &mut House,
+    number: u64,
+    session: u8,
+    digits: &[u8],
+    out: &mut Vec<u8>,
+) -> Result<(), AllocError>
+    ensures { OnOk result ((k : Setup) (s : scene.Scene) → StandsFor k house.old s → LineDone k number (brought (spec.Asks session) (decode_of digits.now)) s house.new out.old.items out.new.items) }
+{
+    match bytes_of(alloc, digits)? {
+        Some(bytes) => ask_bytes(house, number, session, &bytes, out),
+        None => refuse(number, b"Line", out),
+    }
+}
+
+// The client of a session is gone.
+fn leave_session(
+    house: &mut House,
+    number: u64,
+    session: u8,
+    out: &mut Vec<u8>,
+) -> Result<(), AllocError>
+    ensures { OnOk result ((k : Setup) (s : scene.Scene) → StandsFor k house.old s → LineDone k number (spec.Leaves session) s house.new out.old.items out.new.items) }
+{
+    match house.step(Event::Leave(session), out) {
+        Ok(()) => Ok(()),
+        Err(HouseFault::Nobody) => refuse(number, b"Nobody", out),
+        Err(_) => Err(AllocError),
+    }
+}
+
 // The window of the mailbox with this word is printed.
 fn show_tail(house: &House, number: u64, word: &[u8], out: &mut Vec<u8>) -> Result<(), AllocError>
     ensures { OnOk result ((k : Setup) (s : scene.Scene) → StandsFor k house.now s → LineDone k number (spec.Tail word.now) s house.now out.old.items out.new.items) }
@@ -242,6 +337,12 @@ fn do_line(
             hear_hex(*out.allocator(), house, number, connection, digits, out)
         }
         ScriptLine::Vanishes(connection) => lose_peer(house, number, connection, out),
+        ScriptLine::Enters(session, user) => enter_session(house, number, session, user, out),
+        ScriptLine::Asks(session, text) => ask_line(house, number, session, text, piece, out),
+        ScriptLine::AsksInHex(session, digits) => {
+            ask_hex(*out.allocator(), house, number, session, digits, out)
+        }
+        ScriptLine::Leaves(session) => leave_session(house, number, session, out),
         ScriptLine::Hold(digits) => set_held(held, number, digits, true, out),
         ScriptLine::Free(digits) => set_held(held, number, digits, false, out),
         ScriptLine::Tail(word) => show_tail(house, number, word, out),
@@ -333,6 +434,10 @@ fn take_turn<R: BufRead, W: Sink>(
 /// Runs a script to the end of its input: each line is done, the house settles, and what the line printed is written at once. At the end
 /// of the input nothing more is written.
 ///
+/// Where the house was new, whatever the result: each recipient copy that was answered 250 in what was written stands in its mailbox's
+/// history exactly once, under one UID, and the copies of each connection in the order in which it sent them; no copy was taken from a
+/// shard after its close; and what a session was shown since its SELECT is exactly the mailbox's changes up to its cursor, in order.
+///
 /// `Read`: the reader failed, or 2^32 lines were read; `NoMemory`: memory was wanting. What the lines before printed was then written,
 /// and nothing of the line at hand. `Write`: the writer failed; the first `sent` bytes of what the script prints were written.
 pub fn drive<R: BufRead, W: Sink>(
@@ -347,6 +452,7 @@ pub fn drive<R: BufRead, W: Sink>(
         WritesFirst k (script_of input) sent (W.taken writer.old) (W.taken writer.new) }
     ensures no_memory { result ≡ Err RunFault.NoMemory → (k : Setup) (input : List ℕ) → StandsFor k house.old empty_scene → R.remaining reader.old ≡ Some input →
         WritesBeginning k (script_of input) (W.taken writer.old) (W.taken writer.new) }
+    ensures once { (k : Setup) (input : List ℕ) → StandsFor k house.old empty_scene → R.remaining reader.old ≡ Some input → WroteOnce k (script_of input) (W.taken writer.old) (W.taken writer.new) }
     ensures read { result ≡ Err RunFault.Read → (k : Setup) (input : List ℕ) → StandsFor k house.old empty_scene → R.remaining reader.old ≡ Some input →
         WritesBeginning k (script_of input) (W.taken writer.old) (W.taken writer.new) }
 {

@@ -1,8 +1,8 @@
-use Rattle.std.proofs.Common.{◌∙◌, ap, subst, sym}
+use Rattle.std.proofs.Common.{◌∙◌, ap, refl, subst, sym}
 use Rattle.std.specs.Str.Parse.{digits_value}
 use Rattle.hex.specs.Hex.{decode_of}
 use Rattle.std.proofs.lemmas.Result.{on_ok_weaker}
-use Rattle.script.specs.Script.{ScriptLine, held_after}
+use Rattle.script.specs.Script.{Asks, ScriptLine, Sends, held_after}
 use Rattle.script.specs.Running.{LineDone}
 use Rattle.script.proofs.RunLaws.{freed_done, held_done, hex_holds_nothing, refused, skipped}
 use Rattle.script.proofs.run.do_line.Goals as goal
@@ -17,9 +17,25 @@ returns-in-Bad-clause-done c =
     (λ e k s st many. subst (λ (l : ScriptLine). LineDone k c.args.number l s c.args.house.now c.args.out.now.items c.refuse.new.out.items) c.in-Bad.ensures.reads (refused k c.args.number s c.args.house.now c.args.out.now.items c.refuse.new.out.items st e))
     c.refuse.ensures.ok
 
+pub returns-in-SaysInHex-clause-done : goal.returns-in-SaysInHex-clause-done
+returns-in-SaysInHex-clause-done c =
+    on_ok_weaker c.hear_hex.result
+    (λ e k s st many. subst (λ (l : ScriptLine). LineDone k c.args.number l s c.hear_hex.new.house c.args.out.now.items c.hear_hex.new.out.items) c.in-SaysInHex.ensures.reads (e k s st))
+    c.hear_hex.ensures
+
 pub returns-in-SaysInHex-clause-held : goal.returns-in-SaysInHex-clause-held
 returns-in-SaysInHex-clause-held c =
-    on_ok_weaker c.hear_hex.result (λ f. sym (ap (held_after c.args.held.now.items) (sym c.in-SaysInHex.ensures.reads) ∙ hex_holds_nothing c.args.held.now.items c.in-SaysInHex.connection (decode_of c.in-SaysInHex.digits.now))) c.hear_hex.ensures
+    on_ok_weaker c.hear_hex.result (λ f. sym (ap (held_after c.args.held.now.items) (sym c.in-SaysInHex.ensures.reads) ∙ hex_holds_nothing c.args.held.now.items (Sends c.in-SaysInHex.connection) (decode_of c.in-SaysInHex.digits.now) (λ bytes. refl))) c.hear_hex.ensures
+
+pub returns-in-AsksInHex-clause-done : goal.returns-in-AsksInHex-clause-done
+returns-in-AsksInHex-clause-done c =
+    on_ok_weaker c.ask_hex.result
+    (λ e k s st many. subst (λ (l : ScriptLine). LineDone k c.args.number l s c.ask_hex.new.house c.args.out.now.items c.ask_hex.new.out.items) c.in-AsksInHex.ensures.reads (e k s st))
+    c.ask_hex.ensures
+
+pub returns-in-AsksInHex-clause-held : goal.returns-in-AsksInHex-clause-held
+returns-in-AsksInHex-clause-held c =
+    on_ok_weaker c.ask_hex.result (λ f. sym (ap (held_after c.args.held.now.items) (sym c.in-AsksInHex.ensures.reads) ∙ hex_holds_nothing c.args.held.now.items (Asks c.in-AsksInHex.session) (decode_of c.in-AsksInHex.digits.now) (λ bytes. refl))) c.ask_hex.ensures
 
 pub returns-in-Hold-clause-done : goal.returns-in-Hold-clause-done
 returns-in-Hold-clause-done c =

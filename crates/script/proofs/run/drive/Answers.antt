@@ -6,7 +6,8 @@ use Rattle.house.specs.Scene.{empty_scene}
 use Rattle.script.specs.Script.{WritesFirst, script_of}
 use Rattle.script.specs.declared.run.RunFault.{RunFault}
 use Rattle.script.specs.declared.run.RunFault.TheVariants.{Write}
-use Rattle.script.proofs.RunLaws.{a_place_each, none_run, run_cut, run_more, run_over, run_stops, turn_silent}
+use Rattle.script.proofs.RunLaws.{a_place_each, none_run, run_cut, run_more, run_over, run_stops, run_unbegun, turn_silent}
+use Rattle.script.proofs.Once.{wrote_all, wrote_beginning, wrote_first}
 use Rattle.script.proofs.run.drive.Goals as goal
 
 pub loop-done-init : goal.loop-done-init
@@ -60,3 +61,44 @@ returns-in-Err-NoMemory-clause-no_memory g c same k input st e =
 
 pub returns-clause-read : goal.returns-clause-read
 returns-clause-read g c same k input st e = let r = c.loop-done.invariant.run k input st e in run_stops k input _ _ _ _ _ _ _ _ r refl
+
+-- ---- exactly once, whatever the result
+
+pub returns-in-Ok-None-clause-once : goal.returns-in-Ok-None-clause-once
+returns-in-Ok-None-clause-once g c k input st e =
+    let r = c.loop-done.invariant.run k input st e in
+    wrote_all k (script_of input) (g.W.Sink.taken c.args.writer.now) (g.W.Sink.taken c.take_turn.new.writer)
+    (run_over k input c.loop-done.done c.loop-done.house c.take_turn.new.house c.loop-done.room.held.items c.take_turn.new.room.held.items (g.R.Read.remaining c.loop-done.reader) (g.R.Read.remaining c.take_turn.new.reader)
+    (g.W.Sink.taken c.args.writer.now) (g.W.Sink.taken c.loop-done.writer) (g.W.Sink.taken c.take_turn.new.writer) c.loop-done.sent
+    r c.in-Ok-None.field-0 c.in-Ok-None.field-0-is (c.in-Ok-None.ensures.tells k r.after r.rest r.stands (a_place_each k input _ _ _ _ _ _ _ _ r) r.remaining))
+
+pub returns-in-Err-Write-clause-once : goal.returns-in-Err-Write-clause-once
+returns-in-Err-Write-clause-once g c k input st e =
+    let r = c.loop-done.invariant.run k input st e in
+    wrote_first k (script_of input) (c.loop-done.sent + c.in-Err-Write.some) (g.W.Sink.taken c.args.writer.now) (g.W.Sink.taken c.take_turn.new.writer)
+    (run_cut k input c.loop-done.done c.loop-done.house c.take_turn.new.house c.loop-done.room.held.items c.take_turn.new.room.held.items (g.R.Read.remaining c.loop-done.reader) (g.R.Read.remaining c.take_turn.new.reader)
+    (g.W.Sink.taken c.args.writer.now) (g.W.Sink.taken c.loop-done.writer) (g.W.Sink.taken c.take_turn.new.writer) c.loop-done.sent c.in-Err-Write.some
+    r c.in-Err-Write.field-0 c.in-Err-Write.field-0-is (c.in-Err-Write.ensures.tells k r.after r.rest r.stands (a_place_each k input _ _ _ _ _ _ _ _ r) r.remaining))
+
+pub returns-in-Err-Read-clause-once : goal.returns-in-Err-Read-clause-once
+returns-in-Err-Read-clause-once g c k input st e =
+    let r = c.loop-done.invariant.run k input st e in
+    wrote_beginning k (script_of input) (g.W.Sink.taken c.args.writer.now) (g.W.Sink.taken c.take_turn.new.writer)
+    (run_stops k input _ _ _ _ _ _ _ _ r (turn_silent k (c.loop-done.done + 1) c.loop-done.room.held.items r.after r.rest c.take_turn.new.house c.take_turn.new.room.held.items (g.R.Read.remaining c.take_turn.new.reader)
+    (g.W.Sink.taken c.loop-done.writer) (g.W.Sink.taken c.take_turn.new.writer) c.in-Err-Read.field-0 (inl c.in-Err-Read.field-0-is) (c.in-Err-Read.ensures.tells k r.after r.rest r.stands (a_place_each k input _ _ _ _ _ _ _ _ r) r.remaining)))
+
+pub returns-in-Err-NoMemory-clause-once : goal.returns-in-Err-NoMemory-clause-once
+returns-in-Err-NoMemory-clause-once g c k input st e =
+    let r = c.loop-done.invariant.run k input st e in
+    wrote_beginning k (script_of input) (g.W.Sink.taken c.args.writer.now) (g.W.Sink.taken c.take_turn.new.writer)
+    (run_stops k input _ _ _ _ _ _ _ _ r (turn_silent k (c.loop-done.done + 1) c.loop-done.room.held.items r.after r.rest c.take_turn.new.house c.take_turn.new.room.held.items (g.R.Read.remaining c.take_turn.new.reader)
+    (g.W.Sink.taken c.loop-done.writer) (g.W.Sink.taken c.take_turn.new.writer) c.in-Err-NoMemory.field-0 (inr c.in-Err-NoMemory.field-0-is) (c.in-Err-NoMemory.ensures.tells k r.after r.rest r.stands (a_place_each k input _ _ _ _ _ _ _ _ r) r.remaining)))
+
+pub returns-clause-once : goal.returns-clause-once
+returns-clause-once g c k input st e =
+    let r = c.loop-done.invariant.run k input st e in
+    wrote_beginning k (script_of input) (g.W.Sink.taken c.args.writer.now) (g.W.Sink.taken c.loop-done.writer) (run_stops k input _ _ _ _ _ _ _ _ r refl)
+
+pub returns-in_default-clause-once : goal.returns-in_default-clause-once
+returns-in_default-clause-once g c k input st e =
+    wrote_beginning k (script_of input) (g.W.Sink.taken c.args.writer.now) (g.W.Sink.taken c.args.writer.now) (run_unbegun k (script_of input) (g.W.Sink.taken c.args.writer.now))

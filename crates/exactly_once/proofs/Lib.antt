@@ -1,0 +1,5 @@
+pub mod Quiet
+pub mod Saying
+pub mod Grown
+pub mod Going
+pub mod Playing

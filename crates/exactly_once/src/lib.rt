@@ -1,0 +1,24 @@
+//! The promise of the product, as a law over everything that may happen in a house: which copies were answered as delivered, and where they
+//! stand. What each event does is told in `house`; nothing here is run by a house.
+#![tactic(auto)]
+
+mod replay;
+#[cfg(test)]
+mod tests;
+
+ghost use Rattle.std.specs.Prelude.{List, ℕ};
+ghost use Rattle.callers.specs.Caller.{Setup};
+ghost use Rattle.exactly_once.specs.Promise.{ExactlyOnce};
+ghost use Rattle.house.specs.Scene.{Scene, empty_scene};
+ghost use Rattle.house.specs.Settling.{Happened};
+ghost use Rattle.house.specs.declared.event.Event.{Event};
+
+pub use replay::play;
+
+/// Over every list of events, so over every interleaving of connections, consumers and sessions, also where memory was wanting: each
+/// recipient copy that was answered 250 stands in its mailbox's history exactly once, under one UID, and the copies of each connection
+/// in the order in which it sent them; no copy is taken from a shard after its close; and what a session was shown since its SELECT is
+/// exactly the mailbox's changes up to its cursor, in order.
+pub fn exactly_once_delivery()
+    ensures { (k : Setup) (events : List Event) (s : Scene) (printed : List ℕ) → Happened k events empty_scene s printed → ExactlyOnce k printed s.world }
+{}

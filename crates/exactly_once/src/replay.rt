@@ -1,0 +1,46 @@
+//! Any list of events in a house, one after another, and what is promised of them all. What one event does is the house's matter.
+
+ghost use Rattle.std.specs.Prelude.{[], ◌∷◌, OnErr, OnOk};
+ghost use Rattle.callers.specs.Caller.{Setup};
+ghost use Rattle.exactly_once.specs.Promise.{CameOnce, TriedFrom};
+ghost use Rattle.house.specs.Scene.{Scene, empty_scene};
+ghost use Rattle.house.specs.Settled.{HappenedFrom};
+ghost use Rattle.house.specs.Stands.{StandsFor};
+
+use house::{Event, House, HouseFault};
+use std::alloc::AllocError;
+
+// An event is tried; one that is refused changes nothing.
+fn try_event(house: &mut House, event: Event<'_>, out: &mut Vec<u8>) -> Result<(), AllocError>
+    ensures tried { OnOk result ((k : Setup) (s : Scene) → StandsFor k house.old s → TriedFrom k (event.entry ∷ []) house.old s house.new out.old.items out.new.items) }
+    ensures wanting { OnErr result ((k : Setup) (s : Scene) → StandsFor k house.old s → HappenedFrom k s house.new out.old.items out.new.items) }
+{
+    match house.step(event, out) {
+        Ok(()) => Ok(()),
+        Err(HouseFault::NoMemory) => Err(AllocError),
+        Err(HouseFault::Nobody) => Ok(()),
+        Err(HouseFault::Busy) => Ok(()),
+        Err(HouseFault::Nothing) => Ok(()),
+    }
+}
+
+/// Tries events in a house, one after another; what they print is appended to `out`. One that is refused changes nothing, and the next is
+/// tried.
+///
+/// Where the house was new, each recipient copy that was answered 250 on the way stands in its mailbox's history exactly once, under one
+/// UID, and the copies of each connection in the order in which it sent them; no copy was taken from a shard after its close; and what a
+/// session was shown since its SELECT is exactly the mailbox's changes up to its cursor, in order. So it is whatever the events were and
+/// however they were mixed, and also after an error.
+///
+/// Errors: `AllocError` where memory was wanting; what happened by then stands, and the events that were left weren't tried.
+pub fn play(house: &mut House, events: &[Event<'_>], out: &mut Vec<u8>) -> Result<(), AllocError>
+    ensures tried { OnOk result ((k : Setup) (s : Scene) → StandsFor k house.old s → TriedFrom k events.now house.old s house.new out.old.items out.new.items) }
+    ensures once { (k : Setup) → StandsFor k house.old empty_scene → CameOnce k house.new out.old.items out.new.items }
+{
+    for event in events {
+        let Ok(()) = try_event(house, *event, out) else {
+            return Err(AllocError);
+        };
+    }
+    Ok(())
+}

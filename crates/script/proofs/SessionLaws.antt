@@ -1,0 +1,84 @@
+-- From what the house promises of a session's events to what a run promises of the lines of sessions.
+use Rattle.std.proofs.Common.{◌≡◌, ◌∙◌, ℕ, zero, suc, ◌<◌, ◌⊎◌, inl, inr, List, ◌++◌, length, refl, sym, ap, arith, Option, Some, None, false, true}
+use Rattle.std.specs.Prelude.{IsSome, codes}
+use Rattle.std.specs.Borrow.{Bor}
+use Rattle.envelope.specs.Directory.{Directory}
+use Rattle.visitors.specs.Folders.{has_user}
+use Rattle.visitors.specs.Visitor.{Visitor}
+use Rattle.visitors.specs.Place.{Place}
+use Rattle.callers.specs.Caller.{Setup}
+use Rattle.house.specs.declared.event.Event.TheVariants as events
+use Rattle.house.specs.State.{State}
+use Rattle.house.specs.Scene.{Scene, place_of}
+use Rattle.house.specs.Stands.{StandsFor, StandsForVisit}
+use Rattle.house.specs.Steps.{IsFreePlace, IsNoPlace, IsTakenPlace, Led}
+use Rattle.script.specs.Script.{Asks, Enters, IsNoSession, IsUnknown, IsUnvisited, IsVisited, Leaves, asks, asks_nobody, enters, enters_nowhere, enters_taken, leaves, leaves_nobody, refusal}
+use Rattle.script.specs.Running.{LineDone}
+use Rattle.script.proofs.RunLaws.{below}
+
+-- ---- who visits
+
+no_visitor : (p : Option Place) (v : Option Visitor) → p ≡ None → StandsForVisit p v → v ≡ None
+no_visitor None None e s = refl
+no_visitor None (Some v) e s = absurd s
+no_visitor (Some p) v e s = absurd (let x : Some p ≡ None = e in cc)
+
+some_visitor : (p : Option Place) (v : Option Visitor) → IsSome p → StandsForVisit p v → (x : Visitor) × (v ≡ Some x)
+some_visitor None v some s = absurd (let e : false ≡ true = some in cc)
+some_visitor (Some p) None some s = absurd s
+some_visitor (Some p) (Some v) some s = (v, refl)
+
+no_session : (k : Setup) (h : State) (s : Scene) (session : ℕ) → StandsFor k h s → IsNoPlace h session → IsNoSession k session
+no_session k h s session st (inl e) = inl e
+no_session k h s session st (inr l) = inr (let e = st.places in omega (arith, l, e))
+
+pub unvisited : (k : Setup) (h : State) (s : Scene) (session : ℕ) → StandsFor k h s → IsNoPlace h session ⊎ IsFreePlace h session → IsUnvisited k s session
+unvisited k h s session st (inl n) = inl (no_session k h s session st n)
+unvisited k h s zero st (inr n) = inl (inl refl)
+unvisited k h s (suc c) st (inr n) = elim (below (place_of (suc c)) (length h.visitors)) [
+  | inl l ↦ inr (no_visitor _ (s.visitor (place_of (suc c))) n (st.visitors (place_of (suc c)) None l))
+  | inr l ↦ inl (inr (let e = st.places in omega (arith, l, e)))
+]
+
+pub visited : (k : Setup) (h : State) (s : Scene) (session : ℕ) → StandsFor k h s → IsTakenPlace h session → IsVisited s session
+visited k h s session st t =
+    let l : place_of session < length h.visitors = let n = t.number in let m = t.place in omega (arith, n, m) in
+    some_visitor _ (s.visitor (place_of session)) t.who (st.visitors (place_of session) None l)
+
+-- ---- users
+
+pub nowhere : (k : Setup) (h : State) (s : Scene) (session : ℕ) (user : List ℕ) → StandsFor k h s → IsNoPlace h session ⊎ (has_user h.directory user ≡ false) → IsNoSession k session ⊎ IsUnknown k user
+nowhere k h s session user st (inl n) = inl (no_session k h s session st n)
+nowhere k h s session user st (inr e) = inr (ap (λ (d : Directory). has_user d user) (sym st.directory) ∙ e)
+
+pub known : (k : Setup) (h : State) (s : Scene) (user : List ℕ) → StandsFor k h s → has_user h.directory user ≡ true → IsUnknown k user → ⊥
+known k h s user st is e = let f : has_user h.directory user ≡ false = ap (λ (d : Directory). has_user d user) st.directory ∙ e in let g = is in cc
+
+-- ---- a line
+
+pub entered : (k : Setup) (number : ℕ) (s : Scene) (session : ℕ) (user : Bor (List ℕ)) (h : State) (old new : List ℕ)
+    → Led k true s (events.Enter session user) h old new → LineDone k number (Enters session user.now) s h old new
+entered k number s session user h old new led = record { after = led.after; printed = led.printed; does = enters session user.now led.plays; stands = led.stands; out = led.out }
+
+pub entered_nowhere : (k : Setup) (number : ℕ) (s : Scene) (session : ℕ) (user : List ℕ) (h : State) (old new : List ℕ)
+    → StandsFor k h s → IsNoSession k session ⊎ IsUnknown k user → new ≡ old ++ refusal number (codes "Nobody") → LineDone k number (Enters session user) s h old new
+entered_nowhere k number s session user h old new st none e = record { after = s; printed = _; does = enters_nowhere session user none refl refl; stands = st; out = e }
+
+pub entered_taken : (k : Setup) (number : ℕ) (s : Scene) (session : ℕ) (user : List ℕ) (h : State) (old new : List ℕ)
+    → StandsFor k h s → (IsUnknown k user → ⊥) → IsVisited s session → new ≡ old ++ refusal number (codes "Busy") → LineDone k number (Enters session user) s h old new
+entered_taken k number s session user h old new st is taken e = record { after = s; printed = _; does = enters_taken session user is taken refl refl; stands = st; out = e }
+
+pub asked_bytes : (k : Setup) (number : ℕ) (s : Scene) (session : ℕ) (piece : Bor (List ℕ)) (h : State) (old new : List ℕ)
+    → Led k true s (events.Say session piece) h old new → LineDone k number (Asks session piece.now) s h old new
+asked_bytes k number s session piece h old new led = record { after = led.after; printed = led.printed; does = asks session piece.now led.plays; stands = led.stands; out = led.out }
+
+pub asked_nobody : (k : Setup) (number : ℕ) (s : Scene) (session : ℕ) (bytes : List ℕ) (h : State) (old new : List ℕ)
+    → StandsFor k h s → IsUnvisited k s session → new ≡ old ++ refusal number (codes "Nobody") → LineDone k number (Asks session bytes) s h old new
+asked_nobody k number s session bytes h old new st nobody e = record { after = s; printed = _; does = asks_nobody session bytes nobody refl refl; stands = st; out = e }
+
+pub left : (k : Setup) (number : ℕ) (s : Scene) (session : ℕ) (h : State) (old new : List ℕ) → Led k true s (events.Leave session) h old new → LineDone k number (Leaves session) s h old new
+left k number s session h old new led = record { after = led.after; printed = led.printed; does = leaves session led.plays; stands = led.stands; out = led.out }
+
+pub left_nobody : (k : Setup) (number : ℕ) (s : Scene) (session : ℕ) (h : State) (old new : List ℕ)
+    → StandsFor k h s → IsUnvisited k s session → new ≡ old ++ refusal number (codes "Nobody") → LineDone k number (Leaves session) s h old new
+left_nobody k number s session h old new st nobody e = record { after = s; printed = _; does = leaves_nobody session nobody refl refl; stands = st; out = e }

@@ -1,0 +1,24 @@
+use Rattle.std.proofs.Common.{◌∙◌, ◌++◌, ℕ, List, ap, sym, subst}
+use Rattle.std.specs.Prelude.{codes}
+use Rattle.std.proofs.lemmas.Result.{on_ok_weaker}
+use Rattle.house.specs.State.{State}
+use Rattle.house.specs.Stands.{StandsFor}
+use Rattle.script.specs.Script.{refusal}
+use Rattle.script.proofs.RunLaws.{is_nobody, not_wanting}
+use Rattle.script.proofs.SessionLaws.{left, left_nobody, unvisited}
+use Rattle.script.proofs.run.leave_session.Goals as goal
+
+pub returns-in-Ok : goal.returns-in-Ok
+returns-in-Ok c k s st =
+    left k c.args.number s c.args.session c.step.new.self c.args.out.now.items c.step.new.out.items (c.in-Ok.ensures.follows k s st)
+
+pub returns-in-Err-Nobody : goal.returns-in-Err-Nobody
+returns-in-Err-Nobody c =
+    let e = c.in-Err-Nobody.ensures in
+    let same = e.refused (not_wanting c.in-Err-Nobody.field-0 c.in-Err-Nobody.field-0-is) in
+    on_ok_weaker c.refuse.result
+    (λ printed k s st. left_nobody k c.args.number s c.args.session c.step.new.self c.args.out.now.items c.refuse.new.out.items
+    (subst (λ (h : State). StandsFor k h s) (sym same.0) st)
+    (unvisited k c.args.house.now s c.args.session st (e.nobody.0 (is_nobody c.in-Err-Nobody.field-0 c.in-Err-Nobody.field-0-is)))
+    (printed ∙ ap (λ (x : List ℕ). x ++ refusal c.args.number (codes "Nobody")) same.1))
+    c.refuse.ensures.ok
