@@ -1,10 +1,11 @@
 #!/bin/sh
-# The first message, with each allocation of the program refused in turn: the Nth call of malloc or realloc answers NULL, for N from 1 until a
+# Worked cases, with each allocation of the program refused in turn: the Nth call of malloc or realloc answers NULL, for N from 1 until a
 # run meets none. Each run must end in one of these ways:
 # - with status 5, and what was written is a beginning of what the whole run writes;
-# - with status 0, and what was written is that up to a first line `451 4.3.0 Out of memory`, behind which the script goes on;
+# - with status 0, and what was written is that up to a first line `451 4.3.0 Out of memory` of a connection, or `NO Out of memory` under a
+#   tag of a session, behind which the script goes on;
 # - with status 0 and the whole output, where the program could do without that memory.
-# And where a copy was answered `Delivered` and the script came to its TAIL, the mailbox has it.
+# And where a copy was answered `Delivered` and the script came to its TAIL, the mailbox has it. Each case ends with a TAIL for that.
 # With no argument it builds the program; else the argument is the program.
 set -eu
 top=$(CDPATH= cd -- "$(dirname -- "$0")/.." && pwd)
@@ -65,18 +66,22 @@ done
 "${compiler:?there is no C compiler}" -O1 -shared -fPIC -o "$room/refuse.so" "$room/refuse.c" -ldl
 
 words='script --depth 2 --ring 16 --messages 8 --uidvalidity 7 alice bob'
-input=$top/crates/post_house/stdin
-want=$top/crates/post_house/stdout
+refusal='^(L[1-8] 451 4[.]3[.]0|I[1-8] [^ *]+ NO) Out of memory$'
+
+# Whether the bytes of a file are the first ones of what is wanted.
+is_beginning() {
+    head -c "$(wc -c < "$1")" "$want" | cmp -s - "$1"
+}
 
 # Whether the output is right for this status.
 is_right() {
     case $1 in
-    5) head -c "$(wc -c < "$room/out")" "$want" | cmp -s - "$room/out" ;;
+    5) is_beginning "$room/out" ;;
     0)
         cmp -s "$want" "$room/out" && return 0
-        sed '/^L1 451 4\.3\.0 Out of memory$/,$d' "$room/out" > "$room/before"
-        grep -q '^L1 451 4\.3\.0 Out of memory$' "$room/out" \
-            && head -c "$(wc -c < "$room/before")" "$want" | cmp -s - "$room/before"
+        grep -qE "$refusal" "$room/out" || return 1
+        awk -v refusal="$refusal" '$0 ~ refusal { exit } { print }' "$room/out" > "$room/before"
+        is_beginning "$room/before"
         ;;
     *) return 1 ;;
     esac
@@ -90,29 +95,44 @@ is_kept() {
     test "$delivered" -le "$added"
 }
 
-passed=0 failed=0 at=1
-while :; do
+# Runs the case with the allocation of this number refused.
+run_at() {
     rm -f "$room/met"
     status=0
     # shellcheck disable=SC2086
-    REFUSE_AT=$at MET_AT=$room/met LD_PRELOAD=$room/refuse.so \
+    REFUSE_AT=$1 MET_AT=$room/met LD_PRELOAD=$room/refuse.so \
         "$program" $words < "$input" > "$room/out" 2> "$room/faults" || status=$?
-    test -e "$room/met" || break
-    if is_right "$status" && is_kept; then
+}
+
+# Counts a run: its number, and whether it was right.
+count() {
+    if test "$2" = right; then
         passed=$((passed + 1))
     else
         failed=$((failed + 1))
-        echo "allocation $at: status $status, and this was written:"
+        echo "$case, allocation $1: status $status, and this was written:"
         cat "$room/out"
     fi
-    at=$((at + 1))
+}
+
+# All runs of a case. The last one meets no refusal, so it is the whole one.
+try_case() {
+    at=1
+    while run_at "$at" && test -e "$room/met"; do
+        if is_right "$status" && is_kept; then count "$at" right; else count "$at" wrong; fi
+        at=$((at + 1))
+    done
+    if test "$status" = 0 && cmp -s "$want" "$room/out"; then count none right; else count none wrong; fi
+}
+
+passed=0 failed=0
+for case in first-message two-recipients-one-unknown select-and-list expunge partial-and-seen idle; do
+    input=$top/tests/cases/$case.stdin want=$top/tests/cases/$case.stdout
+    # The first message is what the program's stored run reads.
+    if test "$case" = first-message; then
+        input=$top/crates/post_house/stdin want=$top/crates/post_house/stdout
+    fi
+    try_case
 done
-# The last run met no refusal, so it is the whole one.
-if test "$status" = 0 && cmp -s "$want" "$room/out"; then
-    passed=$((passed + 1))
-else
-    failed=$((failed + 1))
-    echo "the run with no refusal: status $status"
-fi
 echo "$passed passed, $failed failed"
 test "$failed" = 0
