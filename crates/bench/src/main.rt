@@ -1,10 +1,15 @@
-//! How many megabytes a second are taken: mail data by the unstuffer, and lines by the cutter. With no word it does each once and prints
-//! what came out, which doesn't vary. With the word `measure` it does each many times and prints the rates.
+//! How many megabytes a second are taken: mail data by the unstuffer, and lines by the cutter; and what time scripts take in which much mail
+//! comes and clients ask for much. With no word it does each once, scripts of a few messages, and prints what came out, which doesn't
+//! vary. With the word `measure` it does each many times, or for many messages, and prints the rates and times.
 #![tactic(auto)]
 
+mod mailboxes;
+mod play;
 mod sample;
+mod scripts;
 mod work;
 
+use crate::mailboxes::{Shows, four_mailboxes, one_mailbox, parts_of_mailbox, short_sessions};
 use crate::sample::data;
 use crate::work::{line_count, text_len};
 use std::alloc::Global;
@@ -58,6 +63,31 @@ fn measure(rt: &HostRuntime, wire: &[u8], len: usize, lines: usize) -> io::Resul
     Ok(())
 }
 
+/// Measures what a house does, with few messages or sessions and with three or four times as many.
+fn measure_house(rt: &HostRuntime) -> io::Result<()> {
+    for messages in [10_000, 30_000] {
+        one_mailbox(rt, messages, Shows::Times)?;
+    }
+    for messages in [10_000, 30_000] {
+        parts_of_mailbox(rt, messages, Shows::Times)?;
+    }
+    for each in [6_250, 25_000] {
+        four_mailboxes(rt, each, Shows::Times)?;
+    }
+    for rounds in [31, 125] {
+        short_sessions(rt, rounds, Shows::Times)?;
+    }
+    Ok(())
+}
+
+/// Does once, on a small scale, what is measured of a house.
+fn try_house(rt: &HostRuntime) -> io::Result<()> {
+    one_mailbox(rt, 100, Shows::Bytes)?;
+    parts_of_mailbox(rt, 100, Shows::Bytes)?;
+    four_mailboxes(rt, 10, Shows::Bytes)?;
+    short_sessions(rt, 2, Shows::Bytes)
+}
+
 fn main(rt: HostRuntime) -> io::Result<()> {
     let alloc = rt.alloc();
     let wire = data(alloc, LINES)?;
@@ -65,13 +95,16 @@ fn main(rt: HostRuntime) -> io::Result<()> {
     let lines = line_count(alloc, wire.as_slice());
     let words = env::args(&rt)?.collect::<Vec<String>>(alloc)?;
     match words.get(1) {
-        Some(word) if word.as_str() == "measure" => measure(&rt, wire.as_slice(), len, lines),
+        Some(word) if word.as_str() == "measure" => {
+            measure(&rt, wire.as_slice(), len, lines)?;
+            measure_house(&rt)
+        }
         _ => {
             println!(rt;
                 "bench: {} bytes, a text of {len} bytes, {lines} lines",
                 wire.len()
             )?;
-            Ok(())
+            try_house(&rt)
         }
     }
 }
