@@ -3,9 +3,10 @@
 
 ghost use Rattle.std.specs.Prelude.{◌≡◌, ◌≢◌, ◌↔◌, ◌+◌, ◌^◌, ◌<◌, ◌≤◌, ◌++◌, false, true, None, Some, Err, [], length, IfOk, IfSome, OnOk, OnErr, vec_len};
 ghost use Rattle.std.specs.Vec.{vec_capacity};
-ghost use Rattle.imap_session.specs.Exchange.{is_idling, may_send, waits_for};
-ghost use Rattle.imap_session.specs.Commands.{greeting};
+ghost use Rattle.imap_session.specs.Exchange.{Feed, Refused, is_idling, may_send, waits_for};
+ghost use Rattle.imap_session.specs.Commands.{greeting, most_changes};
 ghost use Rattle.imap_session.specs.Store.{IdleTurns, Starves};
+ghost use Rattle.mailbox.specs.declared.clients.MailFault.{MailFault};
 ghost use Rattle.imap_connection.specs.Dialogue.{Dialogue, StandsFor, Takes, Took, Turns, tag_len};
 
 use imap_session::{After, Folder, Selected, Session, SessionFault, Store};
@@ -136,6 +137,8 @@ impl ImapConnection {
         ensures ended { (result ≡ Err SessionFault.Ended) ↔ (self.old.session.ended ≡ true) }
         ensures over { result ≡ Err SessionFault.Ended → store.new ≡ store.old }
         ensures starved { result ≡ Err SessionFault.NoMemory → Starves S.step store.old store.new }
+        // Where `out` has room for a BYE line, the store was asked.
+        ensures asked { result ≡ Err SessionFault.NoMemory → vec_len out.old + 48 ≤ vec_capacity out.old → S.step store.old (Feed most_changes) (Refused MailFault.NoMemory) store.new }
         ensures refused { OnErr result ((self.new ≡ self.old) × (out.new.items ≡ out.old.items)) }
     {
         self.session.idle_turn(store, out)
@@ -155,7 +158,7 @@ impl ImapConnection {
         ensures moves { IfOk result (λ fed. fed.after ≢ After.Bye → 0 < length piece.now → 0 < fed.used) }
         ensures ok { IfOk result (λ fed. (d : Dialogue) → StandsFor self.old d → Takes S.step d piece.now store.old store.new out.old.items out.new.items fed self.new) }
         ensures err { OnErr result ((self.new ≡ self.old) × (store.new ≡ store.old) × (out.new.items ≡ out.old.items)) }
-        ensures full { OnErr result (vec_capacity out.old < vec_len out.old + (8259 + tag_len self.old.session.idling)) }
+        ensures full { OnErr result (vec_capacity out.new < vec_len out.new + (8259 + tag_len self.new.session.idling)) }
         ensures sends { IfOk result (λ fed. fed.after ≡ may_send self.new.session) }
     {
         if self.session.ended() {
@@ -198,7 +201,8 @@ impl ImapConnection {
 
     /// Takes a piece to its end, or to the line that ends the session: each line that ends in it is answered (RFC 9051, 2.2), and one of
     /// more than 8,192 bytes with its CRLF as too long. Where memory is refused before a line is answered, what was taken till then
-    /// stands, and the rest is for the next call.
+    /// stands, and the rest is for the next call. It is refused only where `out` has no room, behind what it has by then, for 8,259 bytes
+    /// and the tag of the IDLE that isn't done.
     pub fn take<S: Store>(
         &mut self,
         alloc: Global,
@@ -209,6 +213,7 @@ impl ImapConnection {
         requires { self.old.session.ended ≡ false }
         ensures used { result.used ≤ length piece.now }
         ensures all { IfSome result.after (λ after. after ≢ After.Bye → result.used ≡ length piece.now) }
+        ensures full { result.after ≡ None → vec_capacity out.new < vec_len out.new + (8259 + tag_len self.new.session.idling) }
         ensures sends { IfSome result.after (λ after. after ≡ may_send self.new.session) }
         ensures took { (d : Dialogue) → StandsFor self.old d → Took S.step d piece.now store.old store.new out.old.items out.new.items result self.new }
     {

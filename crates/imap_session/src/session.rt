@@ -50,8 +50,8 @@ impl Session {
     ghost use Rattle.std.specs.Prelude.{◌≡◌, ◌≢◌, ◌+◌, ◌<◌, ◌≤◌, ◌++◌, ◌↔◌, true, false, [], codes, length, None, Some, Err, OnOk, OnErr, IfOk, vec_len};
     ghost use Rattle.std.specs.Option.{option_copied};
     ghost use Rattle.std.specs.Vec.{vec_capacity};
-    ghost use Rattle.imap_session.specs.Exchange.{closed, is_idling, may_send, refusal_text, tagged};
-    ghost use Rattle.imap_session.specs.Commands.{greeting, long_line_text, on_command, on_idle_line, turn_of_long_line};
+    ghost use Rattle.imap_session.specs.Exchange.{Feed, Refused, closed, is_idling, may_send, refusal_text, tagged};
+    ghost use Rattle.imap_session.specs.Commands.{greeting, long_line_text, most_changes, on_command, on_idle_line, turn_of_long_line};
     ghost use Rattle.imap_session.specs.Store.{Answers, IdleTurns, Plays, Starves, is_idle, room_for};
 
     /// The session of a client whose mailboxes have these names. It has selected none. Where two have the same name, the first is found.
@@ -328,6 +328,8 @@ impl Session {
         ensures ended { (result ≡ Err SessionFault.Ended) ↔ (self.old.ended ≡ true) }
         ensures over { result ≡ Err SessionFault.Ended → store.new ≡ store.old }
         ensures starved { result ≡ Err SessionFault.NoMemory → Starves S.step store.old store.new }
+        // Where `out` has room for a BYE line, the store was asked.
+        ensures asked { result ≡ Err SessionFault.NoMemory → vec_len out.old + 48 ≤ vec_capacity out.old → S.step store.old (Feed most_changes) (Refused MailFault.NoMemory) store.new }
         ensures refused { OnErr result ((self.new ≡ self.old) × (out.new.items ≡ out.old.items)) }
     {
         if self.ended {
