@@ -3,8 +3,9 @@ pub mod Numbers
 pub mod Classes
 pub mod Cuts
 pub mod SetParts
-pub mod Places
+pub mod ChosenAt
 pub mod Rising
+pub mod Viewing
 pub mod WordLaws
 pub mod Headers
 pub mod JoinedLaws

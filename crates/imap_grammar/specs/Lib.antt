@@ -2,6 +2,7 @@ pub mod Bytes
 pub mod Numbers
 pub mod Cuts
 pub mod Sets
+pub mod Choosing
 pub mod Items
 pub mod Verbs
 pub mod Grammar

@@ -13,12 +13,14 @@ mod laws;
 mod list;
 mod name;
 mod number;
+mod places;
 mod print;
 mod ranges;
 mod reading;
 mod set;
 #[cfg(test)]
 mod tests;
+mod view;
 mod words;
 
 pub use answers::{write_row, write_status};
@@ -29,3 +31,4 @@ pub use list::write_list;
 pub use name::Name;
 pub use reading::{is_done, read_line};
 pub use set::{SeqNumber, SeqRange, SeqSet, SetFault};
+pub use view::View;

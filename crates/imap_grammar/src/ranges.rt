@@ -1,14 +1,17 @@
-//! Which messages of a view ranges name: each is tested by its number, and none is looked up.
-//! How a set is called and what it refuses is told in `set`.
+//! The ranges of a set, and which messages of a view they name. How a set is called and what it refuses is told in `set`, and how
+//! messages are chosen by their places in `places`.
 
 ghost use Rattle.std.specs.Prelude.{◌≡◌, ℕ, ◌-◌, ◌++◌, List, IfOk, OnOk, OnErr, Some, None, length, slice_index, option_to_list};
 ghost use Rattle.imap_grammar.specs.Sets.{range_of, ranges_of, numeric, is_between, is_named, is_above, is_too_high, by_uid, at_places, last_uid};
 
 use crate::cut::cut_at;
+use crate::places::{chosen_at, named_places, places_of_named_uids};
 use crate::set::{SeqNumber, SeqRange, range_in};
+use crate::view::View;
 use std::alloc::{AllocError, Global};
 
-fn numeric_of(greatest: usize, n: SeqNumber) -> usize
+/// The number, where `*` is the greatest.
+pub(crate) fn numeric_of(greatest: usize, n: SeqNumber) -> usize
     ensures { result ≡ numeric greatest n }
 {
     match n {
@@ -89,19 +92,22 @@ pub(crate) fn ranges_in(alloc: Global, text: &[u8]) -> Result<Vec<SeqRange>, All
     Ok(ranges)
 }
 
-/// The UIDs of a view that ranges of UIDs name.
-pub(crate) fn uids_in(
-    alloc: Global,
-    ranges: &[SeqRange],
-    view: &[u32],
-) -> Result<Vec<u32>, AllocError>
+// The greatest UID of a view, which is the last; 0 where there is none.
+fn last_uid(view: &[u32]) -> usize
+    ensures { result ≡ last_uid view.now }
+{
+    match view.last() {
+        Some(uid) => *uid as usize,
+        None => 0,
+    }
+}
+
+// The UIDs that ranges of UIDs name in any view: each is tried.
+fn uids_one_by_one(alloc: Global, ranges: &[SeqRange], view: &[u32]) -> Result<Vec<u32>, AllocError>
     ensures { IfOk result (λ v. v.items ≡ by_uid ranges.now view.now) }
 {
     let mut chosen = Vec::new(alloc);
-    let greatest = match view.last() {
-        Some(uid) => *uid as usize,
-        None => 0,
-    };
+    let greatest = last_uid(view);
     for uid in view {
         if is_in(ranges, greatest, *uid as usize) {
             chosen.push(*uid)?;
@@ -110,19 +116,31 @@ pub(crate) fn uids_in(
     Ok(chosen)
 }
 
+/// The UIDs of a view that ranges of UIDs name. In a view that rises they are found by halving.
+pub(crate) fn uids_in(
+    alloc: Global,
+    ranges: &[SeqRange],
+    view: &View,
+) -> Result<Vec<u32>, AllocError>
+    ensures { IfOk result (λ v. v.items ≡ by_uid ranges.now view.now) }
+{
+    let uids = view.uids();
+    if !view.rises() {
+        return uids_one_by_one(alloc, ranges, uids);
+    }
+    let places = places_of_named_uids(alloc, ranges, last_uid(uids), uids)?;
+    Ok(chosen_at(alloc, &places, uids)?)
+}
+
 /// The UIDs of the messages that ranges of places in a view name.
 pub(crate) fn places_in(
     alloc: Global,
     ranges: &[SeqRange],
-    view: &[u32],
+    view: &View,
 ) -> Result<Vec<u32>, AllocError>
     ensures { IfOk result (λ v. v.items ≡ at_places (is_named ranges.now (length view.now)) 1 view.now) }
 {
-    let mut chosen = Vec::new(alloc);
-    for (i, uid) in view.iter().enumerate() {
-        if is_in(ranges, view.len(), i + 1) {
-            chosen.push(*uid)?;
-        }
-    }
-    Ok(chosen)
+    let uids = view.uids();
+    let places = named_places(alloc, ranges, uids.len())?;
+    chosen_at(alloc, &places, uids)
 }

@@ -10,6 +10,7 @@ use crate::bytes::past_byte;
 use crate::cut::cut_at;
 use crate::number::number_up_to;
 use crate::ranges::{is_one_too_high, places_in, ranges_in, uids_in};
+use crate::view::View;
 use std::alloc::{AllocError, Global};
 use std::marker::Model;
 
@@ -120,13 +121,15 @@ impl<'a> SeqSet<'a> {
             None
         }
     }
+
     /// The UIDs of the messages of a view that the set names, each once, in the view's order. By
     /// place a number is a message's place in the view, counted from 1, and `*` the last place; by UID
     /// what isn't in the view is passed over, and `*` is the view's last UID (RFC 9051, 9: seq-number).
+    /// It costs the set's ranges and what they name; only a view that doesn't rise is passed, by UID, for each range.
     ///
     /// Errors, in this order: `TooHigh` exactly where a number by place is above the view's length, or
     /// `*` is said of an empty view; `NoMemory` where memory was refused.
-    pub fn resolve(&self, alloc: Global, view: &[u32], by_uid: bool) -> Result<Vec<u32>, SetFault>
+    pub fn resolve(&self, alloc: Global, view: &View, by_uid: bool) -> Result<Vec<u32>, SetFault>
         ensures found { IfOk result (λ uids. named_in by_uid self.now view.now ≡ Some uids.items) }
         ensures too_high { (result ≡ Err SetFault.TooHigh) ↔ (named_in by_uid self.now view.now ≡ None) }
         // In a view whose UIDs rise.
@@ -136,7 +139,7 @@ impl<'a> SeqSet<'a> {
             let ranges = ranges_in(alloc, self.spelled)?;
             return Ok(uids_in(alloc, &ranges, view)?);
         }
-        if is_one_too_high(self.spelled, view.len()) {
+        if is_one_too_high(self.spelled, view.uids().len()) {
             return Err(SetFault::TooHigh);
         }
         let ranges = ranges_in(alloc, self.spelled)?;

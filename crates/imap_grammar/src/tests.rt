@@ -2,7 +2,7 @@
 //! expected is what RFC 9051 says of them, and the choices that specs/ leaves to this server.
 
 use crate::{
-    Command, ImapFault, SetFault, patterns_match_what_they_stand_for, read_line, write_list,
+    Command, ImapFault, SetFault, View, patterns_match_what_they_stand_for, read_line, write_list,
     write_row, write_status,
 };
 use change_ring::{FlagOp, Flags};
@@ -176,7 +176,11 @@ fn resolved(alloc: Global, line: &[u8], view: &[u32]) -> Result<Vec<u32>, SetFau
     let Command::Fetch(fetch) = command else {
         return Err(SetFault::NoMemory);
     };
-    fetch.set.resolve(alloc, view, fetch.by_uid)
+    fetch.set.resolve(
+        alloc,
+        &View::new(Vec::from_slice(alloc, view)?),
+        fetch.by_uid,
+    )
 }
 
 #[test]
@@ -188,8 +192,23 @@ fn sets_name_messages(rt: HostRuntime) -> Result<(), SetFault> {
     assert_eq!(rt; uids.as_slice(), [4, 12].as_slice());
     let none = resolved(rt.alloc(), b"a UID FETCH * UID", &[])?;
     assert!(rt; none.is_empty());
+    let once = resolved(rt.alloc(), b"a FETCH 2:3,3:1,2 UID", &view)?;
+    assert_eq!(rt; once.as_slice(), [4, 9, 12].as_slice());
+    let between = resolved(rt.alloc(), b"a UID FETCH 10:12,5:8,4 UID", &view)?;
+    assert_eq!(rt; between.as_slice(), [4, 12].as_slice());
     assert!(rt; resolved(rt.alloc(), b"a FETCH 1:4 UID", &view).is_err());
     assert!(rt; resolved(rt.alloc(), b"a FETCH * UID", &[]).is_err());
+    Ok(())
+}
+
+// What a mailbox never shows, but another store may.
+#[test]
+fn sets_name_messages_of_a_view_in_any_order(rt: HostRuntime) -> Result<(), SetFault> {
+    let view = [9, 4, 12, 4];
+    let uids = resolved(rt.alloc(), b"a UID FETCH 4:9 UID", &view)?;
+    assert_eq!(rt; uids.as_slice(), [9, 4, 4].as_slice());
+    let places = resolved(rt.alloc(), b"a FETCH 3:* UID", &view)?;
+    assert_eq!(rt; places.as_slice(), [12, 4].as_slice());
     Ok(())
 }
 

@@ -8,6 +8,5 @@ pub mod Storing
 pub mod Selecting
 pub mod Ending
 pub mod Naming
-pub mod Viewing
 pub mod Lines
 pub mod Turns

@@ -11,7 +11,7 @@ ghost use Rattle.imap_session.specs.Store.{Does, last};
 use crate::show::{purge, show};
 use crate::standing::Selected;
 use crate::store::Store;
-use imap_grammar::{SeqSet, SetFault};
+use imap_grammar::{SeqSet, SetFault, View};
 use mailbox::MailFault;
 use std::alloc::Global;
 
@@ -48,7 +48,7 @@ fn remove_and_show<S: Store>(
 {
     match purge(uids, store, keep, out) {
         Err(fault) => Err(fault),
-        Ok(_) => match show(usize::MAX, store, keep, out) {
+        Ok(()) => match show(usize::MAX, store, keep, out) {
             Err(fault) => Err(fault),
             Ok(_) => Ok(()),
         },
@@ -87,9 +87,9 @@ pub(crate) fn expunge_set<S: Store>(
 {
     let view = match store.view(alloc) {
         Err(fault) => return Err(fault),
-        Ok(view) => view,
+        Ok(uids) => View::new(uids),
     };
-    let uids = match set.resolve(alloc, view.as_slice(), true) {
+    let uids = match set.resolve(alloc, &view, true) {
         Err(SetFault::NoMemory) => return Err(MailFault::NoMemory),
         Err(SetFault::TooHigh) => return Ok(b"BAD Sequence number too high"),
         Ok(uids) => uids,

@@ -10,8 +10,7 @@ ghost use Rattle.imap_grammar.specs.declared.command.Command.TheVariants as comm
 use crate::say::hold_room;
 use crate::show::show;
 use crate::store::Store;
-use crate::view::View;
-use imap_grammar::{Fetch, SetFault, write_row};
+use imap_grammar::{Fetch, SetFault, View, write_row};
 use mailbox::{MailFault, Row};
 use std::alloc::Global;
 
@@ -138,7 +137,7 @@ pub(crate) fn fetch_messages<S: Store>(
         Err(fault) => return Err(fault),
         Ok(uids) => View::new(uids),
     };
-    let uids = match fetch.set.resolve(alloc, view.uids(), fetch.by_uid) {
+    let uids = match fetch.set.resolve(alloc, &view, fetch.by_uid) {
         Err(SetFault::NoMemory) => return Err(MailFault::NoMemory),
         Err(SetFault::TooHigh) => return Ok(b"BAD Sequence number too high"),
         Ok(uids) => uids,

@@ -18,7 +18,6 @@ mod store;
 #[cfg(test)]
 mod tests;
 mod turn;
-mod view;
 
 pub use laws::{changes_are_shown_in_place, done_shows_in_place};
 pub use session::Session;

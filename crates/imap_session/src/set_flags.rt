@@ -12,10 +12,9 @@ ghost use Rattle.imap_session.specs.Store.{Does, last};
 use crate::say::hold_room;
 use crate::show::show;
 use crate::store::Store;
-use crate::view::View;
 use change_ring::Flags;
 use cursor_set::{FLAGS_ROOM, put_flags};
-use imap_grammar::{SetFault, Store as StoreCommand};
+use imap_grammar::{SetFault, Store as StoreCommand, View};
 use itoa::Buffer;
 use mailbox::MailFault;
 use std::alloc::{AllocError, Global};
@@ -194,7 +193,7 @@ pub(crate) fn store_messages<S: Store>(
         Err(fault) => return Err(fault),
         Ok(uids) => View::new(uids),
     };
-    let uids = match command.set.resolve(alloc, view.uids(), command.by_uid) {
+    let uids = match command.set.resolve(alloc, &view, command.by_uid) {
         Err(SetFault::NoMemory) => return Err(MailFault::NoMemory),
         Err(SetFault::TooHigh) => return Ok(b"BAD Sequence number too high"),
         Ok(uids) => uids,

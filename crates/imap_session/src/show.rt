@@ -58,9 +58,9 @@ pub(crate) fn purge<S: Store>(
     store: &mut S,
     keep: usize,
     out: &mut Vec<u8>,
-) -> Result<usize, MailFault>
+) -> Result<(), MailFault>
     requires room { vec_len out.old + keep ≤ vec_capacity out.old }
-    ensures done { (x : Exchange) → Does S.step (Expunge (option_copied uids.entry) x) (λ n. x) store.old store.new out.old.items out.new.items result }
+    ensures done { (x : Exchange) → Does S.step (Expunge (option_copied uids.entry) x) (λ _. x) store.old store.new out.old.items out.new.items result }
     ensures room { vec_len out.new + keep ≤ vec_capacity out.new }
 {
     let start = out.len();
@@ -72,9 +72,9 @@ pub(crate) fn purge<S: Store>(
             out.truncate(start);
             Err(fault)
         }
-        Ok(n) => {
+        Ok(_gone) => {
             cut_out(out, start, keep);
-            Ok(n)
+            Ok(())
         }
     }
 }

@@ -19,7 +19,7 @@ pub returns-in-Err-TooHigh-clause-done : goal.returns-in-Err-TooHigh-clause-done
 returns-in-Err-TooHigh-clause-done g c tag now =
     let looked : g.S.Store.step c.args.store.now Look (Looked c.new-view.result) c.args.store.now = rw c.new-view.ensures c.in-Ok.ensures.event in
     let none : named_in c.args.fetch.now.by_uid c.args.fetch.now.set c.new-view.result ≡ None =
-    rw (← c.uids.ensures) (c.in-Err-TooHigh.ensures.too_high.0 (ap (λ f. Err f) c.in-Err-TooHigh.field-0-is)) in
+    (c.in-Err-TooHigh.ensures.too_high.0 (ap (λ f. Err f) c.in-Err-TooHigh.field-0-is)) in
     reaches_too_high g.S.Store.step c.args.fetch.now.by_uid c.args.fetch.now.set
     (λ v uids. fetching c.args.fetch.now c.args.mark v (messages_done (commands.Fetch c.args.fetch.now) c.args.fetch.now.by_uid) uids false)
     c.new-view.result _ _ looked none tag now
@@ -30,7 +30,7 @@ returns-in-Err-fetch_all-clause-done g c tag now =
     let next : List ℕ → List ℕ → Exchange = λ v uids. fetching c.args.fetch.now c.args.mark v done uids false in
     let looked : g.S.Store.step c.args.store.now Look (Looked c.new-view.result) c.args.store.now = rw c.new-view.ensures c.in-Ok.ensures.event in
     let found : named_in c.args.fetch.now.by_uid c.args.fetch.now.set c.new-view.result ≡ Some c.as_slice.result.now =
-    rw (c.as_slice.ensures.value, ← c.uids.ensures) c.in-Ok-resolve.ensures.found in
+    rw c.as_slice.ensures.value c.in-Ok-resolve.ensures.found in
     stops_then g.S.Store.step tag now now now _ _ c.in-Err-fetch_all.fault _ _ _ _ _ _
     (reaches_chosen g.S.Store.step c.args.fetch.now.by_uid c.args.fetch.now.set next c.new-view.result c.as_slice.result.now _ _ looked found tag now)
     (c.in-Err-fetch_all.ensures.done done tag now)
@@ -41,7 +41,7 @@ returns-clause-done g c =
     let next : List ℕ → List ℕ → Exchange = λ v uids. fetching c.args.fetch.now c.args.mark v done uids false in
     let looked : g.S.Store.step c.args.store.now Look (Looked c.new-view.result) c.args.store.now = rw c.new-view.ensures c.in-Ok.ensures.event in
     let found : named_in c.args.fetch.now.by_uid c.args.fetch.now.set c.new-view.result ≡ Some c.as_slice.result.now =
-    rw (c.as_slice.ensures.value, ← c.uids.ensures) c.in-Ok-resolve.ensures.found in
+    rw c.as_slice.ensures.value c.in-Ok-resolve.ensures.found in
     does_then g.S.Store.step _ (done c.in-Ok-fetch_all.gone) last _ _ _ _ _ _ c.finish_fetch.result
     (λ tag now. reaches_then g.S.Store.step tag now now now _ _ _ _ _ _ _ _ _
     (reaches_chosen g.S.Store.step c.args.fetch.now.by_uid c.args.fetch.now.set next c.new-view.result c.as_slice.result.now _ _ looked found tag now)

@@ -19,7 +19,7 @@ pub returns-in-Err-TooHigh-clause-done : goal.returns-in-Err-TooHigh-clause-done
 returns-in-Err-TooHigh-clause-done g c tag now =
     let looked : g.S.Store.step c.args.store.now Look (Looked c.new-view.result) c.args.store.now = rw c.new-view.ensures c.in-Ok.ensures.event in
     let none : named_in c.args.command.now.by_uid c.args.command.now.set c.new-view.result ≡ None =
-    rw (← c.uids.ensures) (c.in-Err-TooHigh.ensures.too_high.0 (ap (λ f. Err f) c.in-Err-TooHigh.field-0-is)) in
+    (c.in-Err-TooHigh.ensures.too_high.0 (ap (λ f. Err f) c.in-Err-TooHigh.field-0-is)) in
     reaches_too_high g.S.Store.step c.args.command.now.by_uid c.args.command.now.set
     (λ v uids. storing c.args.command.now v (messages_done (commands.Store c.args.command.now) c.args.command.now.by_uid) uids false)
     c.new-view.result _ _ looked none tag now
@@ -30,7 +30,7 @@ returns-in-Err-store_all-clause-done g c tag now =
     let next : List ℕ → List ℕ → Exchange = λ v uids. storing c.args.command.now v done uids false in
     let looked : g.S.Store.step c.args.store.now Look (Looked c.new-view.result) c.args.store.now = rw c.new-view.ensures c.in-Ok.ensures.event in
     let found : named_in c.args.command.now.by_uid c.args.command.now.set c.new-view.result ≡ Some c.as_slice.result.now =
-    rw (c.as_slice.ensures.value, ← c.uids.ensures) c.in-Ok-resolve.ensures.found in
+    rw c.as_slice.ensures.value c.in-Ok-resolve.ensures.found in
     stops_then g.S.Store.step tag now now now _ _ c.in-Err-store_all.fault _ _ _ _ _ _
     (reaches_chosen g.S.Store.step c.args.command.now.by_uid c.args.command.now.set next c.new-view.result c.as_slice.result.now _ _ looked found tag now)
     (c.in-Err-store_all.ensures.done done tag now)
@@ -41,7 +41,7 @@ returns-clause-done g c =
     let next : List ℕ → List ℕ → Exchange = λ v uids. storing c.args.command.now v done uids false in
     let looked : g.S.Store.step c.args.store.now Look (Looked c.new-view.result) c.args.store.now = rw c.new-view.ensures c.in-Ok.ensures.event in
     let found : named_in c.args.command.now.by_uid c.args.command.now.set c.new-view.result ≡ Some c.as_slice.result.now =
-    rw (c.as_slice.ensures.value, ← c.uids.ensures) c.in-Ok-resolve.ensures.found in
+    rw c.as_slice.ensures.value c.in-Ok-resolve.ensures.found in
     does_then g.S.Store.step _ (done c.in-Ok-store_all.gone) last _ _ _ _ _ _ c.finish_store.result
     (λ tag now. reaches_then g.S.Store.step tag now now now _ _ _ _ _ _ _ _ _
     (reaches_chosen g.S.Store.step c.args.command.now.by_uid c.args.command.now.set next c.new-view.result c.as_slice.result.now _ _ looked found tag now)

@@ -1,8 +1,8 @@
 use Rattle.std.proofs.Common.{rules, of_calls, ◌≡◌, ◌<◌, ltb, ℕ, length, get_or, sym}
 use Rattle.std.proofs.lemmas.List.Sorted.{IsPartitionPoint-from_clause, IsPartitionedBy-ltb}
-use Rattle.imap_session.proofs.Viewing.{halved_there, halved_nowhere}
-use Rattle.imap_session.proofs.view.place_by_halving.Goals as goal
-use Rattle.imap_session.proofs.view.place_by_halving.Goals.{in_default-via-in-Some+else-found-uid, in_default-via-in_default}
+use Rattle.imap_grammar.proofs.Viewing.{halved_there, halved_nowhere}
+use Rattle.imap_grammar.proofs.view.place_by_halving.Goals as goal
+use Rattle.imap_grammar.proofs.view.place_by_halving.Goals.{in_default-via-in-Some+else-found-uid, in_default-via-in_default}
 
 pub returns-in-Some : goal.returns-in-Some
 returns-in-Some c =

@@ -1,4 +1,5 @@
-//! The view of a session, copied: the UIDs that it was shown, and each message's place among them.
+//! The view of a session: the UIDs that it was shown, and each message's place among them.
+//! Which of them a set names is told in `set`.
 
 ghost use Rattle.std.specs.Prelude.{◌≡◌};
 ghost use Rattle.std.specs.List.Sorted.{IsNonDecreasing};
@@ -8,21 +9,21 @@ use std::marker::Model;
 
 /// A view that was copied. In contracts it is the list of its UIDs.
 #[derive(Drop)]
-pub(crate) struct View {
+pub struct View {
     uids: Vec<u32>,
-    // Each UID is at least the one before it, so that a message is found by halving. It is so in each view that a mailbox shows.
+    // Whether each UID is at least the one before it, so that a message is found by halving. It is so in each view that a mailbox shows.
     rises: bool,
 }
 
 impl Model for View {
-    ghost use Rattle.std.specs.Prelude.{◌≡◌, List, ℕ, true};
+    ghost use Rattle.std.specs.Prelude.{◌≡◌, ◌↔◌, List, ℕ, true};
     ghost use Rattle.std.specs.List.Sorted.{IsNonDecreasing};
 
     ghost Value = { List ℕ };
 
     ghost view = { λ v. v.uids.items };
 
-    ghost invariant = { λ v. v.rises ≡ true → IsNonDecreasing v.uids.items };
+    ghost invariant = { λ v. (v.rises ≡ true) ↔ IsNonDecreasing v.uids.items };
 }
 
 // The place of a message in a view that rises, found by halving.
@@ -50,8 +51,10 @@ fn place_by_search(view: &[u32], uid: u32) -> usize
 }
 
 impl View {
+    ghost use Rattle.std.specs.Prelude.{◌↔◌, true};
+
     /// The view of these UIDs. It reads them once.
-    pub(crate) fn new(uids: Vec<u32>) -> View
+    pub fn new(uids: Vec<u32>) -> View
         ensures { result ≡ uids.items }
     {
         let rises = uids.as_slice().is_sorted();
@@ -59,14 +62,21 @@ impl View {
     }
 
     /// The UIDs.
-    pub(crate) fn uids(&self) -> &[u32]
+    pub fn uids(&self) -> &[u32]
         ensures { result.now ≡ self.now }
     {
         &self.uids
     }
 
+    /// Whether each UID is at least the one before it.
+    pub(crate) fn rises(&self) -> bool
+        ensures { (result ≡ true) ↔ IsNonDecreasing self.now }
+    {
+        self.rises
+    }
+
     /// The place of a message, counted from 1; one past the last where it isn't there.
-    pub(crate) fn place_of(&self, uid: u32) -> usize
+    pub fn place_of(&self, uid: u32) -> usize
         ensures { result ≡ place uid self.now }
     {
         if self.rises {
