@@ -348,10 +348,11 @@ impl House {
 
     /// One event. What it appends to `out` is what it prints.
     ///
-    /// Nobody, Busy and Nothing come in this order, and after them nothing changed: Nobody where the connection or the shard isn't
-    /// there, Busy where bytes, a vanishing or an end are for a seat that waits for the verdicts of a peer that is gone, and an end also
-    /// where a connection stands, Nothing where the event would change nothing. After NoMemory what was done by then stands, and the next event of the
-    /// connection goes on from there; bytes that came with it were taken up or weren't there at all.
+    /// Nobody, Busy and Nothing come in this order, and after them nothing changed: Nobody where the connection, the shard, the session or
+    /// the user isn't there; Busy where bytes, a vanishing or an end are for a seat that waits for the verdicts of a peer that is gone, an end
+    /// also where a connection stands, and where a user enters at a place that is taken; Nothing where the event would change nothing. After
+    /// NoMemory what was done by then stands, and the next event of the connection or session goes on from there; bytes that came with it were
+    /// taken up or weren't there at all.
     pub fn step(&mut self, event: Event<'_>, out: &mut Vec<u8>) -> Result<(), HouseFault>
         ensures follows { OnOk result (Follows self.old event.entry self.new out.old.items out.new.items) }
         ensures effort { OnOk result (MakesLess (event.entry) self.old self.new) }

@@ -17,7 +17,7 @@ mod tests;
 
 ghost use Rattle.std.specs.Prelude.{◌≡◌, false, ℕ, List, Some, Err, OnOk};
 ghost use Rattle.script.specs.Script.{Writes, script_of};
-ghost use Rattle.house.specs.Settings.{IsInRange, setup_of};
+ghost use Rattle.house.specs.Settings.{IsInRange, config_fault, setup_of};
 ghost use Rattle.house.specs.declared.config.ConfigFault.{ConfigFault};
 ghost use Rattle.post_house.specs.Status.{IsStatus, status_of};
 
@@ -72,7 +72,7 @@ fn tell<W: Sink, F: Write>(alloc: Global, error: &Error, output: &mut W, faults:
     }
 }
 
-// Runs the script from the input on a house of these settings.
+// Runs the script from the input on a house of these settings. Where they are wrong, their first fault is told.
 fn play<R: BufRead, W: Sink>(
     alloc: Global,
     config: &Config,
@@ -82,6 +82,7 @@ fn play<R: BufRead, W: Sink>(
     requires range { IsInRange config.now }
     requires live { W.failed output.old ≡ false }
     ensures ok { OnOk result ((bytes : List ℕ) → R.remaining input.old ≡ Some bytes → Writes (setup_of config.now) (script_of bytes) (W.taken output.old) (W.taken output.new)) }
+    ensures fault { (fault : ConfigFault) → result ≡ Err (Failure.Config fault) → config_fault config.now ≡ Some fault }
     ensures not_set { (fault : ConfigFault) → result ≡ Err (Failure.Config fault) → output.new ≡ output.old }
 {
     let mut house = match House::new(alloc, config) {

@@ -222,7 +222,7 @@ pending b s = drop s.cursor b.log
 abbrev pub shows : Session → List Change → Session
 shows s cs = record { mailbox = s.mailbox; start = s.start; cursor = s.cursor + length cs; shown = s.shown ++ cs }
 
--- session n, which has not selected, selects mailbox m, or memory is refused
+-- session n, which has not selected, selects mailbox m; or nothing happens, where memory is refused or the mailbox has no serial left for a cursor
 pub data EnterStep (k : Config) (w : World) (n m : ℕ) (v : World) : Type 0 where
   enters : n < k.sessions → m < k.mailboxes → w.session n ≡ None
       → v ≡ record w { session = set_at w.session n (Some (record { mailbox = m; start = length (w.box m).log; cursor = length (w.box m).log; shown = [] })) } → EnterStep k w n m v
