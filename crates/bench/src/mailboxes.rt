@@ -2,6 +2,7 @@
 
 use crate::play::{large_house, play};
 use crate::scripts::{deliveries, odd_fetch, single_fetches, visits};
+use house::House;
 use std::io;
 use std::time::{CpuClock, Duration};
 
@@ -19,6 +20,22 @@ const ASKED: [(&str, &[u8]); 8] = [
     ("EXPUNGE", b"I1 a7 EXPUNGE\n"),
     ("LOGOUT", b"I1 a8 LOGOUT\n"),
 ];
+
+// Whose mailboxes a house has.
+const USERS: [&[u8]; 4] = [b"alice", b"bob", b"carol", b"dan"];
+
+/// What is measured of a new house.
+#[derive(Clone, Copy)]
+pub enum Measure {
+    /// A client asks for all that a mailbox with so many messages has, marks them and removes them.
+    OneMailbox(usize),
+    /// A client asks for some messages of a mailbox that has so many: for those with odd UIDs up to 2,000, and for one a thousand times.
+    Parts(u32),
+    /// Mail for four mailboxes, so many messages each.
+    FourMailboxes(usize),
+    /// Sessions that come and go, in so many rounds of eight, at a mailbox of ten messages.
+    Visits(usize),
+}
 
 /// Whether times are printed, which vary, beside the bytes that were written, which don't.
 #[derive(Clone, Copy)]
@@ -43,81 +60,83 @@ fn show<T: Print>(
     }
 }
 
-/// A client asks for all that a mailbox with so many messages has, marks them and removes them.
-pub fn one_mailbox<T: AllocGlobal + CpuClock + Print>(
+fn one_mailbox<T: AllocGlobal + CpuClock + Print>(
     rt: &T,
+    house: &mut House,
     messages: usize,
     shows: Shows,
 ) -> io::Result<()> {
-    let users = [b"alice".as_slice()];
-    let mut house = large_house(rt.alloc(), &users)?;
-    let script = deliveries(rt.alloc(), &users, messages)?;
+    let script = deliveries(rt.alloc(), &USERS[..1], messages)?;
     let mut output = Vec::new(rt.alloc());
     println!(rt; "a mailbox of {messages} messages")?;
-    let took = play(rt, &mut house, &script, &mut output)?;
+    let took = play(rt, house, &script, &mut output)?;
     show(rt, shows, "delivered", output.len(), took)?;
     for (name, script) in ASKED {
-        let took = play(rt, &mut house, script, &mut output)?;
+        let took = play(rt, house, script, &mut output)?;
         show(rt, shows, name, output.len(), took)?;
     }
     Ok(())
 }
 
-/// A client asks for some messages of a mailbox that has so many: for those with odd UIDs up to 2,000, and for one a thousand times.
-pub fn parts_of_mailbox<T: AllocGlobal + CpuClock + Print>(
+fn parts_of_mailbox<T: AllocGlobal + CpuClock + Print>(
     rt: &T,
+    house: &mut House,
     messages: u32,
     shows: Shows,
 ) -> io::Result<()> {
-    let users = [b"alice".as_slice()];
-    let mut house = large_house(rt.alloc(), &users)?;
-    let script = deliveries(rt.alloc(), &users, messages as usize)?;
+    let script = deliveries(rt.alloc(), &USERS[..1], messages as usize)?;
     let mut output = Vec::new(rt.alloc());
-    play(rt, &mut house, &script, &mut output)?;
+    play(rt, house, &script, &mut output)?;
     let (_, select) = ASKED[0];
-    play(rt, &mut house, select, &mut output)?;
+    play(rt, house, select, &mut output)?;
     println!(rt; "parts of a mailbox of {messages} messages")?;
     let script = odd_fetch(rt.alloc(), messages.min(2_000))?;
-    let took = play(rt, &mut house, &script, &mut output)?;
+    let took = play(rt, house, &script, &mut output)?;
     show(rt, shows, "the odd UIDs", output.len(), took)?;
     let script = single_fetches(rt.alloc(), 1_000)?;
-    let took = play(rt, &mut house, &script, &mut output)?;
+    let took = play(rt, house, &script, &mut output)?;
     show(rt, shows, "one UID, 1000 times", output.len(), took)
 }
 
-/// Mail for four mailboxes, so many messages each.
-pub fn four_mailboxes<T: AllocGlobal + CpuClock + Print>(
+fn four_mailboxes<T: AllocGlobal + CpuClock + Print>(
     rt: &T,
+    house: &mut House,
     each: usize,
     shows: Shows,
 ) -> io::Result<()> {
-    let users = [
-        b"alice".as_slice(),
-        b"bob".as_slice(),
-        b"carol".as_slice(),
-        b"dan".as_slice(),
-    ];
-    let mut house = large_house(rt.alloc(), &users)?;
-    let script = deliveries(rt.alloc(), &users, each)?;
+    let script = deliveries(rt.alloc(), &USERS, each)?;
     let mut output = Vec::new(rt.alloc());
     println!(rt; "four mailboxes of {each} messages")?;
-    let took = play(rt, &mut house, &script, &mut output)?;
+    let took = play(rt, house, &script, &mut output)?;
     show(rt, shows, "delivered", output.len(), took)
 }
 
-/// Sessions that come and go, in so many rounds of eight, at a mailbox of ten messages.
-pub fn short_sessions<T: AllocGlobal + CpuClock + Print>(
+fn short_sessions<T: AllocGlobal + CpuClock + Print>(
     rt: &T,
+    house: &mut House,
     rounds: usize,
     shows: Shows,
 ) -> io::Result<()> {
-    let users = [b"alice".as_slice()];
-    let mut house = large_house(rt.alloc(), &users)?;
-    let script = deliveries(rt.alloc(), &users, 10)?;
+    let script = deliveries(rt.alloc(), &USERS[..1], 10)?;
     let mut output = Vec::new(rt.alloc());
-    play(rt, &mut house, &script, &mut output)?;
+    play(rt, house, &script, &mut output)?;
     let script = visits(rt.alloc(), rounds)?;
     println!(rt; "{rounds} rounds of eight sessions")?;
-    let took = play(rt, &mut house, &script, &mut output)?;
+    let took = play(rt, house, &script, &mut output)?;
     show(rt, shows, "answered", output.len(), took)
+}
+
+/// Measures this of a new house in which four users have a mailbox.
+pub fn measure_once<T: AllocGlobal + CpuClock + Print>(
+    rt: &T,
+    measure: Measure,
+    shows: Shows,
+) -> io::Result<()> {
+    let mut house = large_house(rt.alloc(), &USERS)?;
+    match measure {
+        Measure::OneMailbox(messages) => one_mailbox(rt, &mut house, messages, shows),
+        Measure::Parts(messages) => parts_of_mailbox(rt, &mut house, messages, shows),
+        Measure::FourMailboxes(each) => four_mailboxes(rt, &mut house, each, shows),
+        Measure::Visits(rounds) => short_sessions(rt, &mut house, rounds, shows),
+    }
 }

@@ -9,7 +9,7 @@ mod sample;
 mod scripts;
 mod work;
 
-use crate::mailboxes::{Shows, four_mailboxes, one_mailbox, parts_of_mailbox, short_sessions};
+use crate::mailboxes::{Measure, Shows, measure_once};
 use crate::sample::data;
 use crate::work::{line_count, text_len};
 use std::alloc::Global;
@@ -63,29 +63,32 @@ fn measure(rt: &HostRuntime, wire: &[u8], len: usize, lines: usize) -> io::Resul
     Ok(())
 }
 
-/// Measures what a house does, with few messages or sessions and with three or four times as many.
-fn measure_house(rt: &HostRuntime) -> io::Result<()> {
-    for messages in [10_000, 30_000] {
-        one_mailbox(rt, messages, Shows::Times)?;
-    }
-    for messages in [10_000, 30_000] {
-        parts_of_mailbox(rt, messages, Shows::Times)?;
-    }
-    for each in [6_250, 25_000] {
-        four_mailboxes(rt, each, Shows::Times)?;
-    }
-    for rounds in [31, 125] {
-        short_sessions(rt, rounds, Shows::Times)?;
+/// What is measured of a house: few messages or sessions, and three or four times as many.
+const MEASURES: [Measure; 8] = [
+    Measure::OneMailbox(10_000),
+    Measure::OneMailbox(30_000),
+    Measure::Parts(10_000),
+    Measure::Parts(30_000),
+    Measure::FourMailboxes(6_250),
+    Measure::FourMailboxes(25_000),
+    Measure::Visits(31),
+    Measure::Visits(125),
+];
+
+/// The same on a small scale.
+const TRIES: [Measure; 4] = [
+    Measure::OneMailbox(100),
+    Measure::Parts(100),
+    Measure::FourMailboxes(10),
+    Measure::Visits(2),
+];
+
+/// Measures these, each of a house of its own.
+fn measure_each(rt: &HostRuntime, measures: &[Measure], shows: Shows) -> io::Result<()> {
+    for measure in measures {
+        measure_once(rt, *measure, shows)?;
     }
     Ok(())
-}
-
-/// Does once, on a small scale, what is measured of a house.
-fn try_house(rt: &HostRuntime) -> io::Result<()> {
-    one_mailbox(rt, 100, Shows::Bytes)?;
-    parts_of_mailbox(rt, 100, Shows::Bytes)?;
-    four_mailboxes(rt, 10, Shows::Bytes)?;
-    short_sessions(rt, 2, Shows::Bytes)
 }
 
 fn main(rt: HostRuntime) -> io::Result<()> {
@@ -97,14 +100,14 @@ fn main(rt: HostRuntime) -> io::Result<()> {
     match words.get(1) {
         Some(word) if word.as_str() == "measure" => {
             measure(&rt, wire.as_slice(), len, lines)?;
-            measure_house(&rt)
+            measure_each(&rt, &MEASURES, Shows::Times)
         }
         _ => {
             println!(rt;
                 "bench: {} bytes, a text of {len} bytes, {lines} lines",
                 wire.len()
             )?;
-            try_house(&rt)
+            measure_each(&rt, &TRIES, Shows::Bytes)
         }
     }
 }
