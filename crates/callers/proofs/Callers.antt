@@ -10,15 +10,18 @@ use Rattle.lmtp_machine.specs.declared.connection.What.TheVariants.{More, Submit
 use Rattle.lmtp_machine.specs.Replies.{wire}
 use Rattle.lmtp_machine.specs.Dialogue as dialogue
 use Rattle.lmtp_machine.specs.Dialogue.{Phase, Start, Ready, Transaction, Data, Waiting, Ended, Standing, Setting, Submission, Turn, on_event}
-use Rattle.lmtp_machine.specs.Conversation.{Conversation, opened}
-use Rattle.lmtp_machine.specs.Calls.{Happens, IsListening, Taken, Tells}
+use Rattle.lmtp_machine.specs.Conversation.{Conversation, IsListening, opened}
+use Rattle.lmtp_machine.specs.Calls.{Happens, Taken, Tells}
 use Rattle.lmtp_machine.specs.Kept.{AreMessages, IsMessage}
 use Rattle.lmtp_machine.specs.Machine.{Machine, StandsFor}
+use Rattle.lmtp_machine.specs.declared.commands.Stage.TheVariants as stages
+use Rattle.lmtp_machine.proofs.Calls.{nothing_taken}
+use Rattle.lmtp_machine.proofs.Follow.{still_listens}
 use Rattle.lmtp_machine.proofs.Kept.{taken_keeps, event_keeps}
 use Rattle.callers.specs.Line.{Line}
 use Rattle.callers.specs.Talk.{Talk, marked, prints_all, prints_none}
-use Rattle.callers.specs.Caller.{Caller, IsAnswered, Leaves, Setup, copies, copies_of, goes, greeted, keys_of, meets, setting_of, stays, works, waits, answers, stalls, talks, lingers, fades, unread}
-use Rattle.callers.specs.Taking.{AreKnown, TakenBy, with_nobody_there}
+use Rattle.callers.specs.Caller.{Caller, IsAnswered, Leaves, Setup, copies, copies_of, goes, greeted, keys_of, meets, setting_of, stays, told, works, waits, answers, stalls, talks, lingers, fades, unread}
+use Rattle.callers.specs.Taking.{AreKnown, TakenBy, with_all_said, with_nobody_there}
 use Rattle.delivery_core.specs.Puts.{AtLeast}
 use Rattle.callers.specs.CallerStands.{IsAwaited, IsThere, SlotsFor, Proceeded, StandsForCaller, WentOn, WorkedOff}
 use Rattle.callers.specs.CallerSteps.{IsAnswer, SaidVerdicts, TookWhatWaits}
@@ -97,6 +100,16 @@ module _ (k : Setup) (seat : ℕ) (next : CopyKey) (heard : List Noted) where
       (subst (λ (n : List ℕ). Taken (StandsFor m) (setting_of k seat b.serial) n k.directory b.talk.at bytes h.unsaid said what m.pending) s.host
       (subst (λ (x : Setting). Taken (StandsFor m) x h.machine.host k.directory b.talk.at bytes h.unsaid said what m.pending) s.setting t))
 
+  -- nothing waits, and the dialogue goes on
+  pub took_nothing : (b : Caller) (h : Line) → StandsForCaller k seat next heard h b → h.machine.pending ≡ [] → h.waits ≡ [] → (h.machine.commands.stage ≡ stages.Ended → ⊥)
+      → TookWhatWaits k seat next heard b (Some More) h
+  took_nothing b h s quiet none going =
+      let unawaited : IsAwaited [] b.talk.at.standing.phase = subst (λ (ss : List Submission). IsAwaited ss b.talk.at.standing.phase) (sym s.pending ∙ quiet) s.awaited in
+      let listens : IsListening b.talk.at.standing.phase = still_listens h.machine b.talk.at s.machine going unawaited in
+      subst (λ (l : List ℕ). TookWhatWaits k seat next heard b (Some More) (record { serial = h.serial; gone = h.gone; machine = h.machine; waits = l; unsaid = h.unsaid; verdicts = h.verdicts })) (sym none)
+      (took_what_waits b h h.machine [] [] h.unsaid (Some More) s quiet none refl refl (λ _. refl)
+      (nothing_taken (StandsFor h.machine) h.machine.setting h.machine.host k.directory b.talk.at h.unsaid More h.machine.pending s.machine.open_end s.machine quiet (refl, listens)))
+
   -- ---- printing what was said
 
   gone_or_there : (whole : Bool) (b : Caller) (what : What) (after : Talk) (turn : Turn) (h : Line)
@@ -106,14 +119,10 @@ module _ (k : Setup) (seat : ℕ) (next : CopyKey) (heard : List Noted) where
   gone_or_there whole b Submit after turn h e s = (Some (record { serial = b.serial; gone = b.gone; talk = after; to_put = copies_of turn.submissions }), stays (λ w q. let x : Submit ≡ Quit = q in cc) refl, ((λ q. let x : Submit ≡ Quit = q in cc), s))
   gone_or_there whole b Quit after turn h e s = (None, goes refl e refl, refl)
 
-  -- the words are said, and the line holds none
-  abbrev silent : Line → Line
-  silent h = record { serial = h.serial; gone = h.gone; machine = h.machine; waits = h.waits; unsaid = []; verdicts = h.verdicts }
-
   abbrev silent_talk : Talk → Talk
   silent_talk t = record { at = t.at; waits = t.waits; unsaid = []; pending = t.pending }
 
-  stands_silent : (h : Line) (b : Caller) → StandsForCaller k seat next heard h b → StandsForCaller k seat next heard (silent h) (record { serial = b.serial; gone = b.gone; talk = silent_talk b.talk; to_put = b.to_put })
+  stands_silent : (h : Line) (b : Caller) → StandsForCaller k seat next heard h b → StandsForCaller k seat next heard (with_all_said h) (told b)
   stands_silent h b s = record {
     serial = s.serial;
     gone = s.gone;
@@ -136,10 +145,10 @@ module _ (k : Setup) (seat : ℕ) (next : CopyKey) (heard : List Noted) where
   printed_all number h said b w e f g = ap (λ (n : ℕ). marked n h.unsaid) e ∙ ap (marked (seat + 1)) (f ∙ g)
 
   pub worked_whole : (number : ℕ) (b : Caller) (h : Line) (what : What) (old new : List ℕ) → number ≡ seat + 1 → TookWhatWaits k seat next heard b (Some what) h → new ≡ old ++ marked number h.unsaid
-      → WorkedOff k true seat next heard b what (silent h) old new
+      → WorkedOff k true seat next heard b what (with_all_said h) old new
   worked_whole number b h what old new e w p =
       let after = silent_talk w.after in
-      let t = gone_or_there true b w.what after w.turn (silent h) refl (stands_silent h _ w.stands) in
+      let t = gone_or_there true b w.what after w.turn (with_all_said h) refl (stands_silent h _ w.stands) in
       record {
         left = t.0;
         printed = marked number h.unsaid;
@@ -152,13 +161,13 @@ module _ (k : Setup) (seat : ℕ) (next : CopyKey) (heard : List Noted) where
           all = λ x. record { said = refl; taken = λ m. w.all (ap (λ (v : What). Some v) (w.is ∙ m)) };
           leaves = t.1;
         };
-        there = subst (λ (v : What). IsThere k seat next heard v (silent h) t.0) (sym w.is) t.2;
+        there = subst (λ (v : What). IsThere k seat next heard v (with_all_said h) t.0) (sym w.is) t.2;
         out = p;
       }
 
   -- memory was wanting, and all that was said is printed
   pub worked_part : (number : ℕ) (b : Caller) (h : Line) (result : Option What) (old new : List ℕ) → number ≡ seat + 1 → TookWhatWaits k seat next heard b result h → new ≡ old ++ marked number h.unsaid
-      → WorkedOff k false seat next heard b More (silent h) old new
+      → WorkedOff k false seat next heard b More (with_all_said h) old new
   worked_part number b h result old new e w p =
       let after = silent_talk w.after in
       record {
@@ -233,15 +242,15 @@ module _ (k : Setup) (seat : ℕ) (next : CopyKey) (heard : List Noted) where
   the_one setting directory message submitted phase (s ∷ []) one n a = (s, refl, n.0, n.1, a.1)
   the_one setting directory message submitted phase (s ∷ t ∷ ss) one n a = absurd (omega (arith, one))
 
-  -- nothing is said before every verdict is known
-  pub went_waits : (b : Caller) (h : Line) (old : List ℕ) → StandsForCaller k seat next heard h b → length h.machine.pending ≡ 1
-      → ((vs : List Verdict) → AreKnown h vs → ⊥) → WentOn k true seat next heard b Submit h old old
-  went_waits b h old s one unknown = record {
-    left = Some b;
-    printed = [];
-    goes = waits (some_pending _ _ s.pending one) unanswered refl refl;
-    there = ((λ q. let x : Submit ≡ Quit = q in cc), s);
-    out = sym (append-nil old);
+  -- before every verdict is known, what was said is printed, and that is all
+  pub went_waits : (number : ℕ) (b : Caller) (h : Line) (old new : List ℕ) → number ≡ seat + 1 → StandsForCaller k seat next heard h b → length h.machine.pending ≡ 1
+      → ((vs : List Verdict) → AreKnown h vs → ⊥) → new ≡ old ++ marked number h.unsaid → WentOn k true seat next heard b Submit (with_all_said h) old new
+  went_waits number b h old new e s one unknown p = record {
+    left = Some (told b);
+    printed = marked number h.unsaid;
+    goes = waits (some_pending _ _ s.pending one) unanswered refl (ap (λ (n : ℕ). marked n h.unsaid) e ∙ ap (marked (seat + 1)) s.unsaid);
+    there = ((λ q. let x : Submit ≡ Quit = q in cc), stands_silent h b s);
+    out = p;
   }
     where
       unanswered : (vs : List Verdict) → IsAnswered heard b vs → ⊥

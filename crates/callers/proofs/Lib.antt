@@ -5,3 +5,4 @@ pub mod Callers
 pub mod Putting
 pub mod Efforts
 pub mod Arrivals
+mod Waiting

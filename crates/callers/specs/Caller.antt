@@ -12,7 +12,7 @@ use Rattle.lmtp_machine.specs.Replies.{wire}
 use Rattle.lmtp_machine.specs.Dialogue as dialogue
 use Rattle.lmtp_machine.specs.Dialogue.{Setting, Submission, on_event}
 use Rattle.lmtp_machine.specs.Conversation.{led_by, opened}
-use Rattle.callers.specs.Talk.{Talk, WorksOff, Prints, IsWhole}
+use Rattle.callers.specs.Talk.{Talk, WorksOff, Prints, IsWhole, marked}
 
 -- what is settled at the start
 pub record Setup : Type 0 where
@@ -101,13 +101,22 @@ more_waits b piece = record {
 abbrev pub greeted : Setup → ℕ → ℕ → Caller
 greeted k seat serial = meets k seat (record { serial = serial; gone = false; to_put = []; talk = record { at = opened; waits = []; unsaid = []; pending = [] } }) dialogue.Opened
 
+-- all that it said is printed
+abbrev pub told : Caller → Caller
+told b = record {
+  serial = b.serial;
+  gone = b.gone;
+  to_put = b.to_put;
+  talk = record { at = b.talk.at; waits = b.talk.waits; unsaid = []; pending = b.talk.pending };
+}
+
 -- The caller goes on as far as it can, by what its seat has heard: where verdicts are awaited it waits for the last one, and
--- says them all; then it works off what waits.
+-- says them all; then it works off what waits. What was said and isn't printed yet is printed whatever is awaited.
 pub data GoesOn (k : Setup) (whole : Bool) (seat : ℕ) (heard : List Noted) (b : Caller) (o : Option Caller) (printed : List ℕ) : Type 0 where
   works : b.talk.pending ≡ [] → Talks k whole seat b o printed → GoesOn k whole seat heard b o printed
-  waits : 0 < length b.talk.pending → ((vs : List Verdict) → IsAnswered heard b vs → ⊥) → o ≡ Some b → printed ≡ [] → GoesOn k whole seat heard b o printed
+  waits : 0 < length b.talk.pending → ((vs : List Verdict) → IsAnswered heard b vs → ⊥) → o ≡ Some (told b) → printed ≡ marked (seat + 1) b.talk.unsaid → GoesOn k whole seat heard b o printed
   answers : (vs : List Verdict) → 0 < length b.talk.pending → IsAnswered heard b vs → Talks k whole seat (meets k seat b (dialogue.Answered vs)) o printed → GoesOn k whole seat heard b o printed
-  -- a growth was refused before anything was said
+  -- memory was refused before anything was said or printed
   stalls : whole ≡ false → o ≡ Some b → printed ≡ [] → GoesOn k whole seat heard b o printed
 
 -- The caller does what it can now: it goes on, or, where its peer is gone, it leaves as soon as every copy was put and each verdict is heard.

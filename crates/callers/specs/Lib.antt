@@ -5,3 +5,4 @@ pub mod Caller
 pub mod Taking
 pub mod CallerStands
 pub mod CallerSteps
+pub mod Laws

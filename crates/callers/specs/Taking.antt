@@ -11,6 +11,7 @@ use Rattle.lmtp_machine.specs.declared.connection.What.{What}
 use Rattle.lmtp_machine.specs.Dialogue.{Setting, Submission}
 use Rattle.lmtp_machine.specs.Conversation.{Conversation}
 use Rattle.lmtp_machine.specs.Calls.{Awaits, Taken}
+use Rattle.lmtp_machine.specs.declared.commands.Stage.TheVariants as stages
 use Rattle.callers.specs.Line.{Line}
 use Rattle.callers.specs.Caller.{copies_of, keys_of}
 
@@ -51,6 +52,10 @@ pub data HearsSlot (h : Line) (r : Noted) (new : Line) : Type 0 where
 abbrev pub with_nobody_there : Line → Line
 with_nobody_there h = record { serial = h.serial; gone = true; machine = h.machine; waits = []; unsaid = []; verdicts = h.verdicts }
 
+-- all that was said is printed
+abbrev pub with_all_said : Line → Line
+with_all_said h = record { serial = h.serial; gone = h.gone; machine = h.machine; waits = h.waits; unsaid = []; verdicts = h.verdicts }
+
 -- these bytes came and wait
 abbrev pub with_more : List ℕ → Line → Line
 with_more piece h = record { serial = h.serial; gone = h.gone; machine = h.machine; waits = h.waits ++ piece; unsaid = h.unsaid; verdicts = h.verdicts }
@@ -67,3 +72,21 @@ heard_verdict (Some why) = Some (Refused why)
 pub record AreKnown (h : Line) (verdicts : List Verdict) : Type 0 where
   pub all : length h.verdicts ≡ length (awaited_keys h)
   pub each : h.verdicts ≡ map (λ v. Some v) verdicts
+
+-- there is nothing to be done: no verdict is awaited, no byte waits, the dialogue goes on, and all that was said is printed
+pub record IsCalm (h : Line) : Type 0 where
+  pub quiet : h.machine.pending ≡ []
+  pub taken : h.waits ≡ []
+  pub going : h.machine.commands.stage ≡ stages.Ended → ⊥
+  pub told : h.unsaid ≡ []
+
+-- nor is there anything to be done while verdicts are awaited that aren't all known
+pub record IsPatient (h : Line) : Type 0 where
+  pub waits : length h.machine.pending ≡ 1
+  pub unknown : (verdicts : List Verdict) → AreKnown h verdicts → ⊥
+  pub told : h.unsaid ≡ []
+
+-- memory may be asked for only where there is something to be done
+pub record HasWork (h : Line) : Type 0 where
+  pub stirred : IsCalm h → ⊥
+  pub heard : IsPatient h → ⊥

@@ -7,7 +7,8 @@ ghost use Rattle.delivery_token.specs.declared.Verdict.{Verdict};
 ghost use Rattle.lmtp_machine.specs.Conversation.{Conversation};
 ghost use Rattle.std.specs.List.{list_all};
 ghost use Rattle.std.specs.Option.{is_some};
-ghost use Rattle.callers.specs.Taking.{AwaitsIn, AreKnown, HearsSlot, TakenBy, awaited_keys, due, noted_put, with_more, with_nobody_there};
+ghost use Rattle.callers.specs.Taking.{AwaitsIn, AreKnown, HasWork, HearsSlot, IsCalm, IsPatient, TakenBy, awaited_keys, due, noted_put, with_all_said, with_more, with_nobody_there};
+ghost use Rattle.callers.specs.Talk.{marked};
 ghost use Rattle.callers.specs.CallerSteps.{SaidVerdicts, TookWhatWaits};
 ghost use Rattle.callers.specs.Taking.{line_effort};
 ghost use Rattle.callers.specs.Few.{AreFew};
@@ -22,7 +23,7 @@ ghost use Rattle.lmtp_machine.specs.declared.connection.What.TheVariants as what
 
 use delivery_token::{CopyKey, Noted, Text, Verdict};
 use envelope::Directory;
-use line_io::append_marked;
+use line_io::{append_marked, drop_front};
 use lmtp_machine::{Limits, LmtpMachine, What};
 use std::alloc::{AllocError, Global};
 use std::marker::Model;
@@ -162,16 +163,18 @@ impl Caller {
     pub fn append(&mut self, piece: &[u8]) -> Result<(), AllocError>
         ensures ok { OnOk result (self.new ≡ with_more piece.now self.old) }
         ensures err { OnErr result (self.new ≡ self.old) }
+        ensures asks { OnErr result (0 < length piece.now) }
     {
         self.came.extend_from_slice(piece)
     }
 
-    // Lets go of the bytes that were taken, once all are.
+    // Lets go of the bytes that were taken, once they are more than what waits behind them. So what is moved up was never
+    // more than what is let go, and what is kept is at most twice what waits.
     fn let_go(&mut self)
         ensures { self.new ≡ self.old }
     {
-        if self.taken == self.came.len() {
-            self.came.clear();
+        if self.taken > self.came.len() / 2 {
+            drop_front(&mut self.came, self.taken);
             self.taken = 0;
         }
     }
@@ -182,7 +185,12 @@ impl Caller {
         ensures less { line_effort self.new ≤ line_effort self.old }
         ensures took { (k : Setup) (seat : ℕ) (next : CopyKey) (heard : List Noted) (b : spec.Caller) → directory.now ≡ k.directory → StandsForCaller k seat next heard self.old b →
             TookWhatWaits k seat next heard b result self.new }
+        ensures calm { IsCalm self.old → (result ≡ Some whats.More) × (self.new ≡ self.old) }
     {
+        // With nothing to take the machine would still ask for room for replies.
+        if self.taken >= self.came.len() && !self.machine.has_ended() {
+            return Some(What::More);
+        }
         let progress = take_all(
             &mut self.machine,
             &self.came[self.taken..],
@@ -195,6 +203,21 @@ impl Caller {
             _ => false,
         };
         progress.what
+    }
+
+    // Prints what was said and isn't printed yet: all of it, or nothing where memory is refused.
+    fn tell(&mut self, number: u8, out: &mut Vec<u8>) -> Result<(), AllocError>
+        ensures ok { OnOk result ((self.new ≡ with_all_said self.old) × (out.new.items ≡ out.old.items ++ marked number self.old.unsaid)) }
+        ensures err { OnErr result ((self.new ≡ self.old) × (out.new.items ≡ out.old.items) × (0 < length self.old.unsaid)) }
+    {
+        if self.unsaid.is_empty() {
+            return Ok(());
+        }
+        let Ok(()) = append_marked(b'L', number, &self.unsaid, out) else {
+            return Err(AllocError);
+        };
+        self.unsaid.clear();
+        Ok(())
     }
 
     // Works off what waits, as far as it goes, and prints what is said. Where memory is wanting, what was done stands, and the
@@ -211,20 +234,21 @@ impl Caller {
             WorkedOff k true seat next heard b what self.new out.old.items out.new.items) }
         ensures err { OnErr result ((k : Setup) (seat : ℕ) (next : CopyKey) (heard : List Noted) (b : spec.Caller) → IsOf k number seat directory.now → StandsForCaller k seat next heard self.old b →
             WorkedOff k false seat next heard b whats.More self.new out.old.items out.new.items) }
+        ensures asks { OnErr result (IsCalm self.old → ⊥) }
     {
         let what = self.take_what_waits(directory);
         self.let_go();
-        let Ok(()) = append_marked(b'L', number, &self.unsaid, out) else {
+        let Ok(()) = self.tell(number, out) else {
             return Err(AllocError);
         };
-        self.unsaid.clear();
         match what {
             Some(what) => return Ok(what),
             None => return Err(AllocError),
         }
     }
 
-    /// Goes on as far as it can: where every verdict on the message at hand is known they are said, and what waits is worked off.
+    /// Goes on as far as it can: where every verdict on the message at hand is known they are said, and what waits is worked off. Till
+    /// then it prints what was said before and isn't printed yet.
     /// Quit tells that the connection has ended and said all. After an error what was done stands, and the next call goes on from there.
     pub fn go_on(
         &mut self,
@@ -237,6 +261,7 @@ impl Caller {
             WentOn k true seat next heard b what self.new out.old.items out.new.items) }
         ensures err { OnErr result ((k : Setup) (seat : ℕ) (next : CopyKey) (heard : List Noted) (b : spec.Caller) → IsOf k number seat directory.now → StandsForCaller k seat next heard self.old b →
             WentOn k false seat next heard b whats.More self.new out.old.items out.new.items) }
+        ensures asks { OnErr result (HasWork self.old) }
     {
         if self.is_waiting {
             return self.answer(number, directory, out);
@@ -260,11 +285,15 @@ impl Caller {
             WentOn k true seat next heard b what self.new out.old.items out.new.items) }
         ensures err { OnErr result ((k : Setup) (seat : ℕ) (next : CopyKey) (heard : List Noted) (b : spec.Caller) → IsOf k number seat directory.now → StandsForCaller k seat next heard self.old b →
             WentOn k false seat next heard b whats.More self.new out.old.items out.new.items) }
+        ensures asks { OnErr result (IsPatient self.old → ⊥) }
     {
         let Ok(known) = self.known() else {
             return Err(AllocError);
         };
         let Some(verdicts) = known else {
+            let Ok(()) = self.tell(number, out) else {
+                return Err(AllocError);
+            };
             return Ok(What::Submit);
         };
         let Ok(()) = self.say(&verdicts) else {
@@ -330,6 +359,8 @@ impl Caller {
 
     /// Does what it can now: it goes on, or, where its peer is gone, tells by Quit that nothing is awaited any more.
     /// After an error what was done stands, and the next call goes on from there.
+    ///
+    /// Errors: `AllocError` where memory was refused, and only where there was something to be done.
     pub fn proceed(
         &mut self,
         number: u8,
@@ -341,6 +372,7 @@ impl Caller {
             Proceeded k true seat next heard b what self.new out.old.items out.new.items) }
         ensures err { OnErr result ((k : Setup) (seat : ℕ) (next : CopyKey) (heard : List Noted) (b : spec.Caller) → IsOf k number seat directory.now → StandsForCaller k seat next heard self.old b →
             Proceeded k false seat next heard b whats.More self.new out.old.items out.new.items) }
+        ensures asks { OnErr result ((self.old.gone ≡ false) × HasWork self.old) }
     {
         if self.is_gone {
             return Ok(if self.is_answered() {
@@ -404,8 +436,10 @@ impl Caller {
         requires { length self.now.machine.pending ≡ 1 }
         ensures known { IfOk result (λ o. IfSome o (λ vs. AreKnown self.now vs.items)) }
         ensures unknown { result ≡ Ok None → (vs : List Verdict) → AreKnown self.now vs → ⊥ }
+        ensures asks { OnErr result ((vs : List Verdict) × AreKnown self.now vs) }
     {
-        if self.verdicts.len() != self.machine.submission().keys.len() {
+        // Only then memory is asked for: this is called after each verdict that was heard.
+        if !self.is_answered() {
             return Ok(None);
         }
         let mut known = Vec::with_capacity(*self.verdicts.allocator(), self.verdicts.len())?;

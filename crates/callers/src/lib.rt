@@ -3,5 +3,7 @@
 #![tactic(auto)]
 
 mod caller;
+mod laws;
 
 pub use caller::Caller;
+pub use laws::what_waits_is_kept;

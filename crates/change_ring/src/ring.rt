@@ -115,6 +115,8 @@ impl ChangeRing {
     pub fn capacity(&self) -> usize
         ensures capacity { result ≡ self.now.capacity }
         ensures within { length self.now.changes ≤ self.now.capacity }
+        ensures most { self.now.capacity ≤ self.now.max }
+        ensures some { 0 < self.now.capacity }
     {
         self.slots.len()
     }

@@ -15,6 +15,7 @@ use Rattle.cursor_set.specs.Cursors.{Cursors}
 use Rattle.mailbox.specs.Mail.{Mail, Message, SameMailbox, next_uid as mail_uid, is_spent, is_full as mail_full, row_of}
 use Rattle.mailbox.specs.Events.{Logs as MailLogs, Moves}
 use Rattle.mailbox.specs.declared.mailbox.Receipt.{Receipt}
+use Rattle.mailbox.proofs.WindowMoves.{moves_base, moves_grows, moves_held, moves_max, moves_most}
 use Rattle.world.specs.World.{Config, Box, HasUid, IsSpent, is_full, next_uid}
 use Rattle.world.specs.Law.{IsPart, pair_of, pairs}
 use Rattle.world.proofs.Base.{part_append}
@@ -55,7 +56,7 @@ has_place : (k : Config) (b : Mail) (w : Box) → StandsForBox k b w → mail_fu
 has_place k b w S e = omega (arith, leb-false _ _ e, same_rows k b w S, S.messages)
 
 base_after : (k : Config) (b new : Mail) (w : Box) (uid : ℕ) → StandsForBox k b w → Moves b.cursors b.window new.window (Add uid ∷ []) → (new.window.base ≡ w.base) ⊎ ((k.ring ≤ length w.log - w.base) × (new.window.base ≡ suc w.base))
-base_after k b new w uid S d = go d.base
+base_after k b new w uid S d = go (moves_base b.cursors b.window new.window (Add uid ∷ []) d)
   where
     go : (new.window.base ≡ b.window.base) ⊎ ((b.window.capacity ≤ total b.window - b.window.base) × (new.window.base ≡ suc b.window.base))
         → (new.window.base ≡ w.base) ⊎ ((k.ring ≤ length w.log - w.base) × (new.window.base ≡ suc w.base))
@@ -95,7 +96,10 @@ stored k old new w c uid S room logs accepts messages drops stays is =
       first_uid = stays.first_uid ∙ S.first_uid;
       uidvalidity = stays.uidvalidity ∙ S.uidvalidity;
       messages = stays.limit ∙ S.messages;
-      ring = omega (arith, S.ring, drops.grows);
+      ring = omega (arith, S.ring, moves_grows old.cursors old.window new.window (Add (mail_uid old) ∷ []) drops);
+      held = moves_held old.cursors old.window new.window (Add (mail_uid old) ∷ []) S.held drops;
+      most = moves_most old.cursors old.window new.window (Add (mail_uid old) ∷ []) S.most drops;
+      ring_max = moves_max old.cursors old.window new.window (Add (mail_uid old) ∷ []) drops ∙ S.ring_max;
     })
 
 pub box_delivers : (k : Config) (old new : Mail) (w : Box) (c : Job) (r : Result Receipt Refusal) → StandsForBox k old w

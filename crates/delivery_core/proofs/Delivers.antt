@@ -27,10 +27,10 @@ stands : (k : Config) (w v : World) (old new : Held) (s : ℕ) (c : Job) (verdic
     → new.hands ≡ set old.hands s (Done (reply_to c verdict)) → new.boxes ≡ set old.boxes c.mailbox b
     → new.lanes ≡ old.lanes → new.replies ≡ old.replies → new.heard ≡ old.heard → new.next ≡ old.next
     → new.clients ≡ old.clients → cursors_of (set old.boxes c.mailbox b) ≡ cursors_of old.boxes
-    → v.lane ≡ w.lane → v.replies ≡ w.replies → v.heard ≡ w.heard → v.session ≡ w.session
+    → v.lane ≡ w.lane → v.replies ≡ w.replies → v.heard ≡ w.heard → v.session ≡ w.session → v.opened ≡ w.opened
     → DeliverStep k w s v → EachAt (λ s hand. hand ≡ v.hand s) (set old.hands s (Done (reply_to c verdict))) → EachAt (λ m b. StandsForBox k b (v.box m)) (set old.boxes c.mailbox b)
     → StandsFor k new v
-stands k w v old new s c verdict b S hands boxes lanes replies heard next clients cursors vl vr vh vs step hand_at box_at = record {
+stands k w v old new s c verdict b S hands boxes lanes replies heard next clients cursors vl vr vh vs vo step hand_at box_at = record {
   reached = reached_step k w (Deliver s) v S.reached step;
   shards = ap length lanes ∙ S.shards;
   in_hands = ap length hands ∙ (length-set old.hands s (Done (reply_to c verdict)) ∙ S.in_hands);
@@ -42,6 +42,7 @@ stands k w v old new s c verdict b S hands boxes lanes replies heard next client
   sessions = ap length clients ∙ S.sessions;
   clients = rw (clients, vs) S.clients;
   seated = rw (boxes, clients, cursors) S.seated;
+  opened = rw (boxes, cursors, vo) S.opened;
   hands = rw hands hand_at;
   replies = rw (replies, vr) S.replies;
   heard = rw (heard, vh) S.heard;
@@ -70,7 +71,7 @@ deliver_follows k w old new s c verdict before b S ins is there does hands boxes
     no said e box step = (
       refused w s (reply_to c said),
       (refused w s (reply_to c said), step, refl),
-      stands k w (refused w s (reply_to c said)) old new s c verdict b S hands boxes lanes replies heard next clients cursors refl refl refl refl step
+      stands k w (refused w s (reply_to c said)) old new s c verdict b S hands boxes lanes replies heard next clients cursors refl refl refl refl refl step
           (each_set (λ a y. a ≡ y) old.hands w.hand s (Done (reply_to c verdict)) (Done (reply_to c said)) S.hands (ap (λ x. Done (reply_to c x)) e))
           (each_here (λ m x. StandsForBox k x (w.box m)) old.boxes c.mailbox b S.boxes box),
     )
@@ -81,7 +82,7 @@ deliver_follows k w old new s c verdict before b S ins is there does hands boxes
         let step : DeliverStep k w s (delivered w s c.mailbox u (reply_to c said)) = delivers c u was has room logs refl in (
           delivered w s c.mailbox u (reply_to c said),
           (delivered w s c.mailbox u (reply_to c said), step, refl),
-          stands k w (delivered w s c.mailbox u (reply_to c said)) old new s c verdict b S hands boxes lanes replies heard next clients cursors refl refl refl refl step
+          stands k w (delivered w s c.mailbox u (reply_to c said)) old new s c verdict b S hands boxes lanes replies heard next clients cursors refl refl refl refl refl step
               (each_set (λ a y. a ≡ y) old.hands w.hand s (Done (reply_to c verdict)) (Done (reply_to c said)) S.hands (ap (λ x. Done (reply_to c x)) e))
               (each_set (λ x y. StandsForBox k x y) old.boxes w.box c.mailbox b u S.boxes box),
         )

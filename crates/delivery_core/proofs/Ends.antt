@@ -1,32 +1,19 @@
 -- A producer's end is one in the world.
-use Rattle.std.proofs.Common.{◌≡◌, true, false, not, ℕ, ◌<◌, List, [], ◌∷◌, ◌++◌, length, get_or, set, refl, ap, ◌∙◌, arith, length-set, subst, All}
+use Rattle.std.proofs.Common.{◌≡◌, inl, inr, zero, suc, ◌≤◌, sym, Bool, get_or-set_same, true, false, not, ℕ, ◌<◌, List, [], ◌∷◌, ◌++◌, length, get_or, set, refl, ap, ◌∙◌, arith, length-set, subst, All}
 use Rattle.std.proofs.lemmas.List.Elements.{All-push}
-use Rattle.shard_queue.specs.Lane.{Lane, put, has_end}
-use Rattle.shard_queue.specs.At.{set_at}
-use Rattle.shard_queue.proofs.AtLaws.{at_cases, set_at-same}
+use Rattle.shard_queue.specs.Lane.{put}
+use Rattle.shard_queue.proofs.AtLaws.{at_cases}
 use Rattle.delivery_token.specs.declared.Job.{Job}
 use Rattle.shard_queue.specs.Waits.{Waits}
-use Rattle.shard_queue.specs.declared.lane.Entry.{Entry}
-use Rattle.shard_queue.specs.declared.lane.Entry.TheVariants.{Item, End}
+use Rattle.shard_queue.specs.declared.lane.Entry.TheVariants.{End}
 use Rattle.world.specs.World.{Config, World, Steps, PutEnd, EndStep, end_joins, puts, EntryBelow}
-use Rattle.delivery_core.specs.Held.{Held}
-use Rattle.delivery_core.specs.Stands.{StandsFor, StandsForLane, IsNext}
-use Rattle.delivery_core.proofs.Follow.{each_set, each_but, reached_step}
-
-end_last : {A : Type 0} (es : List (Entry A)) (p : ℕ) → has_end (es ++ End p ∷ []) ≡ true
-end_last [] p = refl
-end_last (Item q x ∷ es) p = end_last es p
-end_last (End q ∷ es) p = refl
-
-lane_end : {A : Type 0} (n room p : ℕ) (l l2 : Waits A) (w : Lane A) → StandsForLane n room l w → l2 ≡ record { capacity = l.capacity; live = set l.live p false; waiting = l.waiting ++ End p ∷ [] } → StandsForLane n room l2 (put w (End p))
-lane_end n room p l l2 w S e = rw e (record {
-  capacity = S.capacity;
-  producers = length-set l.live p false ∙ S.producers;
-  waiting = ap (λ es. es ++ End p ∷ []) S.waiting;
-  live = each_but (λ q live. has_end (w.sent q) ≡ not live) (λ q live. has_end (set_at w.sent p (w.sent p ++ End p ∷ []) q) ≡ not live) l.live p false S.live
-      (λ q live other h. at_cases (λ es. has_end es ≡ not live) w.sent p (w.sent p ++ End p ∷ []) q (λ same. absurd (other same)) (λ _. h))
-      (ap has_end (set_at-same w.sent p (w.sent p ++ End p ∷ [])) ∙ end_last (w.sent p) p);
-})
+use Rattle.std.specs.Prelude.{◌↔◌}
+use Rattle.delivery_core.specs.Changes.{Ends, CannotEnd}
+use Rattle.delivery_core.specs.Held.{Held, is_ended, lane_of}
+use Rattle.delivery_core.specs.Stands.{StandsFor, IsNext}
+use Rattle.shard_queue.specs.Plain.{StandsForLane}
+use Rattle.shard_queue.proofs.PlainLaws.{lane_end}
+use Rattle.delivery_core.proofs.Follow.{each_set, get_or-any, reached_step}
 
 pub end_follows : (k : Config) (w : World) (old new : Held) (p s : ℕ) (l l2 : Waits Job) → StandsFor k old w
     → s < length old.lanes → p < length old.replies → l ≡ get_or old.lanes s l → get_or l.live p false ≡ true
@@ -50,6 +37,7 @@ end_follows k w old new p s l l2 S ins inp there live room ends lanes hands repl
         sessions = ap length clients ∙ S.sessions;
         clients = rw clients S.clients;
         seated = rw (boxes, clients) S.seated;
+        opened = rw boxes S.opened;
         lanes = rw lanes (each_set (λ a b. StandsForLane k.seats k.depth a b) old.lanes w.lane s l2 (put (w.lane s) (End p)) S.lanes (lane_end k.seats k.depth p l l2 (w.lane s) was ends));
         hands = rw hands S.hands;
         replies = rw replies S.replies;
@@ -67,3 +55,39 @@ end_follows k w old new p s l l2 S ins inp there live room ends lanes hands repl
             });
       },
     )
+
+-- the end went into the lane, where there was room and none had been put
+pub ends_in : (h : Held) (seat s : ℕ) (l l2 : Waits Job) → s < length h.lanes → l ≡ get_or h.lanes s l → get_or l.live seat false ≡ true → length l.waiting < l.capacity
+    → l2 ≡ record { capacity = l.capacity; live = set l.live seat false; waiting = l.waiting ++ End seat ∷ [] } → Ends h (record h { lanes = set h.lanes s l2 }) seat s
+ends_in h seat s l l2 within there live room is = record {
+  live = ap (is_ended seat) was ∙ ap not live;
+  room = subst (λ (x : Waits Job). length x.waiting < x.capacity) (sym was) room;
+  ended = ap (is_ended seat) (now ∙ is) ∙ ap not (end_set l.live seat);
+  last = ap (λ (x : Waits Job). x.waiting) (now ∙ is) ∙ ap (λ (x : Waits Job). x.waiting ++ End seat ∷ []) (sym was);
+}
+  where
+    was : lane_of h s ≡ l
+    was = get_or-any h.lanes s _ l within ∙ sym there
+
+    now : lane_of (record h { lanes = set h.lanes s l2 }) s ≡ l2
+    now = get_or-set_same h.lanes s l2 _ within
+
+    end_set : (xs : List Bool) (p : ℕ) → get_or (set xs p false) p false ≡ false
+    end_set [] p = refl
+    end_set (x ∷ xs) zero = refl
+    end_set (x ∷ xs) (suc p) = end_set xs p
+
+-- why it cannot go in
+pub cannot_end_live : (h : Held) (seat s : ℕ) (l : Waits Job) (live : Bool) → s < length h.lanes → l ≡ get_or h.lanes s l → (live ≡ true) ↔ (get_or l.live seat false ≡ true) → live ≡ false → CannotEnd h seat s
+cannot_end_live h seat s l live within there tells is = inl (ap (is_ended seat) (get_or-any h.lanes s _ l within ∙ sym there) ∙ ap not (dead (get_or l.live seat false) (λ e. both live (tells.1 e) is)))
+  where
+    dead : (b : Bool) → (b ≡ true → ⊥) → b ≡ false
+    dead true never = absurd (never refl)
+    dead false never = refl
+
+    both : (b : Bool) → b ≡ true → b ≡ false → ⊥
+    both true e f = cc
+    both false e f = cc
+
+pub cannot_end_full : (h : Held) (seat s : ℕ) (l : Waits Job) → s < length h.lanes → l ≡ get_or h.lanes s l → length l.waiting ≡ l.capacity → CannotEnd h seat s
+cannot_end_full h seat s l within there full = inr (subst (λ (x : Waits Job). x.capacity ≤ length x.waiting) (there ∙ get_or-any h.lanes s l _ within) (omega (arith, full)))

@@ -8,12 +8,12 @@ use Rattle.change_ring.specs.Logged.{removals_if}
 use Rattle.change_ring.specs.Window.{total}
 use Rattle.cursor_set.specs.Cursors.{Cursors, Open, Seat, Updates, held, in_slot}
 use Rattle.mailbox.specs.declared.clients.MailFault.{MailFault}
-use Rattle.mailbox.specs.declared.clients.MailFault.TheVariants.{Stranger, Spent}
+use Rattle.mailbox.specs.declared.clients.MailFault.TheVariants.{Stranger, Lapped, Spent, NoMemory}
 use Rattle.mailbox.specs.declared.clients.Opening.{Opening}
 use Rattle.mailbox.specs.Events.{KeepsLog, Logs as MailLogs, Moves, IsStranger, IsTooMany}
 use Rattle.mailbox.specs.Mail.{Mail, Message, next_uid as mail_uid, remaining, rows}
 use Rattle.shard_queue.specs.At.{set_at}
-use Rattle.world.specs.World.{Config, World, Session, Enter, EnterStep, enters, enter_no_memory, Leave, leaves, leave_spent, Selected, Step, most_changes}
+use Rattle.world.specs.World.{Config, World, Session, Enter, EnterStep, enters, enter_spent, enter_no_memory, Leave, leaves, leave_spent, Selected, Step, most_changes, most_entries}
 use Rattle.world.specs.Law.{IsPart}
 use Rattle.world.proofs.Base.{part_self}
 use Rattle.delivery_core.specs.declared.client.Client.{Client}
@@ -25,7 +25,7 @@ use Rattle.delivery_core.proofs.Boxes as boxed
 use Rattle.delivery_core.proofs.Follow.{each_here, each_set, get_or-any, reached_step}
 use Rattle.delivery_core.proofs.SeatedLaws.{SameElsewhere, HasSlot, cursors_get, cursors_set, length_cursors, own_slot, seated_after, vacant_slot}
 use Rattle.delivery_core.proofs.MailBoxes.{Becomes, box_keeps, box_logs, remaining_part, same_rows}
-use Rattle.delivery_core.proofs.Mailed.{known_at, mailbox_within, session_at, stands_after}
+use Rattle.delivery_core.proofs.Mailed.{known_at, mailbox_within, opened_at, opened_same, opened_set, session_at, stands_after}
 
 -- ---- Leave
 
@@ -66,9 +66,9 @@ pub leave_follows : (k : Config) (w : World) (old : Held) (n p m : ℕ) (c : Cli
     → StandsFor k old w → client_at old.clients n ≡ Some c → p ≡ n → m ≡ c.mailbox → b ≡ get_or old.boxes m b → vacant ≡ None
     → (let r : Result ℕ (Seat × MailFault) = Ok count in r ≡ Err (c.seat, Spent)) ↔ (IsSome (held b.cursors c.seat) × IsTooMany b (removals_if removing (rows b)))
     → MailLogs b b2 (removals_if removing (rows b)) → Moves b2.cursors b.window b2.window (removals_if removing (rows b)) → b2.messages ≡ (if removing then remaining (λ uid. true) b.messages else b.messages)
-    → Updates b.cursors b2.cursors c.seat.slot None → b2 ≡ record b { messages = b2.messages; window = b2.window; cursors = b2.cursors } → count ≡ length (removals_if removing (rows b))
+    → Updates b.cursors b2.cursors c.seat.slot None → b2.cursors.next ≡ b.cursors.next → b2 ≡ record b { messages = b2.messages; window = b2.window; cursors = b2.cursors } → count ≡ length (removals_if removing (rows b))
     → (v : World) × Step k w (Leave n removing) v × StandsFor k (record old { boxes = set old.boxes m b2; clients = set old.clients p vacant }) v × Selected w n (λ s. Leaves removing (Ok count) (w.box s.mailbox) s)
-leave_follows k w old n p m c b b2 vacant removing count S e place same there empty spends logs moves messages closed rest counted = go (session_at k w old n c S e)
+leave_follows k w old n p m c b b2 vacant removing count S e place same there empty spends logs moves messages closed next rest counted = go (session_at k w old n c S e)
   where
     within : m < length old.boxes
     within = mailbox_within old.boxes old.clients n m c S.seated e same
@@ -103,6 +103,7 @@ leave_follows k w old n p m c b b2 vacant removing count S e place same there em
                   (each_set (λ x z. StandsForBox k x z) old.boxes w.box m b2 y S.boxes box))
                   (subst (λ (j : ℕ). EachAt (λ i x. StandsForPlace x (set_at w.session n None i)) (set old.clients j vacant)) (sym place)
                   (each_set (λ x z. StandsForPlace x z) old.clients w.session n vacant None S.clients (subst (λ (o : Option Client). StandsForPlace o None) (sym empty) tt)))
+                  (opened_same old.boxes w.opened m b b2 S.opened within there next)
                   (leave_seated old.boxes old.clients n p m c b b2 vacant S.seated e place same there empty closed),
               (s, is, counted ∙ ap (λ (rs : List Row). length (removals_if removing rs)) (same_rows k b (w.box s.mailbox) here)),
             )
@@ -190,12 +191,12 @@ enter_seated boxes clients n p m i b b2 seat o S place same within there opened 
 pub enter_follows : (k : Config) (w : World) (old : Held) (n p m i : ℕ) (b b2 : Mail) (seat : Seat) (o : Open) (opening : Opening)
     → StandsFor k old w → n < length old.clients → client_at old.clients n ≡ None → p ≡ n → i ≡ m → i < length old.boxes → b ≡ get_or old.boxes i b
     → Updates b.cursors b2.cursors seat.slot (Some o) → in_slot b.cursors seat.slot ≡ None → IsSome (held b2.cursors seat) → seat.at ≡ total b.window → KeepsLog b b2 → b2 ≡ record b { cursors = b2.cursors }
-    → opening.count ≡ length b.messages → opening.uidnext ≡ mail_uid b
-    → (v : World) × Step k w (Enter n m) v × StandsFor k (record old { boxes = set old.boxes i b2; clients = set old.clients p (Some (record { mailbox = m; seat = seat })) }) v × Opens k (Ok opening) (w.box m)
-enter_follows k w old n p m i b b2 seat o opening S l none place same within there opened vacant known at same_log rest count uidnext =
+    → opening.count ≡ length b.messages → opening.uidnext ≡ mail_uid b → b2.cursors.next ≡ b.cursors.next + 1 → b.cursors.next < most_entries
+    → (v : World) × Step k w (Enter n m) v × StandsFor k (record old { boxes = set old.boxes i b2; clients = set old.clients p (Some (record { mailbox = m; seat = seat })) }) v × Opens k w m (Ok opening)
+enter_follows k w old n p m i b b2 seat o opening S l none place same within there opened vacant known at same_log rest count uidnext next left =
     let s : Session = record { mailbox = m; start = length (w.box m).log; cursor = length (w.box m).log; shown = [] } in
-    let v : World = record w { session = set_at w.session n (Some s) } in
-    let made : EnterStep k w n m v = enters (omega (arith, l, S.sessions)) (omega (arith, within, same, S.mailboxes)) (session_none k w old n S l none) refl in (
+    let v : World = record w { session = set_at w.session n (Some s); opened = set_at w.opened m (w.opened m + 1) } in
+    let made : EnterStep k w n m v = enters (omega (arith, l, S.sessions)) (omega (arith, within, same, S.mailboxes)) (session_none k w old n S l none) (omega (arith, was, left)) refl in (
       v,
       made,
       stands_after k w v old (set old.boxes i b2) (set old.clients p (Some (record { mailbox = m; seat = seat }))) S (reached_step k w (Enter n m) v S.reached made)
@@ -203,17 +204,51 @@ enter_follows k w old n p m i b b2 seat o opening S l none place same within the
           (each_here (λ j x. StandsForBox k x (w.box j)) old.boxes i b2 S.boxes (box_keeps k b b2 (w.box i) b2.cursors before same_log rest))
           (subst (λ (j : ℕ). EachAt (λ q x. StandsForPlace x (set_at w.session n (Some s) q)) (set old.clients j (Some (record { mailbox = m; seat = seat })))) (sym place)
           (each_set (λ x z. StandsForPlace x z) old.clients w.session n (Some (record { mailbox = m; seat = seat })) (Some s) S.clients (record { mailbox = refl; cursor = omega (arith, at, here.log.window.long) })))
+          (subst (λ (j : ℕ). EachAt (λ q s. s.next ≡ set_at w.opened j (w.opened m + 1) q) (cursors_of (set old.boxes i b2))) same (opened_set old.boxes w.opened i (w.opened m + 1) b2 S.opened (omega (arith, next, was))))
           (enter_seated old.boxes old.clients n p m i b b2 seat o S.seated place same within there opened vacant known),
       (count ∙ boxed.same_rows k b (w.box m) here, uidnext ∙ boxed.same_uid k b (w.box m) here),
     )
   where
+    was : b.cursors.next ≡ w.opened m
+    was = opened_at old.boxes w.opened i b S.opened within there ∙ ap w.opened same
+
     before : StandsForBox k b (w.box i)
     before = subst (λ (x : Mail). StandsForBox k x (w.box i)) (sym there) (S.boxes i b within)
 
     here : StandsForBox k b (w.box m)
     here = subst (λ (j : ℕ). StandsForBox k b (w.box j)) same before
 
-pub enter_refused : (k : Config) (w : World) (old new : Held) (n m i : ℕ) (fault : MailFault) → StandsFor k old w → n < length old.clients → client_at old.clients n ≡ None → i ≡ m → i < length old.boxes → new ≡ old
-    → (v : World) × Step k w (Enter n m) v × StandsFor k new v × Opens k (Err fault) (w.box m)
-enter_refused k w old new n m i fault S l none same within unchanged =
-    (w, enter_no_memory (omega (arith, l, S.sessions)) (omega (arith, within, same, S.mailboxes)) (session_none k w old n S l none) refl, subst (λ (h : Held). StandsFor k h w) (sym unchanged) S, tt)
+-- it may enter, and isn't let in for this
+abbrev WaitsFor : World → ℕ → MailFault → Type 0
+WaitsFor w m Spent = most_entries ≤ w.opened m
+WaitsFor w m NoMemory = w.opened m < most_entries
+WaitsFor w m fault = ⊥
+
+turned : (k : Config) (w : World) (n m : ℕ) (fault : MailFault) → n < k.sessions → m < k.mailboxes → w.session n ≡ None → WaitsFor w m fault → EnterStep k w n m w × Opens k w m (Err fault)
+turned k w n m Spent a b c why = (enter_spent a b c why refl, why)
+turned k w n m NoMemory a b c why = (enter_no_memory a b c why refl, why)
+turned k w n m Stranger a b c why = absurd why
+turned k w n m Lapped a b c why = absurd why
+
+pub waits_spent : (w : World) (m s : ℕ) → s ≡ w.opened m → most_entries ≤ s → WaitsFor w m Spent
+waits_spent w m s is h = omega (arith, is, h)
+
+pub waits_memory : (w : World) (m s : ℕ) → s ≡ w.opened m → s < most_entries → WaitsFor w m NoMemory
+waits_memory w m s is h = omega (arith, is, h)
+
+-- no serial is left where no cursor can be opened
+pub none_left : (can : Bool) (next : ℕ) → (can ≡ true) ↔ (next < most_entries) → can ≡ false → most_entries ≤ next
+none_left can next tells is = elim (cases_lt next most_entries) [
+  | inl left ↦ absurd (both can (tells.1 left) is)
+  | inr none ↦ none
+]
+  where
+    both : (b : Bool) → b ≡ true → b ≡ false → ⊥
+    both true h f = cc
+    both false h f = cc
+
+pub enter_refused : (k : Config) (w : World) (old new : Held) (n m i : ℕ) (fault : MailFault) → WaitsFor w m fault → StandsFor k old w → n < length old.clients → client_at old.clients n ≡ None → i ≡ m → i < length old.boxes → new ≡ old
+    → (v : World) × Step k w (Enter n m) v × StandsFor k new v × Opens k w m (Err fault)
+enter_refused k w old new n m i fault why S l none same within unchanged =
+    let t = turned k w n m fault (omega (arith, l, S.sessions)) (omega (arith, within, same, S.mailboxes)) (session_none k w old n S l none) why in
+    (w, t.0, subst (λ (h : Held). StandsFor k h w) (sym unchanged) S, t.1)

@@ -49,21 +49,20 @@ found (Some o) view e = (o, refl, cc)
 
 pub view_log : (k : Config) (w : World) (old : Held) (n m : ℕ) (c : Client) (b : Mail) (view : List ℕ) → StandsFor k old w → client_at old.clients n ≡ Some c → m ≡ c.mailbox → b ≡ get_or old.boxes m b
     → option_map (λ (o : Open). o.view) (held b.cursors c.seat) ≡ Some view
-    → Selected w n (λ s. (w.box s.mailbox).base ≤ s.cursor → view ≡ view_at (w.box s.mailbox).log s.cursor)
+    → Selected w n (λ s. view ≡ view_at (w.box s.mailbox).log s.cursor)
 view_log k w old n m c b view S e same there has = go (session_at k w old n c S e) (found (held b.cursors c.seat) view has)
   where
     within : m < length old.boxes
     within = mailbox_within old.boxes old.clients n m c S.seated e same
 
-    go : (s : Session) × (w.session n ≡ Some s) × StandsForClient c s → (o : Open) × (held b.cursors c.seat ≡ Some o) × (o.view ≡ view) → Selected w n (λ s. (w.box s.mailbox).base ≤ s.cursor → view ≡ view_at (w.box s.mailbox).log s.cursor)
+    go : (s : Session) × (w.session n ≡ Some s) × StandsForClient c s → (o : Open) × (held b.cursors c.seat ≡ Some o) × (o.view ≡ view) → Selected w n (λ s. view ≡ view_at (w.box s.mailbox).log s.cursor)
     go (s, is, one) (o, open_is, shown) = (
       s,
       is,
-      λ low.
-          let here : StandsForBox k b (w.box s.mailbox) = subst (λ (i : ℕ). StandsForBox k b (w.box i)) (same ∙ one.mailbox) (subst (λ (x : Mail). StandsForBox k x (w.box m)) (sym there) (S.boxes m b within)) in
+      let here : StandsForBox k b (w.box s.mailbox) = subst (λ (i : ℕ). StandsForBox k b (w.box i)) (same ∙ one.mailbox) (subst (λ (x : Mail). StandsForBox k x (w.box m)) (sym there) (S.boxes m b within)) in
           let fits : Matches b.cursors c.seat o = matches b.cursors c.seat o open_is in
           let at : o.at ≡ s.cursor = fits.at ∙ one.cursor in
-          sym shown ∙ (here.log.cursors c.seat.slot o fits.slot).view (omega (arith, low, here.base, at)) ∙ ap (view_at (w.box s.mailbox).log) at,
+          sym shown ∙ (here.log.cursors c.seat.slot o fits.slot).view ∙ ap (view_at (w.box s.mailbox).log) at,
     )
 
 pub no_stranger_here : (b : Mail) (seat : Seat) → IsSome (held b.cursors seat) → held b.cursors seat ≡ None → ⊥
@@ -133,10 +132,10 @@ same_view old boxes n same = go (client_at old.clients n)
 
 -- a client's view is what its session was shown of the log
 pub view_seen : (k : Config) (w : World) (old : Held) (n : ℕ) (c : Client) (b : Mail) → StandsFor k old w → client_at old.clients n ≡ Some c → b ≡ get_or old.boxes c.mailbox b
-    → Selected w n (λ s. (w.box s.mailbox).base ≤ s.cursor → view_of old n ≡ view_at (w.box s.mailbox).log s.cursor)
+    → Selected w n (λ s. view_of old n ≡ view_at (w.box s.mailbox).log s.cursor)
 view_seen k w old n c b S e there = go (some_of (held b.cursors c.seat) (known_at old.boxes old.clients n c b S.seated e there))
   where
-    go : (o : Open) × (held b.cursors c.seat ≡ Some o) → Selected w n (λ s. (w.box s.mailbox).base ≤ s.cursor → view_of old n ≡ view_at (w.box s.mailbox).log s.cursor)
+    go : (o : Open) × (held b.cursors c.seat ≡ Some o) → Selected w n (λ s. view_of old n ≡ view_at (w.box s.mailbox).log s.cursor)
     go (o, has) = view_log k w old n c.mailbox c b (view_of old n) S e refl there
         (ap (option_map (λ (x : Open). x.view)) has ∙ ap (λ (v : List ℕ). Some v) (sym (view_here old.boxes old.clients old n c.mailbox c b o (mailbox_within old.boxes old.clients n c.mailbox c S.seated e refl) e refl there has)))
 

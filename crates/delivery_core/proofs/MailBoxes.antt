@@ -8,13 +8,14 @@ use Rattle.change_ring.specs.declared.change.Change.{Change}
 use Rattle.change_ring.specs.declared.flag_op.FlagOp.{FlagOp}
 use Rattle.change_ring.specs.Log.{Row, rows_of}
 use Rattle.change_ring.specs.Logged.{flags_after}
-use Rattle.change_ring.specs.Window.{total, BaseAfter}
+use Rattle.change_ring.specs.Window.{Window, total, BaseAfter}
 use Rattle.change_ring.proofs.WindowLaws.{BaseAfter-less}
 use Rattle.cursor_set.specs.Cursors.{Cursors, Open, Seat, held}
 use Rattle.mailbox.specs.declared.clients.MailFault.{MailFault}
 use Rattle.mailbox.specs.declared.clients.MailFault.TheVariants.{Stranger, Lapped, Spent, NoMemory}
 use Rattle.mailbox.specs.Events.{KeepsLog, Logs as MailLogs, Moves, IsTooMany, IsStranger, IsLapped, IsCurrent, mark, seen_after}
 use Rattle.mailbox.specs.Mail.{Mail, Message, row_of, rows, flagged, remaining, message_with}
+use Rattle.mailbox.proofs.WindowMoves.{moves_base, moves_grows, moves_held, moves_max, moves_most}
 use Rattle.world.specs.World.{Config, Box, Session, Logs, most_changes}
 use Rattle.world.specs.Law.{IsPart, none, keeps, skips, pairs}
 use Rattle.world.proofs.Base.{Every, Rising, part_self, part_map, part_filter, part_both, part_every}
@@ -44,13 +45,16 @@ box_logs k b new x cs cursors S room logs moves texts accepted first limit valid
     first_uid = first ∙ S.first_uid;
     uidvalidity = valid ∙ S.uidvalidity;
     messages = limit ∙ S.messages;
-    ring = omega (arith, S.ring, moves.grows);
+    ring = omega (arith, S.ring, moves_grows cursors b.window new.window cs moves);
+    held = moves_held cursors b.window new.window cs S.held moves;
+    most = moves_most cursors b.window new.window cs S.most moves;
+    ring_max = moves_max cursors b.window new.window cs moves ∙ S.ring_max;
   },
 )
   where
     base : BaseAfter k.ring (length x.log) x.base cs new.window.base
     base = subst (λ (n : ℕ). BaseAfter k.ring n x.base cs new.window.base) (sym S.log.window.long)
-        (subst (λ (n : ℕ). BaseAfter k.ring (total b.window) n cs new.window.base) S.base (BaseAfter-less b.window.capacity k.ring (total b.window) b.window.base cs new.window.base S.ring moves.base))
+        (subst (λ (n : ℕ). BaseAfter k.ring (total b.window) n cs new.window.base) S.base (BaseAfter-less b.window.capacity k.ring (total b.window) b.window.base cs new.window.base S.ring (moves_base cursors b.window new.window cs moves)))
 
 -- it logged nothing
 pub box_keeps : (k : Config) (b new : Mail) (x : Box) (s : Cursors) → StandsForBox k b x → KeepsLog b new → new ≡ record b { cursors = s } → StandsForBox k new x
@@ -63,6 +67,9 @@ box_keeps k b new x s S same rest = record {
   uidvalidity = ap (λ (m : Mail). m.uidvalidity) rest ∙ S.uidvalidity;
   messages = ap (λ (m : Mail). m.limit) rest ∙ S.messages;
   ring = omega (arith, S.ring, ap (λ (m : Mail). m.window.capacity) rest);
+  held = subst (λ (z : Window). length z.changes ≤ z.capacity) (sym (ap (λ (m : Mail). m.window) rest)) S.held;
+  most = subst (λ (z : Window). z.capacity ≤ z.max) (sym (ap (λ (m : Mail). m.window) rest)) S.most;
+  ring_max = ap (λ (m : Mail). m.window.max) rest ∙ S.ring_max;
 }
 
 -- ---- no text changes

@@ -34,9 +34,9 @@ there_at k w old n c S e = omega (arith, S.seated.there n c e, length_cursors ol
 pub stands_after : (k : Config) (w v : World) (old : Held) (boxes : List Mail) (clients : List (Option Client)) → StandsFor k old w → Reached k v
     → length boxes ≡ length old.boxes → length clients ≡ length old.clients
     → v.lane ≡ w.lane → v.hand ≡ w.hand → v.replies ≡ w.replies → v.heard ≡ w.heard
-    → EachAt (λ m b. StandsForBox k b (v.box m)) boxes → EachAt (λ n c. StandsForPlace c (v.session n)) clients → AreSeated (cursors_of boxes) clients
+    → EachAt (λ m b. StandsForBox k b (v.box m)) boxes → EachAt (λ n c. StandsForPlace c (v.session n)) clients → EachAt (λ m s. s.next ≡ v.opened m) (cursors_of boxes) → AreSeated (cursors_of boxes) clients
     → StandsFor k (record old { boxes = boxes; clients = clients }) v
-stands_after k w v old boxes clients S reached many places lane hand replies heard box_at client_each seated = record {
+stands_after k w v old boxes clients S reached many places lane hand replies heard box_at client_each opened seated = record {
   reached = reached;
   shards = S.shards;
   in_hands = S.in_hands;
@@ -52,8 +52,23 @@ stands_after k w v old boxes clients S reached many places lane hand replies hea
   boxes = box_at;
   next = next_same w v old.next (λ t p. ap (λ f. (f t).sent p) lane) (λ p. ap (λ f. f p) heard) S.next;
   clients = client_each;
+  opened = opened;
   seated = seated;
 }
+
+-- one mailbox gives its next cursor this serial
+pub opened_set : (boxes : List Mail) (f : ℕ → ℕ) (i n : ℕ) (b : Mail) → EachAt (λ m s. s.next ≡ f m) (cursors_of boxes) → b.cursors.next ≡ n → EachAt (λ m s. s.next ≡ set_at f i n m) (cursors_of (set boxes i b))
+opened_set boxes f i n b each is = subst (EachAt (λ m s. s.next ≡ set_at f i n m)) (sym (cursors_set boxes i b)) (each_set (λ (s : Cursors) (x : ℕ). s.next ≡ x) (cursors_of boxes) f i b.cursors n each is)
+
+-- the serial that a mailbox gives its next cursor
+pub opened_at : (boxes : List Mail) (f : ℕ → ℕ) (i : ℕ) (b : Mail) → EachAt (λ m s. s.next ≡ f m) (cursors_of boxes) → i < length boxes → b ≡ get_or boxes i b → b.cursors.next ≡ f i
+opened_at boxes f i b each l there = ap (λ (s : Cursors). s.next) (ap (λ (z : Mail). z.cursors) there ∙ sym (cursors_get boxes i b l)) ∙ each i _ (omega (arith, l, length_cursors boxes))
+
+-- one mailbox was changed, and gives its next cursor the serial that it gave before
+pub opened_same : (boxes : List Mail) (f : ℕ → ℕ) (i : ℕ) (b b2 : Mail) → EachAt (λ m s. s.next ≡ f m) (cursors_of boxes) → i < length boxes → b ≡ get_or boxes i b → b2.cursors.next ≡ b.cursors.next
+    → EachAt (λ m s. s.next ≡ f m) (cursors_of (set boxes i b2))
+opened_same boxes f i b b2 each l there same = subst (EachAt (λ m s. s.next ≡ f m)) (sym (cursors_set boxes i b2))
+    (each_here (λ (m : ℕ) (s : Cursors). s.next ≡ f m) (cursors_of boxes) i b2.cursors each (same ∙ opened_at boxes f i b each l there))
 
 -- ---- a call of a client
 
@@ -62,6 +77,7 @@ pub record SeatMoves (old new : Cursors) (seat moved : Seat) : Type 0 where
   pub elsewhere : SameElsewhere old new seat.slot
   pub slot : moved.slot ≡ seat.slot
   pub known : IsSome (held new moved)
+  pub next : new.next ≡ old.next
 
 -- what a mailbox does for a client, as the event of the world that it is
 pub data BoxMails (k : Config) (x : Box) (s : Session) (allocates : Bool) (shown changes : List Change) (new : Mail) (seat : Seat) : Type 0 where
@@ -113,6 +129,9 @@ mails_follow k w old n c b b2 seat2 allocates shown changes P R reach as_step S 
     within : c.mailbox < length old.boxes
     within = there_at k w old n c S e
 
+    opened : EachAt (λ m s. s.next ≡ w.opened m) (cursors_of (set old.boxes c.mailbox b2))
+    opened = opened_same old.boxes w.opened c.mailbox b b2 S.opened within there moves.next
+
     go : (s : Session) × (w.session n ≡ Some s) × StandsForClient c s
         → (v : World) × R v × StandsFor k (record old { boxes = set old.boxes c.mailbox b2; clients = set old.clients n (Some (record { mailbox = c.mailbox; seat = seat2 })) }) v
         × Selected w n (λ s. P (w.box s.mailbox) s)
@@ -133,7 +152,7 @@ mails_follow k w old n c b b2 seat2 allocates shown changes P R reach as_step S 
               (each_here (λ m x. StandsForBox k x (w.box m)) old.boxes c.mailbox b2 S.boxes (subst (λ (m : ℕ). StandsForBox k b2 (w.box m)) (sym same.mailbox) box))
               (each_here (λ m x. StandsForPlace x (w.session m)) old.clients n (Some (record { mailbox = c.mailbox; seat = seat2 })) S.clients
               (subst (λ (o : Option Session). StandsForPlace (Some (record { mailbox = c.mailbox; seat = seat2 })) o) (sym is) (record { mailbox = same.mailbox; cursor = at })))
-              seated,
+              opened seated,
           (s, is, p),
         )
 
@@ -152,7 +171,7 @@ mails_follow k w old n c b b2 seat2 allocates shown changes P R reach as_step S 
                   (each_set (λ x z. StandsForBox k x z) old.boxes w.box c.mailbox b2 y S.boxes box))
                   (each_set (λ x z. StandsForPlace x z) old.clients w.session n (Some (record { mailbox = c.mailbox; seat = seat2 })) (Some (shows s (shown (w.box s.mailbox) s))) S.clients
                   (record { mailbox = same.mailbox; cursor = at }))
-                  seated,
+                  opened seated,
               (s, is, p),
             )
 
@@ -190,6 +209,7 @@ seat_stays old new seat same some = record {
   elsewhere = record { number = ap (λ (s : Cursors). s.number) same; others = λ slot other. ap (λ (s : Cursors). in_slot s slot) same };
   slot = refl;
   known = subst (λ (s : Cursors). IsSome (held s seat)) (sym same) some;
+  next = ap (λ (s : Cursors). s.next) same;
 }
 
 -- a call that moves no cursor
@@ -282,14 +302,15 @@ still_seated boxes clients n m c b b2 S e same there kept =
     subst (λ (all : List Cursors). AreSeated all clients) (sym (cursors_same boxes m b b2 (mailbox_within boxes clients n m c S e same) there kept)) S
 
 -- a seat whose client was shown these changes
-pub seat_moves : (old new : Cursors) (seat moved : Seat) (cs : List Change) → IsSome (held old seat) → Updates old new seat.slot (option_map (after_showing cs) (held old seat)) → moved ≡ record seat { at = seat.at + length cs } → SeatMoves old new seat moved
-seat_moves old new seat moved cs some u is =
+pub seat_moves : (old new : Cursors) (seat moved : Seat) (cs : List Change) → IsSome (held old seat) → Updates old new seat.slot (option_map (after_showing cs) (held old seat)) → moved ≡ record seat { at = seat.at + length cs } → new.next ≡ old.next → SeatMoves old new seat moved
+seat_moves old new seat moved cs some u is next =
     let o : (x : Open) × (held old seat ≡ Some x) = some_of (held old seat) some in
     let v : Updates old new seat.slot (Some (after_showing cs o.0)) = subst (λ (x : Option Open). Updates old new seat.slot (option_map (after_showing cs) x)) o.1 u in
     record {
       elsewhere = record { number = u.number; others = u.others };
       slot = ap (λ (z : Seat). z.slot) is;
       known = subst (λ (z : Seat). IsSome (held new z)) (sym is) (ap is_some (held_shown old new seat o.0 cs o.1 v));
+      next = next;
     }
 
 -- or was refused

@@ -63,7 +63,7 @@ hears_more old new p book0 book1 book2 book3 more l first kept second noted chan
 pub put_load : (lanes : List (Waits Job)) (s p : ℕ) (c : Job) (l l2 : Waits Job) → s < length lanes → l ≡ get_or lanes s l → LanePuts l p c l2 None
     → sum_by lane_load (set lanes s l2) ≤ sum_by lane_load lanes + 4
 put_load lanes s p c l l2 ins there (has_no_room full e same) = absurd (cc)
-put_load lanes s p c l l2 ins there (has_no_memory e same) = absurd (cc)
+put_load lanes s p c l l2 ins there (has_no_memory room e same) = absurd (cc)
 put_load lanes s p c l l2 ins there (joins room e put_it) =
     let more : lane_load l2 ≡ lane_load l + 4 = ap lane_load put_it ∙ sum_by-append entry_load l.waiting (Item p c ∷ []) in
     let all : sum_by lane_load (set lanes s l2) + lane_load (get_or lanes s l) ≡ sum_by lane_load lanes + lane_load l2 = sum_by-set lane_load lanes s l2 l ins in

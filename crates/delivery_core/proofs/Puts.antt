@@ -16,10 +16,11 @@ use Rattle.shard_queue.specs.declared.lane.Entry.{Entry}
 use Rattle.shard_queue.specs.declared.lane.Entry.TheVariants.{Item, End}
 use Rattle.world.specs.World.{Config, World, Steps, Put, PutStep, MayPut, put_joins, put_full, put_no_memory, puts, hears, reply_to, EntryBelow}
 use Rattle.delivery_core.specs.Held.{Held}
-use Rattle.delivery_core.specs.Stands.{EachAt, StandsFor, StandsForLane, IsNext}
+use Rattle.delivery_core.specs.Stands.{EachAt, StandsFor, IsNext}
+use Rattle.shard_queue.specs.Plain.{StandsForLane}
 use Rattle.delivery_core.specs.Puts.{LanePuts, joins, has_no_room, has_no_memory, AtLeast, past}
 use Rattle.delivery_core.proofs.Follow.{each_here, each_set, each_but, reached_step, set_back}
-use Rattle.delivery_core.proofs.Takes.{lane_put}
+use Rattle.shard_queue.proofs.PlainLaws.{lane_put}
 
 below_trans : (x y z : CopyKey) → Below x y → Below y z → Below x z
 below_trans x y z (inl a) (inl b) = inl (omega arith)
@@ -132,7 +133,7 @@ pub put_follows : (k : Config) (w : World) (old new : Held) (s : ℕ) (c : Job) 
     → new.hands ≡ old.hands → new.replies ≡ old.replies → new.boxes ≡ old.boxes → new.clients ≡ old.clients
     → (v : World) × Steps k w (Put c.key.seat s c ∷ []) v × StandsFor k new v
 put_follows k w old new s c l l2 book0 book1 S ins there live inp least box shard first kept (has_no_room h e same) lanes heard next hands replies boxes clients = absurd (cc)
-put_follows k w old new s c l l2 book0 book1 S ins there live inp least box shard first kept (has_no_memory e same) lanes heard next hands replies boxes clients = absurd (cc)
+put_follows k w old new s c l l2 book0 book1 S ins there live inp least box shard first kept (has_no_memory room e same) lanes heard next hands replies boxes clients = absurd (cc)
 put_follows k w old new s c l l2 book0 book1 S ins there live inp least box shard first kept (joins room e put_it) lanes heard next hands replies boxes clients =
     let p : ℕ = c.key.seat in
     let was : StandsForLane k.seats k.depth l (w.lane s) = rw there (S.lanes s l ins) in
@@ -151,6 +152,7 @@ put_follows k w old new s c l l2 book0 book1 S ins there live inp least box shar
         sessions = ap length clients ∙ S.sessions;
         clients = rw clients S.clients;
         seated = rw (boxes, clients) S.seated;
+        opened = rw boxes S.opened;
         lanes = rw lanes (each_set (λ a b. StandsForLane k.seats k.depth a b) old.lanes w.lane s l2 (put (w.lane s) (Item p c)) S.lanes (lane_put k.seats k.depth p c l l2 (w.lane s) was put_it));
         hands = rw hands S.hands;
         replies = rw replies S.replies;
@@ -204,6 +206,7 @@ refused_follows k w old new s c why l l2 book0 book1 book2 book3 S ins there liv
         sessions = ap length clients ∙ S.sessions;
         clients = rw clients S.clients;
         seated = rw (boxes, clients) S.seated;
+        opened = rw boxes S.opened;
         lanes = rw lanes (rw (← (sym (ap (set old.lanes s) same ∙ set_back old.lanes s l ins there))) S.lanes);
         hands = rw hands S.hands;
         replies = rw replies S.replies;
@@ -219,4 +222,4 @@ refused_follows k w old new s c why l l2 book0 book1 book2 book3 S ins there liv
     go : LanePuts l c.key.seat c l2 (Some why) → (v : World) × Steps k w (Put c.key.seat s c ∷ []) v × StandsFor k new v
     go (joins room e put_it) = absurd (cc)
     go (has_no_room full e same) = done same (subst (λ x. PutStep k w c.key.seat s c (hears w c.key.seat (reply_to c (Refused x)))) (sym (some_same why Full e)) (put_full may (omega (arith, full, was.capacity, ap length was.waiting)) refl))
-    go (has_no_memory e same) = done same (subst (λ x. PutStep k w c.key.seat s c (hears w c.key.seat (reply_to c (Refused x)))) (sym (some_same why NoMemory e)) (put_no_memory may refl))
+    go (has_no_memory room e same) = done same (subst (λ x. PutStep k w c.key.seat s c (hears w c.key.seat (reply_to c (Refused x)))) (sym (some_same why NoMemory e)) (put_no_memory may (omega (arith, room, was.capacity, ap length was.waiting)) refl))

@@ -15,7 +15,6 @@ use Rattle.mailbox.specs.declared.clients.MailFault.TheVariants.{Stranger, Lappe
 use Rattle.mailbox.specs.Events.{KeepsLog, Logs as MailLogs, Moves, IsTooMany, IsStranger, IsLapped, IsCurrent}
 use Rattle.mailbox.specs.Mail.{Mail, rows, remaining}
 use Rattle.mailbox.specs.Stands.{Stands, next_of}
-use Rattle.mailbox.proofs.StandsLaws.{Moves-nothing}
 use Rattle.world.specs.World.{Config, World, Box, Session, Expunge, Feed, Selected, Step, most_changes, pending}
 use Rattle.world.specs.Law.{IsPart, IsShown}
 use Rattle.world.proofs.Base.{part_self}
@@ -72,22 +71,22 @@ fed_length w at n limit low count = omega (arith, length-take n (changes_from at
 
 pub feed_moves : (b b2 : Mail) (seat seat2 : Seat) (limit : ℕ) (before after : List ℕ) (r : Result ℕ FeedFault) → IsSome (held b.cursors seat) → (r ≡ Err lapse.Lapped) ↔ IsLapped b seat
     → OnErr r ((b2 ≡ b) × (seat2 ≡ seat) × (after ≡ before)) → IfOk r (λ n. n ≡ min limit (total b.window - seat.at)) → IfOk r (λ n. seat2 ≡ record seat { at = seat.at + n })
-    → IfOk r (λ n. Updates b.cursors b2.cursors seat.slot (option_map (after_showing (next_changes b.window seat.at n)) (held b.cursors seat))) → SeatMoves b.cursors b2.cursors seat seat2
-feed_moves b b2 seat seat2 limit before after (Ok n) some lapses err count is moved =
-    seat_moves b.cursors b2.cursors seat seat2 (next_changes b.window seat.at n) some moved (is ∙ ap (λ (j : ℕ). let z : Seat = record { number = seat.number; slot = seat.slot; serial = seat.serial; at = seat.at + j } in z) (sym (fed_length b.window seat.at n limit low count)))
+    → IfOk r (λ n. Updates b.cursors b2.cursors seat.slot (option_map (after_showing (next_changes b.window seat.at n)) (held b.cursors seat))) → b2.cursors.next ≡ b.cursors.next → SeatMoves b.cursors b2.cursors seat seat2
+feed_moves b b2 seat seat2 limit before after (Ok n) some lapses err count is moved next =
+    seat_moves b.cursors b2.cursors seat seat2 (next_changes b.window seat.at n) some moved (is ∙ ap (λ (j : ℕ). let z : Seat = record { number = seat.number; slot = seat.slot; serial = seat.serial; at = seat.at + j } in z) (sym (fed_length b.window seat.at n limit low count))) next
   where
     no_err : Ok n ≡ Err lapse.Lapped → ⊥
     no_err e = cc
 
     low : b.window.base ≤ seat.at
     low = elim (cases_lt seat.at b.window.base) [ inl under ↦ absurd (no_err (lapses.1 (some, under))) | inr over ↦ over ]
-feed_moves b b2 seat seat2 limit before after (Err f) some lapses err count is moved = seat_same b.cursors b2.cursors seat seat2 some (ap (λ (z : Mail). z.cursors) err.0) err.1
+feed_moves b b2 seat seat2 limit before after (Err f) some lapses err count is moved next = seat_same b.cursors b2.cursors seat seat2 some (ap (λ (z : Mail). z.cursors) err.0) err.1
 
 -- a mailbox that logged nothing
 becomes_same : (k : Config) (b b2 : Mail) (x : Box) → StandsForBox k b x → BoxOk k x → KeepsLog b b2 → b2 ≡ record b { cursors = b2.cursors } → Becomes k x [] b2
 becomes_same k b b2 x S ok keeps_log rest = box_logs k b b2 x [] b.cursors S (omega (arith, ok.room))
     (λ log s. subst (Stands b2) (sym (append-nil log)) (keeps_log log s))
-    (subst (λ (z : Window). Moves b.cursors b.window z []) (sym (ap (λ (z : Mail). z.window) rest)) (Moves-nothing b.cursors b.window))
+    (ap (λ (z : Mail). z.window) rest)
     (subst (λ (z : Mail). IsPart (map text_of z.messages) (map text_of b.messages)) (sym rest) (part_self (map text_of b.messages)))
     (ap (λ (z : Mail). z.accepted) rest) (ap (λ (z : Mail). z.first_uid) rest) (ap (λ (z : Mail). z.limit) rest) (ap (λ (z : Mail). z.uidvalidity) rest)
 
@@ -118,14 +117,14 @@ pub feed_follows : (k : Config) (w : World) (old : Held) (n p m : ℕ) (c : Clie
     → (r ≡ Err lapse.Stranger) ↔ IsStranger b c.seat → (r ≡ Err lapse.Lapped) ↔ IsLapped b c.seat → OnErr r ((b2 ≡ b) × (seat2 ≡ c.seat) × (after ≡ before)) → IfOk r (λ j. j ≡ min limit (total b.window - c.seat.at))
     → IfOk r (λ j. (log : List Change) → Stands b log → after ≡ before ++ lines (view_at log c.seat.at) (next_of log c.seat.at j))
     → IfOk r (λ j. seat2 ≡ record c.seat { at = c.seat.at + j }) → KeepsLog b b2 → b2 ≡ record b { cursors = b2.cursors }
-    → IfOk r (λ j. Updates b.cursors b2.cursors c.seat.slot (option_map (after_showing (next_changes b.window c.seat.at j)) (held b.cursors c.seat)))
+    → IfOk r (λ j. Updates b.cursors b2.cursors c.seat.slot (option_map (after_showing (next_changes b.window c.seat.at j)) (held b.cursors c.seat))) → b2.cursors.next ≡ b.cursors.next
     → (v : World) × Step k w (Feed n limit) v × StandsFor k (record old { boxes = set old.boxes m b2; clients = set (set old.clients p vacant) p (Some (record { mailbox = c.mailbox; seat = seat2 })) }) v
     × Selected w n (λ s. Feeds limit before after q (w.box s.mailbox) s)
-feed_follows k w old n p m c b b2 seat2 vacant limit before after r q S e place same there tells strange lapses err count shown is keeps_log rest moved =
+feed_follows k w old n p m c b b2 seat2 vacant limit before after r q S e place same there tells strange lapses err count shown is keeps_log rest moved next =
     subst (λ (z : Result ℕ MailFault). (v : World) × Step k w (Feed n limit) v × StandsFor k (record old { boxes = set old.boxes m b2; clients = set (set old.clients p vacant) p (Some (record { mailbox = c.mailbox; seat = seat2 })) }) v
     × Selected w n (λ s. Feeds limit before after z (w.box s.mailbox) s)) (sym tells)
     (moved_follow k w old n p m c b b2 seat2 vacant true (λ x s. take limit (pending x s)) (λ x. []) (λ x s. Feeds limit before after (answer_of r) x s) (λ v. Step k w (Feed n limit) v) (λ v. reached_step k w (Feed n limit) v S.reached) (λ v h. h) S e place same there
-    (feed_moves b b2 c.seat seat2 limit before after r some lapses err count is moved)
+    (feed_moves b b2 c.seat seat2 limit before after r some lapses err count is moved next)
     (λ x s box at ok shown_is. feed_box k b b2 x s c.seat seat2 limit before after true r (λ f. refl) box at ok (feed_told k b x c.seat r box ok some strange lapses) err count shown is keeps_log rest))
   where
     some : IsSome (held b.cursors c.seat)
@@ -135,9 +134,9 @@ feed_follows k w old n p m c b b2 seat2 vacant limit before after r q S e place 
 
 pub expunge_moves : (b b2 : Mail) (seat seat2 : Seat) (before after : List ℕ) (r : Result ℕ MailFault) → IsSome (held b.cursors seat) → (r ≡ Err Lapped) ↔ IsLapped b seat
     → OnErr r ((b2 ≡ b) × (seat2 ≡ seat) × (after ≡ before)) → OnOk r (seat2 ≡ record seat { at = total b.window }) → OnOk r (seat.at ≤ total b.window)
-    → OnOk r (Updates b.cursors b2.cursors seat.slot (option_map (after_showing (changes_from seat.at b.window)) (held b.cursors seat))) → SeatMoves b.cursors b2.cursors seat seat2
-expunge_moves b b2 seat seat2 before after (Ok n) some lapses err is within moved =
-    seat_moves b.cursors b2.cursors seat seat2 (changes_from seat.at b.window) some moved (is ∙ ap (λ (j : ℕ). let z : Seat = record { number = seat.number; slot = seat.slot; serial = seat.serial; at = j } in z) whole)
+    → OnOk r (Updates b.cursors b2.cursors seat.slot (option_map (after_showing (changes_from seat.at b.window)) (held b.cursors seat))) → b2.cursors.next ≡ b.cursors.next → SeatMoves b.cursors b2.cursors seat seat2
+expunge_moves b b2 seat seat2 before after (Ok n) some lapses err is within moved next =
+    seat_moves b.cursors b2.cursors seat seat2 (changes_from seat.at b.window) some moved (is ∙ ap (λ (j : ℕ). let z : Seat = record { number = seat.number; slot = seat.slot; serial = seat.serial; at = j } in z) whole) next
   where
     no_err : Ok n ≡ Err Lapped → ⊥
     no_err e = cc
@@ -147,7 +146,7 @@ expunge_moves b b2 seat seat2 before after (Ok n) some lapses err is within move
 
     whole : total b.window ≡ seat.at + length (changes_from seat.at b.window)
     whole = omega (arith, length-drop (seat.at - b.window.base) b.window.changes, low, within)
-expunge_moves b b2 seat seat2 before after (Err f) some lapses err is within moved = seat_same b.cursors b2.cursors seat seat2 some (ap (λ (z : Mail). z.cursors) err.0) err.1
+expunge_moves b b2 seat seat2 before after (Err f) some lapses err is within moved next = seat_same b.cursors b2.cursors seat seat2 some (ap (λ (z : Mail). z.cursors) err.0) err.1
 
 expunge_box : (k : Config) (b b2 : Mail) (x : Box) (s : Session) (seat seat2 : Seat) (test : ℕ → Bool) (before after : List ℕ) (cursors : Cursors) (allocates : Bool) (r : Result ℕ MailFault) → (r ≡ Err NoMemory → allocates ≡ true) → StandsForBox k b x → seat.at ≡ s.cursor → IsShown x.log s → Told r b seat (removals test (rows b))
     → OnErr r ((b2 ≡ b) × (seat2 ≡ seat) × (after ≡ before)) → OnOk r ((log : List Change) → Stands b log → after ≡ before ++ lines (view_at log seat.at) (drop seat.at log))
@@ -175,14 +174,14 @@ pub expunge_follows : (k : Config) (w : World) (old : Held) (n p m : ℕ) (c : C
     → (r ≡ Err Stranger) ↔ IsStranger b c.seat → (r ≡ Err Lapped) ↔ IsLapped b c.seat → (r ≡ Err Spent) ↔ (IsCurrent b c.seat × IsTooMany b (removals test (rows b)))
     → OnErr r ((b2 ≡ b) × (seat2 ≡ c.seat) × (after ≡ before)) → OnOk r ((log : List Change) → Stands b log → after ≡ before ++ lines (view_at log c.seat.at) (drop c.seat.at log))
     → OnOk r (seat2 ≡ record c.seat { at = total b.window }) → OnOk r (c.seat.at ≤ total b.window)
-    → OnOk r (Updates b.cursors b2.cursors c.seat.slot (option_map (after_showing (changes_from c.seat.at b.window)) (held b.cursors c.seat)))
+    → OnOk r (Updates b.cursors b2.cursors c.seat.slot (option_map (after_showing (changes_from c.seat.at b.window)) (held b.cursors c.seat))) → b2.cursors.next ≡ b.cursors.next
     → OnOk r (MailLogs b b2 (removals test (rows b))) → OnOk r (Moves cursors b.window b2.window (removals test (rows b)))
     → OnOk r (b2.messages ≡ remaining test b.messages) → OnOk r (b2 ≡ record b { messages = b2.messages; window = b2.window; cursors = b2.cursors }) → IfOk r (λ j. j ≡ length (removals test (rows b)))
     → (v : World) × Step k w (Expunge n test) v × StandsFor k (record old { boxes = set old.boxes m b2; clients = set (set old.clients p vacant) p (Some (record { mailbox = c.mailbox; seat = seat2 })) }) v
     × Selected w n (λ s. Expunges test before after r (w.box s.mailbox) s)
-expunge_follows k w old n p m c b b2 seat2 vacant test before after cursors r S e place same there strange lapses spends err shown is within moved logs moves messages rest count =
+expunge_follows k w old n p m c b b2 seat2 vacant test before after cursors r S e place same there strange lapses spends err shown is within moved next logs moves messages rest count =
     moved_follow k w old n p m c b b2 seat2 vacant true (λ x s. pending x s) (λ x. removals test (rows_of x.log)) (λ x s. Expunges test before after r x s) (λ v. Step k w (Expunge n test) v) (λ v. reached_step k w (Expunge n test) v S.reached) (λ v h. h) S e place same there
-    (expunge_moves b b2 c.seat seat2 before after r some lapses err is within moved)
+    (expunge_moves b b2 c.seat seat2 before after r some lapses err is within moved next)
     (λ x s box at ok past. expunge_box k b b2 x s c.seat seat2 test before after cursors true r (λ f. refl) box at past (record { known = some; stranger = strange; lapsed = lapses; spent = spends }) err shown is logs moves messages rest count)
   where
     some : IsSome (held b.cursors c.seat)
@@ -324,11 +323,11 @@ pub feed_done : (old : Held) (n p m : ℕ) (c : Client) (b b2 : Mail) (seat2 : S
     → (r ≡ Err lapse.Stranger) ↔ IsStranger b c.seat → (r ≡ Err lapse.Lapped) ↔ IsLapped b c.seat → OnErr r ((b2 ≡ b) × (seat2 ≡ c.seat) × (after ≡ before)) → IfOk r (λ j. j ≡ min limit (total b.window - c.seat.at))
     → IfOk r (λ j. (log : List Change) → Stands b log → after ≡ before ++ lines (view_at log c.seat.at) (next_of log c.seat.at j))
     → IfOk r (λ j. seat2 ≡ record c.seat { at = c.seat.at + j }) → KeepsLog b b2 → b2 ≡ record b { cursors = b2.cursors }
-    → IfOk r (λ j. Updates b.cursors b2.cursors c.seat.slot (option_map (after_showing (next_changes b.window c.seat.at j)) (held b.cursors c.seat)))
+    → IfOk r (λ j. Updates b.cursors b2.cursors c.seat.slot (option_map (after_showing (next_changes b.window c.seat.at j)) (held b.cursors c.seat))) → b2.cursors.next ≡ b.cursors.next
     → OnOk r ((k : Config) → Makes k old n (λ x s. take limit (pending x s)) (λ x. []) (record old { boxes = set old.boxes m b2; clients = set (set old.clients p vacant) p (Some (record { mailbox = c.mailbox; seat = seat2 })) }))
-feed_done old n p m c b b2 seat2 vacant limit before after (Ok j) S e place same there strange lapses err count shown is keeps_log rest moved = λ k.
+feed_done old n p m c b b2 seat2 vacant limit before after (Ok j) S e place same there strange lapses err count shown is keeps_log rest moved next = λ k.
     moved_done k old n p m c b b2 seat2 vacant (λ x s. take limit (pending x s)) (λ x. []) (Feed n limit) (λ w v h. (h.0, h.1, with_memory k w n h.0 (take limit (pending (w.box h.0.mailbox) h.0)) [] v h.2)) e place same there
-    (feed_moves b b2 c.seat seat2 limit before after (Ok j) some lapses err count is moved)
+    (feed_moves b b2 c.seat seat2 limit before after (Ok j) some lapses err count is moved next)
     (λ x s box at ok shown_is. (
       (feed_box k b b2 x s c.seat seat2 limit before after false (Ok j) (λ f. cc) box at ok (feed_told k b x c.seat (Ok j) box ok some strange lapses) err count shown is keeps_log rest).0,
       taken k b x s c.seat [] (Ok j) j box at (feed_told k b x c.seat (Ok j) box ok some strange lapses) refl,
@@ -336,20 +335,20 @@ feed_done old n p m c b b2 seat2 vacant limit before after (Ok j) S e place same
   where
     some : IsSome (held b.cursors c.seat)
     some = known_at old.boxes old.clients n c b S e (there ∙ ap (λ (i : ℕ). get_or old.boxes i b) same)
-feed_done old n p m c b b2 seat2 vacant limit before after (Err f) S e place same there strange lapses err count shown is keeps_log rest moved = tt
+feed_done old n p m c b b2 seat2 vacant limit before after (Err f) S e place same there strange lapses err count shown is keeps_log rest moved next = tt
 
 pub expunge_done : (old : Held) (n p m : ℕ) (c : Client) (b b2 : Mail) (seat2 : Seat) (vacant : Option Client) (test : ℕ → Bool) (before after : List ℕ) (cursors : Cursors) (r : Result ℕ MailFault)
     → AreSeated (cursors_of old.boxes) old.clients → client_at old.clients n ≡ Some c → p ≡ n → m ≡ c.mailbox → b ≡ get_or old.boxes m b
     → (r ≡ Err Stranger) ↔ IsStranger b c.seat → (r ≡ Err Lapped) ↔ IsLapped b c.seat → (r ≡ Err Spent) ↔ (IsCurrent b c.seat × IsTooMany b (removals test (rows b)))
     → OnErr r ((b2 ≡ b) × (seat2 ≡ c.seat) × (after ≡ before)) → OnOk r ((log : List Change) → Stands b log → after ≡ before ++ lines (view_at log c.seat.at) (drop c.seat.at log))
     → OnOk r (seat2 ≡ record c.seat { at = total b.window }) → OnOk r (c.seat.at ≤ total b.window)
-    → OnOk r (Updates b.cursors b2.cursors c.seat.slot (option_map (after_showing (changes_from c.seat.at b.window)) (held b.cursors c.seat)))
+    → OnOk r (Updates b.cursors b2.cursors c.seat.slot (option_map (after_showing (changes_from c.seat.at b.window)) (held b.cursors c.seat))) → b2.cursors.next ≡ b.cursors.next
     → OnOk r (MailLogs b b2 (removals test (rows b))) → OnOk r (Moves cursors b.window b2.window (removals test (rows b)))
     → OnOk r (b2.messages ≡ remaining test b.messages) → OnOk r (b2 ≡ record b { messages = b2.messages; window = b2.window; cursors = b2.cursors }) → IfOk r (λ j. j ≡ length (removals test (rows b)))
     → OnOk r ((k : Config) → Makes k old n (λ x s. pending x s) (λ x. removals test (rows_of x.log)) (record old { boxes = set old.boxes m b2; clients = set (set old.clients p vacant) p (Some (record { mailbox = c.mailbox; seat = seat2 })) }))
-expunge_done old n p m c b b2 seat2 vacant test before after cursors (Ok j) S e place same there strange lapses spends err shown is within moved logs moves messages rest count = λ k.
+expunge_done old n p m c b b2 seat2 vacant test before after cursors (Ok j) S e place same there strange lapses spends err shown is within moved next logs moves messages rest count = λ k.
     moved_done k old n p m c b b2 seat2 vacant (λ x s. pending x s) (λ x. removals test (rows_of x.log)) (Expunge n test) (λ w v h. (h.0, h.1, with_memory k w n h.0 (pending (w.box h.0.mailbox) h.0) (removals test (rows_of (w.box h.0.mailbox).log)) v h.2)) e place same there
-    (expunge_moves b b2 c.seat seat2 before after (Ok j) some lapses err is within moved)
+    (expunge_moves b b2 c.seat seat2 before after (Ok j) some lapses err is within moved next)
     (λ x s box at ok past. (
       (expunge_box k b b2 x s c.seat seat2 test before after cursors false (Ok j) (λ f. cc) box at past tests err shown is logs moves messages rest count).0,
       subst (λ (rs : List Row). (x.base ≤ s.cursor) × (length x.log + length (removals test rs) ≤ most_changes)) (same_rows k b x box) (taken k b x s c.seat (removals test (rows b)) (Ok j) j box at tests refl),
@@ -360,4 +359,4 @@ expunge_done old n p m c b b2 seat2 vacant test before after cursors (Ok j) S e 
 
     tests : Told (Ok j) b c.seat (removals test (rows b))
     tests = record { known = some; stranger = strange; lapsed = lapses; spent = spends }
-expunge_done old n p m c b b2 seat2 vacant test before after cursors (Err f) S e place same there strange lapses spends err shown is within moved logs moves messages rest count = tt
+expunge_done old n p m c b b2 seat2 vacant test before after cursors (Err f) S e place same there strange lapses spends err shown is within moved next logs moves messages rest count = tt

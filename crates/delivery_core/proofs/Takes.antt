@@ -1,8 +1,8 @@
 -- A take, an answer and a hearing are those of the world.
 use Rattle.std.proofs.Common.{◌≡◌, inl, inr, Bool, true, false, not, ℕ, ◌<◌, List, [], ◌∷◌, ◌++◌, length, get_or, set, filter_map, refl, sym, ap, subst, ◌∙◌, arith, length-set, Some, None, All}
-use Rattle.std.specs.Prelude.{option_map, slice_index_or}
+use Rattle.std.specs.Prelude.{option_map}
 use Rattle.std.proofs.lemmas.List.Elements.{All-head, All-tail, All-push}
-use Rattle.shard_queue.specs.Lane.{Lane, took, put, has_end}
+use Rattle.shard_queue.specs.Lane.{took, put, has_end}
 use Rattle.shard_queue.specs.At.{set_at}
 use Rattle.delivery_token.specs.Keys.{Below}
 use Rattle.shard_queue.proofs.AtLaws.{at_cases}
@@ -24,7 +24,9 @@ use Rattle.world.specs.Known.{key_in}
 use Rattle.world.proofs.Known.{HandKnown, ReplyKnown, known_always}
 use Rattle.world.proofs.Always.{kept_always}
 use Rattle.delivery_core.specs.Held.{Held}
-use Rattle.delivery_core.specs.Stands.{EachAt, StandsFor, StandsForLane, IsNext}
+use Rattle.delivery_core.specs.Stands.{EachAt, StandsFor, IsNext}
+use Rattle.shard_queue.specs.Plain.{StandsForLane}
+use Rattle.shard_queue.proofs.PlainLaws.{lane_put}
 use Rattle.delivery_core.proofs.Follow.{each_here, each_set, next_same, reached_step}
 
 -- Take
@@ -68,6 +70,7 @@ take_follows k w old new s l l2 t hand S ins inh is there front held lanes hands
         sessions = ap length clients ∙ S.sessions;
         clients = rw clients S.clients;
         seated = rw (boxes, clients) S.seated;
+        opened = rw boxes S.opened;
         lanes = rw lanes (each_set (λ a b. StandsForLane k.seats k.depth a b) old.lanes w.lane s l2 (took (w.lane s) e l2.waiting) S.lanes
             (record { capacity = sym (ap (λ x. x.capacity) front) ∙ was.capacity; producers = sym (ap (λ x. length x.live) front) ∙ was.producers; waiting = refl; live = subst (λ xs. EachAt (λ p live. has_end ((w.lane s).sent p) ≡ not live) xs) (ap (λ x. x.live) front) was.live }));
         hands = rw hands (each_set (λ a b. a ≡ b) old.hands w.hand s hand (in_hand e) S.hands got.2);
@@ -79,21 +82,6 @@ take_follows k w old new s l l2 t hand S ins inh is there front held lanes hands
     )
 
 -- Answer
-
-live_more : {A : Type 0} (es : List (Entry A)) (s : ℕ) (x : A) → has_end (es ++ Item s x ∷ []) ≡ has_end es
-live_more [] s x = refl
-live_more (Item p y ∷ es) s x = live_more es s x
-live_more (End p ∷ es) s x = refl
-
--- a lane that took an item
-pub lane_put : {A : Type 0} (n room s : ℕ) (x : A) (l l2 : Waits A) (w : Lane A) → StandsForLane n room l w → l2 ≡ record { capacity = l.capacity; live = l.live; waiting = l.waiting ++ Item s x ∷ [] } → StandsForLane n room l2 (put w (Item s x))
-lane_put n room s x l l2 w S e = rw e (record {
-  capacity = S.capacity;
-  producers = S.producers;
-  waiting = ap (λ es. es ++ Item s x ∷ []) S.waiting;
-  live = λ q d h. at_cases (λ es. has_end es ≡ not (slice_index_or l.live q d)) w.sent s (w.sent s ++ Item s x ∷ []) q
-      (λ same. live_more (w.sent s) s x ∙ (ap (λ i. has_end (w.sent i)) (sym same) ∙ S.live q d h)) (λ _. S.live q d h);
-})
 
 -- the verdict in a hand is for a seat that is there, and its reply lane is live
 pub reply_place : (k : Config) (w : World) (old : Held) (s : ℕ) (r : Noted) → StandsFor k old w → s < length old.hands → Done r ≡ get_or old.hands s (Done r) → r.key.seat < length old.replies
@@ -135,6 +123,7 @@ answer_follows k w old new s r l l2 S inh is inp there room puts hands replies l
         sessions = ap length clients ∙ S.sessions;
         clients = rw clients S.clients;
         seated = rw (boxes, clients) S.seated;
+        opened = rw boxes S.opened;
         lanes = rw lanes S.lanes;
         hands = rw hands (each_set (λ a b. a ≡ b) old.hands w.hand s Empty Empty S.hands refl);
         replies = rw replies (each_set (λ a b. StandsForLane k.shards reply_room a b) old.replies w.replies p l2 (put (w.replies p) (Item s r)) S.replies (lane_put k.shards reply_room s r l l2 (w.replies p) was puts));
@@ -185,6 +174,7 @@ hear_follows k w old new p s r l l2 book0 book1 book2 book3 S inp inh there fron
         sessions = ap length clients ∙ S.sessions;
         clients = rw clients S.clients;
         seated = rw (boxes, clients) S.seated;
+        opened = rw boxes S.opened;
         lanes = rw lanes S.lanes;
         hands = rw hands S.hands;
         replies = rw replies (each_set (λ a b. StandsForLane k.shards reply_room a b) old.replies w.replies p l2 (took (w.replies p) (Item s r) l2.waiting) S.replies

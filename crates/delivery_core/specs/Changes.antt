@@ -1,10 +1,11 @@
 -- What a call leaves as it was, and what a seat hears by it.
-use Rattle.std.specs.Prelude.{◌≡◌, ◌≢◌, ℕ, List, [], ◌∷◌, ◌++◌, length, Option, Some, None}
+use Rattle.std.specs.Prelude.{◌≡◌, ◌≢◌, ◌<◌, ◌≤◌, ◌⊎◌, true, false, ℕ, List, [], ◌∷◌, ◌++◌, length, Option, Some, None}
 use Rattle.delivery_token.specs.declared.CopyKey.{CopyKey}
 use Rattle.delivery_token.specs.declared.Refusal.{Refusal}
 use Rattle.delivery_token.specs.declared.Verdict.TheVariants.{Refused}
 use Rattle.delivery_token.specs.declared.log.Noted.{Noted}
-use Rattle.delivery_core.specs.Held.{Held, notes_of}
+use Rattle.shard_queue.specs.declared.lane.Entry.TheVariants.{End}
+use Rattle.delivery_core.specs.Held.{Held, is_ended, lane_of, notes_of}
 
 -- there are as many of each as there were
 pub record SameCounts (old new : Held) : Type 0 where
@@ -33,3 +34,14 @@ pub record SameDelivery (old new : Held) : Type 0 where
   pub replies : new.replies ≡ old.replies
   pub heard : new.heard ≡ old.heard
   pub next : new.next ≡ old.next
+
+-- The end of a seat went into the lane of a shard, behind all that waits: the seat had put none there, and there was room for it.
+pub record Ends (old new : Held) (seat shard : ℕ) : Type 0 where
+  pub live : is_ended seat (lane_of old shard) ≡ false
+  pub room : length (lane_of old shard).waiting < (lane_of old shard).capacity
+  pub ended : is_ended seat (lane_of new shard) ≡ true
+  pub last : (lane_of new shard).waiting ≡ (lane_of old shard).waiting ++ End seat ∷ []
+
+-- the seat has put its end into the lane of a shard, or the lane is full
+abbrev pub CannotEnd : Held → ℕ → ℕ → Type 0
+CannotEnd h seat shard = (is_ended seat (lane_of h shard) ≡ true) ⊎ ((lane_of h shard).capacity ≤ length (lane_of h shard).waiting)

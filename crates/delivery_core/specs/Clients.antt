@@ -16,7 +16,7 @@ use Rattle.mailbox.specs.declared.clients.Opening.{Opening}
 use Rattle.mailbox.specs.declared.clients.Row as read
 use Rattle.mailbox.specs.declared.mailbox.Status.{Status}
 use Rattle.shard_queue.specs.At.{set_at}
-use Rattle.world.specs.World.{Config, World, Box, Session, Event, Enter, Logs, Step, Selected, most_changes, next_uid, pending, shows}
+use Rattle.world.specs.World.{Config, World, Box, Session, Event, Enter, Logs, Step, Selected, most_changes, most_entries, next_uid, pending, shows}
 use Rattle.delivery_core.specs.Held.{Held, view_of}
 use Rattle.delivery_core.specs.Stands.{StandsFor}
 
@@ -104,14 +104,17 @@ Leaves removing (Ok n) b s = n ≡ length (removals_if removing (rows_of b.log))
 Leaves removing (Err Spent) b s = most_changes < length b.log + length (removals_if removing (rows_of b.log))
 Leaves removing (Err fault) b s = ⊥
 
--- an Enter answers how many messages are there and the next UID
-abbrev pub Opens : Config → Result Opening MailFault → Box → Type 0
-Opens k (Ok opening) b = (opening.count ≡ length (rows_of b.log)) × (opening.uidnext ≡ next_uid k b)
-Opens k (Err fault) b = Unit {0}
+-- An Enter of mailbox m answers how many messages are there and the next UID. It is refused where the mailbox has no serial left for a cursor,
+-- and where it has one, for want of memory alone.
+abbrev pub Opens : Config → World → ℕ → Result Opening MailFault → Type 0
+Opens k w m (Ok opening) = (opening.count ≡ length (rows_of (w.box m).log)) × (opening.uidnext ≡ next_uid k (w.box m))
+Opens k w m (Err Spent) = most_entries ≤ w.opened m
+Opens k w m (Err NoMemory) = w.opened m < most_entries
+Opens k w m (Err fault) = ⊥
 
 -- From each world for which the old one stood, session n enters mailbox m or is refused, and the new one stands for what comes of it.
 abbrev pub Enters : Config → Held → ℕ → ℕ → Result Opening MailFault → Held → Type 0
-Enters k old n m result new = (w : World) → StandsFor k old w → (v : World) × Step k w (Enter n m) v × StandsFor k new v × Opens k result (w.box m)
+Enters k old n m result new = (w : World) → StandsFor k old w → (v : World) × Step k w (Enter n m) v × StandsFor k new v × Opens k w m result
 
 -- what STATUS tells: of the rows, and of the texts that were accepted under their UIDs
 pub record IsStatus (k : Config) (b : Box) (status : Status) : Type 0 where

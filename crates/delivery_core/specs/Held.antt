@@ -32,6 +32,10 @@ notes_of h seat = slice_index_or (map (λ (b : Book). b.notes) h.heard) seat []
 abbrev pub is_ended : ℕ → Waits Job → Bool
 is_ended seat l = not (slice_index_or l.live seat false)
 
+-- the lane of a shard; none where it is not there
+abbrev pub lane_of : Held → ℕ → Waits Job
+lane_of h shard = slice_index_or h.lanes shard (record { capacity = 0; live = []; waiting = [] })
+
 -- whether a seat has put its end into some lane
 abbrev pub has_ended : Held → ℕ → Bool
 has_ended h seat = list_any (is_ended seat) h.lanes

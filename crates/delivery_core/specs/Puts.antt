@@ -13,8 +13,8 @@ use Rattle.shard_queue.specs.declared.lane.Entry.TheVariants.{Item}
 pub data LanePuts (old : Waits Job) (p : ℕ) (c : Job) (new : Waits Job) (why : Option Refusal) : Type 0 where
   joins : length old.waiting < old.capacity → why ≡ None → new ≡ record { capacity = old.capacity; live = old.live; waiting = old.waiting ++ Item p c ∷ [] } → LanePuts old p c new why
   has_no_room : old.capacity ≤ length old.waiting → why ≡ Some Full → new ≡ old → LanePuts old p c new why
-  -- a growth was refused
-  has_no_memory : why ≡ Some NoMemory → new ≡ old → LanePuts old p c new why
+  -- there was room, and a growth was refused
+  has_no_memory : length old.waiting < old.capacity → why ≡ Some NoMemory → new ≡ old → LanePuts old p c new why
 
 -- y or a key after it
 abbrev pub AtLeast : CopyKey → CopyKey → Type 0

@@ -1,11 +1,10 @@
 -- When the delivery side stands for a world: what it holds is that world's. The rest of the world, all that was ever sent, taken and
 -- logged, it need not hold.
-use Rattle.std.specs.Prelude.{◌≡◌, ℕ, ◌<◌, ◌≤◌, ◌++◌, not, List, length, map, slice_index_or, All, Option, Some, None}
-use Rattle.shard_queue.specs.Lane.{Lane, has_end}
+use Rattle.std.specs.Prelude.{◌≡◌, ℕ, ◌<◌, ◌≤◌, ◌++◌, List, length, map, slice_index_or, All, Option, Some, None}
 use Rattle.delivery_token.specs.Keys.{Below}
 use Rattle.delivery_token.specs.declared.CopyKey.{CopyKey}
 use Rattle.delivery_token.specs.declared.Job.{Job}
-use Rattle.shard_queue.specs.Waits.{Waits}
+use Rattle.shard_queue.specs.Plain.{StandsForLane}
 use Rattle.mailbox.specs.Mail.{Mail, Message}
 use Rattle.mailbox.specs.Stands.{Stands}
 use Rattle.world.specs.World.{Config, World, Box, Session, Event, Step, Steps, IsWorld, EntryBelow, reply_room}
@@ -17,13 +16,6 @@ use Rattle.delivery_core.specs.Held.{Held}
 -- P holds of each place and the element there
 abbrev pub EachAt : {A : Type 0} → (ℕ → A → Type 0) → List A → Type 0
 EachAt {A} P xs = (i : ℕ) (d : A) → i < length xs → P i (slice_index_or xs i d)
-
--- what waits in the lane, and which producers may still put
-pub record StandsForLane {A : Type 0} (count room : ℕ) (l : Waits A) (w : Lane A) : Type 0 where
-  pub capacity : l.capacity ≡ room
-  pub producers : length l.live ≡ count
-  pub waiting : l.waiting ≡ w.waiting
-  pub live : EachAt (λ p live. has_end (w.sent p) ≡ not live) l.live
 
 -- a message by its UID and text
 abbrev pub text_of : Message → ℕ × List ℕ
@@ -43,7 +35,11 @@ pub record StandsForBox (k : Config) (b : Mail) (w : Box) : Type 0 where
   pub first_uid : b.first_uid ≡ k.first_uid
   pub uidvalidity : b.uidvalidity ≡ k.uidvalidity
   pub messages : b.limit ≡ k.messages
+  -- its window has room for as many changes as the ring keeps at least, has no more than it has room for, and no more room than it keeps at most
   pub ring : k.ring ≤ b.window.capacity
+  pub held : length b.window.changes ≤ b.window.capacity
+  pub most : b.window.capacity ≤ b.window.max
+  pub ring_max : b.window.max ≡ k.ring_max
 
 -- the client is the session's: in its mailbox, with its cursor
 pub record StandsForClient (c : Client) (s : Session) : Type 0 where
@@ -85,6 +81,8 @@ pub record StandsFor (k : Config) (h : Held) (w : World) : Type 0 where
   pub boxes : EachAt (λ m b. StandsForBox k b (w.box m)) h.boxes
   pub next : EachAt (λ p y. IsNext w p y) h.next
   pub clients : EachAt (λ n c. StandsForPlace c (w.session n)) h.clients
+  -- each mailbox gives its next cursor the serial that is due
+  pub opened : EachAt (λ m s. s.next ≡ w.opened m) (cursors_of h.boxes)
   -- and each client has its cursor
   pub seated : AreSeated (cursors_of h.boxes) h.clients
 

@@ -228,14 +228,15 @@ impl DeliveryCore {
         Err(fault)
     }
 
-    /// The UIDs that a session was shown of its mailbox, in their order. It takes no memory.
+    /// The UIDs that a session was shown of its mailbox, in their order, also where it fell behind the
+    /// window. It takes no memory.
     /// Stranger where it has entered no mailbox.
     pub fn view(&self, session: u8) -> Result<&[u32], MailFault>
         ensures stranger { IsErr result ↔ (client_of self.now session ≡ None) }
         ensures faults { IfErr result (λ fault. fault ≡ MailFault.Stranger) }
         ensures shown { IfOk result (λ view. view.now ≡ view_of self.now session) }
         ensures log { IfOk result (λ view. (k : Config) (w : World) → StandsFor k self.now w →
-            Selected w session (λ s. (w.box s.mailbox).base ≤ s.cursor → view.now ≡ view_at (w.box s.mailbox).log s.cursor)) }
+            Selected w session (λ s. view.now ≡ view_at (w.box s.mailbox).log s.cursor)) }
     {
         let place = usize::from(session);
         if place >= self.clients.len() {

@@ -4,7 +4,7 @@
 ghost use Rattle.std.specs.Prelude.{max, replicate, None, ◌≡◌, ℕ, ◌⊎◌, ◌%◌, ◌+◌, ◌++◌, ◌<◌, ◌≤◌, ◌↔◌, [], ◌∷◌, length, OnOk, OnErr, Err, IfOk, IfSome, IsSome, IsTrue, option_map, slice_index_or, slice_set};
 ghost use Rattle.world.specs.World.{Answer, Box, Config, Deliver, Hear, Put, PutEnd, Take, empty_world, in_hand};
 ghost use Rattle.shard_queue.specs.Plain.{MayPutMore, taken_entry};
-ghost use Rattle.delivery_core.specs.Changes.{Hears, SameCounts, heard_at_once};
+ghost use Rattle.delivery_core.specs.Changes.{CannotEnd, Ends, Hears, SameCounts, heard_at_once};
 ghost use Rattle.delivery_core.specs.Held.{has_ended, is_ended};
 ghost use Rattle.delivery_core.specs.Load.{load};
 ghost use Rattle.delivery_core.specs.Seated.{cursors_of};
@@ -103,11 +103,14 @@ fn hand_of(taken: Taken<Job>) -> Option<Hand>
     }
 }
 
-// Puts a copy of its own into a lane.
+// Puts a copy of its own into a lane. No copy is made for a lane that is full.
 fn put_in(lane: &mut PlainLane<Job>, key: CopyKey, mailbox: u8, text: &Text) -> Option<Refusal>
     requires { MayPutMore lane.old.live key.seat }
     ensures { LanePuts lane.old key.seat (record { key = key; mailbox = mailbox; text = text.now }) lane.new result }
 {
+    if lane.is_full() {
+        return Some(Refusal::Full);
+    }
     let Ok(text) = text.copy() else {
         return Some(Refusal::NoMemory);
     };
@@ -253,6 +256,8 @@ impl DeliveryCore {
         ensures nobody { (result ≡ Err Fault.Nobody) ↔ ((length self.old.lanes ≤ shard) ⊎ (length self.old.replies ≤ seat)) }
         ensures no_memory { result ≡ Err Fault.NoMemory → ⊥ }
         ensures idle { result ≡ Err Fault.Nothing → (k : Config) → Idle k self.old (PutEnd seat shard) }
+        ensures ends { OnOk result (Ends self.old self.new seat shard) }
+        ensures nothing { result ≡ Err Fault.Nothing → CannotEnd self.old seat shard }
         ensures heard { self.new.heard ≡ self.old.heard }
         ensures next { self.new.next ≡ self.old.next }
         ensures boxes { self.new.boxes ≡ self.old.boxes }

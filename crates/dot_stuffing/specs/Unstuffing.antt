@@ -1,5 +1,5 @@
 -- What an `Unstuffer` is seen as, and what its answers say of the whole data.
-use Rattle.std.specs.Prelude.{◌≡◌, ◌≢◌, ℕ, ◌<◌, ◌≤◌, List, [], ◌∷◌, ◌++◌, length, map, Contains, Bool, true, false, Option, None, Some, ◌==◌, if◌then◌else◌}
+use Rattle.std.specs.Prelude.{◌≡◌, ◌≢◌, ℕ, ◌<◌, ◌≤◌, List, [], ◌∷◌, ◌++◌, length, map, Contains, Bool, true, false, Option, None, Some, ◌==◌, ◌&&◌, if◌then◌else◌}
 use Rattle.line_io.specs.Wire.{EndsInCr, joined, wire_lines, wire_rest}
 use Rattle.dot_stuffing.specs.Data.{undotted, IsOpen, Plain}
 use Rattle.dot_stuffing.specs.declared.place.Place.{Place}
@@ -22,6 +22,10 @@ IsAt Cr rest = (rest ≢ 46 ∷ 13 ∷ []) × EndsInCr rest
 -- the place after a byte of the text
 abbrev pub after : ℕ → Place
 after byte = (if byte == 13 then Cr else Inside)
+
+-- the place after two bytes of the text, the second of which is no dot that a line begins with
+abbrev pub after_two : (first second : ℕ) → Place
+after_two first second = (if second == 13 then Cr else if (first == 13) && (second == 10) then Start else Inside)
 
 -- of the line that has not ended, what is known to be text: after a dot and a CR the line may be the end
 abbrev pub known : Place → List ℕ → List ℕ
@@ -61,6 +65,12 @@ pub record Collected : Type 0 where
 pub record Collects (c : Collected) (text : List ℕ) : Type 0 where
   pub nul : c.has_nul ≡ true → Contains text 0
   pub no_nul : c.has_nul ≡ false → Contains text 0 → ⊥
+  pub big : c.is_big ≡ true → c.max < length text
+  pub not_big : c.is_big ≡ false → (c.count ≡ length text) × (length text ≤ c.max)
+  pub bytes : c.is_big ≡ false → c.no_memory ≡ false → c.bytes ≡ text
+
+-- the same but for NULs: as many bytes came, and these are kept
+pub record Keeps (c : Collected) (text : List ℕ) : Type 0 where
   pub big : c.is_big ≡ true → c.max < length text
   pub not_big : c.is_big ≡ false → (c.count ≡ length text) × (length text ≤ c.max)
   pub bytes : c.is_big ≡ false → c.no_memory ≡ false → c.bytes ≡ text

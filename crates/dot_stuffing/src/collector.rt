@@ -1,12 +1,21 @@
 //! The text of data as it comes: its bytes while they fit, and what is wrong with it. Nothing here
 //! knows lines or dots.
 
-ghost use Rattle.std.specs.Prelude.{◌≡◌, ℕ, List, [], ◌∷◌, ◌++◌, Contains};
-ghost use Rattle.dot_stuffing.specs.Unstuffing.{Collects, IsOutcome};
+ghost use Rattle.std.specs.Prelude.{◌≡◌, ℕ, List, [], ◌∷◌, ◌++◌, true, false, Contains};
+ghost use Rattle.dot_stuffing.specs.Unstuffing.{Collects, IsOutcome, Keeps};
 
-use crate::Outcome;
+use crate::{NUL, Outcome};
+use memchr::memchr;
 use std::alloc::Global;
 use std::marker::Model;
+
+/// Whether a NUL stands in these bytes.
+fn has_nul(bytes: &[u8]) -> bool
+    ensures yes { result ≡ true → Contains bytes.now 0 }
+    ensures no { result ≡ false → Contains bytes.now 0 → ⊥ }
+{
+    memchr(NUL, bytes).is_some()
+}
 
 /// A text that comes by bytes and runs of bytes. Nothing is answered before its end.
 #[derive(Drop)]
@@ -69,12 +78,20 @@ impl Collector {
         }
     }
 
-    /// Adds bytes without NUL at once, as [`Collector::add`] adds each. Of a run that doesn't fit
-    /// nothing is kept, since no text comes of it.
+    /// Adds bytes at once, as [`Collector::add`] adds each.
     pub(crate) fn add_run(&mut self, run: &[u8])
-        requires { Contains run.now 0 → ⊥ }
         ensures max { self.new.max ≡ self.old.max }
         ensures collects { (text : List ℕ) → Collects self.old text → Collects self.new (text ++ run.now) }
+    {
+        self.has_nul |= has_nul(run);
+        self.keep(run);
+    }
+
+    /// Keeps and counts these bytes. Of a run that doesn't fit nothing is kept, since no text comes of it.
+    fn keep(&mut self, run: &[u8])
+        ensures max { self.new.max ≡ self.old.max }
+        ensures nul { self.new.has_nul ≡ self.old.has_nul }
+        ensures keeps { (text : List ℕ) → Keeps self.old text → Keeps self.new (text ++ run.now) }
     {
         if self.max - self.count < run.len() {
             self.is_big = true;

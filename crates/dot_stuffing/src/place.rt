@@ -1,7 +1,7 @@
 //! Where in a line the wire stands, and what one byte more does. No text is kept here.
 
-ghost use Rattle.std.specs.Prelude.{◌≡◌, ℕ, List};
-ghost use Rattle.dot_stuffing.specs.Unstuffing.{IsOpenAt, Leads, after};
+ghost use Rattle.std.specs.Prelude.{◌≡◌, ◌+◌, ℕ, List, length, slice_index};
+ghost use Rattle.dot_stuffing.specs.Unstuffing.{IsOpenAt, Leads, after, after_two};
 
 use crate::{CR, DOT, LF};
 
@@ -38,6 +38,33 @@ fn after(byte: u8) -> Place
     ensures { result ≡ after byte }
 {
     if byte == CR { Place::Cr } else { Place::Inside }
+}
+
+/// The place after two bytes of the text, the second of which is no dot that a line begins with.
+fn after_two(first: u8, second: u8) -> Place
+    ensures { result ≡ after_two first second }
+{
+    if second == CR {
+        Place::Cr
+    } else if first == CR && second == LF {
+        Place::Start
+    } else {
+        Place::Inside
+    }
+}
+
+/// The place after bytes of the text, where it was inside a line before them and none of them is a dot that a line
+/// begins with.
+pub(crate) fn place_behind(run: &[u8]) -> Place
+    ensures none { length run.now ≡ 0 → result ≡ Place.Inside }
+    ensures one { length run.now ≡ 1 → result ≡ after (slice_index run.now 0) }
+    ensures more { (n : ℕ) → length run.now ≡ n + 2 → result ≡ after_two (slice_index run.now n) (slice_index run.now (n + 1)) }
+{
+    match run.len() {
+        0 => Place::Inside,
+        1 => after(run[0]),
+        len => after_two(run[len - 2], run[len - 1]),
+    }
 }
 
 /// What a byte does where the wire stands at this place.

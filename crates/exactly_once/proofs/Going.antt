@@ -1,21 +1,25 @@
 -- Each event of the house, and many of them: what is printed is replies of that kind and lines of sessions, and the world comes by its own events.
-use Rattle.std.proofs.Common.{◌≡◌, ℕ, ◌+◌, Bool, false, List, [], ◌∷◌, ◌++◌, refl, sym, ap, ◌∙◌, subst, append-nil, Option, Some, None}
-use Rattle.std.specs.Prelude.{All, flat_map}
+use Rattle.std.proofs.Common.{◌≡◌, ◌≢◌, ℕ, ◌+◌, ◌≤◌, ◌⊎◌, inl, inr, Bool, true, false, eqb, List, [], ◌∷◌, ◌++◌, map, arith, refl, sym, ap, ◌∙◌, subst, append-nil, append_assoc, Option, Some, None}
+use Rattle.std.specs.Prelude.{flat_map, All, Contains}
+use Rattle.std.proofs.lemmas.Bool.Decides.{eqb_tells}
+use Rattle.std.proofs.lemmas.List.{map-append}
 use Rattle.std.proofs.lemmas.Grind.{flat_map-append}
-use Rattle.std.proofs.lemmas.List.Elements.{All-append, All-contains, All-cons, All-nil, All-weaker}
+use Rattle.std.proofs.lemmas.List.Elements.{All-contains}
+use Rattle.std.specs.Borrow.{Bor}
+use Rattle.line_io.specs.Wire.{IsCut, joined}
 use Rattle.shard_queue.specs.At.{set_at}
-use Rattle.shard_queue.proofs.AtLaws.{at_each}
-use Rattle.delivery_token.specs.declared.Refusal.TheVariants as refusals
-use Rattle.delivery_token.specs.declared.Verdict.{Verdict}
-use Rattle.delivery_token.specs.declared.Verdict.TheVariants.{Stored, Refused}
-use Rattle.lmtp_machine.specs.declared.reply.Reply.TheVariants.{Delivered}
-use Rattle.lmtp_machine.specs.Dialogue.{verdict_reply}
+use Rattle.shard_queue.proofs.AtLaws.{at_cases, at_each, set_at-same}
+use Rattle.delivery_token.specs.Keys.{Below}
+use Rattle.delivery_token.specs.declared.CopyKey.{CopyKey}
+use Rattle.delivery_token.specs.declared.log.Noted.{Noted}
 use Rattle.world.specs.World as world
-use Rattle.world.specs.World.{Config, World, IsWorld, Steps, empty_world}
+use Rattle.world.specs.World.{Config, World, Steps}
 use Rattle.world.specs.Law.{Headline}
 use Rattle.world.proofs.Always.{always}
-use Rattle.callers.specs.Caller.{Setup, Caller, more_waits, greeted, unread}
+use Rattle.world.proofs.Base.{all_of_every, every_weaker, rising_pair}
+use Rattle.callers.specs.Caller.{Setup, Caller, more_waits, greeted}
 use Rattle.visitors.specs.Visitor.{Visitor, Speaks, Prints, prints_all, prints_none}
+use Rattle.visitors.specs.Visitor.{marked as marked_session}
 use Rattle.visitors.specs.Visitor.{greeted as greeted_visitor, more_waits as visitor_more_waits}
 use Rattle.visitors.specs.Folders.{folders_of}
 use Rattle.visitors.proofs.Carried.{speaks_carried}
@@ -24,107 +28,152 @@ use Rattle.imap_session.specs.Store.{Met}
 use Rattle.session_store.specs.Meets.{Meets}
 use Rattle.house.specs.declared.event.Event.{Event}
 use Rattle.house.specs.declared.event.Event.TheVariants.{Bytes, Vanish, Put, Take, Deliver, Answer, Hear, End, Enter, Say, Idle, Leave}
-use Rattle.house.specs.Scene.{Scene, Plays, BytesPlay, PutPlay, HearPlay, VanishPlay, VisitorGoes, VisitorIdles, IdlePlay, Parts, EnterPlay, SayPlay, LeavePlay, LeavesMailbox, Moves, opens, goes_on, parts, remains, empty_scene, place_of, seat_of}
+use Rattle.house.specs.Scene.{Scene, Plays, BytesPlay, PutPlay, HearPlay, VanishPlay, VisitorGoes, IdlePlay, Parts, EnterPlay, SayPlay, LeavePlay, LeavesMailbox, Moves, opens, goes_on, parts, remains, empty_scene, place_of, seat_of}
 use Rattle.house.specs.Settling.{Happened}
-use Rattle.exactly_once.specs.Promise as promise
-use Rattle.exactly_once.specs.Promise.{Said, Other, Piece, Replies, Lines, text_of, reply_of, IsKept, kept, ExactlyOnce}
+use Rattle.imap_session.specs.Commands.{greeting}
+use Rattle.exactly_once.specs.Promise.{HearsItsOwn, serial_of, Said, Piece, Replies, Lines, Silence, text_of, IsOwn, Entry, IsRecord, told_in, verdicts_of, TellsOnce, NoneTwice, ExactlyOnce}
 use Rattle.exactly_once.proofs.Grown.{Reached, heard_stays_heard, meets_reached, moves, stays, reached_then}
-use Rattle.exactly_once.proofs.Saying.{CallerOk, IsHeard, IsSaid, Spoke, caller_grows, each_grows, greeted_said, proceeds_spoke, said_none}
+use Rattle.exactly_once.proofs.Told.{AreTold, InOrder, IsTold, none_told, told_front}
+use Rattle.exactly_once.proofs.Whole.{IsWhole, converses_whole, cut_of, greeting_whole, idles_whole, whole_append}
+use Rattle.exactly_once.proofs.Saying.{CallerOk, Spoke, caller_grows, greeted_talking, proceeds_spoke, unread_silent, verdicts}
 
--- what every event keeps: what callers have still to print
-abbrev pub SceneOk : Setup → Scene → Type 0
-SceneOk k s = (seat : ℕ) → CallerOk k (s.world.heard seat) (s.caller seat)
+-- what a session has still to print is whole lines
+abbrev pub VisitorOk : Option Visitor → Type 0
+VisitorOk None = Unit {0}
+VisitorOk (Some v) = IsWhole v.unsaid
 
--- of a piece that was printed
-abbrev pub IsTold : World → Piece → Type 0
-IsTold w (Replies seat said) = All (IsHeard (w.heard seat)) said
-IsTold w (Lines session said) = Unit {0}
+-- what every event keeps, where these verdicts were told at each seat: what callers have still to print comes after them
+pub record SceneOk (k : Setup) (told : ℕ → List Noted) (s : Scene) : Type 0 where
+  pub callers : (seat : ℕ) → CallerOk k seat (s.world.heard seat) (s.next seat) (told seat) (s.caller seat)
+  pub visitors : (place : ℕ) → VisitorOk (s.visitor place)
 
--- from one scene to another
-pub record Went (k : Setup) (s t : Scene) (printed : List ℕ) : Type 0 where
-  pub pieces : List Piece
-  pub is : printed ≡ flat_map (text_of k) pieces
-  pub each : All (IsTold t.world) pieces
-  pub ok : SceneOk k t
+pub told_same : (k : Setup) (told more : ℕ → List Noted) (s : Scene) → ((p : ℕ) → told p ≡ more p) → SceneOk k told s → SceneOk k more s
+told_same k told more s same ok = record {
+  callers = λ j. subst (λ (x : List Noted). CallerOk k j (s.world.heard j) (s.next j) x (s.caller j)) (same j) (ok.callers j);
+  visitors = ok.visitors;
+}
+
+-- the same after a piece was printed
+abbrev pub with_piece : (ℕ → List Noted) → Piece → ℕ → List Noted
+with_piece told piece p = told p ++ told_in p piece
+
+-- what an event printed, of its own, and what it led to
+pub record Did (k : Setup) (told : ℕ → List Noted) (s : Scene) (e : Event) (t : Scene) (printed : List ℕ) : Type 0 where
+  pub piece : Piece
+  pub is : printed ≡ text_of k piece
+  pub own : IsOwn k s e t piece
+  pub ok : SceneOk k (with_piece told piece) t
   pub reached : Reached k.config s.world t.world
 
-pub told_grows : (k : Config) (w v : World) → Reached k w v → (piece : Piece) → IsTold w piece → IsTold v piece
-told_grows k w v r (Replies seat said) t = each_grows (w.heard seat) (v.heard seat) said (λ n c. heard_stays_heard k w r.0 v seat n r.1 c) t
-told_grows k w v r (Lines session said) t = tt
+-- from one scene to another
+pub record Went (k : Setup) (told : ℕ → List Noted) (s t : Scene) (printed : List ℕ) : Type 0 where
+  pub entries : List Entry
+  pub leads : IsRecord k entries s t
+  pub is : printed ≡ flat_map (λ entry. text_of k entry.piece) entries
+  pub ok : SceneOk k (λ p. told p ++ verdicts_of p entries) t
+  pub reached : Reached k.config s.world t.world
 
 -- ---- one event
 
+-- a seat at which nobody does anything
+seat_stays : (k : Setup) (told : ℕ → List Noted) (s : Scene) (v : World) (seat next : ℕ) → SceneOk k told s → Reached k.config s.world v → s.next seat ≤ next
+    → CallerOk k seat (v.heard seat) next (told seat ++ []) (s.caller seat)
+seat_stays k told s v seat next ok r l =
+    subst (λ (x : List Noted). CallerOk k seat (v.heard seat) next x (s.caller seat)) (sym (append-nil (told seat)))
+    (caller_grows k seat (s.world.heard seat) (v.heard seat) (s.next seat) next (told seat) (s.caller seat) (λ n c. heard_stays_heard k.config s.world r.0 v seat n r.1 c) l (ok.callers seat))
+
 -- the connection at a seat went on in a world that may have moved
-caller_went : (k : Setup) (s : Scene) (v : World) (seat : ℕ) (o : Option Caller) (next : ℕ → ℕ) (printed : List ℕ) → SceneOk k s → Reached k.config s.world v → Spoke k seat (v.heard seat) o printed
-    → Went k s (record { world = v; caller = set_at s.caller seat o; next = next; visitor = s.visitor }) printed
-caller_went k s v seat o next printed ok r spoke = record {
-  pieces = Replies seat spoke.said ∷ [];
-  is = spoke.is ∙ sym (append-nil _);
-  each = All-cons (IsTold v) (Replies seat spoke.said) [] spoke.each (All-nil (IsTold v));
-  ok = at_each (λ j x. CallerOk k (v.heard j) x) s.caller seat o (λ j. caller_grows k (s.world.heard j) (v.heard j) (s.caller j) (λ n c. heard_stays_heard k.config s.world r.0 v j n r.1 c) (ok j)) spoke.left;
+caller_did : (k : Setup) (told : ℕ → List Noted) (s : Scene) (e : Event) (v : World) (seat : ℕ) (o : Option Caller) (next : ℕ → ℕ) (printed : List ℕ) → SceneOk k told s → Reached k.config s.world v
+    → ((t : Scene) (said : List Said) → HearsItsOwn s seat said → IsOwn k s e t (Replies seat said)) → ((j : ℕ) → s.next j ≤ next j) → (serial : ℕ) → serial ≡ serial_of (s.next seat) (s.caller seat) → Spoke k seat serial (v.heard seat) (next seat) (told seat) o printed
+    → Did k told s e (record { world = v; caller = set_at s.caller seat o; next = next; visitor = s.visitor }) printed
+caller_did k told s e v seat o next printed ok r own l serial here spoke = record {
+  piece = Replies seat spoke.said;
+  is = spoke.is;
+  own = own _ spoke.said (subst (λ (x : ℕ). All (λ n. n.key.serial ≡ x) (verdicts spoke.said)) here (all_of_every (λ n. n.key.serial ≡ serial) (verdicts spoke.said) spoke.own));
+  ok = record { callers = λ j. at j (eqb_tells j seat); visitors = ok.visitors };
   reached = r;
 }
+  where
+    at : (j : ℕ) → ((eqb j seat ≡ true) × (j ≡ seat)) ⊎ ((eqb j seat ≡ false) × (j ≢ seat)) → CallerOk k j (v.heard j) (next j) (told j ++ told_in j (Replies seat spoke.said)) (set_at s.caller seat o j)
+    at j (inl (t, same)) = rw t (rw same spoke.left)
+    at j (inr (f, other)) = rw f (seat_stays k told s v j (next j) ok r (l j))
 
--- nobody at a seat did anything
-world_went : (k : Setup) (s : Scene) (v : World) (visitor : ℕ → Option Visitor) (pieces : List Piece) (printed : List ℕ) → SceneOk k s → Reached k.config s.world v
-    → printed ≡ flat_map (text_of k) pieces → All (IsTold v) pieces → Went k s (record { world = v; caller = s.caller; next = s.next; visitor = visitor }) printed
-world_went k s v visitor pieces printed ok r e each = record {
-  pieces = pieces;
-  is = e;
-  each = each;
-  ok = λ j. caller_grows k (s.world.heard j) (v.heard j) (s.caller j) (λ n c. heard_stays_heard k.config s.world r.0 v j n r.1 c) (ok j);
-  reached = r;
+-- the same of who stands at a seat, where it prints nothing
+seat_did : (k : Setup) (told : ℕ → List Noted) (s : Scene) (e : Event) (seat : ℕ) (o : Option Caller) (printed : List ℕ) → SceneOk k told s
+    → CallerOk k seat (s.world.heard seat) (s.next seat) (told seat) o → printed ≡ []
+    → Did k told s e (record { world = s.world; caller = set_at s.caller seat o; next = s.next; visitor = s.visitor }) printed
+seat_did k told s e seat o printed ok here is = record {
+  piece = Silence;
+  is = is;
+  own = tt;
+  ok = record { callers = λ j. at j (eqb_tells j seat); visitors = ok.visitors };
+  reached = stays k.config s.world s.world refl;
 }
+  where
+    at : (j : ℕ) → ((eqb j seat ≡ true) × (j ≡ seat)) ⊎ ((eqb j seat ≡ false) × (j ≢ seat)) → CallerOk k j (s.world.heard j) (s.next j) (told j ++ []) (set_at s.caller seat o j)
+    at j (inl (t, same)) = rw t (rw same (subst (λ (x : List Noted). CallerOk k seat (s.world.heard seat) (s.next seat) x o) (sym (append-nil (told seat))) here))
+    at j (inr (f, other)) = rw f (seat_stays k told s s.world j (s.next j) ok (stays k.config s.world s.world refl) (omega arith))
 
--- what a caller at a seat has still to print
-at_seat : (k : Setup) (s : Scene) (seat : ℕ) (b : Caller) → SceneOk k s → s.caller seat ≡ Some b → IsSaid k.host (s.world.heard seat) b.talk.unsaid
-at_seat k s seat b ok there = subst (λ (x : Option Caller). CallerOk k (s.world.heard seat) x) there (ok seat)
+-- who stands at a seat, in a world that may have moved
+at_seat : (k : Setup) (told : ℕ → List Noted) (s : Scene) (v : World) (seat : ℕ) (b : Caller) → SceneOk k told s → Reached k.config s.world v → s.caller seat ≡ Some b
+    → CallerOk k seat (v.heard seat) (s.next seat) (told seat) (Some b)
+at_seat k told s v seat b ok r there =
+    caller_grows k seat (s.world.heard seat) (v.heard seat) (s.next seat) (s.next seat) (told seat) (Some b) (λ n c. heard_stays_heard k.config s.world r.0 v seat n r.1 c) (omega arith)
+    (subst (CallerOk k seat (s.world.heard seat) (s.next seat) (told seat)) there (ok.callers seat))
 
-pub bytes_went : (k : Setup) (whole : Bool) (s : Scene) (seat : ℕ) (piece : List ℕ) (t : Scene) (printed : List ℕ) → SceneOk k s → BytesPlay k whole s seat piece t printed → Went k s t printed
-bytes_went k whole s seat piece t printed ok (opens there free more not o g e) =
-    rw e (caller_went k s s.world seat o _ printed ok (stays k.config s.world s.world refl)
-    (proceeds_spoke k whole seat (s.world.heard seat) (more_waits (greeted k seat (s.next seat)) piece) o printed (greeted_said k seat (s.next seat) (s.world.heard seat)) g))
-bytes_went k whole s seat piece t printed ok (goes_on b there read o g e) =
-    rw e (caller_went k s s.world seat o s.next printed ok (stays k.config s.world s.world refl)
-    (proceeds_spoke k whole seat (s.world.heard seat) (more_waits b piece) o printed (at_seat k s seat b ok there) g))
+one_later : (f : ℕ → ℕ) (i j : ℕ) → f j ≤ set_at f i (f i + 1) j
+one_later f i j = at_cases (λ n. f j ≤ n) f i (f i + 1) j (λ same. rw same (omega arith)) (λ other. omega arith)
 
-put_went : (k : Setup) (whole : Bool) (s : Scene) (seat : ℕ) (t : Scene) (printed : List ℕ) → SceneOk k s → PutPlay k whole s seat t printed → Went k s t printed
-put_went k whole s seat t printed ok p =
+bytes_did : (k : Setup) (told : ℕ → List Noted) (s : Scene) (e : Event) (seat : ℕ) (piece : List ℕ) (t : Scene) (printed : List ℕ) → ((t : Scene) (said : List Said) → HearsItsOwn s seat said → IsOwn k s e t (Replies seat said))
+    → SceneOk k told s → BytesPlay k false s seat piece t printed → Did k told s e t printed
+bytes_did k told s e seat piece t printed own ok (opens there free more not o g after) =
+    let next = set_at s.next seat (s.next seat + 1) in
+    let later : s.next seat + 1 ≡ next seat = sym (set_at-same s.next seat (s.next seat + 1)) in
+    let fresh : CallerOk k seat (s.world.heard seat) (s.next seat) (told seat) None = subst (CallerOk k seat (s.world.heard seat) (s.next seat) (told seat)) free (ok.callers seat) in
+    rw after (caller_did k told s e s.world seat o next printed ok (stays k.config s.world s.world refl) own (one_later s.next seat) (s.next seat) (ap (serial_of (s.next seat)) (sym free))
+    (proceeds_spoke k false seat (s.world.heard seat) (next seat) (told seat) (more_waits (greeted k seat (s.next seat)) piece) o printed
+    (greeted_talking k seat (s.next seat) (s.world.heard seat) (told seat) (next seat) (omega (arith, later)) fresh) g))
+bytes_did k told s e seat piece t printed own ok (goes_on b there read o g after) =
+    let r = stays k.config s.world s.world refl in
+    rw after (caller_did k told s e s.world seat o s.next printed ok r own (λ j. omega arith) b.serial (ap (serial_of (s.next seat)) (sym there))
+    (proceeds_spoke k false seat (s.world.heard seat) (s.next seat) (told seat) (more_waits b piece) o printed (at_seat k told s s.world seat b ok r there) g))
+
+put_did : (k : Setup) (told : ℕ → List Noted) (s : Scene) (e : Event) (seat : ℕ) (t : Scene) (printed : List ℕ) → ((t : Scene) (said : List Said) → HearsItsOwn s seat said → IsOwn k s e t (Replies seat said))
+    → SceneOk k told s → PutPlay k false s seat t printed → Did k told s e t printed
+put_did k told s e seat t printed own ok p =
     let r = moves k.config s.world p.moved (world.Put seat (world.shard_of k.config p.copy.mailbox) p.copy) p.step in
-    let before = caller_grows k (s.world.heard seat) (p.moved.heard seat) (Some p.caller) (λ n c. heard_stays_heard k.config s.world r.0 p.moved seat n r.1 c) (at_seat k s seat p.caller ok p.there) in
-    rw p.after (caller_went k s p.moved seat p.left s.next printed ok r
-    (proceeds_spoke k whole seat (p.moved.heard seat) (record { serial = p.caller.serial; gone = p.caller.gone; talk = p.caller.talk; to_put = p.others }) p.left printed before p.goes))
+    rw p.after (caller_did k told s e p.moved seat p.left s.next printed ok r own (λ j. omega arith) p.caller.serial (ap (serial_of (s.next seat)) (sym p.there))
+    (proceeds_spoke k false seat (p.moved.heard seat) (s.next seat) (told seat) (record { serial = p.caller.serial; gone = p.caller.gone; talk = p.caller.talk; to_put = p.others }) p.left printed
+    (at_seat k told s p.moved seat p.caller ok r p.there) p.goes))
 
-hear_went : (k : Setup) (whole : Bool) (s : Scene) (seat : ℕ) (t : Scene) (printed : List ℕ) → SceneOk k s → HearPlay k whole s seat t printed → Went k s t printed
-hear_went k whole s seat t printed ok p =
+hear_did : (k : Setup) (told : ℕ → List Noted) (s : Scene) (e : Event) (seat : ℕ) (t : Scene) (printed : List ℕ) → ((t : Scene) (said : List Said) → HearsItsOwn s seat said → IsOwn k s e t (Replies seat said))
+    → SceneOk k told s → HearPlay k false s seat t printed → Did k told s e t printed
+hear_did k told s e seat t printed own ok p =
     let r = moves k.config s.world p.moved (world.Hear seat) p.step in
-    let before = caller_grows k (s.world.heard seat) (p.moved.heard seat) (Some p.caller) (λ n c. heard_stays_heard k.config s.world r.0 p.moved seat n r.1 c) (at_seat k s seat p.caller ok p.there) in
-    rw p.after (caller_went k s p.moved seat p.left s.next printed ok r (proceeds_spoke k whole seat (p.moved.heard seat) p.caller p.left printed before p.goes))
+    rw p.after (caller_did k told s e p.moved seat p.left s.next printed ok r own (λ j. omega arith) p.caller.serial (ap (serial_of (s.next seat)) (sym p.there))
+    (proceeds_spoke k false seat (p.moved.heard seat) (s.next seat) (told seat) p.caller p.left printed (at_seat k told s p.moved seat p.caller ok r p.there) p.goes))
 
-pub vanish_went : (k : Setup) (whole : Bool) (s : Scene) (seat : ℕ) (t : Scene) (printed : List ℕ) → SceneOk k s → VanishPlay k whole s seat t printed → Went k s t printed
-vanish_went k whole s seat t printed ok p =
-    rw p.after (caller_went k s s.world seat p.left s.next printed ok (stays k.config s.world s.world refl)
-    (proceeds_spoke k whole seat (s.world.heard seat) (unread p.caller) p.left printed (said_none k.host (s.world.heard seat)) p.goes))
+vanish_did : (k : Setup) (told : ℕ → List Noted) (s : Scene) (e : Event) (seat : ℕ) (t : Scene) (printed : List ℕ)
+    → SceneOk k told s → VanishPlay k false s seat t printed → Did k told s e t printed
+vanish_did k told s e seat t printed ok p =
+    let here = at_seat k told s s.world seat p.caller ok (stays k.config s.world s.world refl) p.there in
+    let u = unread_silent k false seat (s.world.heard seat) (s.next seat) (told seat) p.caller p.left printed here p.goes in
+    rw p.after (seat_did k told s e seat p.left printed ok u.0 u.1)
 
-moves_went : (k : Setup) (s : Scene) (event : world.Event) (t : Scene) (printed : List ℕ) → SceneOk k s → Moves k s event t printed → Went k s t printed
-moves_went k s event t printed ok m =
-    rw m.after (world_went k s m.moved s.visitor [] printed ok (moves k.config s.world m.moved event m.step) m.silent (All-nil (IsTold m.moved)))
+-- ---- what no connection says
+
+-- what is left of the callers where none of them did anything, and of the visitors
+nobody_spoke : (k : Setup) (told : ℕ → List Noted) (s : Scene) (v : World) (visitor : ℕ → Option Visitor) → SceneOk k told s → Reached k.config s.world v → ((place : ℕ) → VisitorOk (visitor place))
+    → SceneOk k (λ p. told p ++ []) (record { world = v; caller = s.caller; next = s.next; visitor = visitor })
+nobody_spoke k told s v visitor ok r visitors = record { callers = λ j. seat_stays k told s v j (s.next j) ok r (omega arith); visitors = visitors }
+
+moves_did : (k : Setup) (told : ℕ → List Noted) (s : Scene) (e : Event) (event : world.Event) (t : Scene) (printed : List ℕ) → SceneOk k told s
+    → Moves k s event t printed → Did k told s e t printed
+moves_did k told s e event t printed ok m =
+    let r = moves k.config s.world m.moved event m.step in
+    rw m.after (record { piece = Silence; is = m.silent; own = tt; ok = nobody_spoke k told s m.moved s.visitor ok r ok.visitors; reached = r })
 
 -- ---- sessions
-
--- what a session printed
-record Words (k : Setup) (v : World) (printed : List ℕ) : Type 0 where
-  pub pieces : List Piece
-  pub is : printed ≡ flat_map (text_of k) pieces
-  pub each : All (IsTold v) pieces
-
-words_of : (k : Setup) (v : World) (n : ℕ) (before after : Visitor) (said printed : List ℕ) → Prints n before after said printed → Words k v printed
-words_of k v n before after said printed (prints_all e p) = record {
-  pieces = Lines n (before.unsaid ++ said) ∷ [];
-  is = p ∙ sym (append-nil _);
-  each = All-cons (IsTold v) (Lines n (before.unsaid ++ said)) [] tt (All-nil (IsTold v));
-}
-words_of k v n before after said printed (prints_none e p) = record { pieces = []; is = p; each = All-nil (IsTold v) }
 
 -- a session's calls, one after the other, come to events of the world
 speaks_reached : (k : Config) (place n : ℕ) (w mid : World) (before after : Visitor) (printed : List ℕ) → Speaks (Meets k place) n before w mid after printed → Reached k w mid
@@ -145,99 +194,254 @@ parts_reached : (k : Setup) (whole : Bool) (place : ℕ) (after : Visitor) (w v 
 parts_reached k whole place after w v o (parts ended said l e) = leaves_reached k place w v l
 parts_reached k whole place after w v o (remains not e f) = stays k.config w v e
 
-visitor_went : (k : Setup) (whole : Bool) (s : Scene) (place : ℕ) (b : Visitor) (v : World) (o : Option Visitor) (printed : List ℕ) → SceneOk k s → VisitorGoes k whole place s.world b v o printed
-    → Went k s (record { world = v; caller = s.caller; next = s.next; visitor = set_at s.visitor place o }) printed
-visitor_went k whole s place b v o printed ok g =
-    let said = words_of k v (place + 1) b g.after g.speaks.said printed g.speaks.prints in
-    world_went k s v (set_at s.visitor place o) said.pieces printed ok
-    (reached_then k.config s.world g.mid v (speaks_reached k.config place (place + 1) s.world g.mid b g.after printed g.speaks) (parts_reached k whole place g.after g.mid v o g.left))
-    said.is said.each
+-- what a session printed of these bytes, which are whole lines: nothing, or all
+data Wrote (k : Setup) (n : ℕ) (bytes printed : List ℕ) : Type 0 where
+  nothing : printed ≡ [] → Wrote k n bytes printed
+  wrote : (lines : List (List ℕ)) → IsCut bytes lines [] → printed ≡ text_of k (Lines n lines) → Wrote k n bytes printed
 
-visitor_idled : (k : Setup) (whole : Bool) (s : Scene) (place : ℕ) (b : Visitor) (v : World) (o : Option Visitor) (printed : List ℕ) → SceneOk k s → VisitorIdles k whole place s.world b v o printed
-    → Went k s (record { world = v; caller = s.caller; next = s.next; visitor = set_at s.visitor place o }) printed
-visitor_idled k whole s place b v o printed ok g =
-    let said = words_of k v (place + 1) b g.after g.idles.said printed g.idles.prints in
-    world_went k s v (set_at s.visitor place o) said.pieces printed ok
-    (reached_then k.config s.world g.mid v (met_reached k.config place s.world g.idles.turned.events g.mid g.idles.turned.met) (parts_reached k whole place g.after g.mid v o g.left))
-    said.is said.each
+wrote_of : (k : Setup) (n : ℕ) (before after : Visitor) (said printed : List ℕ) → IsWhole (before.unsaid ++ said) → Prints n before after said printed → Wrote k n (before.unsaid ++ said) printed
+wrote_of k n before after said printed w (prints_none l p) = nothing p
+wrote_of k n before after said printed w (prints_all l p) =
+    let cut = cut_of (before.unsaid ++ said) w in
+    wrote cut.0 cut.1 (p ∙ ap (λ (x : List ℕ). marked_session n x) (cut.1.whole ∙ append-nil (joined cut.0)))
 
-pub enter_went : (k : Setup) (whole : Bool) (s : Scene) (place : ℕ) (user : List ℕ) (t : Scene) (printed : List ℕ) → SceneOk k s → EnterPlay k whole s place user t printed → Went k s t printed
-enter_went k whole s place user t printed ok p = rw p.after (visitor_went k whole s place (greeted_visitor (folders_of k.directory user)) p.moved p.left printed ok p.goes)
+-- what it has still to print
+unsaid_whole : (n : ℕ) (before after : Visitor) (said printed : List ℕ) → IsWhole (before.unsaid ++ said) → Prints n before after said printed → IsWhole after.unsaid
+unsaid_whole n before after said printed w (prints_all l p) = inl l
+unsaid_whole n before after said printed w (prints_none l p) = subst IsWhole (sym l) w
 
-pub say_went : (k : Setup) (whole : Bool) (s : Scene) (place : ℕ) (piece : List ℕ) (t : Scene) (printed : List ℕ) → SceneOk k s → SayPlay k whole s place piece t printed → Went k s t printed
-say_went k whole s place piece t printed ok p = rw p.after (visitor_went k whole s place (visitor_more_waits p.visitor piece) p.moved p.left printed ok p.goes)
+left_whole : (k : Setup) (place : ℕ) (after : Visitor) (w v : World) (o : Option Visitor) → IsWhole after.unsaid → Parts k false place after w v o → VisitorOk o
+left_whole k place after w v o whole (parts ended said l e) = rw e tt
+left_whole k place after w v o whole (remains not e f) = rw f whole
 
-idle_went : (k : Setup) (whole : Bool) (s : Scene) (place : ℕ) (t : Scene) (printed : List ℕ) → SceneOk k s → IdlePlay k whole s place t printed → Went k s t printed
-idle_went k whole s place t printed ok p = rw p.after (visitor_idled k whole s place p.visitor p.moved p.left printed ok p.goes)
+-- who visits at a place, and its session's bytes
+at_place : (k : Setup) (told : ℕ → List Noted) (s : Scene) (place : ℕ) (b : Visitor) → SceneOk k told s → s.visitor place ≡ Some b → IsWhole b.unsaid
+at_place k told s place b ok there = subst VisitorOk there (ok.visitors place)
 
-pub leave_went : (k : Setup) (s : Scene) (place : ℕ) (t : Scene) (printed : List ℕ) → SceneOk k s → LeavePlay k s place t printed → Went k s t printed
-leave_went k s place t printed ok p =
-    rw p.after (world_went k s p.moved (set_at s.visitor place None) [] printed ok (leaves_reached k place s.world p.moved p.leaves) p.silent (All-nil (IsTold p.moved)))
+-- a session went on, and may have left
+visited : (k : Setup) (told : ℕ → List Noted) (s : Scene) (v : World) (place : ℕ) (o : Option Visitor) → SceneOk k told s → Reached k.config s.world v → VisitorOk o
+    → SceneOk k (λ p. told p ++ []) (record { world = v; caller = s.caller; next = s.next; visitor = set_at s.visitor place o })
+visited k told s v place o ok r here = nobody_spoke k told s v (set_at s.visitor place o) ok r (at_each (λ j x. VisitorOk x) s.visitor place o ok.visitors here)
+
+-- what a session's bytes and its place came to
+record Visited (k : Setup) (told : ℕ → List Noted) (s t : Scene) (n : ℕ) (bytes printed : List ℕ) : Type 0 where
+  pub words : Wrote k n bytes printed
+  pub ok : SceneOk k (λ p. told p ++ []) t
+  pub reached : Reached k.config s.world t.world
+
+goes_visited : (k : Setup) (told : ℕ → List Noted) (s : Scene) (place : ℕ) (b : Visitor) (v : World) (o : Option Visitor) (printed : List ℕ) → SceneOk k told s → IsWhole b.unsaid
+    → (g : VisitorGoes k false place s.world b v o printed)
+    → Visited k told s (record { world = v; caller = s.caller; next = s.next; visitor = set_at s.visitor place o }) (place + 1) (b.unsaid ++ g.speaks.said) printed
+goes_visited k told s place b v o printed ok whole g =
+    let w = whole_append b.unsaid g.speaks.said whole (converses_whole (Meets k.config place) g.speaks.answers.converses) in
+    let r = reached_then k.config s.world g.mid v (speaks_reached k.config place (place + 1) s.world g.mid b g.after printed g.speaks) (parts_reached k false place g.after g.mid v o g.left) in
+    record {
+      words = wrote_of k (place + 1) b g.after g.speaks.said printed w g.speaks.prints;
+      ok = visited k told s v place o ok r (left_whole k place g.after g.mid v o (unsaid_whole (place + 1) b g.after g.speaks.said printed w g.speaks.prints) g.left);
+      reached = r;
+    }
+
+enter_did : (k : Setup) (told : ℕ → List Noted) (s : Scene) (session : ℕ) (user : Bor (List ℕ)) (t : Scene) (printed : List ℕ) → SceneOk k told s
+    → EnterPlay k false s (place_of session) user.now t printed → Did k told s (Enter session user) t printed
+enter_did k told s session user t printed ok p = go (subst (λ (x : Scene). Visited k told s x (place_of session + 1) (greeting ++ p.goes.speaks.said) printed) (sym p.after)
+    (goes_visited k told s (place_of session) (greeted_visitor (folders_of k.directory user.now)) p.moved p.left printed ok greeting_whole p.goes))
+  where
+    by : (v : Visited k told s t (place_of session + 1) (greeting ++ p.goes.speaks.said) printed) → Wrote k (place_of session + 1) (greeting ++ p.goes.speaks.said) printed → Did k told s (Enter session user) t printed
+    by v (nothing e) = record { piece = Silence; is = e; own = tt; ok = v.ok; reached = v.reached }
+    by v (wrote lines cut e) = record {
+      piece = Lines (place_of session + 1) lines;
+      is = e;
+      own = (let x = subst (λ (x : List ℕ). (p : EnterPlay k false s (place_of session) user.now t x) × IsCut (greeting ++ p.goes.speaks.said) lines []) e (p, cut) in (refl, x.0, x.1));
+      ok = v.ok;
+      reached = v.reached;
+    }
+
+    go : Visited k told s t (place_of session + 1) (greeting ++ p.goes.speaks.said) printed → Did k told s (Enter session user) t printed
+    go v = by v v.words
+
+say_did : (k : Setup) (told : ℕ → List Noted) (s : Scene) (session : ℕ) (piece : Bor (List ℕ)) (t : Scene) (printed : List ℕ) → SceneOk k told s
+    → SayPlay k false s (place_of session) piece.now t printed → Did k told s (Say session piece) t printed
+say_did k told s session piece t printed ok p = go (subst (λ (x : Scene). Visited k told s x (place_of session + 1) (p.visitor.unsaid ++ p.goes.speaks.said) printed) (sym p.after)
+    (goes_visited k told s (place_of session) (visitor_more_waits p.visitor piece.now) p.moved p.left printed ok (at_place k told s (place_of session) p.visitor ok p.there) p.goes))
+  where
+    by : (v : Visited k told s t (place_of session + 1) (p.visitor.unsaid ++ p.goes.speaks.said) printed) → Wrote k (place_of session + 1) (p.visitor.unsaid ++ p.goes.speaks.said) printed → Did k told s (Say session piece) t printed
+    by v (nothing e) = record { piece = Silence; is = e; own = tt; ok = v.ok; reached = v.reached }
+    by v (wrote lines cut e) = record {
+      piece = Lines (place_of session + 1) lines;
+      is = e;
+      own = (let x = subst (λ (x : List ℕ). (p : SayPlay k false s (place_of session) piece.now t x) × IsCut (p.visitor.unsaid ++ p.goes.speaks.said) lines []) e (p, cut) in (refl, x.0, x.1));
+      ok = v.ok;
+      reached = v.reached;
+    }
+
+    go : Visited k told s t (place_of session + 1) (p.visitor.unsaid ++ p.goes.speaks.said) printed → Did k told s (Say session piece) t printed
+    go v = by v v.words
+
+idle_did : (k : Setup) (told : ℕ → List Noted) (s : Scene) (session : ℕ) (t : Scene) (printed : List ℕ) → SceneOk k told s
+    → IdlePlay k false s (place_of session) t printed → Did k told s (Idle session) t printed
+idle_did k told s session t printed ok p = by words
+  where
+    place : ℕ
+    place = place_of session
+
+    whole : IsWhole (p.visitor.unsaid ++ p.goes.idles.said)
+    whole = whole_append p.visitor.unsaid p.goes.idles.said (at_place k told s (place_of session) p.visitor ok p.there)
+        (idles_whole (Meets k.config (place_of session)) p.visitor.standing s.world p.goes.mid p.goes.idles.said p.goes.shown p.goes.after.standing p.goes.idles.turned)
+
+    words : Wrote k (place_of session + 1) (p.visitor.unsaid ++ p.goes.idles.said) printed
+    words = wrote_of k (place_of session + 1) p.visitor p.goes.after p.goes.idles.said printed whole p.goes.idles.prints
+
+    reached : Reached k.config s.world p.moved
+    reached = reached_then k.config s.world p.goes.mid p.moved (met_reached k.config (place_of session) s.world p.goes.idles.turned.events p.goes.mid p.goes.idles.turned.met)
+        (parts_reached k false (place_of session) p.goes.after p.goes.mid p.moved p.left p.goes.left)
+
+    there : SceneOk k (λ q. told q ++ []) t
+    there = rw p.after (visited k told s p.moved (place_of session) p.left ok reached
+        (left_whole k (place_of session) p.goes.after p.goes.mid p.moved p.left
+        (unsaid_whole (place_of session + 1) p.visitor p.goes.after p.goes.idles.said printed whole p.goes.idles.prints) p.goes.left))
+
+    reached_there : Reached k.config s.world t.world
+    reached_there = rw p.after reached
+
+    by : Wrote k (place_of session + 1) (p.visitor.unsaid ++ p.goes.idles.said) printed → Did k told s (Idle session) t printed
+    by (nothing e) = record { piece = Silence; is = e; own = tt; ok = there; reached = reached_there }
+    by (wrote lines cut e) = record {
+      piece = Lines (place_of session + 1) lines;
+      is = e;
+      own = (let x = subst (λ (x : List ℕ). (p : IdlePlay k false s (place_of session) t x) × IsCut (p.visitor.unsaid ++ p.goes.idles.said) lines []) e (p, cut) in (refl, x.0, x.1));
+      ok = there;
+      reached = reached_there;
+    }
+
+leave_did : (k : Setup) (told : ℕ → List Noted) (s : Scene) (e : Event) (place : ℕ) (t : Scene) (printed : List ℕ) → SceneOk k told s
+    → LeavePlay k s place t printed → Did k told s e t printed
+leave_did k told s e place t printed ok p =
+    let r = leaves_reached k place s.world p.moved p.leaves in
+    rw p.after (record { piece = Silence; is = p.silent; own = tt; ok = visited k told s p.moved place None ok r tt; reached = r })
 
 -- ---- all events
 
-plays_went : (k : Setup) (s : Scene) (e : Event) (t : Scene) (printed : List ℕ) → SceneOk k s → Plays k false s e t printed → Went k s t printed
-plays_went k s (Bytes connection piece) t printed ok p = bytes_went k false s (seat_of connection) piece.now t printed ok p
-plays_went k s (Vanish connection) t printed ok p = vanish_went k false s (seat_of connection) t printed ok p
-plays_went k s (Put connection) t printed ok p = put_went k false s (seat_of connection) t printed ok p
-plays_went k s (Take shard) t printed ok p = moves_went k s (world.Take shard) t printed ok p
-plays_went k s (Deliver shard) t printed ok p = moves_went k s (world.Deliver shard) t printed ok p
-plays_went k s (Answer shard) t printed ok p = moves_went k s (world.Answer shard) t printed ok p
-plays_went k s (Hear connection) t printed ok p = hear_went k false s (seat_of connection) t printed ok p
-plays_went k s (End connection shard) t printed ok p = moves_went k s (world.PutEnd (seat_of connection) shard) t printed ok p.1
-plays_went k s (Enter session user) t printed ok p = enter_went k false s (place_of session) user.now t printed ok p
-plays_went k s (Say session piece) t printed ok p = say_went k false s (place_of session) piece.now t printed ok p
-plays_went k s (Idle session) t printed ok p = idle_went k false s (place_of session) t printed ok p
-plays_went k s (Leave session) t printed ok p = leave_went k s (place_of session) t printed ok p
+pub plays_did : (k : Setup) (told : ℕ → List Noted) (s : Scene) (e : Event) (t : Scene) (printed : List ℕ) → SceneOk k told s → Plays k false s e t printed → Did k told s e t printed
+plays_did k told s (Bytes connection piece) t printed ok p = bytes_did k told s (Bytes connection piece) (seat_of connection) piece.now t printed (λ u said x. (refl, x)) ok p
+plays_did k told s (Vanish connection) t printed ok p = vanish_did k told s (Vanish connection) (seat_of connection) t printed ok p
+plays_did k told s (Put connection) t printed ok p = put_did k told s (Put connection) (seat_of connection) t printed (λ u said x. (refl, x)) ok p
+plays_did k told s (Take shard) t printed ok p = moves_did k told s (Take shard) (world.Take shard) t printed ok p
+plays_did k told s (Deliver shard) t printed ok p = moves_did k told s (Deliver shard) (world.Deliver shard) t printed ok p
+plays_did k told s (Answer shard) t printed ok p = moves_did k told s (Answer shard) (world.Answer shard) t printed ok p
+plays_did k told s (Hear connection) t printed ok p = hear_did k told s (Hear connection) (seat_of connection) t printed (λ u said x. (refl, x)) ok p
+plays_did k told s (End connection shard) t printed ok p = moves_did k told s (End connection shard) (world.PutEnd (seat_of connection) shard) t printed ok p.1
+plays_did k told s (Enter session user) t printed ok p = enter_did k told s session user t printed ok p
+plays_did k told s (Say session piece) t printed ok p = say_did k told s session piece t printed ok p
+plays_did k told s (Idle session) t printed ok p = idle_did k told s session t printed ok p
+plays_did k told s (Leave session) t printed ok p = leave_did k told s (Leave session) (place_of session) t printed ok p
 
-pub went_none : (k : Setup) (s : Scene) → SceneOk k s → Went k s s []
-went_none k s ok = record { pieces = []; is = refl; each = All-nil (IsTold s.world); ok = ok; reached = stays k.config s.world s.world refl }
+-- ---- many events
 
-pub went_both : (k : Setup) (s m t : Scene) (one two : List ℕ) → Went k s m one → Went k m t two → Went k s t (one ++ two)
-went_both k s m t one two a b = record {
-  pieces = a.pieces ++ b.pieces;
-  is = ap (λ (x : List ℕ). x ++ two) a.is ∙ ap (λ (x : List ℕ). flat_map (text_of k) a.pieces ++ x) b.is ∙ sym (flat_map-append (text_of k) a.pieces b.pieces);
-  each = All-append (IsTold t.world) a.pieces b.pieces (All-weaker (IsTold m.world) (IsTold t.world) (told_grows k.config m.world t.world b.reached) a.pieces a.each) b.each;
-  ok = b.ok;
-  reached = reached_then k.config s.world m.world t.world a.reached b.reached;
+-- an event that was played is an entry
+pub entry_went : (k : Setup) (told : ℕ → List Noted) (s : Scene) (e : Event) (t : Scene) (printed : List ℕ) → Plays k false s e t printed → Did k told s e t printed → Went k told s t printed
+entry_went k told s e t printed p d = record {
+  entries = record { event = e; after = t; piece = d.piece } ∷ [];
+  leads = (record { plays = subst (Plays k false s e t) d.is p; own = d.own }, refl);
+  is = d.is ∙ sym (append-nil (text_of k d.piece));
+  ok = told_same k (with_piece told d.piece) (λ p. told p ++ verdicts_of p (record { event = e; after = t; piece = d.piece } ∷ [])) t (λ j. ap (λ (x : List Noted). told j ++ x) (sym (append-nil (told_in j d.piece)))) d.ok;
+  reached = d.reached;
 }
 
-pub happened_went : (k : Setup) (es : List Event) (s t : Scene) (printed : List ℕ) → SceneOk k s → Happened k es s t printed → Went k s t printed
-happened_went k [] s t printed ok (e, p) = rw (e, p) (went_none k s ok)
-happened_went k (e ∷ es) s t printed ok (m, one, two, p, more, q) =
-    let a = plays_went k s e m one ok p in
-    rw q (went_both k s m t one two a (happened_went k es m t two a.ok more))
+pub went_none : (k : Setup) (told : ℕ → List Noted) (s : Scene) → SceneOk k told s → Went k told s s []
+went_none k told s ok = record {
+  entries = [];
+  leads = refl;
+  is = refl;
+  ok = told_same k told (λ p. told p ++ []) s (λ j. sym (append-nil (told j))) ok;
+  reached = stays k.config s.world s.world refl;
+}
 
-pub nobody_ok : (k : Setup) → SceneOk k empty_scene
-nobody_ok k = λ seat. tt
+pub record_append : (k : Setup) (es fs : List Entry) (s m t : Scene) → IsRecord k es s m → IsRecord k fs m t → IsRecord k (es ++ fs) s t
+record_append k [] fs s m t e r = subst (λ (x : Scene). IsRecord k fs x t) e r
+record_append k (x ∷ es) fs s m t h r = (h.0, record_append k es fs x.after m t h.1 r)
+
+pub verdicts-append : (p : ℕ) (es fs : List Entry) → verdicts_of p (es ++ fs) ≡ verdicts_of p es ++ verdicts_of p fs
+verdicts-append p es fs = flat_map-append (λ (entry : Entry). told_in p entry.piece) es fs
+
+pub went_both : (k : Setup) (told : ℕ → List Noted) (s m t : Scene) (one two : List ℕ) → (a : Went k told s m one) → Went k (λ p. told p ++ verdicts_of p a.entries) m t two → Went k told s t (one ++ two)
+went_both k told s m t one two a b =
+    let text : Entry → List ℕ = λ entry. text_of k entry.piece in
+    record {
+      entries = a.entries ++ b.entries;
+      leads = record_append k a.entries b.entries s m t a.leads b.leads;
+      is = ap (λ (x : List ℕ). x ++ two) a.is ∙ ap (λ (x : List ℕ). flat_map text a.entries ++ x) b.is ∙ sym (flat_map-append text a.entries b.entries);
+      ok = told_same k (λ p. (told p ++ verdicts_of p a.entries) ++ verdicts_of p b.entries) (λ p. told p ++ verdicts_of p (a.entries ++ b.entries)) t
+          (λ j. append_assoc (told j) (verdicts_of j a.entries) (verdicts_of j b.entries) ∙ ap (λ (x : List Noted). told j ++ x) (sym (verdicts-append j a.entries b.entries))) b.ok;
+      reached = reached_then k.config s.world m.world t.world a.reached b.reached;
+    }
+
+-- these events happened
+pub record WentBy (k : Setup) (told : ℕ → List Noted) (es : List Event) (s t : Scene) (printed : List ℕ) : Type 0 where
+  pub went : Went k told s t printed
+  pub events : map (λ entry. entry.event) went.entries ≡ es
+
+events-append : (xs ys : List Entry) → map (λ entry. entry.event) (xs ++ ys) ≡ map (λ entry. entry.event) xs ++ map (λ entry. entry.event) ys
+events-append xs ys = map-append (λ (entry : Entry). entry.event) xs ys
+
+pub happened_went : (k : Setup) (told : ℕ → List Noted) (es : List Event) (s t : Scene) (printed : List ℕ) → SceneOk k told s → Happened k es s t printed → WentBy k told es s t printed
+unfolding went_none went_both entry_went
+happened_went k told [] s t printed ok (e, p) = rw (e, p) (record { went = went_none k told s ok; events = refl })
+happened_went k told (e ∷ es) s t printed ok (m, one, two, p, more, q) =
+    let a = entry_went k told s e m one p (plays_did k told s e m one ok p) in
+    let b = happened_went k (λ p. told p ++ verdicts_of p a.entries) es m t two a.ok more in
+    rw q (record { went = went_both k told s m t one two a b.went; events = events-append a.entries b.went.entries ∙ ap (λ (x : List Event). e ∷ x) b.events })
+
+abbrev pub none_yet : ℕ → List Noted
+none_yet p = []
+
+pub nobody_ok : (k : Setup) → SceneOk k none_yet empty_scene
+nobody_ok k = record { callers = λ seat. none_told seat [] 0 0; visitors = λ place. tt }
 
 -- ---- what follows of it
 
-stored_if : (v : Verdict) → verdict_reply v ≡ Delivered → (uid : ℕ) × (v ≡ Stored uid)
-stored_if (Stored uid) e = (uid, refl)
-stored_if (Refused refusals.Full) e = cc
-stored_if (Refused refusals.MailboxFull) e = cc
-stored_if (Refused refusals.NoMemory) e = cc
-stored_if (Refused refusals.UidSpent) e = cc
+-- what was told at a seat, whoever stands there
+told_there : (k : Setup) (seat : ℕ) (heard : List Noted) (next : ℕ) (told : List Noted) (o : Option Caller) → CallerOk k seat heard next told o → (serial : ℕ) × (message : ℕ) × AreTold seat heard serial message told
+told_there k seat heard next told None c = (next, 0, c)
+told_there k seat heard next told (Some b) c = (b.serial, c.message, told_front seat heard b.serial c.message told (verdicts c.said) c.in_order)
 
-pub is_kept : (k : Config) (w : World) (seat : ℕ) (one : Said) → Headline k w → IsHeard (w.heard seat) one → reply_of one ≡ Delivered → IsKept w seat one
-is_kept k w seat (promise.Verdict noted) h heard e =
-    let u = stored_if noted.verdict e in
-    kept noted u.0 heard u.1 (h.answered seat u.0 noted heard u.1)
-is_kept k w seat (Other reply) h heard e = absurd (heard e)
+pub tells_once : (k : Setup) (t : Scene) (entries : List Entry) → Headline k.config t.world → SceneOk k (λ p. verdicts_of p entries) t → TellsOnce t.world entries
+tells_once k t entries h ok = record {
+  at_own_seat = λ p. let a = at p in all_of_every (λ n. n.key.seat ≡ p) (verdicts_of p entries) (every_weaker (IsTold p (t.world.heard p) a.0 a.1) (λ n. n.key.seat ≡ p) (λ n x. x.0) (verdicts_of p entries) a.2.each);
+  as_heard = heard;
+  in_order = λ p. rising_pair InOrder (verdicts_of p entries) (at p).2.rising;
+  delivered = λ p uid noted there e. h.answered p uid noted (All-contains (Contains (t.world.heard p)) (verdicts_of p entries) noted (heard p) there) e;
+}
+  where
+    at : (p : ℕ) → (serial : ℕ) × (message : ℕ) × AreTold p (t.world.heard p) serial message (verdicts_of p entries)
+    at p = told_there k p (t.world.heard p) (t.next p) (verdicts_of p entries) (t.caller p) (ok.callers p)
 
-pub once : (k : Setup) (t : Scene) (printed : List ℕ) → Went k empty_scene t printed → ExactlyOnce k printed t.world
-once k t printed g =
+    heard : (p : ℕ) → All (Contains (t.world.heard p)) (verdicts_of p entries)
+    heard p = let a = at p in all_of_every (Contains (t.world.heard p)) (verdicts_of p entries) (every_weaker (IsTold p (t.world.heard p) a.0 a.1) (Contains (t.world.heard p)) (λ n x. x.1) (verdicts_of p entries) a.2.each)
+
+below_itself : (a b : CopyKey) → Below a b → a ≢ b
+below_itself a b (inl l) e = let x = ap (λ (y : CopyKey). y.serial) e in absurd (omega (arith, l, x))
+below_itself a b (inr (s, inl l)) e = let x = ap (λ (y : CopyKey). y.message) e in absurd (omega (arith, l, x))
+below_itself a b (inr (s, inr (m, l))) e = let x = ap (λ (y : CopyKey). y.recipient) e in absurd (omega (arith, l, x))
+
+pub none_twice : (w : World) (entries : List Entry) → TellsOnce w entries → NoneTwice entries
+none_twice w entries h = record {
+  at_a_seat = λ p i j d l m. below_itself _ _ (h.in_order p i j d l m);
+  at_two = λ p q a b other here there e. other (sym (All-contains (λ n. n.key.seat ≡ p) (verdicts_of p entries) a (h.at_own_seat p) here) ∙ ap (λ (x : CopyKey). x.seat) e
+      ∙ All-contains (λ n. n.key.seat ≡ q) (verdicts_of q entries) b (h.at_own_seat q) there);
+}
+
+pub happened_once : (k : Setup) (es : List Event) (t : Scene) (printed : List ℕ) → Happened k es empty_scene t printed → ExactlyOnce k es t printed
+happened_once k es t printed x =
+    let by = happened_went k none_yet es empty_scene t printed (nobody_ok k) x in
+    let g = by.went in
     let h = always k.config g.reached.0 t.world g.reached.1 in
     record {
-      events = g.reached.0;
+      entries = g.entries;
+      happened = by.events;
+      leads = g.leads;
+      whole = g.is;
+      steps = g.reached.0;
       came = g.reached.1;
       world = h;
-      pieces = g.pieces;
-      whole = g.is;
-      delivered = λ seat said one there is e. is_kept k.config t.world seat one h
-          (All-contains (IsHeard (t.world.heard seat)) said one (All-contains (IsTold t.world) g.pieces (Replies seat said) g.each there) is) e;
+      told = tells_once k t g.entries h g.ok;
     }
-
-pub happened_once : (k : Setup) (es : List Event) (t : Scene) (printed : List ℕ) → Happened k es empty_scene t printed → ExactlyOnce k printed t.world
-happened_once k es t printed h = once k t printed (happened_went k es empty_scene t printed (nobody_ok k) h)

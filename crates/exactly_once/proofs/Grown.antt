@@ -24,7 +24,7 @@ heard_more w q p r n c = at_cases (λ rs. Contains rs n) w.heard q (w.heard q ++
 heard_step : (k : Config) (w : World) (e : Event) (v : World) (p : ℕ) (n : Noted) → Step k w e v → Contains (w.heard p) n → Contains (v.heard p) n
 heard_step k w (Put q s job) v p n (put_joins may room e) c = rw e c
 heard_step k w (Put q s job) v p n (put_full may room e) c = rw e (heard_more w q p _ n c)
-heard_step k w (Put q s job) v p n (put_no_memory may e) c = rw e (heard_more w q p _ n c)
+heard_step k w (Put q s job) v p n (put_no_memory may room e) c = rw e (heard_more w q p _ n c)
 heard_step k w (Hear q) v p n (hears_one s r others front e) c = rw e (heard_more w q p r n c)
 heard_step k w (PutEnd q s) v p n step c = subst (λ (rs : List Noted). Contains rs n) (sym (heard_stays k w (PutEnd q s) v p tt step)) c
 heard_step k w (Take s) v p n step c = subst (λ (rs : List Noted). Contains rs n) (sym (heard_stays k w (Take s) v p tt step)) c

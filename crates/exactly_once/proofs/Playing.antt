@@ -49,7 +49,7 @@ happened_both k s h h1 old mid new a b = record {
 }
 
 pub came_once : (k : Setup) (h : State) (old new : List ℕ) → HappenedFrom k empty_scene h old new → CameOnce k h old new
-came_once k h old new a = record { after = a.after; printed = a.printed; stands = a.stands; out = a.out; once = happened_once k a.events a.after a.printed a.happened }
+came_once k h old new a = record { events = a.events; after = a.after; printed = a.printed; stands = a.stands; out = a.out; once = happened_once k a.events a.after a.printed a.happened }
 
 -- ---- one event that was tried
 

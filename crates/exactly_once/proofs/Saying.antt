@@ -1,174 +1,310 @@
--- What a connection has said and not printed yet, and what it prints: verdicts that its seat has heard, and replies that say nothing of a copy.
-use Rattle.std.proofs.Common.{◌≡◌, ◌≢◌, ℕ, ◌+◌, Bool, false, List, [], ◌∷◌, ◌++◌, map, Contains, refl, sym, ap, ◌∙◌, subst, Option, Some, None}
-use Rattle.std.specs.Prelude.{All}
+-- What a connection has said and not printed yet, and what it prints: verdicts that its seat has heard, in order, and replies that say nothing of a copy.
+use Rattle.std.proofs.Common.{◌≡◌, ℕ, ◌+◌, ◌<◌, ◌≤◌, Bool, false, true, List, [], ◌∷◌, ◌++◌, map, filter_map, Contains, refl, sym, ap, ◌∙◌, subst, arith, append-nil, append_assoc, Option, Some, None}
 use Rattle.std.proofs.lemmas.List.{map-append}
 use Rattle.std.proofs.lemmas.Grind.{flat_map-append}
-use Rattle.std.proofs.lemmas.List.Elements.{All-append, All-cons, All-nil, All-weaker}
-use Rattle.delivery_token.specs.declared.CopyKey.{CopyKey}
+use Rattle.std.proofs.lemmas.List.Elements.{filter_map-append}
 use Rattle.delivery_token.specs.declared.Verdict.{Verdict}
 use Rattle.delivery_token.specs.declared.log.Noted.{Noted}
 use Rattle.line_io.specs.Wire.{crlf}
 use Rattle.lmtp_machine.specs.declared.connection.What.{What}
 use Rattle.lmtp_machine.specs.declared.reply.Reply.{Reply}
-use Rattle.lmtp_machine.specs.declared.reply.Reply.TheVariants.{Delivered}
 use Rattle.lmtp_machine.specs.Replies.{wire, reply_text}
-use Rattle.lmtp_machine.specs.Dialogue as dialogue
-use Rattle.lmtp_machine.specs.Dialogue.{Phase, Start, Ready, Transaction, Data, Waiting, Ended, Standing, Setting, Submission, Turn, Answered, Opened, on_event, on_verdicts, verdict_reply}
+use Rattle.lmtp_machine.specs.Dialogue.{Phase, Start, Ready, Transaction, Data, Waiting, Ended, Standing, Submission, Turn, Answered, Opened, fresh, on_event, on_verdicts, verdict_reply}
+use Rattle.lmtp_machine.specs.Conversation.{Conversation, Leads}
+use Rattle.lmtp_machine.specs.Kept.{AreMessages, Kept}
+use Rattle.lmtp_machine.proofs.Kept.{event_keeps, fresh_kept, leads_keeps}
 use Rattle.callers.specs.Talk.{Talk, marked, prints_all, prints_none, Prints}
-use Rattle.callers.specs.Caller.{Setup, Caller, HeardFor, Leaves, Talks, GoesOn, Proceeds, goes, stays, works, waits, answers, stalls, talks, lingers, fades, keys_of, meets, setting_of}
+use Rattle.callers.specs.Caller.{Setup, Caller, Leaves, Talks, GoesOn, Proceeds, IsAnswered, goes, stays, works, waits, answers, stalls, talks, lingers, fades, greeted, keys_of, meets, setting_of, unread}
 use Rattle.exactly_once.specs.Promise as promise
-use Rattle.exactly_once.specs.Promise.{Said, Other, reply_of}
+use Rattle.exactly_once.specs.Promise.{Said, Other, reply_of, verdict_in}
 use Rattle.exactly_once.proofs.Quiet.{Quiet, quiet_not, lines_quiet}
+use Rattle.world.proofs.Base.{Every, every_append}
+use Rattle.exactly_once.proofs.Told.{AreTold, Heard, IsBefore, before_later, before_next, heard_for, of_connection, told_front, told_grows, told_more}
 
--- a verdict was heard; no other reply is Delivered
-abbrev pub IsHeard : List Noted → Said → Type 0
-IsHeard heard (promise.Verdict noted) = Contains heard noted
-IsHeard heard (Other reply) = reply ≢ Delivered
+-- ---- what is said
 
--- these bytes are such replies
-pub record IsSaid (host : List ℕ) (heard : List Noted) (bytes : List ℕ) : Type 0 where
-  pub said : List Said
-  pub is : bytes ≡ wire host (map reply_of said)
-  pub each : All (IsHeard heard) said
+-- the verdicts in what was said
+abbrev pub verdicts : List Said → List Noted
+verdicts said = filter_map verdict_in said
 
--- ---- going together
+abbrev pub bytes_of : Setup → List Said → List ℕ
+bytes_of k said = wire k.host (map reply_of said)
 
 abbrev pub says_line : List ℕ → Reply → List ℕ
 says_line host reply = reply_text host reply ++ crlf
 
-pub said_none : (host : List ℕ) (heard : List Noted) → IsSaid host heard []
-said_none host heard = record { said = []; is = refl; each = All-nil (IsHeard heard) }
+joins : (k : Setup) (x y : List Said) → bytes_of k x ++ bytes_of k y ≡ bytes_of k (x ++ y)
+joins k x y = sym (flat_map-append (says_line k.host) (map reply_of x) (map reply_of y)) ∙ ap (λ (r : List Reply). wire k.host r) (sym (map-append reply_of x y))
 
-joins : (host : List ℕ) (a b : List ℕ) (x y : List Said) → a ≡ wire host (map reply_of x) → b ≡ wire host (map reply_of y) → a ++ b ≡ wire host (map reply_of (x ++ y))
-joins host a b x y p q = ap (λ (r : List ℕ). r ++ b) p ∙ ap (λ (r : List ℕ). wire host (map reply_of x) ++ r) q
-    ∙ sym (flat_map-append (says_line host) (map reply_of x) (map reply_of y)) ∙ ap (λ (r : List Reply). wire host r) (sym (map-append reply_of x y))
-
-pub said_append : (host : List ℕ) (heard : List Noted) (a b : List ℕ) → IsSaid host heard a → IsSaid host heard b → IsSaid host heard (a ++ b)
-said_append host heard a b p q = record {
-  said = p.said ++ q.said;
-  is = joins host a b p.said q.said p.is q.is;
-  each = All-append (IsHeard heard) p.said q.said p.each q.each;
-}
-
-heard_grows : (heard more : List Noted) → ((n : Noted) → Contains heard n → Contains more n) → (one : Said) → IsHeard heard one → IsHeard more one
-heard_grows heard more grows (promise.Verdict noted) h = grows noted h
-heard_grows heard more grows (Other reply) h = h
-
-pub said_grows : (host : List ℕ) (heard more : List Noted) (bytes : List ℕ) → ((n : Noted) → Contains heard n → Contains more n) → IsSaid host heard bytes → IsSaid host more bytes
-said_grows host heard more bytes grows p = record {
-  said = p.said;
-  is = p.is;
-  each = All-weaker (IsHeard heard) (IsHeard more) (heard_grows heard more grows) p.said p.each;
-}
-
-pub each_grows : (heard more : List Noted) (said : List Said) → ((n : Noted) → Contains heard n → Contains more n) → All (IsHeard heard) said → All (IsHeard more) said
-each_grows heard more said grows each = All-weaker (IsHeard heard) (IsHeard more) (heard_grows heard more grows) said each
-
--- ---- replies to lines
-
-map_others : (rs : List Reply) → map reply_of (map Other rs) ≡ rs
-map_others [] = refl
-map_others (r ∷ rs) = ap (λ (x : List Reply). r ∷ x) (map_others rs)
-
-each_other : (heard : List Noted) (rs : List Reply) → Quiet rs → All (IsHeard heard) (map Other rs)
-each_other heard [] q = All-nil (IsHeard heard)
-each_other heard (r ∷ rs) q = All-cons (IsHeard heard) (Other r) (map Other rs) (quiet_not r q.0) (each_other heard rs q.1)
-
-pub others_said : (host : List ℕ) (heard : List Noted) (rs : List Reply) → Quiet rs → IsSaid host heard (wire host rs)
-others_said host heard rs q = record { said = map Other rs; is = ap (λ (r : List Reply). wire host r) (sym (map_others rs)); each = each_other heard rs q }
-
--- ---- verdicts
-
--- what is said of these keys
-pub record Verdicts (heard : List Noted) (vs : List Verdict) : Type 0 where
+-- replies that aren't verdicts
+pub record Others (rs : List Reply) : Type 0 where
   pub said : List Said
-  pub is : map reply_of said ≡ map verdict_reply vs
-  pub each : All (IsHeard heard) said
+  pub is : map reply_of said ≡ rs
+  pub none : verdicts said ≡ []
 
-verdicts_heard : (heard : List Noted) (keys : List CopyKey) (vs : List Verdict) → HeardFor heard keys vs → Verdicts heard vs
-verdicts_heard heard [] [] h = record { said = []; is = refl; each = All-nil (IsHeard heard) }
-verdicts_heard heard [] (v ∷ vs) h = absurd h
-verdicts_heard heard (key ∷ keys) [] h = absurd h
-verdicts_heard heard (key ∷ keys) (v ∷ vs) h =
-    let more = verdicts_heard heard keys vs h.1 in
-    let noted : Noted = record { key = key; mailbox = h.0.0; verdict = v } in
-    record {
-      said = promise.Verdict noted ∷ more.said;
-      is = ap (λ (x : List Reply). verdict_reply v ∷ x) more.is;
-      each = All-cons (IsHeard heard) (promise.Verdict noted) more.said h.0.1 more.each;
-    }
+others : (rs : List Reply) → Quiet rs → Others rs
+others [] q = record { said = []; is = refl; none = refl }
+others (r ∷ rs) q =
+    let more = others rs q.1 in
+    record { said = Other r (quiet_not r q.0) ∷ more.said; is = ap (λ (x : List Reply). r ∷ x) more.is; none = more.none }
 
-waiting_said : (host : List ℕ) (heard : List Noted) (keys : List CopyKey) (vs : List Verdict) → HeardFor heard keys vs → IsSaid host heard (wire host (map verdict_reply vs))
-waiting_said host heard keys vs h =
-    let v = verdicts_heard heard keys vs h in
-    record { said = v.said; is = ap (λ (r : List Reply). wire host r) (sym v.is); each = v.each }
+notes_said : (notes : List Noted) → verdicts (map promise.Verdict notes) ≡ notes
+notes_said [] = refl
+notes_said (n ∷ ns) = ap (λ (x : List Noted). n ∷ x) (notes_said ns)
 
--- what is answered where the verdicts are known
-verdicts_said : (host : List ℕ) (heard : List Noted) (keys : List CopyKey) (vs : List Verdict) (phase : Phase) (n : ℕ) → HeardFor heard keys vs → IsSaid host heard (wire host (on_verdicts phase n vs).replies)
-verdicts_said host heard keys vs (Waiting count) n h = waiting_said host heard keys vs h
-verdicts_said host heard keys vs Start n h = said_none host heard
-verdicts_said host heard keys vs Ready n h = said_none host heard
-verdicts_said host heard keys vs (Transaction sender recipients) n h = said_none host heard
-verdicts_said host heard keys vs (Data sender recipients lines) n h = said_none host heard
-verdicts_said host heard keys vs Ended n h = said_none host heard
+notes_replies : (notes : List Noted) → map reply_of (map promise.Verdict notes) ≡ map verdict_reply (map (λ n. n.verdict) notes)
+notes_replies [] = refl
+notes_replies (n ∷ ns) = ap (λ (x : List Reply). verdict_reply n.verdict ∷ x) (notes_replies ns)
+
+-- each is on a copy of this connection
+abbrev pub AreOf : ℕ → List Said → Type 0
+AreOf serial said = Every (λ n. n.key.serial ≡ serial) (verdicts said)
+
+of_both : (serial : ℕ) (x y : List Said) → AreOf serial x → AreOf serial y → AreOf serial (x ++ y)
+of_both serial x y p q = subst (Every (λ n. n.key.serial ≡ serial)) (sym (filter_map-append verdict_in x y)) (every_append (λ n. n.key.serial ≡ serial) (verdicts x) (verdicts y) p q)
 
 -- ---- a caller
 
--- what a caller has said and not printed yet is of that kind
-abbrev pub CallerOk : Setup → List Noted → Option Caller → Type 0
-CallerOk k heard None = Unit {0}
-CallerOk k heard (Some b) = IsSaid k.host heard b.talk.unsaid
+-- The connection at a seat stands here, and these verdicts were told there: what it has still to print is such replies, the verdicts among them come next, and after them those of
+-- the messages that are awaited.
+pub record IsTalking (k : Setup) (seat serial : ℕ) (heard : List Noted) (next : ℕ) (told : List Noted) (standing : Standing) (unsaid : List ℕ) (pending : List Submission) : Type 0 where
+  pub said : List Said
+  pub is : unsaid ≡ bytes_of k said
+  pub message : ℕ
+  pub in_order : AreTold seat heard serial message (told ++ verdicts said)
+  pub numbered : AreMessages (setting_of k seat serial) k.directory message pending standing.submitted
+  pub kept : Kept k.directory standing
+  pub older : serial < next
+  pub own : AreOf serial said
 
-pub caller_grows : (k : Setup) (heard more : List Noted) (o : Option Caller) → ((n : Noted) → Contains heard n → Contains more n) → CallerOk k heard o → CallerOk k more o
-caller_grows k heard more None grows c = tt
-caller_grows k heard more (Some b) grows c = said_grows k.host heard more b.talk.unsaid grows c
+-- who stands at a seat whose next connection has this serial
+abbrev pub CallerOk : Setup → ℕ → List Noted → ℕ → List Noted → Option Caller → Type 0
+CallerOk k seat heard next told None = AreTold seat heard next 0 told
+CallerOk k seat heard next told (Some b) = IsTalking k seat b.serial heard next told b.talk.at.standing b.talk.unsaid b.talk.pending
+
+same_before : (serial message : ℕ) → (key : _) → IsBefore serial message key → IsBefore serial message key
+same_before serial message key x = x
+
+talking_grows : (k : Setup) (seat serial : ℕ) (heard more : List Noted) (next later : ℕ) (told : List Noted) (standing : Standing) (unsaid : List ℕ) (pending : List Submission)
+    → ((n : Noted) → Contains heard n → Contains more n) → next ≤ later → IsTalking k seat serial heard next told standing unsaid pending → IsTalking k seat serial more later told standing unsaid pending
+talking_grows k seat serial heard more next later told standing unsaid pending grows l t = record {
+  said = t.said;
+  is = t.is;
+  message = t.message;
+  in_order = told_grows seat heard more serial t.message serial t.message (told ++ verdicts t.said) grows (same_before serial t.message) t.in_order;
+  numbered = t.numbered;
+  kept = t.kept;
+  older = let o = t.older in omega (arith, o, l);
+  own = t.own;
+}
+
+-- more was heard, and more connections were opened
+pub caller_grows : (k : Setup) (seat : ℕ) (heard more : List Noted) (next later : ℕ) (told : List Noted) (o : Option Caller) → ((n : Noted) → Contains heard n → Contains more n) → next ≤ later
+    → CallerOk k seat heard next told o → CallerOk k seat more later told o
+caller_grows k seat heard more next later told None grows l c = told_grows seat heard more next 0 later 0 told grows (before_later next later l) c
+caller_grows k seat heard more next later told (Some b) grows l c = talking_grows k seat b.serial heard more next later told b.talk.at.standing b.talk.unsaid b.talk.pending grows l c
+
+-- a connection is gone, and what it had still to print is dropped
+drops : (k : Setup) (seat serial : ℕ) (heard : List Noted) (next : ℕ) (told : List Noted) (standing : Standing) (unsaid : List ℕ) (pending : List Submission)
+    → IsTalking k seat serial heard next told standing unsaid pending → AreTold seat heard next 0 told
+drops k seat serial heard next told standing unsaid pending t =
+    told_grows seat heard heard serial t.message next 0 told (λ n c. c) (before_next serial t.message next t.older) (told_front seat heard serial t.message told (verdicts t.said) t.in_order)
+
+-- the same, where it stands there still
+pub falls_silent : (k : Setup) (seat serial : ℕ) (heard : List Noted) (next : ℕ) (told : List Noted) (standing : Standing) (unsaid : List ℕ) (pending : List Submission)
+    → IsTalking k seat serial heard next told standing unsaid pending → IsTalking k seat serial heard next told standing [] pending
+falls_silent k seat serial heard next told standing unsaid pending t = record {
+  said = [];
+  is = refl;
+  message = t.message;
+  in_order = subst (AreTold seat heard serial t.message) (sym (append-nil told)) (told_front seat heard serial t.message told (verdicts t.said) t.in_order);
+  numbered = t.numbered;
+  kept = t.kept;
+  older = t.older;
+  own = tt;
+}
+
+-- what it had still to print was printed
+says_all : (k : Setup) (seat serial : ℕ) (heard : List Noted) (next : ℕ) (told : List Noted) (standing : Standing) (unsaid : List ℕ) (pending : List Submission)
+    → (t : IsTalking k seat serial heard next told standing unsaid pending) → IsTalking k seat serial heard next (told ++ verdicts t.said) standing [] pending
+says_all k seat serial heard next told standing unsaid pending t = record {
+  said = [];
+  is = refl;
+  message = t.message;
+  in_order = subst (AreTold seat heard serial t.message) (sym (append-nil (told ++ verdicts t.said))) t.in_order;
+  numbered = t.numbered;
+  kept = t.kept;
+  older = t.older;
+  own = tt;
+}
+
+-- ---- what is printed
 
 -- what the connection at a seat printed, and who stands there then
-pub record Spoke (k : Setup) (seat : ℕ) (heard : List Noted) (o : Option Caller) (printed : List ℕ) : Type 0 where
+pub record Spoke (k : Setup) (seat serial : ℕ) (heard : List Noted) (next : ℕ) (told : List Noted) (o : Option Caller) (printed : List ℕ) : Type 0 where
   pub said : List Said
-  pub is : printed ≡ marked (seat + 1) (wire k.host (map reply_of said))
-  pub each : All (IsHeard heard) said
-  pub left : CallerOk k heard o
+  pub is : printed ≡ marked (seat + 1) (bytes_of k said)
+  pub own : AreOf serial said
+  pub left : CallerOk k seat heard next (told ++ verdicts said) o
 
-silent : (k : Setup) (seat : ℕ) (heard : List Noted) (o : Option Caller) (printed : List ℕ) → CallerOk k heard o → printed ≡ [] → Spoke k seat heard o printed
-silent k seat heard o printed c e = record { said = []; is = e; each = All-nil (IsHeard heard); left = c }
+silent : (k : Setup) (seat serial : ℕ) (heard : List Noted) (next : ℕ) (told : List Noted) (o : Option Caller) (printed : List ℕ) → CallerOk k seat heard next told o → printed ≡ [] → Spoke k seat serial heard next told o printed
+silent k seat serial heard next told o printed c e = record { said = []; is = e; own = tt; left = subst (λ (x : List Noted). CallerOk k seat heard next x o) (sym (append-nil told)) c }
 
-left_ok : (k : Setup) (whole : Bool) (heard : List Noted) (b : Caller) (what : What) (after : Talk) (submitted : List Submission) (o : Option Caller) → IsSaid k.host heard after.unsaid → Leaves whole b what after submitted o → CallerOk k heard o
-left_ok k whole heard b what after submitted o s (goes q n e) = rw e tt
-left_ok k whole heard b what after submitted o s (stays f e) = rw e s
+-- The dialogue went on from where nothing is awaited.
+went_on : (k : Setup) (seat serial : ℕ) (heard : List Noted) (next : ℕ) (told : List Noted) (at after : Conversation) (unsaid taken : List ℕ) (turn : Turn)
+    → IsTalking k seat serial heard next told at.standing unsaid [] → Leads (setting_of k seat serial) k.directory at taken turn after
+    → IsTalking k seat serial heard next told after.standing (unsaid ++ wire k.host turn.replies) turn.submissions
+went_on k seat serial heard next told at after unsaid taken turn t l =
+    let quiet : Quiet turn.replies = subst (λ (x : Turn). Quiet x.replies) (sym l.turns) (lines_quiet (setting_of k seat serial) k.directory at.standing l.heard) in
+    let more = others turn.replies quiet in
+    let keeps = leads_keeps (setting_of k seat serial) k.directory at taken turn after l t.kept in
+    let here : t.message ≡ at.standing.submitted = t.numbered in
+    record {
+      said = t.said ++ more.said;
+      is = ap (λ (x : List ℕ). x ++ wire k.host turn.replies) t.is ∙ ap (λ (x : List Reply). bytes_of k t.said ++ wire k.host x) (sym more.is) ∙ joins k t.said more.said;
+      message = at.standing.submitted;
+      in_order = subst (AreTold seat heard serial at.standing.submitted)
+          (ap (λ (x : List Noted). told ++ x) (sym (append-nil (verdicts t.said)) ∙ ap (λ (x : List Noted). verdicts t.said ++ x) (sym more.none) ∙ sym (filter_map-append verdict_in t.said more.said)))
+          (subst (λ (n : ℕ). AreTold seat heard serial n (told ++ verdicts t.said)) here t.in_order);
+      numbered = keeps.numbered.are;
+      kept = keeps.kept;
+      older = t.older;
+      own = of_both serial t.said more.said t.own (subst (Every (λ n. n.key.serial ≡ serial)) (sym more.none) tt);
+    }
 
-prints_spoke : (k : Setup) (whole : Bool) (seat : ℕ) (heard : List Noted) (b : Caller) (what : What) (before after : Talk) (turn : Turn) (o : Option Caller) (printed : List ℕ)
-    → IsSaid k.host heard (before.unsaid ++ wire k.host turn.replies) → Prints (seat + 1) k.host before after turn printed → Leaves whole b what after turn.submissions o → Spoke k seat heard o printed
-prints_spoke k whole seat heard b what before after turn o printed s (prints_all e p) l = record {
+-- who stands there, by who has gone on
+left_ok : (k : Setup) (whole : Bool) (seat : ℕ) (heard : List Noted) (next : ℕ) (told : List Noted) (b : Caller) (what : What) (after : Talk) (submitted : List Submission) (o : Option Caller)
+    → after.pending ≡ submitted → IsTalking k seat b.serial heard next told after.at.standing after.unsaid submitted → Leaves whole b what after submitted o → CallerOk k seat heard next told o
+left_ok k whole seat heard next told b what after submitted o same t (goes q n e) = rw e (drops k seat b.serial heard next told after.at.standing after.unsaid submitted t)
+left_ok k whole seat heard next told b what after submitted o same t (stays f e) = rw e (subst (IsTalking k seat b.serial heard next told after.at.standing after.unsaid) (sym same) t)
+
+prints_spoke : (k : Setup) (whole : Bool) (seat : ℕ) (heard : List Noted) (next : ℕ) (told : List Noted) (b : Caller) (what : What) (before after : Talk) (turn : Turn) (o : Option Caller) (printed : List ℕ)
+    → after.pending ≡ turn.submissions → IsTalking k seat b.serial heard next told after.at.standing (before.unsaid ++ wire k.host turn.replies) turn.submissions
+    → Prints (seat + 1) k.host before after turn printed → Leaves whole b what after turn.submissions o → Spoke k seat b.serial heard next told o printed
+prints_spoke k whole seat heard next told b what before after turn o printed same t (prints_all e p) l = record {
+  said = t.said;
+  is = p ∙ ap (λ (x : List ℕ). marked (seat + 1) x) t.is;
+  own = t.own;
+  left = left_ok k whole seat heard next (told ++ verdicts t.said) b what after turn.submissions o same
+      (subst (λ (x : List ℕ). IsTalking k seat b.serial heard next (told ++ verdicts t.said) after.at.standing x turn.submissions) (sym e)
+      (says_all k seat b.serial heard next told after.at.standing (before.unsaid ++ wire k.host turn.replies) turn.submissions t)) l;
+}
+prints_spoke k whole seat heard next told b what before after turn o printed same t (prints_none e p) l =
+    silent k seat b.serial heard next told o printed (left_ok k whole seat heard next told b what after turn.submissions o same
+    (subst (λ (x : List ℕ). IsTalking k seat b.serial heard next told after.at.standing x turn.submissions) (sym e) t) l) p
+
+talks_spoke : (k : Setup) (whole : Bool) (seat : ℕ) (heard : List Noted) (next : ℕ) (told : List Noted) (b : Caller) (o : Option Caller) (printed : List ℕ)
+    → IsTalking k seat b.serial heard next told b.talk.at.standing b.talk.unsaid [] → Talks k whole seat b o printed → Spoke k seat b.serial heard next told o printed
+talks_spoke k whole seat heard next told b o printed s t =
+    prints_spoke k whole seat heard next told b t.what b.talk t.after t.turn o printed t.works.submits
+    (went_on k seat b.serial heard next told b.talk.at t.after.at b.talk.unsaid t.works.taken t.turn s t.works.leads) t.prints t.leaves
+
+-- ---- verdicts that are known
+
+-- what is said of them
+pub record Says (heard : List Noted) (pending : List Submission) (vs : List Verdict) (rs : List Reply) (told : List Noted) (seat serial number : ℕ) : Type 0 where
+  pub said : List Said
+  pub is : map reply_of said ≡ rs
+  pub in_order : AreTold seat heard serial number (told ++ verdicts said)
+  pub own : AreOf serial said
+
+-- none of them, or all
+verdicts_said : (k : Setup) (seat serial : ℕ) (heard told : List Noted) (first : ℕ) (pending : List Submission) (vs : List Verdict) (phase : Phase) (n : ℕ)
+    → AreMessages (setting_of k seat serial) k.directory first pending n → (h : Heard heard (keys_of pending) vs) → AreTold seat heard serial first told
+    → Says heard pending vs (on_verdicts phase n vs).replies told seat serial n
+verdicts_said k seat serial heard told first pending vs phase n messages h t = by_phase phase
+  where
+    all : AreTold seat heard serial n (told ++ h.notes)
+    all = told_more seat serial heard (setting_of k seat serial) k.directory first n pending vs told refl refl messages h t
+
+    none_said : Says heard pending vs [] told seat serial n
+    none_said = record { said = []; is = refl; in_order = subst (AreTold seat heard serial n) (sym (append-nil told)) (told_front seat heard serial n told h.notes all); own = tt }
+
+    by_phase : (p : Phase) → Says heard pending vs (on_verdicts p n vs).replies told seat serial n
+    by_phase (Waiting count) = record {
+      said = map promise.Verdict h.notes;
+      is = notes_replies h.notes ∙ ap (λ (x : List Verdict). map verdict_reply x) h.verdicts_are;
+      in_order = subst (λ (x : List Noted). AreTold seat heard serial n (told ++ x)) (sym (notes_said h.notes)) all;
+      own = subst (Every (λ n. n.key.serial ≡ serial)) (sym (notes_said h.notes)) (of_connection heard (setting_of k seat serial) k.directory first n pending vs messages h);
+    }
+    by_phase Start = none_said
+    by_phase Ready = none_said
+    by_phase (Transaction sender recipients) = none_said
+    by_phase (Data sender recipients lines) = none_said
+    by_phase Ended = none_said
+
+same_number : (phase : Phase) (n : ℕ) (vs : List Verdict) → (on_verdicts phase n vs).standing.submitted ≡ n
+same_number (Waiting count) n vs = refl
+same_number Start n vs = refl
+same_number Ready n vs = refl
+same_number (Transaction sender recipients) n vs = refl
+same_number (Data sender recipients lines) n vs = refl
+same_number Ended n vs = refl
+
+answers_talking : (k : Setup) (seat : ℕ) (heard : List Noted) (next : ℕ) (told : List Noted) (b : Caller) (vs : List Verdict)
+    → IsTalking k seat b.serial heard next told b.talk.at.standing b.talk.unsaid b.talk.pending → IsAnswered heard b vs
+    → IsTalking k seat b.serial heard next told (meets k seat b (Answered vs)).talk.at.standing (meets k seat b (Answered vs)).talk.unsaid []
+answers_talking k seat heard next told b vs t is =
+    let at = b.talk.at.standing in
+    let phase = at.phase in
+    let n = at.submitted in
+    let says = verdicts_said k seat b.serial heard (told ++ verdicts t.said) t.message b.talk.pending vs phase n t.numbered (heard_for heard (keys_of b.talk.pending) vs is.each) t.in_order in
+    let keeps = event_keeps (setting_of k seat b.serial) k.directory at (Answered vs) t.kept in
+    record {
+      said = t.said ++ says.said;
+      is = ap (λ (x : List ℕ). x ++ wire k.host (on_verdicts phase n vs).replies) t.is ∙ ap (λ (x : List Reply). bytes_of k t.said ++ wire k.host x) (sym says.is) ∙ joins k t.said says.said;
+      message = n;
+      in_order = subst (AreTold seat heard b.serial n)
+          (append_assoc told (verdicts t.said) (verdicts says.said) ∙ ap (λ (x : List Noted). told ++ x) (sym (filter_map-append verdict_in t.said says.said))) says.in_order;
+      numbered = sym (same_number phase n vs);
+      kept = keeps.kept;
+      older = t.older;
+      own = of_both b.serial t.said says.said t.own says.own;
+    }
+
+-- ---- going on
+
+goes_spoke : (k : Setup) (whole : Bool) (seat : ℕ) (heard : List Noted) (next : ℕ) (told : List Noted) (b : Caller) (o : Option Caller) (printed : List ℕ)
+    → CallerOk k seat heard next told (Some b) → GoesOn k whole seat heard b o printed → Spoke k seat b.serial heard next told o printed
+goes_spoke k whole seat heard next told b o printed s (works none t) =
+    talks_spoke k whole seat heard next told b o printed (subst (IsTalking k seat b.serial heard next told b.talk.at.standing b.talk.unsaid) none s) t
+goes_spoke k whole seat heard next told b o printed s (waits some not e p) = record {
   said = s.said;
   is = p ∙ ap (λ (x : List ℕ). marked (seat + 1) x) s.is;
-  each = s.each;
-  left = left_ok k whole heard b what after turn.submissions o (rw e (said_none k.host heard)) l;
+  own = s.own;
+  left = rw e (says_all k seat b.serial heard next told b.talk.at.standing b.talk.unsaid b.talk.pending s);
 }
-prints_spoke k whole seat heard b what before after turn o printed s (prints_none e p) l =
-    silent k seat heard o printed (left_ok k whole heard b what after turn.submissions o (rw e s) l) p
+goes_spoke k whole seat heard next told b o printed s (answers vs some is t) =
+    talks_spoke k whole seat heard next told (meets k seat b (Answered vs)) o printed (answers_talking k seat heard next told b vs s is) t
+goes_spoke k whole seat heard next told b o printed s (stalls f e p) = silent k seat b.serial heard next told o printed (rw e s) p
 
-talks_spoke : (k : Setup) (whole : Bool) (seat : ℕ) (heard : List Noted) (b : Caller) (o : Option Caller) (printed : List ℕ) → IsSaid k.host heard b.talk.unsaid → Talks k whole seat b o printed → Spoke k seat heard o printed
-talks_spoke k whole seat heard b o printed s t =
-    let l = t.works.leads in
-    let quiet : Quiet t.turn.replies = subst (λ (x : Turn). Quiet x.replies) (sym l.turns) (lines_quiet (setting_of k seat b.serial) k.directory b.talk.at.standing l.heard) in
-    prints_spoke k whole seat heard b t.what b.talk t.after t.turn o printed
-    (said_append k.host heard b.talk.unsaid (wire k.host t.turn.replies) s (others_said k.host heard t.turn.replies quiet)) t.prints t.leaves
+pub proceeds_spoke : (k : Setup) (whole : Bool) (seat : ℕ) (heard : List Noted) (next : ℕ) (told : List Noted) (b : Caller) (o : Option Caller) (printed : List ℕ)
+    → CallerOk k seat heard next told (Some b) → Proceeds k whole seat heard b o printed → Spoke k seat b.serial heard next told o printed
+proceeds_spoke k whole seat heard next told b o printed s (talks there g) = goes_spoke k whole seat heard next told b o printed s g
+proceeds_spoke k whole seat heard next told b o printed s (lingers gone not e p) = silent k seat b.serial heard next told o printed (rw e s) p
+proceeds_spoke k whole seat heard next told b o printed s (fades vs gone is e p) =
+    silent k seat b.serial heard next told o printed (rw e (drops k seat b.serial heard next told b.talk.at.standing b.talk.unsaid b.talk.pending s)) p
 
-goes_spoke : (k : Setup) (whole : Bool) (seat : ℕ) (heard : List Noted) (b : Caller) (o : Option Caller) (printed : List ℕ) → IsSaid k.host heard b.talk.unsaid → GoesOn k whole seat heard b o printed → Spoke k seat heard o printed
-goes_spoke k whole seat heard b o printed s (works none t) = talks_spoke k whole seat heard b o printed s t
-goes_spoke k whole seat heard b o printed s (waits some not e p) = silent k seat heard o printed (rw e s) p
-goes_spoke k whole seat heard b o printed s (answers vs some is t) =
-    talks_spoke k whole seat heard (meets k seat b (Answered vs)) o printed
-    (said_append k.host heard b.talk.unsaid (wire k.host (on_verdicts b.talk.at.standing.phase b.talk.at.standing.submitted vs).replies) s
-    (verdicts_said k.host heard (keys_of b.talk.pending) vs b.talk.at.standing.phase b.talk.at.standing.submitted is.each)) t
-goes_spoke k whole seat heard b o printed s (stalls f e p) = silent k seat heard o printed (rw e s) p
-
-pub proceeds_spoke : (k : Setup) (whole : Bool) (seat : ℕ) (heard : List Noted) (b : Caller) (o : Option Caller) (printed : List ℕ) → IsSaid k.host heard b.talk.unsaid → Proceeds k whole seat heard b o printed → Spoke k seat heard o printed
-proceeds_spoke k whole seat heard b o printed s (talks there g) = goes_spoke k whole seat heard b o printed s g
-proceeds_spoke k whole seat heard b o printed s (lingers gone not e p) = silent k seat heard o printed (rw e s) p
-proceeds_spoke k whole seat heard b o printed s (fades vs gone is e p) = silent k seat heard o printed (rw e tt) p
+-- one whose peer is gone prints nothing
+pub unread_silent : (k : Setup) (whole : Bool) (seat : ℕ) (heard : List Noted) (next : ℕ) (told : List Noted) (b : Caller) (o : Option Caller) (printed : List ℕ)
+    → CallerOk k seat heard next told (Some b) → Proceeds k whole seat heard (unread b) o printed → CallerOk k seat heard next told o × (printed ≡ [])
+unread_silent k whole seat heard next told b o printed s (talks there g) = let x : true ≡ false = there in cc
+unread_silent k whole seat heard next told b o printed s (lingers gone not e p) =
+    (rw e (falls_silent k seat b.serial heard next told b.talk.at.standing b.talk.unsaid b.talk.pending s), p)
+unread_silent k whole seat heard next told b o printed s (fades vs gone is e p) =
+    (rw e (drops k seat b.serial heard next told b.talk.at.standing b.talk.unsaid b.talk.pending s), p)
 
 -- a connection that was just opened has said its greeting
-pub greeted_said : (k : Setup) (seat serial : ℕ) (heard : List Noted) → IsSaid k.host heard (meets k seat (record { serial = serial; gone = false; to_put = []; talk = record { at = record { standing = dialogue.fresh; unfinished = [] }; waits = []; unsaid = []; pending = [] } }) Opened).talk.unsaid
-greeted_said k seat serial heard = others_said k.host heard (dialogue.on_event (setting_of k seat serial) k.directory dialogue.fresh Opened).replies (tt, tt)
+pub greeted_talking : (k : Setup) (seat serial : ℕ) (heard told : List Noted) (next : ℕ) → serial < next → AreTold seat heard serial 0 told → CallerOk k seat heard next told (Some (greeted k seat serial))
+greeted_talking k seat serial heard told next l t =
+    let more = others (on_event (setting_of k seat serial) k.directory fresh Opened).replies (tt, tt) in
+    record {
+      said = more.said;
+      is = ap (λ (x : List Reply). wire k.host x) (sym more.is);
+      message = 0;
+      in_order = subst (λ (x : List Noted). AreTold seat heard serial 0 (told ++ x)) (sym more.none) (subst (AreTold seat heard serial 0) (sym (append-nil told)) t);
+      numbered = refl;
+      kept = fresh_kept k.directory;
+      older = l;
+      own = subst (Every (λ n. n.key.serial ≡ serial)) (sym more.none) tt;
+    }

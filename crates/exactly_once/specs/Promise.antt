@@ -1,56 +1,132 @@
 -- What a house promises whatever happened in it: of all that was printed so far, and of the mailboxes.
-use Rattle.std.specs.Prelude.{◌≡◌, ℕ, ◌+◌, ◌⊎◌, true, List, [], ◌∷◌, ◌++◌, flat_map, map, Contains}
+use Rattle.std.specs.Prelude.{◌≡◌, ◌≢◌, ℕ, ◌+◌, ◌==◌, if◌then◌else◌, ◌⊎◌, false, true, List, [], ◌∷◌, ◌++◌, flat_map, filter_map, map, All, AllPairs, Contains, Option, Some, None}
+use Rattle.delivery_token.specs.Keys.{Below}
 use Rattle.delivery_token.specs.declared.Verdict.TheVariants.{Stored}
 use Rattle.delivery_token.specs.declared.log.Noted.{Noted}
 use Rattle.lmtp_machine.specs.declared.reply.Reply.{Reply}
 use Rattle.lmtp_machine.specs.declared.reply.Reply.TheVariants.{Delivered}
 use Rattle.lmtp_machine.specs.Dialogue.{verdict_reply}
 use Rattle.lmtp_machine.specs.Replies.{wire}
+use Rattle.line_io.specs.Wire.{IsCut, joined}
+use Rattle.imap_session.specs.Commands.{greeting}
 use Rattle.world.specs.World.{World, Event, IsWorld}
 use Rattle.world.specs.Law.{Headline, StandsOnce, pairs}
-use Rattle.callers.specs.Caller.{Setup}
+use Rattle.callers.specs.Caller.{Caller, Setup}
 use Rattle.callers.specs.Talk.{marked as marked_connection}
 use Rattle.visitors.specs.Visitor.{marked as marked_session}
-use Rattle.house.specs.Scene.{HasNothing, Plays, Scene}
+use Rattle.house.specs.Scene.{EnterPlay, HasNothing, IdlePlay, Plays, SayPlay, Scene, empty_scene, place_of, seat_of}
 use Rattle.house.specs.Steps.{IsBusy, IsNobody}
 use Rattle.house.specs.declared.event.Event as house
+use Rattle.house.specs.declared.event.Event.TheVariants.{Bytes, Put, Hear, Enter, Say, Idle}
 use Rattle.house.specs.Stands.{StandsFor}
 use Rattle.house.specs.State.{State}
 
--- what a connection says: the verdict on a copy, or any other reply
+-- ---- the record of a house
+
+-- what a connection says: the verdict on a copy, or another reply, which isn't `Delivered`
 pub data Said : Type 0 where
   Verdict : Noted → Said
-  Other : Reply → Said
+  Other : (reply : Reply) → reply ≢ Delivered → Said
 
 abbrev pub reply_of : Said → Reply
 reply_of (Verdict noted) = verdict_reply noted.verdict
-reply_of (Other reply) = reply
+reply_of (Other reply other) = reply
 
--- what is printed at a time: what the connection at a seat says, or the lines of a session
+abbrev pub verdict_in : Said → Option Noted
+verdict_in (Verdict noted) = Some noted
+verdict_in (Other reply other) = None
+
+-- what an event prints: what the connection at a seat says, the lines of a session, or nothing
 pub data Piece : Type 0 where
   Replies : (seat : ℕ) → List Said → Piece
-  Lines : (session : ℕ) → List ℕ → Piece
+  Lines : (session : ℕ) → List (List ℕ) → Piece
+  Silence : Piece
 
 abbrev pub text_of : Setup → Piece → List ℕ
 text_of k (Replies seat said) = marked_connection (seat + 1) (wire k.host (map reply_of said))
-text_of k (Lines session said) = marked_session session said
+text_of k (Lines session lines) = marked_session session (joined lines)
+text_of k Silence = []
 
--- This is the verdict on a copy, which its seat has heard as stored, and the copy stands in its mailbox's history exactly once, under one UID.
-pub data IsKept (w : World) (seat : ℕ) : Said → Type 0 where
-  kept : (noted : Noted) (uid : ℕ) → Contains (w.heard seat) noted → noted.verdict ≡ Stored uid → StandsOnce (pairs (w.box noted.mailbox).accepted) noted.key uid
-      → IsKept w seat (Verdict noted)
+-- the serial of the connection that stands at a seat, or of the one that is opened there next
+abbrev pub serial_of : (next : ℕ) → Option Caller → ℕ
+serial_of next None = next
+serial_of next (Some caller) = caller.serial
 
--- Exactly-once delivery, of what was printed since the house was new and of the world that it came to.
-pub record ExactlyOnce (k : Setup) (printed : List ℕ) (w : World) : Type 0 where
-  -- the world came from the empty one by these events, so each promise of every world holds of it
-  pub events : List Event
-  pub came : IsWorld k.config events w
-  pub world : Headline k.config w
-  -- what was printed, piece by piece
-  pub pieces : List Piece
-  pub whole : printed ≡ flat_map (text_of k) pieces
-  -- each copy whose `Delivered` line was printed is kept
-  pub delivered : (seat : ℕ) (said : List Said) (one : Said) → Contains pieces (Replies seat said) → Contains said one → reply_of one ≡ Delivered → IsKept w seat one
+-- the connection at this seat is told its own verdicts alone, on copies that it sent itself
+abbrev pub HearsItsOwn : Scene → ℕ → List Said → Type 0
+HearsItsOwn s seat said = All (λ noted. noted.key.serial ≡ serial_of (s.next seat) (s.caller seat)) (filter_map verdict_in said)
+
+-- The piece is the event's own: its connection says it, or its session, and then the whole lines are what was still to be printed of it and what it said since.
+abbrev pub IsOwn : Setup → Scene → house.Event → Scene → Piece → Type 0
+IsOwn k s event t Silence = Unit {0}
+IsOwn k s (Bytes connection bytes) t (Replies seat said) = (seat ≡ seat_of connection) × HearsItsOwn s seat said
+IsOwn k s (Put connection) t (Replies seat said) = (seat ≡ seat_of connection) × HearsItsOwn s seat said
+IsOwn k s (Hear connection) t (Replies seat said) = (seat ≡ seat_of connection) × HearsItsOwn s seat said
+IsOwn k s (Enter session user) t (Lines number lines) =
+    (number ≡ place_of session + 1) × (p : EnterPlay k false s (place_of session) user.now t (text_of k (Lines number lines))) × IsCut (greeting ++ p.goes.speaks.said) lines []
+IsOwn k s (Say session bytes) t (Lines number lines) =
+    (number ≡ place_of session + 1) × (p : SayPlay k false s (place_of session) bytes.now t (text_of k (Lines number lines))) × IsCut (p.visitor.unsaid ++ p.goes.speaks.said) lines []
+IsOwn k s (Idle session) t (Lines number lines) =
+    (number ≡ place_of session + 1) × (p : IdlePlay k false s (place_of session) t (text_of k (Lines number lines))) × IsCut (p.visitor.unsaid ++ p.goes.idles.said) lines []
+IsOwn k s event t piece = ⊥
+
+-- an entry of the record: what happened, what it led to, and what was printed
+pub record Entry : Type 0 where
+  pub event : house.Event
+  pub after : Scene
+  pub piece : Piece
+
+-- From this scene the event may lead there and print just that. Memory may have been wanting.
+pub record IsEntry (k : Setup) (before : Scene) (entry : Entry) : Type 0 where
+  pub plays : Plays k false before entry.event entry.after (text_of k entry.piece)
+  pub own : IsOwn k before entry.event entry.after entry.piece
+
+-- The entries lead from the one scene to the other, one after another.
+abbrev pub IsRecord : Setup → List Entry → Scene → Scene → Type 0
+IsRecord k [] s t = t ≡ s
+IsRecord k (entry ∷ entries) s t = IsEntry k s entry × IsRecord k entries entry.after t
+
+-- ---- exactly once
+
+-- the verdicts in a piece that are told at seat p
+abbrev pub told_in : ℕ → Piece → List Noted
+told_in p (Replies seat said) = if p == seat then filter_map verdict_in said else []
+told_in p (Lines session lines) = []
+told_in p Silence = []
+
+-- all verdicts that were told at seat p, in the order in which they were printed
+abbrev pub verdicts_of : ℕ → List Entry → List Noted
+verdicts_of p entries = flat_map (λ entry. told_in p entry.piece) entries
+
+-- the entries tell of each copy at most once, and as delivered only what is kept
+pub record TellsOnce (w : World) (entries : List Entry) : Type 0 where
+  -- at its own seat alone, and as that seat has heard it
+  pub at_own_seat : (p : ℕ) → All (λ noted. noted.key.seat ≡ p) (verdicts_of p entries)
+  pub as_heard : (p : ℕ) → All (Contains (w.heard p)) (verdicts_of p entries)
+  -- the copies of each seat in the order in which they were sent, none twice
+  pub in_order : (p : ℕ) → AllPairs (λ a b. Below a.key b.key) (verdicts_of p entries)
+  -- and each whose `Delivered` line was printed stands in its mailbox's history exactly once, under one UID
+  pub delivered : (p uid : ℕ) (noted : Noted) → Contains (verdicts_of p entries) noted → noted.verdict ≡ Stored uid → StandsOnce (pairs (w.box noted.mailbox).accepted) noted.key uid
+
+-- no two of the verdicts that were told are about one copy
+pub record NoneTwice (entries : List Entry) : Type 0 where
+  pub at_a_seat : (p : ℕ) → AllPairs (λ a b. a.key ≢ b.key) (verdicts_of p entries)
+  pub at_two : (p q : ℕ) (a b : Noted) → p ≢ q → Contains (verdicts_of p entries) a → Contains (verdicts_of q entries) b → a.key ≢ b.key
+
+-- Exactly-once delivery, of the events of a new house, of what they led to, and of all that they printed.
+pub record ExactlyOnce (k : Setup) (events : List house.Event) (after : Scene) (printed : List ℕ) : Type 0 where
+  -- what was printed, event by event
+  pub entries : List Entry
+  pub happened : map (λ entry. entry.event) entries ≡ events
+  pub leads : IsRecord k entries empty_scene after
+  pub whole : printed ≡ flat_map (λ entry. text_of k entry.piece) entries
+  -- the world came from the empty one by these steps, so each promise of every world holds of it
+  pub steps : List Event
+  pub came : IsWorld k.config steps after.world
+  pub world : Headline k.config after.world
+  pub told : TellsOnce after.world entries
+
+-- ---- events that are tried
 
 -- An event was tried: it happened, or nobody was there, or the place was taken, or there was nothing to do, and then nothing changed.
 pub data IsTried (k : Setup) (h : State) (s : Scene) (e : house.Event) (t : Scene) (printed : List ℕ) : Type 0 where
@@ -71,10 +147,11 @@ pub record TriedFrom (k : Setup) (es : List house.Event) (h : State) (s : Scene)
   pub stands : StandsFor k g after
   pub out : new ≡ old ++ printed
 
--- A house that was new came to one that stands for such a world, and this was appended on the way.
+-- In a house that was new these events happened; it stands for what they led to, and this was appended on the way.
 pub record CameOnce (k : Setup) (h : State) (old new : List ℕ) : Type 0 where
+  pub events : List house.Event
   pub after : Scene
   pub printed : List ℕ
   pub stands : StandsFor k h after
   pub out : new ≡ old ++ printed
-  pub once : ExactlyOnce k printed after.world
+  pub once : ExactlyOnce k events after printed

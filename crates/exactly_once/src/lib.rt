@@ -8,17 +8,24 @@ mod tests;
 
 ghost use Rattle.std.specs.Prelude.{List, ℕ};
 ghost use Rattle.callers.specs.Caller.{Setup};
-ghost use Rattle.exactly_once.specs.Promise.{ExactlyOnce};
+ghost use Rattle.exactly_once.specs.Promise.{Entry, ExactlyOnce, NoneTwice, TellsOnce};
 ghost use Rattle.house.specs.Scene.{Scene, empty_scene};
 ghost use Rattle.house.specs.Settling.{Happened};
 ghost use Rattle.house.specs.declared.event.Event.{Event};
+ghost use Rattle.world.specs.World.{World};
 
 pub use replay::play;
 
 /// Over every list of events, so over every interleaving of connections, consumers and sessions, also where memory was wanting: each
 /// recipient copy that was answered 250 stands in its mailbox's history exactly once, under one UID, and the copies of each connection
-/// in the order in which it sent them; no copy is taken from a shard after its close; and what a session was shown since its SELECT is
-/// exactly the mailbox's changes up to its cursor, in order.
+/// in the order in which it sent them; it was answered so once, on the connection that sent it; no copy is taken from a shard after its
+/// close; and what a session was shown since its SELECT is exactly the mailbox's changes up to its cursor, in order. And nothing was
+/// printed but the replies of connections and whole lines of sessions, each at an event of its own.
 pub fn exactly_once_delivery()
-    ensures { (k : Setup) (events : List Event) (s : Scene) (printed : List ℕ) → Happened k events empty_scene s printed → ExactlyOnce k printed s.world }
+    ensures { (k : Setup) (events : List Event) (s : Scene) (printed : List ℕ) → Happened k events empty_scene s printed → ExactlyOnce k events s printed }
+{}
+
+/// No two verdicts that were told are about one copy, at one seat or at two. So no copy has two lines that say it was delivered.
+pub fn no_copy_is_told_twice()
+    ensures { (w : World) (entries : List Entry) → TellsOnce w entries → NoneTwice entries }
 {}

@@ -16,7 +16,7 @@ use Rattle.lmtp_machine.specs.Dialogue.{Answered, Submission}
 use Rattle.callers.specs.Line.{Line}
 use Rattle.house.specs.State.{State}
 use Rattle.callers.specs.Talk.{Talk}
-use Rattle.callers.specs.Caller.{Caller, GoesOn, Leaves, Proceeds, Setup, answers, copies_of, fades, goes, lingers, meets, stalls, stays, talks, waits, works}
+use Rattle.callers.specs.Caller.{Caller, GoesOn, Leaves, Proceeds, Setup, answers, copies_of, fades, goes, lingers, meets, stalls, stays, talks, told, waits, works}
 use Rattle.house.specs.Scene.{Scene}
 use Rattle.callers.specs.CallerStands.{StandsForCaller}
 use Rattle.house.specs.Stands.{StandsFor, StandsForOne, StandsForSeat}
@@ -37,7 +37,7 @@ leaves_serial whole a what after ss o b (stays q e) f = same_serial b (record { 
 
 goes_serial : (k : Setup) (whole : Bool) (seat : ℕ) (heard : List Noted) (a : Caller) (o : Option Caller) (printed : List ℕ) (b : Caller) → GoesOn k whole seat heard a o printed → o ≡ Some b → b.serial ≡ a.serial
 goes_serial k whole seat heard a o printed b (works p t) e = leaves_serial whole a t.what t.after t.turn.submissions o b t.leaves e
-goes_serial k whole seat heard a o printed b (waits m n f p) e = same_serial b a (sym e ∙ f)
+goes_serial k whole seat heard a o printed b (waits m n f p) e = same_serial b (told a) (sym e ∙ f)
 goes_serial k whole seat heard a o printed b (answers vs m n t) e = leaves_serial whole (meets k seat a (Answered vs)) t.what t.after t.turn.submissions o b t.leaves e
 goes_serial k whole seat heard a o printed b (stalls w f p) e = same_serial b a (sym e ∙ f)
 

@@ -34,7 +34,7 @@ use Rattle.house.proofs.Seats.{heard_is, one_step}
 may_of : (k : Config) (w : World) (p s : ℕ) (c : Job) (v : World) → PutStep k w p s c v → MayPut k w p s c
 may_of k w p s c v (put_joins m l e) = m
 may_of k w p s c v (put_full m l e) = m
-may_of k w p s c v (put_no_memory m e) = m
+may_of k w p s c v (put_no_memory m room e) = m
 
 longer : {A : Type 0} (xs : List A) (x : A) → xs ++ x ∷ [] ≡ xs → ⊥
 longer xs x e = let l = ap length e in let m = length-append xs (x ∷ []) in omega (arith, l, m)
@@ -43,7 +43,7 @@ longer xs x e = let l = ap length e in let m = length-append xs (x ∷ []) in om
 put_moves : (k : Config) (w : World) (p s : ℕ) (c : Job) (v : World) → PutStep k w p s c v → v ≡ w → ⊥
 put_moves k w p s c v (put_joins m l e) f = longer (w.lane s).waiting _ (sym (ap (λ (x : Lane Job). x.waiting) (set_at-same w.lane s _)) ∙ ap (λ (x : World). (x.lane s).waiting) (sym e ∙ f))
 put_moves k w p s c v (put_full m l e) f = longer (w.heard p) _ (sym (set_at-same w.heard p _) ∙ ap (λ (x : World). x.heard p) (sym e ∙ f))
-put_moves k w p s c v (put_no_memory m e) f = longer (w.heard p) _ (sym (set_at-same w.heard p _) ∙ ap (λ (x : World). x.heard p) (sym e ∙ f))
+put_moves k w p s c v (put_no_memory m room e) f = longer (w.heard p) _ (sym (set_at-same w.heard p _) ∙ ap (λ (x : World). x.heard p) (sym e ∙ f))
 
 hear_moves : (w : World) (p : ℕ) (v : World) → HearStep w p v → v ≡ w → ⊥
 hear_moves w p v (hears_one s r others h e) f = longer (w.heard p) _ (sym (set_at-same w.heard p _) ∙ ap (λ (x : World). x.heard p) (sym e ∙ f))

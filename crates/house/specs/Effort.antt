@@ -1,5 +1,6 @@
 -- How much is left to do before nothing moves: bytes that wait to be taken, copies that are to be put, and what the delivery side has before it.
-use Rattle.std.specs.Prelude.{ℕ, ◌+◌, ◌<◌, Option, Some, None, slice_index_or, sum_by}
+use Rattle.std.specs.Prelude.{ℕ, ◌+◌, ◌-◌, ◌<◌, Option, Some, None, slice_index_or, sum_by}
+use Rattle.delivery_core.specs.Changes.{Ends}
 use Rattle.delivery_core.specs.Held.{behind}
 use Rattle.delivery_core.specs.Load.{load}
 use Rattle.house.specs.declared.event.Event.{Event}
@@ -25,11 +26,11 @@ turns_left (Some p) behind = 1 + behind
 abbrev pub idle_effort : ℕ → State → ℕ
 idle_effort place h = turns_left (slice_index_or h.visitors place None) (behind h.core place)
 
--- what the house does by itself makes it less
+-- what the house does by itself makes it less; and an end that was put stands in its lane, where it stood not
 abbrev pub MakesLess : Event → State → State → Type 0
 MakesLess (Bytes connection piece) old new = Unit {0}
 MakesLess (Vanish connection) old new = Unit {0}
-MakesLess (End connection shard) old new = Unit {0}
+MakesLess (End connection shard) old new = Ends old.core new.core (connection - 1) shard
 MakesLess (Enter session user) old new = Unit {0}
 MakesLess (Say session piece) old new = Unit {0}
 MakesLess (Idle session) old new = idle_effort (place_of session) new < idle_effort (place_of session) old

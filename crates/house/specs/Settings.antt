@@ -1,5 +1,5 @@
 -- The settings of a house: those that stand where none are given, their ranges, what may be wrong with them, and what they settle.
-use Rattle.std.specs.Prelude.{◌≡◌, ℕ, ◌*◌, ◌<◌, ◌≤◌, ◌==◌, ◌&&◌, ◌||◌, not, Bool, true, false, nat_lt, List, [], ◌∷◌, length, map, codes, Option, Some, None, Result, Ok, Err}
+use Rattle.std.specs.Prelude.{◌≡◌, ℕ, ◌*◌, ◌<◌, ◌≤◌, ◌==◌, ◌&&◌, ◌||◌, not, Bool, true, false, nat_lt, max, List, [], ◌∷◌, length, map, codes, Option, Some, None, Result, Ok, Err}
 use Rattle.envelope.specs.Directory.{Home}
 use Rattle.envelope.specs.Names.{home_of, words_read}
 use Rattle.envelope.specs.declared.directory.DirectoryFault.{DirectoryFault}
@@ -86,6 +86,7 @@ setup_of c = record {
     depth = c.depth;
     messages = c.messages;
     ring = c.ring;
+    ring_max = max c.ring c.ring_max;
     first_uid = c.first_uid;
     uidvalidity = c.uidvalidity;
   };

@@ -1,5 +1,6 @@
 -- What a call of the house promises: for each scene for which it stood, a scene to which the event leads.
 use Rattle.std.specs.Prelude.{◌≡◌, ℕ, ◌<◌, ◌≤◌, ◌⊎◌, ◌++◌, ◌%◌, slice_index_or, slice_set, Bool, true, false, List, [], ◌∷◌, length, Option, Some, None, IsSome}
+use Rattle.delivery_token.specs.Book.{Book}
 use Rattle.delivery_token.specs.declared.CopyKey.{CopyKey}
 use Rattle.delivery_token.specs.declared.log.Noted.{Noted}
 use Rattle.house.specs.declared.event.Event.{Event}
@@ -186,6 +187,17 @@ pub record PutsNext (old : Held) (h : Line) (new : Held) (why : Option Refusal) 
   pub front : due h ≡ copy ∷ others
   pub puts : CorePuts old copy new why
 
+-- the log of a seat has no room for the note of a verdict
+abbrev pub HasNoRoom : Held → ℕ → Type 0
+HasNoRoom h seat = (d : Book) → (slice_index_or h.heard seat d).spare ≡ 0
+
+-- the next copy is of a seat whose log has no room for the note of a refusal
+pub record CannotNote (old : Held) (h : Line) : Type 0 where
+  pub copy : Job
+  pub others : List Job
+  pub front : due h ≡ copy ∷ others
+  pub room : HasNoRoom old copy.key.seat
+
 -- The visitor at a place went on, and printed this; the delivery side stands for what its session did.
 pub record PlaceVisited (k : Setup) (whole : Bool) (place : ℕ) (w : World) (b : Visitor) (old : Held) (p : Option Place) (new : Held) (before after : List ℕ) : Type 0 where
   pub left : Option Visitor
@@ -228,3 +240,19 @@ pub record MayIdle (p : Place) (place : ℕ) (core : Held) : Type 0 where
 -- In no world for which the delivery side stood does the visitor at a place have a turn.
 abbrev pub HasNoTurn : ℕ → Option Place → Held → Type 0
 HasNoTurn place p old = (k : Setup) (w v : World) (b : Visitor) (o : Option Visitor) (printed : List ℕ) → core.StandsFor k.config old w → StandsForVisit p (Some b) → VisitorIdles k true place w b v o printed → ⊥
+
+-- When an event may be refused for want of memory. A take, a delivery, an answer, an end and a leave ask for none. A put and a hearing ask before
+-- anything is done for the room of one note alone, and an idling session for what there is to show.
+abbrev pub MayWant : Event → State → State → Type 0
+MayWant (Take shard) old new = ⊥
+MayWant (Deliver shard) old new = ⊥
+MayWant (Answer shard) old new = ⊥
+MayWant (End connection shard) old new = ⊥
+MayWant (Leave session) old new = ⊥
+MayWant (Put connection) old new = (h : Line) × (slice_index_or old.callers (seat_of connection) None ≡ Some h) × (CannotNote old.core h ⊎ ((why : Option Refusal) × PutsNext old.core h new.core why))
+MayWant (Hear connection) old new = HasNoRoom old.core (seat_of connection) ⊎ ((r : Noted) × Hears old.core new.core (seat_of connection) (r ∷ []))
+MayWant (Idle session) old new = (p : Place) × (slice_index_or old.visitors (place_of session) None ≡ Some p) × MayIdle p (place_of session) old.core
+MayWant (Bytes connection piece) old new = Unit {0}
+MayWant (Vanish connection) old new = Unit {0}
+MayWant (Enter session user) old new = Unit {0}
+MayWant (Say session piece) old new = Unit {0}

@@ -6,8 +6,7 @@ ghost use Rattle.house.specs.Settings.{IsDefault, fault_named};
 
 use envelope::DirectoryFault;
 use std::alloc::{AllocError, Global};
-use std::error::Error;
-use std::fmt;
+use thiserror::Error;
 
 /// The settings of a house.
 #[derive(Debug, Drop)]
@@ -38,34 +37,24 @@ pub struct Config {
 }
 
 /// What is wrong with the settings. The first that holds is the fault; want of memory comes where memory was refused.
-#[derive(Clone, Copy, Debug, PartialEq, Eq)]
+#[derive(Clone, Copy, Debug, PartialEq, Eq, Error)]
 pub enum ConfigFault {
     /// There are more than 64 mailboxes.
+    #[error("TooMany")]
     TooMany,
     /// The host, the domain or a mailbox is spelled wrong, or a folder's user has no word before it.
+    #[error("BadName")]
     BadName,
     /// A word names the mailbox of an earlier one, in upper or lower case.
+    #[error("Twice")]
     Twice,
     /// The ring keeps fewer than two changes for each message, or may keep at most fewer than it keeps.
+    #[error("Ring")]
     Ring,
     /// Memory was refused.
+    #[error("NoMemory")]
     NoMemory,
 }
-
-impl fmt::Display for ConfigFault {
-    fn fmt<W: fmt::Write>(&self, f: &mut fmt::Formatter<W>) -> fmt::Result {
-        let name = match self {
-            ConfigFault::TooMany => "TooMany",
-            ConfigFault::BadName => "BadName",
-            ConfigFault::Twice => "Twice",
-            ConfigFault::Ring => "Ring",
-            ConfigFault::NoMemory => "NoMemory",
-        };
-        f.write_str(name)
-    }
-}
-
-impl Error for ConfigFault {}
 
 impl From<AllocError> for ConfigFault {
     ghost use Rattle.house.specs.declared.config.ConfigFault.{ConfigFault};

@@ -1,5 +1,7 @@
 //! What may happen to a house, and why it didn't. No code.
 
+use thiserror::Error;
+
 /// One event. Connections and sessions are numbered from 1, shards from 0.
 #[derive(Clone, Copy, Debug, PartialEq, Eq)]
 pub enum Event<'a> {
@@ -31,14 +33,18 @@ pub enum Event<'a> {
 }
 
 /// Why an event wasn't made. The first that holds is the fault. After Nobody, Busy and Nothing nothing changed.
-#[derive(Clone, Copy, Debug, PartialEq, Eq)]
+#[derive(Clone, Copy, Debug, PartialEq, Eq, Error)]
 pub enum HouseFault {
     /// The connection, the session, the user or the shard isn't there, or the seat takes no new connection.
+    #[error("nobody is there")]
     Nobody,
     /// The place is taken, or the seat still waits for the verdicts of a connection whose peer is gone.
+    #[error("the place is taken")]
     Busy,
     /// There is nothing to do, or it may not happen now.
+    #[error("there is nothing to do")]
     Nothing,
     /// Memory was wanting. What was done by then stands, and the next event of the connection or session goes on from there.
+    #[error("out of memory")]
     NoMemory,
 }

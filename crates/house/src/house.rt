@@ -15,7 +15,7 @@ ghost use Rattle.house.specs.Stands.{StandsFor};
 ghost use Rattle.house.specs.Effort.{MakesLess, place_effort};
 ghost use Rattle.delivery_core.specs.Load.{load};
 ghost use Rattle.std.specs.Borrow.{Bor};
-ghost use Rattle.house.specs.Steps.{Follows, FollowsInPart, IsIdle, HasSeat, IsBusy, IsEmptySeat, IsNoSeat, IsNobody, IsRead, IsVacant, Led, MayNotPut, PlaceWentOn, PutsNext, StandsForMaybe, fault_of, is_unread};
+ghost use Rattle.house.specs.Steps.{Follows, FollowsInPart, IsIdle, HasSeat, IsBusy, IsEmptySeat, IsNoSeat, IsNobody, IsRead, IsVacant, Led, MayNotPut, CannotNote, MayWant, PlaceWentOn, PutsNext, StandsForMaybe, fault_of, is_unread};
 ghost use Rattle.house.specs.declared.event.Event.TheVariants as events;
 
 use crate::event::{Event, HouseFault};
@@ -141,6 +141,7 @@ fn put_next(core: &mut DeliveryCore, place: &Option<Caller>) -> Result<Option<Re
     ensures nobody { (result ≡ Err HouseFault.Nobody) ↔ (place.now ≡ None) }
     ensures busy { result ≢ Err HouseFault.Busy }
     ensures nothing { result ≡ Err HouseFault.Nothing → (h : Line) × (place.now ≡ Some h) × MayNotPut core.old h }
+    ensures memory { result ≡ Err HouseFault.NoMemory → (h : Line) × (place.now ≡ Some h) × CannotNote core.old h }
     ensures puts { IfOk result (λ why. (h : Line) × (place.now ≡ Some h) × PutsNext core.old h core.new why) }
     ensures load { OnOk result (load core.new ≤ load core.old + 4) }
     ensures refused { OnErr result (core.new ≡ core.old) }
@@ -257,6 +258,7 @@ impl House {
         ensures busy { result ≢ Err HouseFault.Busy }
         ensures idle { result ≡ Err HouseFault.Nothing → IsIdle self.old (events.Put connection) }
         ensures no_memory { result ≡ Err HouseFault.NoMemory → FollowsInPart self.old (events.Put connection) self.new out.old.items out.new.items }
+        ensures asks { result ≡ Err HouseFault.NoMemory → MayWant (events.Put connection) self.old self.new }
         ensures refused { result ≢ Err HouseFault.NoMemory → OnErr result ((self.new ≡ self.old) × (out.new.items ≡ out.old.items)) }
     {
         let seat = usize::from(connection - 1);
@@ -281,6 +283,7 @@ impl House {
         ensures busy { result ≢ Err HouseFault.Busy }
         ensures idle { result ≡ Err HouseFault.Nothing → IsIdle self.old (events.Hear connection) }
         ensures no_memory { result ≡ Err HouseFault.NoMemory → FollowsInPart self.old (events.Hear connection) self.new out.old.items out.new.items }
+        ensures asks { result ≡ Err HouseFault.NoMemory → MayWant (events.Hear connection) self.old self.new }
         ensures refused { result ≢ Err HouseFault.NoMemory → OnErr result ((self.new ≡ self.old) × (out.new.items ≡ out.old.items)) }
     {
         let seat = usize::from(connection - 1);
@@ -351,7 +354,8 @@ impl House {
     /// Nobody, Busy and Nothing come in this order, and after them nothing changed: Nobody where the connection, the shard, the session or
     /// the user isn't there; Busy where bytes, a vanishing or an end are for a seat that waits for the verdicts of a peer that is gone, an end
     /// also where a connection stands, and where a user enters at a place that is taken; Nothing where the event would change nothing. After
-    /// NoMemory what was done by then stands, and the next event of the connection or session goes on from there; bytes that came with it were
+    /// NoMemory, which no take, delivery, answer, end or leave answers, what was done by then stands, and the next event of the connection or
+    /// session goes on from there; bytes that came with it were
     /// taken up or weren't there at all.
     pub fn step(&mut self, event: Event<'_>, out: &mut Vec<u8>) -> Result<(), HouseFault>
         ensures follows { OnOk result (Follows self.old event.entry self.new out.old.items out.new.items) }
@@ -361,6 +365,7 @@ impl House {
         ensures idle { result ≡ Err HouseFault.Nothing → IsIdle self.old event.entry }
         ensures bytes { (connection : ℕ) (piece : Bor (List ℕ)) → event.entry ≡ events.Bytes connection piece → result ≢ Err HouseFault.Nothing }
         ensures no_memory { result ≡ Err HouseFault.NoMemory → FollowsInPart self.old event.entry self.new out.old.items out.new.items }
+        ensures asks { result ≡ Err HouseFault.NoMemory → MayWant event.entry self.old self.new }
         ensures refused { result ≢ Err HouseFault.NoMemory → OnErr result ((self.new ≡ self.old) × (out.new.items ≡ out.old.items)) }
     {
         match event {
@@ -440,6 +445,7 @@ impl House {
         ensures busy { (result ≡ Err HouseFault.Busy) ↔ IsBusy self.old (events.End connection shard) }
         ensures idle { result ≡ Err HouseFault.Nothing → IsIdle self.old (events.End connection shard) }
         ensures memory { result ≢ Err HouseFault.NoMemory }
+        ensures effort { OnOk result (MakesLess (events.End connection shard) self.old self.new) }
         ensures refused { OnErr result (self.new ≡ self.old) }
     {
         if connection == 0 || usize::from(connection) > self.callers.len() {
@@ -468,6 +474,7 @@ impl House {
         ensures busy { result ≢ Err HouseFault.Busy }
         ensures idle { result ≡ Err HouseFault.Nothing → IsIdle self.old (events.Put connection) }
         ensures no_memory { result ≡ Err HouseFault.NoMemory → FollowsInPart self.old (events.Put connection) self.new out.old.items out.new.items }
+        ensures asks { result ≡ Err HouseFault.NoMemory → MayWant (events.Put connection) self.old self.new }
         ensures refused { result ≢ Err HouseFault.NoMemory → OnErr result ((self.new ≡ self.old) × (out.new.items ≡ out.old.items)) }
     {
         if connection == 0 || usize::from(connection) > self.callers.len() {
@@ -484,6 +491,7 @@ impl House {
         ensures busy { result ≢ Err HouseFault.Busy }
         ensures idle { result ≡ Err HouseFault.Nothing → IsIdle self.old (events.Hear connection) }
         ensures no_memory { result ≡ Err HouseFault.NoMemory → FollowsInPart self.old (events.Hear connection) self.new out.old.items out.new.items }
+        ensures asks { result ≡ Err HouseFault.NoMemory → MayWant (events.Hear connection) self.old self.new }
         ensures refused { result ≢ Err HouseFault.NoMemory → OnErr result ((self.new ≡ self.old) × (out.new.items ≡ out.old.items)) }
     {
         if connection == 0 || usize::from(connection) > self.callers.len() {

@@ -8,7 +8,7 @@ ghost use Rattle.delivery_core.specs.Stands as core;
 ghost use Rattle.house.specs.Effort.{MakesLess, turns_left};
 ghost use Rattle.house.specs.Settling.{Visit, Visits, idle_turns};
 ghost use Rattle.house.specs.Stands.{StandsFor, StandsForVisit};
-ghost use Rattle.house.specs.Steps.{Follows, FollowsInPart, HasNoTurn, IsIdle, IsNobody, MayIdle, PlaceIdled, PlaceIdledInPart};
+ghost use Rattle.house.specs.Steps.{Follows, FollowsInPart, HasNoTurn, IsIdle, IsNobody, MayIdle, MayWant, PlaceIdled, PlaceIdledInPart};
 ghost use Rattle.house.specs.Trying.{Goes, IsAmong, Wants};
 ghost use Rattle.house.specs.declared.event.Event.TheVariants as events;
 ghost use Rattle.visitors.specs.Visitor as spec;
@@ -74,6 +74,7 @@ impl House {
         ensures busy { result ≢ Err HouseFault.Busy }
         ensures idle { result ≡ Err HouseFault.Nothing → IsIdle self.old (events.Idle session) }
         ensures no_memory { result ≡ Err HouseFault.NoMemory → FollowsInPart self.old (events.Idle session) self.new out.old.items out.new.items }
+        ensures asks { result ≡ Err HouseFault.NoMemory → MayWant (events.Idle session) self.old self.new }
         ensures refused { result ≢ Err HouseFault.NoMemory → OnErr result ((self.new ≡ self.old) × (out.new.items ≡ out.old.items)) }
     {
         if self.has_no_place(session) {

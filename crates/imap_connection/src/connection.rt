@@ -18,7 +18,7 @@ use std::marker::Model;
 const MAX_LINE: usize = 8_192;
 
 /// Room for what a line's answer reserves before anything is done, beside the tag of an IDLE.
-const ANSWER_ROOM: usize = MAX_LINE + 67;
+const ANSWER_ROOM: usize = MAX_LINE + 80;
 
 // What a call took of a piece, and what the client may send next.
 #[derive(Clone, Copy)]
@@ -158,7 +158,7 @@ impl ImapConnection {
         ensures moves { IfOk result (λ fed. fed.after ≢ After.Bye → 0 < length piece.now → 0 < fed.used) }
         ensures ok { IfOk result (λ fed. (d : Dialogue) → StandsFor self.old d → Takes S.step d piece.now store.old store.new out.old.items out.new.items fed self.new) }
         ensures err { OnErr result ((self.new ≡ self.old) × (store.new ≡ store.old) × (out.new.items ≡ out.old.items)) }
-        ensures full { OnErr result (vec_capacity out.new < vec_len out.new + (8259 + tag_len self.new.session.idling)) }
+        ensures full { OnErr result (vec_capacity out.new < vec_len out.new + (8272 + tag_len self.new.session.idling)) }
         ensures sends { IfOk result (λ fed. fed.after ≡ may_send self.new.session) }
     {
         if self.session.ended() {
@@ -201,7 +201,7 @@ impl ImapConnection {
 
     /// Takes a piece to its end, or to the line that ends the session: each line that ends in it is answered (RFC 9051, 2.2), and one of
     /// more than 8,192 bytes with its CRLF as too long. Where memory is refused before a line is answered, what was taken till then
-    /// stands, and the rest is for the next call. It is refused only where `out` has no room, behind what it has by then, for 8,259 bytes
+    /// stands, and the rest is for the next call. It is refused only where `out` has no room, behind what it has by then, for 8,272 bytes
     /// and the tag of the IDLE that isn't done.
     pub fn take<S: Store>(
         &mut self,
@@ -213,7 +213,7 @@ impl ImapConnection {
         requires { self.old.session.ended ≡ false }
         ensures used { result.used ≤ length piece.now }
         ensures all { IfSome result.after (λ after. after ≢ After.Bye → result.used ≡ length piece.now) }
-        ensures full { result.after ≡ None → vec_capacity out.new < vec_len out.new + (8259 + tag_len self.new.session.idling) }
+        ensures full { result.after ≡ None → vec_capacity out.new < vec_len out.new + (8272 + tag_len self.new.session.idling) }
         ensures sends { IfSome result.after (λ after. after ≡ may_send self.new.session) }
         ensures took { (d : Dialogue) → StandsFor self.old d → Took S.step d piece.now store.old store.new out.old.items out.new.items result self.new }
     {

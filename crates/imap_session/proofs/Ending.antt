@@ -11,7 +11,7 @@ use Rattle.imap_session.specs.Exchange as ex
 use Rattle.imap_session.specs.Exchange.{Call, Answer, Exchange, Folder, Standing, Turn, Event, played, refused, saying, closed, tagged, refusal_text, refusal_after, nothing_more}
 use Rattle.imap_session.specs.Commands.{says, on_found, wrong_state, on_command}
 use Rattle.imap_session.specs.Store.{Met, Reaches, Stops, Does, Moves, Plays, after_command, ending, last, last_words, after_result, onward}
-use Rattle.imap_session.proofs.Runs.{Met-append, reaches_here, reaches_write, stops_write}
+use Rattle.imap_session.proofs.Runs.{Met-append, reaches_here, reaches_put}
 
 -- what is done where the selected mailbox stays
 pub moves_still : {S V : Type 0} (step : S → Call → Answer → S → Type 0) (sel : Option Selected) (x : Exchange) (y : V → Exchange) (old new : S) (before after : List ℕ) (r : Result V MailFault)
@@ -31,14 +31,13 @@ moves_refused step sel f s text n tag now was =
     let P : Option Selected → Type 0 = λ z. Reaches step tag now (record now { selected = z }) (on_found f wrong_state sel) wrong_state s s text text in
     subst P was (rw n (reaches_here step tag now wrong_state s text))
 
--- a line that is told before the last one
-pub does_tell : {S : Type 0} (step : S → Call → Answer → S → Type 0) (line words : List ℕ) (s : S) (before after : List ℕ) (r : Result (Bor (List ℕ)) MailFault)
-    → OnOk r (after ≡ before ++ line) → IfOk r (λ w. w.now ≡ words) → OnErr r (after ≡ before) → IfErr r (λ f. f ≡ NoMemory)
-    → Does step (ex.Write line (says words)) last s s before after r
-does_tell step line words s before after (Ok w) t same e f = λ tag now.
-    rw same (reaches_write step tag now line (says words) s before after t)
-does_tell step line words s before after (Err fault) t same e f = λ tag now.
-    rw (f, e) (stops_write step tag now line (says words) s before)
+-- a line that is told before the last one, in room that was reserved
+pub moves_told : {S : Type 0} (step : S → Call → Answer → S → Type 0) (sel : Option Selected) (line words : List ℕ) (after : After) (s : S) (before mid : List ℕ)
+    → mid ≡ before ++ line → (tag : List ℕ) (now : Standing) → now.selected ≡ sel
+    → Reaches step tag now (record now { selected = sel }) (ex.Put line (ex.Done words after)) (ex.Done words after) s s before mid
+moves_told step sel line words after s before mid t tag now was =
+    let P : Option Selected → Type 0 = λ z. Reaches step tag now (record now { selected = z }) (ex.Put line (ex.Done words after)) (ex.Done words after) s s before mid in
+    subst P was (reaches_put step tag now line (ex.Done words after) s before mid t)
 
 -- ---- the last words
 

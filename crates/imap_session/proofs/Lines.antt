@@ -1,6 +1,7 @@
 -- Whole lines, answered: a fault, a command, IDLE, and the line that ends it.
-use Rattle.std.proofs.Common.{◌≡◌, ℕ, List, [], ◌∷◌, ◌++◌, Bool, true, false, codes, Option, Some, None, Result, Ok, Err, refl, ap, sym, ◌∙◌, subst, append-nil, if◌then◌else◌}
+use Rattle.std.proofs.Common.{◌≡◌, ℕ, List, [], ◌∷◌, ◌++◌, Bool, true, false, codes, length, ◌<◌, Option, Some, None, Result, Ok, Err, refl, ap, sym, ◌∙◌, subst, append-nil, if◌then◌else◌}
 use Rattle.std.specs.Prelude.{zero}
+use Rattle.std.proofs.lemmas.Bool.{lt-ltb}
 use Rattle.std.specs.Borrow.{Bor}
 use Rattle.mailbox.specs.declared.clients.MailFault.{MailFault}
 use Rattle.imap_grammar.specs.declared.command.Command.{Command}
@@ -54,7 +55,7 @@ idle_is _ e = absurd cc
 pub answers_idle : {S : Type 0} (step : S → Call → Answer → S → Type 0) (now next : Standing) (line tag : List ℕ) (command : Command) (s : S) (before after : List ℕ) (how : After) → now.idling ≡ None
     → read line ≡ Ok (tag, command) → is_idle command ≡ true → (how ≡ Bye → ⊥)
     → (how ≡ Idle → (next ≡ record now { idling = Some tag }) × (after ≡ before ++ codes "+ idling\r\n"))
-    → (how ≡ Go → (next ≡ now) × (after ≡ before ++ tagged tag (codes "NO Out of memory")))
+    → (how ≡ Go → (32 < length tag) × (next ≡ now) × (after ≡ before ++ tagged tag (codes "NO Out of memory")))
     → Answers step now line s s before after how next
 answers_idle step now next line tag command s before after Bye awake h i on begun starved = absurd (on refl)
 answers_idle step now next line tag command s before after Idle awake h i on begun starved =
@@ -67,13 +68,14 @@ answers_idle step now next line tag command s before after Idle awake h i on beg
       wrote = (begun refl).1;
     })
 answers_idle step now next line tag command s before after Go awake h i on begun starved =
-    subst (λ (n : Standing). Answers step now line s s before after Go n) (sym (starved refl).0) (record {
+    subst (λ (n : Standing). Answers step now line s s before after Go n) (sym (starved refl).1) (record {
       answers = Starved zero ∷ [];
       events = [];
       bytes = tagged tag (codes "NO Out of memory") ++ [];
-      played = awake_turn now line (Starved zero ∷ []) awake ∙ ap (λ r. on_read now r (Starved zero ∷ [])) (h ∙ ap (λ c. Ok (tag, c)) (idle_is command i));
+      played = awake_turn now line (Starved zero ∷ []) awake ∙ ap (λ r. on_read now r (Starved zero ∷ [])) (h ∙ ap (λ c. Ok (tag, c)) (idle_is command i))
+          ∙ ap (λ (b : Bool). if b then Some (record { events = []; bytes = tagged tag (codes "NO Out of memory") ++ []; after = Go; standing = now }) else None) (lt-ltb 32 (length tag) (starved refl).0);
       met = refl;
-      wrote = (starved refl).1 ∙ ap (λ t. before ++ t) (sym (append-nil (tagged tag (codes "NO Out of memory"))));
+      wrote = (starved refl).2 ∙ ap (λ t. before ++ t) (sym (append-nil (tagged tag (codes "NO Out of memory"))));
     })
 
 -- the line that ends it

@@ -102,6 +102,17 @@ stops_write step tag now bytes x s text = record {
   wrote = sym (append-nil text);
 }
 
+-- in room that was reserved
+pub reaches_put : {S : Type 0} (step : S → Call → Answer → S → Type 0) (tag : List ℕ) (now : Standing) (bytes : List ℕ) (x : Exchange) (s : S) (before after : List ℕ)
+    → after ≡ before ++ bytes → Reaches step tag now now (ex.Put bytes x) x s s before after
+reaches_put step tag now bytes x s before after h = record {
+  events = [];
+  bytes = bytes;
+  leads = λ more turn e. (more, ap (option_map (saying bytes)) e);
+  met = refl;
+  wrote = h;
+}
+
 -- ---- reads
 
 pub reaches_read : {S : Type 0} (step : S → Call → Answer → S → Type 0) (tag : List ℕ) (now : Standing) (uid : ℕ) (mark : Bool) (next : Option Row → Exchange) (row : Option Row) (old new : S) (text : List ℕ)

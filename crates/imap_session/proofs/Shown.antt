@@ -1,5 +1,11 @@
 -- Each command shows changes only in their place.
-use Rattle.std.proofs.Common.{◌≡◌, ℕ, Bool, true, false, codes, List, [], ◌∷◌, Option, Some, None, refl, if◌then◌else◌}
+use Rattle.std.proofs.Common.{◌≡◌, ◌⊎◌, inl, inr, ℕ, is_some, ◌++◌, append_assoc, Bool, true, false, codes, List, [], ◌∷◌, Option, Some, None, refl, if◌then◌else◌}
+use Rattle.std.specs.Prelude.{◌&&◌}
+use Rattle.change_ring.specs.declared.change.Flags.{Flags}
+use Rattle.mailbox.specs.declared.clients.Row.{Row}
+use Rattle.cursor_set.specs.Lines.{place, flag_words, spaced}
+use Rattle.std.specs.Prelude.{decimal, map}
+use Rattle.imap_grammar.specs.Answers.{answered, fetch_answer, item_text, status_text}
 use Rattle.imap_grammar.specs.Reading.{is_done}
 use Rattle.imap_grammar.specs.Sets.{named_in}
 use Rattle.imap_grammar.specs.declared.command.Command.{Command}
@@ -8,96 +14,130 @@ use Rattle.imap_grammar.specs.declared.command.Fetch.{Fetch}
 use Rattle.imap_grammar.specs.declared.command.Store.{Store}
 use Rattle.imap_session.specs.declared.standing.Selected.{Selected}
 use Rattle.imap_session.specs.Exchange.{Exchange, Expunge, Feed, Folder, Standing}
-use Rattle.imap_session.specs.Commands.{on_command, on_idle_line, counting, folder_of, showing, completed, closing, entering, on_folder, on_chosen, messages_done, on_found, fetching, storing, if_writable, expunge_set, store_messages, fetch_messages, unlimited, wrong_state, says}
-use Rattle.imap_session.specs.Shows.{may_show, DoneShowsInPlace, ShowsBefore, ShowsInPlace}
+use Rattle.imap_session.specs.Commands.{on_command, on_idle_line, counting, folder_of, showing, completed, closing, entering, on_folder, on_chosen, messages_done, on_found, fetching, storing, fetched, stored, flags_answer, if_writable, expunge_set, store_messages, fetch_messages, unlimited, wrong_state, says}
+use Rattle.imap_session.specs.Shows.{may_show, DoneShowsInPlace, IsFetchLine, MaySay, ShowsBefore, ShowsInPlace}
 
-in_either : (command : Command) (b : Bool) (x y : Exchange) → ShowsInPlace command x → ShowsInPlace command y → ShowsInPlace command (if b then x else y)
-in_either command true x y p q = p
-in_either command false x y p q = q
+no_must : (b : Bool) (o : Option Selected) → o ≡ None → (b && is_some o) ≡ true → ⊥
+no_must true None n e = cc
+no_must false None n e = cc
+no_must b (Some s) n e = cc
 
-in_showing : (command : Command) → may_show command ≡ true → (selected : Option Selected) → ShowsInPlace command (showing selected (completed command))
-in_showing command m None = tt
-in_showing command m (Some selected) = (m, refl, refl)
+may_not : (b c : Bool) → b ≡ false → (b && c) ≡ true → ⊥
+may_not true c n e = cc
+may_not false c n e = cc
 
-in_folder : (command : Command) (next : Folder → Exchange) → ((folder : Folder) → ShowsInPlace command (next folder)) → (found : Option Folder)
-    → ShowsInPlace command (on_found next (says (codes "NO [NONEXISTENT] No such mailbox")) found)
-in_folder command next p None = tt
-in_folder command next p (Some folder) = p folder
+in_either : (now : Standing) (command : Command) (b : Bool) (x y : Exchange) → ShowsInPlace now command x → ShowsInPlace now command y → ShowsInPlace now command (if b then x else y)
+in_either now command true x y p q = p
+in_either now command false x y p q = q
 
-in_closing : (command : Command) (selected : Option Selected) (x : Exchange) → ShowsInPlace command x → ShowsInPlace command (closing selected x)
-in_closing command None x p = p
-in_closing command (Some selected) x p = p
+in_showing : (now : Standing) (command : Command) → may_show command ≡ true → (selected : Option Selected) → now.selected ≡ selected → ShowsInPlace now command (showing selected (completed command))
+in_showing now command m None is = λ must. absurd (no_must (may_show command) now.selected is must)
+in_showing now command m (Some selected) is = (m, refl, refl)
 
-in_chosen : (command : Command) (chosen : Option (List ℕ)) (next : List ℕ → Exchange) → ((uids : List ℕ) → ShowsInPlace command (next uids))
-    → ShowsInPlace command (on_chosen chosen next)
-in_chosen command None next p = tt
-in_chosen command (Some uids) next p = p uids
+in_folder : (now : Standing) (command : Command) (next : Folder → Exchange) → ((folder : Folder) → ShowsInPlace now command (next folder)) → (found : Option Folder)
+    → ShowsInPlace now command (on_found next (says (codes "NO [NONEXISTENT] No such mailbox")) found)
+in_folder now command next p None = λ must. refl
+in_folder now command next p (Some folder) = p folder
 
-in_done : (command : Command) (by_uid gone : Bool) → may_show command ≡ by_uid → ShowsInPlace command (messages_done command by_uid gone)
-in_done command true gone m = (m, refl, refl)
-in_done command false true m = tt
-in_done command false false m = tt
+in_closing : (now : Standing) (command : Command) (selected : Option Selected) (x : Exchange) → MaySay now command (codes "* OK [CLOSED] Previous mailbox is closed\r\n")
+    → ShowsInPlace now command x → ShowsInPlace now command (closing selected x)
+in_closing now command None x s p = p
+in_closing now command (Some selected) x s p = (s, p)
 
-in_fetching : (command : Command) (fetch : Fetch) (mark : Bool) (view : List ℕ) (done : Bool → Exchange) → ((gone : Bool) → ShowsInPlace command (done gone))
-    → (uids : List ℕ) (gone : Bool) → ShowsInPlace command (fetching fetch mark view done uids gone)
-in_fetching command fetch mark view done p [] gone = p gone
-in_fetching command fetch mark view done p (uid ∷ uids) gone =
-    elim [ None ↦ in_fetching command fetch mark view done p uids true | Some row ↦ in_fetching command fetch mark view done p uids gone ]
+in_chosen : (now : Standing) (command : Command) (chosen : Option (List ℕ)) (next : List ℕ → Exchange) → ((uids : List ℕ) → ShowsInPlace now command (next uids))
+    → ShowsInPlace now command (on_chosen chosen next)
+in_chosen now command None next p = λ must. refl
+in_chosen now command (Some uids) next p = p uids
 
-in_storing : (command : Command) (store : Store) (view : List ℕ) (done : Bool → Exchange) → ((gone : Bool) → ShowsInPlace command (done gone))
-    → (uids : List ℕ) (gone : Bool) → ShowsInPlace command (storing store view done uids gone)
-in_storing command store view done p [] gone = p gone
-in_storing command store view done p (uid ∷ uids) gone =
-    elim [ None ↦ in_storing command store view done p uids true | Some flags ↦ in_storing command store view done p uids gone ]
+in_done : (now : Standing) (command : Command) (by_uid gone : Bool) → may_show command ≡ by_uid → ShowsInPlace now command (messages_done command by_uid gone)
+in_done now command true gone m = (m, refl, refl)
+in_done now command false true m = λ must. refl
+in_done now command false false m = λ must. absurd (may_not (may_show command) (is_some now.selected) m must)
 
-in_found : (command : Command) (selected : Option Selected) (next : Selected → Exchange) → ((s : Selected) → ShowsInPlace command (next s))
-    → ShowsInPlace command (on_found next wrong_state selected)
-in_found command None next p = tt
-in_found command (Some s) next p = p s
+in_fetching : (now : Standing) (command : Command) (fetch : Fetch) (mark : Bool) (view : List ℕ) (done : Bool → Exchange) → ((gone : Bool) → ShowsInPlace now command (done gone))
+    → ((uid : ℕ) (row : Row) → MaySay now command (fetched fetch view uid row))
+    → (uids : List ℕ) (gone : Bool) → ShowsInPlace now command (fetching fetch mark view done uids gone)
+in_fetching now command fetch mark view done p s [] gone = p gone
+in_fetching now command fetch mark view done p s (uid ∷ uids) gone =
+    elim [ None ↦ in_fetching now command fetch mark view done p s uids true | Some row ↦ (s uid row, in_fetching now command fetch mark view done p s uids gone) ]
 
-in_writable : (command : Command) (selected : Option Selected) (x : Exchange) → ShowsInPlace command x
-    → ShowsInPlace command (on_found (if_writable x) wrong_state selected)
-in_writable command selected x p = in_found command selected (if_writable x) (λ s. in_either command s.read_only (says (codes "NO Mailbox is read-only")) x tt p)
+in_storing : (now : Standing) (command : Command) (store : Store) (view : List ℕ) (done : Bool → Exchange) → ((gone : Bool) → ShowsInPlace now command (done gone))
+    → ((uid : ℕ) (flags : Flags) → MaySay now command (stored store view uid flags))
+    → (uids : List ℕ) (gone : Bool) → ShowsInPlace now command (storing store view done uids gone)
+in_storing now command store view done p s [] gone = p gone
+in_storing now command store view done p s (uid ∷ uids) gone =
+    elim [ None ↦ in_storing now command store view done p s uids true | Some flags ↦ (s uid flags, in_storing now command store view done p s uids gone) ]
 
-pub shown_in_place : (now : Standing) (command : Command) → ShowsInPlace command (on_command now command)
-shown_in_place now commands.Capability = tt
-shown_in_place now commands.Noop = in_showing commands.Noop refl now.selected
-shown_in_place now commands.Logout = tt
-shown_in_place now commands.Namespace = tt
-shown_in_place now commands.Idle = tt
-shown_in_place now commands.Login = tt
-shown_in_place now commands.Authenticate = tt
-shown_in_place now commands.StartTls = tt
-shown_in_place now (commands.Select name) =
-    in_closing (commands.Select name) now.selected (on_folder name now.folders (entering false))
-    (in_folder (commands.Select name) (entering false) (λ folder opening. tt) (folder_of name now.folders))
-shown_in_place now (commands.Examine name) =
-    in_closing (commands.Examine name) now.selected (on_folder name now.folders (entering true))
-    (in_folder (commands.Examine name) (entering true) (λ folder opening. tt) (folder_of name now.folders))
-shown_in_place now (commands.List reference pattern) = in_showing (commands.List reference pattern) refl now.selected
-shown_in_place now (commands.Status name items) =
-    in_folder (commands.Status name items) (counting now name items) (λ folder status. in_showing (commands.Status name items) refl now.selected) (folder_of name now.folders)
-shown_in_place now commands.Close = in_found commands.Close now.selected _ (λ s. tt)
-shown_in_place now commands.Unselect = in_found commands.Unselect now.selected _ (λ s. tt)
-shown_in_place now commands.Expunge = in_writable commands.Expunge now.selected (Expunge None (Feed unlimited (completed commands.Expunge))) (refl, (refl, refl, refl))
+in_silence : (silent : Bool) (text : List ℕ) → IsFetchLine text → ((if silent then [] else text) ≡ []) ⊎ IsFetchLine (if silent then [] else text)
+in_silence true text p = inl refl
+in_silence false text p = inr p
+
+joined : (x a b c d : List ℕ) → x ++ a ++ b ++ c ++ d ≡ x ++ (a ++ (b ++ (c ++ d)))
+joined x a b c d = simp append_assoc refl
+
+fetch_form : (k : ℕ) (texts : List (List ℕ)) → IsFetchLine (fetch_answer k texts)
+fetch_form k texts = (k, spaced texts ++ codes ")\r\n", append_assoc (codes "* " ++ decimal k ++ codes " FETCH (") (spaced texts) (codes ")\r\n"))
+
+flags_form : (by_uid : Bool) (k uid : ℕ) (flags : Flags) → IsFetchLine (flags_answer by_uid k uid flags)
+flags_form by_uid k uid flags =
+    (k, _, joined (codes "* " ++ decimal k ++ codes " FETCH (") (if by_uid then codes "UID " ++ decimal uid ++ codes " " else []) (codes "FLAGS (") (spaced (flag_words flags)) (codes "))\r\n"))
+
+in_found : (now : Standing) (command : Command) (selected : Option Selected) (next : Selected → Exchange) → ((s : Selected) → ShowsInPlace now command (next s))
+    → ShowsInPlace now command (on_found next wrong_state selected)
+in_found now command None next p = λ must. refl
+in_found now command (Some s) next p = p s
+
+in_writable : (now : Standing) (command : Command) (selected : Option Selected) (x : Exchange) → ShowsInPlace now command x
+    → ShowsInPlace now command (on_found (if_writable x) wrong_state selected)
+in_writable now command selected x p = in_found now command selected (if_writable x) (λ s. in_either now command s.read_only (says (codes "NO Mailbox is read-only")) x (λ must. refl) p)
+
+pub shown_in_place : (now : Standing) (command : Command) → ShowsInPlace now command (on_command now command)
+shown_in_place now commands.Capability = (refl, λ must. absurd (may_not false (is_some now.selected) refl must))
+shown_in_place now commands.Noop = in_showing now commands.Noop refl now.selected refl
+shown_in_place now commands.Logout = (refl, λ must. absurd (may_not false (is_some now.selected) refl must))
+shown_in_place now commands.Namespace = (refl, λ must. absurd (may_not false (is_some now.selected) refl must))
+shown_in_place now commands.Idle = refl
+shown_in_place now commands.Login = λ must. refl
+shown_in_place now commands.Authenticate = λ must. refl
+shown_in_place now commands.StartTls = λ must. refl
+shown_in_place now (commands.Select name) = (
+  inl refl,
+  in_closing now (commands.Select name) now.selected (on_folder name now.folders (entering false)) (inr (inl refl))
+      (in_folder now (commands.Select name) (entering false) (λ folder opening. (inr (inr (folder.name, opening, refl)), λ must. absurd (may_not false (is_some now.selected) refl must))) (folder_of name now.folders)),
+)
+shown_in_place now (commands.Examine name) = (
+  inl refl,
+  in_closing now (commands.Examine name) now.selected (on_folder name now.folders (entering true)) (inr (inl refl))
+      (in_folder now (commands.Examine name) (entering true) (λ folder opening. (inr (inr (folder.name, opening, refl)), λ must. absurd (may_not false (is_some now.selected) refl must))) (folder_of name now.folders)),
+)
+shown_in_place now (commands.List reference pattern) = (refl, in_showing now (commands.List reference pattern) refl now.selected refl)
+shown_in_place now (commands.Status name items) = (
+  inl refl,
+  in_folder now (commands.Status name items) (counting now name items)
+      (λ folder status. (inr (_, joined (codes "* STATUS ") folder.name (codes " (") (spaced (map (status_text status) items)) (codes ")\r\n")), in_showing now (commands.Status name items) refl now.selected refl)) (folder_of name now.folders),
+)
+shown_in_place now commands.Close = in_found now commands.Close now.selected _ (λ s must. absurd (may_not false (is_some now.selected) refl must))
+shown_in_place now commands.Unselect = in_found now commands.Unselect now.selected _ (λ s must. absurd (may_not false (is_some now.selected) refl must))
+shown_in_place now commands.Expunge = in_writable now commands.Expunge now.selected (Expunge None (Feed unlimited (completed commands.Expunge))) (refl, (refl, refl, refl))
 shown_in_place now (commands.UidExpunge set) =
-    in_writable (commands.UidExpunge set) now.selected (expunge_set set)
-    (λ view. in_chosen (commands.UidExpunge set) (named_in true set view)
+    in_writable now (commands.UidExpunge set) now.selected (expunge_set set)
+    (λ view. in_chosen now (commands.UidExpunge set) (named_in true set view)
     (λ uids. Expunge (Some uids) (Feed unlimited (completed (commands.UidExpunge set)))) (λ uids. (refl, (refl, refl, refl))))
 shown_in_place now (commands.Fetch fetch) =
-    in_found (commands.Fetch fetch) now.selected (fetch_messages fetch)
-    (λ s view. in_chosen (commands.Fetch fetch) (named_in fetch.by_uid fetch.set view) _
-    (λ uids. in_fetching (commands.Fetch fetch) fetch _ view _ (λ gone. in_done (commands.Fetch fetch) fetch.by_uid gone refl) uids false))
+    in_found now (commands.Fetch fetch) now.selected (fetch_messages fetch)
+    (λ s view. in_chosen now (commands.Fetch fetch) (named_in fetch.by_uid fetch.set view) _
+    (λ uids. in_fetching now (commands.Fetch fetch) fetch _ view _ (λ gone. in_done now (commands.Fetch fetch) fetch.by_uid gone refl) (λ uid row. fetch_form (place uid view) (map (item_text row) (answered fetch.by_uid row.newly_seen fetch.items))) uids false))
 shown_in_place now (commands.Store store) =
-    in_writable (commands.Store store) now.selected (store_messages store)
-    (λ view. in_chosen (commands.Store store) (named_in store.by_uid store.set view) _
-    (λ uids. in_storing (commands.Store store) store view _ (λ gone. in_done (commands.Store store) store.by_uid gone refl) uids false))
+    in_writable now (commands.Store store) now.selected (store_messages store)
+    (λ view. in_chosen now (commands.Store store) (named_in store.by_uid store.set view) _
+    (λ uids. in_storing now (commands.Store store) store view _ (λ gone. in_done now (commands.Store store) store.by_uid gone refl)
+    (λ uid flags. in_silence store.silent (flags_answer store.by_uid (place uid view) uid flags) (flags_form store.by_uid (place uid view) uid flags)) uids false))
 
 in_idle_line : (b : Bool) (selected : Option Selected)
-    → ShowsBefore (completed commands.Idle) b false (if b then showing selected (completed commands.Idle) else says (codes "BAD Expected DONE"))
-in_idle_line true None = tt
+    → ShowsBefore (completed commands.Idle) (λ bytes. ⊥) b (b && is_some selected) false (if b then showing selected (completed commands.Idle) else says (codes "BAD Expected DONE"))
+in_idle_line true None = λ must. absurd (no_must true None refl must)
 in_idle_line true (Some s) = (refl, refl, refl)
-in_idle_line false selected = tt
+in_idle_line false selected = λ must. refl
 
-pub done_in_place : (selected : Option Selected) (line : List ℕ) → DoneShowsInPlace line (on_idle_line selected line)
+pub done_in_place : (selected : Option Selected) (line : List ℕ) → DoneShowsInPlace selected line (on_idle_line selected line)
 done_in_place selected line = in_idle_line (is_done line) selected

@@ -24,7 +24,7 @@ use Rattle.imap_grammar.specs.Answers.{crlf, row_answer, status_answer, list_ans
 use Rattle.imap_session.specs.declared.standing.After.TheVariants.{Go, Bye}
 use Rattle.imap_session.specs.declared.standing.After.TheVariants as afters
 use Rattle.imap_session.specs.declared.standing.Selected.{Selected}
-use Rattle.imap_session.specs.Exchange.{Answer, Fed, Refused, having, saying, nothing_more, refused, is_idling, Turn, Standing, Folder, Exchange, Done, Idle, Write, Enter, Look, Read, Count, Alter, Expunge, Feed, Leave, tagged, bye, played}
+use Rattle.imap_session.specs.Exchange.{Answer, Fed, Refused, having, saying, nothing_more, refused, is_idling, Turn, Standing, Folder, Exchange, Done, Idle, Write, Put, Enter, Look, Read, Count, Alter, Expunge, Feed, Leave, tagged, bye, played}
 
 -- ---- how an answer ends
 
@@ -50,6 +50,10 @@ showing (Some selected) x = Feed unlimited x
 abbrev pub untagged : List ℕ → Exchange → Exchange
 untagged words x = Write (codes "* " ++ words ++ crlf) x
 
+-- the same in room that was reserved
+abbrev pub untagged_in_room : List ℕ → Exchange → Exchange
+untagged_in_room words x = Put (codes "* " ++ words ++ crlf) x
+
 -- ---- mailboxes by name
 
 -- INBOX is found whatever the case
@@ -68,7 +72,7 @@ on_found found gone (Some x) = found x
 abbrev pub on_folder : List ℕ → List Folder → (Folder → Exchange) → Exchange
 on_folder name folders next = on_found next (says (codes "NO [NONEXISTENT] No such mailbox")) (folder_of name folders)
 
--- memory is wanted here for a name or a tag, and nothing is written
+-- memory is wanted here for a name, and nothing is written
 abbrev pub wanting : Exchange → Exchange
 wanting x = Write [] x
 
@@ -183,11 +187,11 @@ counting now name items folder =
     Count folder.mailbox (λ status. Write (status_answer folder.name items status) (showing now.selected (completed (commands.Status name items))))
 
 abbrev pub on_command : Standing → Command → Exchange
-on_command now commands.Capability = untagged (codes "CAPABILITY IMAP4rev2 IDLE") (completed commands.Capability)
+on_command now commands.Capability = untagged_in_room (codes "CAPABILITY IMAP4rev2 IDLE") (completed commands.Capability)
 on_command now commands.Noop = showing now.selected (completed commands.Noop)
-on_command now commands.Logout = Write (bye (codes "Logging out")) (Done (codes "OK LOGOUT completed") Bye)
-on_command now commands.Namespace = untagged (codes "NAMESPACE ((\"\" \"/\")) NIL NIL") (completed commands.Namespace)
-on_command now commands.Idle = wanting Idle
+on_command now commands.Logout = Put (bye (codes "Logging out")) (Done (codes "OK LOGOUT completed") Bye)
+on_command now commands.Namespace = untagged_in_room (codes "NAMESPACE ((\"\" \"/\")) NIL NIL") (completed commands.Namespace)
+on_command now commands.Idle = Idle
 on_command now commands.Login = wrong_state
 on_command now commands.Authenticate = wrong_state
 on_command now commands.StartTls = wrong_state

@@ -1,5 +1,5 @@
 -- What a session asks of its store, in which order, and what it writes.
-use Rattle.std.specs.Prelude.{ℕ, zero, suc, Bool, true, codes, List, [], ◌∷◌, ◌++◌, Option, Some, None, is_some, ◌&&◌, not, if◌then◌else◌}
+use Rattle.std.specs.Prelude.{ℕ, zero, suc, Bool, true, codes, length, nat_lt, List, [], ◌∷◌, ◌++◌, Option, Some, None, is_some, ◌&&◌, not, if◌then◌else◌}
 use Rattle.std.specs.Option.{option_map}
 use Rattle.change_ring.specs.declared.change.Flags.{Flags}
 use Rattle.change_ring.specs.declared.change.Change.{Change}
@@ -82,10 +82,14 @@ is_idling now = is_some now.idling && not now.ended
 pub data Exchange : Type 0 where
   -- the last line: the tag, and these words. Room for it is reserved before anything is done, so memory can't be refused to it
   Done : (words : List ℕ) → After → Exchange
-  -- no last line: the client may send DONE
+  -- no last line: the client may send DONE. Memory may be wanting for a tag of more than 32 bytes
   Idle : Exchange
+  -- room for these may be wanting, and then the exchange ends here
   Write : List ℕ → Exchange → Exchange
+  -- room for these was reserved before anything was done, as for the last line, so memory can't be refused to them
+  Put : List ℕ → Exchange → Exchange
   Enter : Selected → (Opening → Exchange) → Exchange
+  -- memory may be wanting for the messages that are to be found in the view
   Look : (List ℕ → Exchange) → Exchange
   Read : ℕ → Bool → (Option Row → Exchange) → Exchange
   Count : ℕ → (Status → Exchange) → Exchange
@@ -138,19 +142,27 @@ refusal_after NoMemory = Go
 abbrev pub refused : List ℕ → Standing → MailFault → Turn
 refused tag now fault = saying (refusal_text tag fault) (closed now (refusal_after fault))
 
--- where an exchange leads with these answers; nowhere where they are none to its calls
+-- a tag of at most so many bytes is kept without memory for it
+abbrev pub most_in_place : ℕ
+most_in_place = 32
+
+-- Where an exchange leads with these answers; nowhere where they are none to its calls. Memory is refused to the session itself only where it
+-- may want some: at a Write, at a Look, and for the tag of an IDLE that is long. Nobody is told so who asks to leave a mailbox, or for lines whose room was reserved.
 abbrev pub played : List ℕ → Standing → Exchange → List Answer → Option Turn
 played tag now (Done words how) [] = Some (saying (tagged tag words) (closed now how))
 played tag now (Done words how) (answer ∷ more) = None
 played tag now Idle [] = Some (saying (codes "+ idling\r\n") (nothing_more afters.Idle (record now { idling = Some tag })))
+played tag now Idle (Starved zero ∷ []) = if nat_lt most_in_place (length tag) then Some (refused tag now NoMemory) else None
 played tag now Idle (answer ∷ more) = None
+played tag now (Write bytes x) (Starved zero ∷ []) = Some (refused tag now NoMemory)
 played tag now (Write bytes x) (Starved (suc n) ∷ []) = option_map (saying bytes) (played tag now x (Starved n ∷ []))
-played tag now x (Starved zero ∷ []) = Some (refused tag now NoMemory)
 played tag now (Write bytes x) answers = option_map (saying bytes) (played tag now x answers)
+played tag now (Put bytes x) answers = option_map (saying bytes) (played tag now x answers)
 played tag now (Enter selected next) (Entered opening ∷ more) =
     option_map (having (Enter selected.mailbox) (Entered opening)) (played tag (record now { selected = Some selected }) (next opening) more)
 played tag now (Enter selected next) (Refused fault ∷ []) = Some (having (Enter selected.mailbox) (Refused fault) (refused tag now fault))
 played tag now (Look next) (Looked view ∷ more) = option_map (having Look (Looked view)) (played tag now (next view) more)
+played tag now (Look next) (Starved zero ∷ []) = Some (refused tag now NoMemory)
 played tag now (Look next) (Refused fault ∷ []) = Some (having Look (Refused fault) (refused tag now fault))
 played tag now (Read uid mark next) (Found row ∷ more) =
     option_map (having (Read uid mark) (Found row)) (played tag now (next row) more)

@@ -7,7 +7,13 @@ use Rattle.change_ring.specs.declared.change.Change.TheVariants.{Add, Gone, Flag
 use Rattle.mailbox.specs.declared.clients.MailFault.TheVariants.{Lapped, Spent}
 use Rattle.imap_grammar.specs.Reading.{read}
 use Rattle.imap_session.specs.Exchange.{Answer, Entered, Looked, Found, Counted, Altered, Expunged, Fed, Left, Refused, Starved, Turn, Standing}
-use Rattle.imap_session.specs.Commands.{idle_turn, turn_of, turn_of_long_line}
+use Rattle.imap_grammar.specs.declared.command.Command.TheVariants as commands
+use Rattle.imap_session.specs.Exchange.{Exchange, Leave, Write}
+use Rattle.imap_session.specs.Shows.{ShowsInPlace}
+use Rattle.imap_session.specs.Commands.{completed, idle_turn, turn_of, turn_of_long_line}
+
+differ : true ≡ false → ⊥
+differ e = cc
 
 abbrev onto : {A B : Type 0} → Option A → (A → Option B) → Option B
 onto None f = None
@@ -233,9 +239,44 @@ idle_without_a_mailbox : written awake
 unfolding read digits
 idle_without_a_mailbox = refl
 
--- memory is refused for the tag: it doesn't idle
+-- memory is refused for a tag of 33 bytes: it doesn't idle
 starved_idler : written in_inbox
-    (Line (codes "a2 IDLE") (Starved 0 ∷ []) ∷ Line (codes "a3 NOOP") (Fed [] [] ∷ []) ∷ [])
-    ≡ Some (codes "a2 NO Out of memory\r\na3 OK NOOP completed\r\n")
+    (Line (codes "a23456789012345678901234567890123 IDLE") (Starved 0 ∷ []) ∷ Line (codes "a3 NOOP") (Fed [] [] ∷ []) ∷ [])
+    ≡ Some (codes "a23456789012345678901234567890123 NO Out of memory\r\na3 OK NOOP completed\r\n")
 unfolding read digits
 starved_idler = refl
+
+-- ---- where no memory is wanted none is refused
+
+logout_without_memory : turn_of in_inbox (codes "a2 LOGOUT") (Starved 0 ∷ []) ≡ None
+unfolding read digits
+logout_without_memory = refl
+
+close_without_memory : turn_of in_inbox (codes "a2 CLOSE") (Starved 0 ∷ []) ≡ None
+unfolding read digits
+close_without_memory = refl
+
+capability_without_memory : turn_of in_inbox (codes "a2 CAPABILITY") (Starved 0 ∷ []) ≡ None
+unfolding read digits
+capability_without_memory = refl
+
+idle_without_memory : turn_of in_inbox (codes "a2 IDLE") (Starved 0 ∷ []) ≡ None
+unfolding read digits
+idle_without_memory = refl
+
+noop_without_memory : turn_of in_inbox (codes "a2 NOOP") (Starved 0 ∷ []) ≡ None
+unfolding read digits
+noop_without_memory = refl
+
+-- ---- what the law of shown changes forbids
+
+-- a NOOP that shows nothing, where a mailbox is selected
+never_shown : ShowsInPlace in_inbox commands.Noop (completed commands.Noop) → ⊥
+never_shown p = differ (p refl)
+
+-- a CLOSE that tells of a message that is gone, and a NOOP that does
+told_by_close : (x : Exchange) → ShowsInPlace in_inbox commands.Close (Leave true (Write (codes "* 1 EXPUNGE\r\n") x)) → ⊥
+told_by_close x p = p.0
+
+told_by_noop : (x : Exchange) → ShowsInPlace in_inbox commands.Noop (Write (codes "* 1 EXPUNGE\r\n") x) → ⊥
+told_by_noop x p = p.0

@@ -1,5 +1,6 @@
 -- Where a session may show what others did to the mailbox (RFC 9051, 5.2 and 7.5.1).
-use Rattle.std.specs.Prelude.{◌≡◌, ℕ, Bool, true, false, List, Option}
+use Rattle.std.specs.Prelude.{◌≡◌, ◌⊎◌, ◌&&◌, ℕ, Bool, true, false, codes, decimal, is_some, take, map, List, [], ◌++◌, Option}
+use Rattle.std.specs.Str.{bytes_eq}
 use Rattle.change_ring.specs.declared.change.Flags.{Flags}
 use Rattle.mailbox.specs.declared.clients.Opening.{Opening}
 use Rattle.mailbox.specs.declared.clients.Row.{Row}
@@ -7,8 +8,10 @@ use Rattle.mailbox.specs.declared.mailbox.Status.{Status}
 use Rattle.imap_grammar.specs.declared.command.Command.{Command}
 use Rattle.imap_grammar.specs.declared.command.Command.TheVariants as commands
 use Rattle.imap_grammar.specs.Reading.{is_done}
-use Rattle.imap_session.specs.Exchange.{Exchange, Done, Idle, Write, Enter, Look, Read, Count, Alter, Expunge, Feed, Leave}
-use Rattle.imap_session.specs.Commands.{completed, unlimited}
+use Rattle.imap_grammar.specs.Answers.{list_answer}
+use Rattle.imap_session.specs.declared.standing.Selected.{Selected}
+use Rattle.imap_session.specs.Exchange.{Exchange, Folder, Standing, Done, Idle, Write, Put, Enter, Look, Read, Count, Alter, Expunge, Feed, Leave}
+use Rattle.imap_session.specs.Commands.{completed, opening_text, unlimited}
 
 -- the command may show changes right before its tagged OK
 abbrev pub may_show : Command → Bool
@@ -27,25 +30,59 @@ may_remove commands.Expunge = true
 may_remove (commands.UidExpunge set) = true
 may_remove _ = false
 
+-- ---- what may be said beside them
+
+-- a line of this kind, about the message at this place
+abbrev pub IsFetchLine : List ℕ → Type 0
+IsFetchLine bytes = (k : ℕ) × (rest : List ℕ) × (bytes ≡ codes "* " ++ decimal k ++ codes " FETCH (" ++ rest)
+
+-- a name, and what is told of the mailbox that was left, or of the one that was entered
+abbrev pub IsOfSelect : Bool → List ℕ → Type 0
+IsOfSelect read_only bytes =
+    (bytes ≡ []) ⊎ (bytes ≡ codes "* OK [CLOSED] Previous mailbox is closed\r\n")
+    ⊎ ((name : List ℕ) × (opening : Opening) × (bytes ≡ opening_text read_only name opening))
+
+-- The kinds of lines that a command says beside its last one and beside the changes that it shows. None of them shows a change: those that
+-- tell of messages are FETCH lines under FETCH and STORE, and the EXISTS line of a mailbox that is entered. A command that isn't here says none.
+abbrev pub MaySay : Standing → Command → List ℕ → Type 0
+MaySay now commands.Capability bytes = bytes ≡ codes "* CAPABILITY IMAP4rev2 IDLE\r\n"
+MaySay now commands.Namespace bytes = bytes ≡ codes "* NAMESPACE ((\"\" \"/\")) NIL NIL\r\n"
+MaySay now commands.Logout bytes = bytes ≡ codes "* BYE Logging out\r\n"
+MaySay now (commands.Select name) bytes = IsOfSelect false bytes
+MaySay now (commands.Examine name) bytes = IsOfSelect true bytes
+MaySay now (commands.List reference pattern) bytes = bytes ≡ list_answer reference pattern (map (λ (folder : Folder). folder.name) now.folders)
+MaySay now (commands.Status name items) bytes = (bytes ≡ []) ⊎ ((rest : List ℕ) × (bytes ≡ codes "* STATUS " ++ rest))
+MaySay now (commands.Fetch fetch) bytes = IsFetchLine bytes
+MaySay now (commands.Store store) bytes = (bytes ≡ []) ⊎ IsFetchLine bytes
+MaySay now _ bytes = ⊥
+
+-- ---- where
+
+-- the last line isn't a tagged OK
+abbrev pub IsNoOk : List ℕ → Type 0
+IsNoOk words = bytes_eq (take 2 words) (codes "OK") ≡ false
+
 -- Whatever the store answers, changes are shown right before this tagged OK, all that are pending, where they may be; or, where that may be, as
--- messages are removed. They are shown nowhere else.
-abbrev pub ShowsBefore : (ok : Exchange) (shows removes : Bool) → Exchange → Type 0
-ShowsBefore ok shows removes (Done words how) = Unit {0}
-ShowsBefore ok shows removes Idle = Unit {0}
-ShowsBefore ok shows removes (Write bytes x) = ShowsBefore ok shows removes x
-ShowsBefore ok shows removes (Enter selected next) = (opening : Opening) → ShowsBefore ok shows removes (next opening)
-ShowsBefore ok shows removes (Look next) = (view : List ℕ) → ShowsBefore ok shows removes (next view)
-ShowsBefore ok shows removes (Read uid mark next) = (row : Option Row) → ShowsBefore ok shows removes (next row)
-ShowsBefore ok shows removes (Count mailbox next) = (status : Status) → ShowsBefore ok shows removes (next status)
-ShowsBefore ok shows removes (Alter uid op next) = (flags : Option Flags) → ShowsBefore ok shows removes (next flags)
-ShowsBefore ok shows removes (Expunge uids x) = (removes ≡ true) × ShowsBefore ok shows removes x
-ShowsBefore ok shows removes (Feed limit x) = (shows ≡ true) × (limit ≡ unlimited) × (x ≡ ok)
-ShowsBefore ok shows removes (Leave remove x) = ShowsBefore ok shows removes x
+-- messages are removed. They are shown nowhere else: beside them only such lines are said. And where they `must` be shown there is no tagged OK
+-- without them.
+abbrev pub ShowsBefore : (ok : Exchange) (says : List ℕ → Type 0) (shows must removes : Bool) → Exchange → Type 0
+ShowsBefore ok says shows must removes (Done words how) = must ≡ true → IsNoOk words
+ShowsBefore ok says shows must removes Idle = must ≡ false
+ShowsBefore ok says shows must removes (Write bytes x) = says bytes × ShowsBefore ok says shows must removes x
+ShowsBefore ok says shows must removes (Put bytes x) = says bytes × ShowsBefore ok says shows must removes x
+ShowsBefore ok says shows must removes (Enter selected next) = (opening : Opening) → ShowsBefore ok says shows must removes (next opening)
+ShowsBefore ok says shows must removes (Look next) = (view : List ℕ) → ShowsBefore ok says shows must removes (next view)
+ShowsBefore ok says shows must removes (Read uid mark next) = (row : Option Row) → ShowsBefore ok says shows must removes (next row)
+ShowsBefore ok says shows must removes (Count mailbox next) = (status : Status) → ShowsBefore ok says shows must removes (next status)
+ShowsBefore ok says shows must removes (Alter uid op next) = (flags : Option Flags) → ShowsBefore ok says shows must removes (next flags)
+ShowsBefore ok says shows must removes (Expunge uids x) = (removes ≡ true) × ShowsBefore ok says shows must removes x
+ShowsBefore ok says shows must removes (Feed limit x) = (shows ≡ true) × (limit ≡ unlimited) × (x ≡ ok)
+ShowsBefore ok says shows must removes (Leave remove x) = ShowsBefore ok says shows must removes x
 
--- a command shows changes in its place alone. IDLE itself shows none
-abbrev pub ShowsInPlace : Command → Exchange → Type 0
-ShowsInPlace command = ShowsBefore (completed command) (may_show command) (may_remove command)
+-- A command shows changes in its place, where a mailbox is selected, and there alone. IDLE itself shows none
+abbrev pub ShowsInPlace : Standing → Command → Exchange → Type 0
+ShowsInPlace now command = ShowsBefore (completed command) (MaySay now command) (may_show command) (may_show command && is_some now.selected) (may_remove command)
 
--- the line that ends an IDLE shows changes where it is DONE, right before the tagged OK. Any other line shows none
-abbrev pub DoneShowsInPlace : List ℕ → Exchange → Type 0
-DoneShowsInPlace line = ShowsBefore (completed commands.Idle) (is_done line) false
+-- the line that ends an IDLE shows changes where it is DONE and a mailbox is selected, right before the tagged OK. Any other line shows none
+abbrev pub DoneShowsInPlace : Option Selected → List ℕ → Exchange → Type 0
+DoneShowsInPlace selected line = ShowsBefore (completed commands.Idle) (λ bytes. ⊥) (is_done line) (is_done line && is_some selected) false

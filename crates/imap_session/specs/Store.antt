@@ -75,9 +75,10 @@ pub record IdleTurns {S : Type 0} (step : S → Call → Answer → S → Type 0
 abbrev pub Starves : {S : Type 0} → (S → Call → Answer → S → Type 0) → S → S → Type 0
 Starves step old new = (new ≡ old) ⊎ step old (Feed most_changes) (Refused NoMemory) new
 
--- The room that is reserved before a line is answered: for its own tag or that of the IDLE that it ends, and for the lines that end the answer.
+-- The room that is reserved before a line is answered: for its own tag or that of the IDLE that it ends, for the lines that end the answer,
+-- and for the line before the last of CAPABILITY, NAMESPACE and LOGOUT.
 abbrev pub room_for : Option (List ℕ) → List ℕ → ℕ
-room_for None line = length line + 67
+room_for None line = length line + 80
 room_for (Some tag) line = length tag + 48
 
 -- ---- part of a turn

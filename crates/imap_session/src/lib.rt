@@ -15,6 +15,7 @@ mod set_flags;
 mod show;
 mod standing;
 mod store;
+mod tag;
 #[cfg(test)]
 mod tests;
 mod turn;

@@ -5,9 +5,8 @@ use crate::say::{put, put_tagged};
 use crate::show::show;
 use crate::standing::{After, Folder, Selected, SessionFault};
 use crate::store::Store;
-use crate::turn::{
-    FAREWELL, LAST, after_command, carry_out, conclude, end_idle, is_idle, put_fault,
-};
+use crate::tag::Tag;
+use crate::turn::{FIRST, LAST, after_command, carry_out, conclude, end_idle, is_idle, put_fault};
 use imap_grammar::{Command, read_line};
 use mailbox::MailFault;
 use std::alloc::{AllocError, Global};
@@ -33,17 +32,16 @@ pub struct Session {
     folders: Vec<Folder>,
     selected: Option<Selected>,
     // The tag of the IDLE that isn't done yet.
-    idling: Option<Vec<u8>>,
+    idling: Option<Tag>,
     ended: bool,
 }
 
 impl Model for Session {
-    ghost use Rattle.std.specs.Option.{option_map};
     ghost use Rattle.imap_session.specs.Exchange.{Standing};
 
     ghost Value = { Standing };
 
-    ghost view = { λ s. record { folders = s.folders.items; selected = s.selected; idling = option_map (λ tag. tag.items) s.idling; ended = s.ended } };
+    ghost view = { λ s. record { folders = s.folders.items; selected = s.selected; idling = s.idling; ended = s.ended } };
 }
 
 impl Session {
@@ -106,18 +104,19 @@ impl Session {
     {
         match &self.idling {
             None => None,
-            Some(tag) => Some(tag),
+            Some(tag) => Some(tag.as_slice()),
         }
     }
 
-    // Begins to idle, in the room that was reserved for a last line. Where memory for the tag is refused, that is told.
+    // Begins to idle, in the room that was reserved for a last line. Where memory for the tag is refused, that is told: of a tag of at
+    // most 32 bytes it isn't asked.
     fn begin_idling(&mut self, alloc: Global, tag: &[u8], out: &mut Vec<u8>) -> After
         requires room { vec_len out.old + (length tag.now + LAST) ≤ vec_capacity out.old }
         ensures begun { result ≡ After.Idle → (self.new ≡ record self.old { idling = Some tag.now }) × (out.new.items ≡ out.old.items ++ codes "+ idling\r\n") }
-        ensures starved { result ≡ After.Go → (self.new ≡ self.old) × (out.new.items ≡ out.old.items ++ tagged tag.now (codes "NO Out of memory")) }
+        ensures starved { result ≡ After.Go → (32 < length tag.now) × (self.new ≡ self.old) × (out.new.items ≡ out.old.items ++ tagged tag.now (codes "NO Out of memory")) }
         ensures goes_on { result ≢ After.Bye }
     {
-        let Ok(kept) = Vec::from_slice(alloc, tag) else {
+        let Ok(kept) = Tag::new(alloc, tag) else {
             put_tagged(tag, b"NO Out of memory", out);
             return After::Go;
         };
@@ -126,7 +125,7 @@ impl Session {
         After::Idle
     }
 
-    // Answers a command other than IDLE, in the room that was reserved for its last line and LOGOUT's first.
+    // Answers a command other than IDLE, in the room that was reserved for its last line and the one before it of CAPABILITY, NAMESPACE and LOGOUT.
     fn answer<S: Store>(
         &mut self,
         alloc: Global,
@@ -138,7 +137,7 @@ impl Session {
         requires going { self.old.ended ≡ false }
         requires awake { self.old.idling ≡ None }
         requires other { is_idle command.now ≡ false }
-        requires room { vec_len out.old + (length tag.now + LAST + FAREWELL) ≤ vec_capacity out.old }
+        requires room { vec_len out.old + (length tag.now + LAST + FIRST) ≤ vec_capacity out.old }
         ensures plays { Plays S.step tag.now self.old (record self.old { selected = self.new.selected }) (on_command self.old command.now) store.old store.new out.old.items out.new.items result }
         ensures standing { self.new ≡ (closed (record self.old { selected = self.new.selected }) result).standing }
         ensures sends { result ≡ may_send self.new }
@@ -171,11 +170,11 @@ impl Session {
         ensures answered { IfOk result (λ after. Answers S.step self.old line.now store.old store.new out.old.items out.new.items after self.new) }
         ensures lasts { result ≢ Err SessionFault.Ended }
         ensures refused { OnErr result ((self.new ≡ self.old) × (store.new ≡ store.old) × (out.new.items ≡ out.old.items)) }
-        ensures memory { OnErr result (vec_capacity out.old < vec_len out.old + (length line.now + 67)) }
+        ensures memory { OnErr result (vec_capacity out.old < vec_len out.old + (length line.now + 80)) }
         ensures folders { self.new.folders ≡ self.old.folders }
         ensures sends { IfOk result (λ after. after ≡ may_send self.new) }
     {
-        if out.reserve(line.len() + LAST + FAREWELL).is_err() {
+        if out.reserve(line.len() + LAST + FIRST).is_err() {
             return Err(SessionFault::NoMemory);
         }
         match read_line(line) {
@@ -216,25 +215,25 @@ impl Session {
     // Answers a line where it idled, with this tag. That is over, unless memory was refused.
     fn idle_line<S: Store>(
         &mut self,
-        tag: Vec<u8>,
+        tag: Tag,
         line: &[u8],
         store: &mut S,
         out: &mut Vec<u8>,
     ) -> Result<After, SessionFault>
         requires going { self.old.ended ≡ false }
         requires awake { self.old.idling ≡ None }
-        ensures answered { IfOk result (λ after. Answers S.step (record self.old { idling = Some tag.items }) line.now store.old store.new out.old.items out.new.items after self.new) }
+        ensures answered { IfOk result (λ after. Answers S.step (record self.old { idling = Some tag }) line.now store.old store.new out.old.items out.new.items after self.new) }
         ensures lasts { result ≢ Err SessionFault.Ended }
-        ensures refused { OnErr result ((self.new ≡ record self.old { idling = Some tag.items }) × (store.new ≡ store.old) × (out.new.items ≡ out.old.items)) }
-        ensures memory { OnErr result (vec_capacity out.old < vec_len out.old + (length tag.items + 48)) }
+        ensures refused { OnErr result ((self.new ≡ record self.old { idling = Some tag }) × (store.new ≡ store.old) × (out.new.items ≡ out.old.items)) }
+        ensures memory { OnErr result (vec_capacity out.old < vec_len out.old + (length tag + 48)) }
         ensures folders { self.new.folders ≡ self.old.folders }
         ensures sends { IfOk result (λ after. after ≡ may_send self.new) }
     {
-        if out.reserve(tag.len() + LAST).is_err() {
+        if out.reserve(tag.as_slice().len() + LAST).is_err() {
             self.idling = Some(tag);
             return Err(SessionFault::NoMemory);
         }
-        Ok(self.end_idling(&tag, line, store, out))
+        Ok(self.end_idling(tag.as_slice(), line, store, out))
     }
 
     /// Answers a line, which comes without its CRLF and may have any bytes (RFC 9051, 6 and 7): asks the store for what its command needs,
@@ -242,10 +241,11 @@ impl Session {
     /// command: it ends that, and is DONE or refused (RFC 2177, 3).
     ///
     /// What the store refuses is told to the client, and so is memory that is refused once the command has begun. The last line of an answer
-    /// is always written: room for it is reserved first, so that a client can log out where memory is refused.
+    /// is always written: room for it is reserved first, so that a client can log out where memory is refused. So is room for all that
+    /// CAPABILITY and NAMESPACE say, and to idle, with a tag of at most 32 bytes, or to leave a mailbox the session itself wants no memory.
     ///
     /// Errors, after which the session, the store and `out` are as they were: `Ended` exactly where the session has ended; `NoMemory` where
-    /// memory was refused, and `out` has no room for the line's length and 67 bytes more; while it idles, for the tag's length and 48 more.
+    /// memory was refused, and `out` has no room for the line's length and 80 bytes more; while it idles, for the tag's length and 48 more.
     pub fn line<S: Store>(
         &mut self,
         alloc: Global,
@@ -291,6 +291,7 @@ impl Session {
                 put(LONG_LINE, out);
             }
             Some(tag) => {
+                let tag = tag.as_slice();
                 if out.reserve(tag.len() + NOT_DONE.len() + 3).is_err() {
                     return Err(SessionFault::NoMemory);
                 }

@@ -1,7 +1,7 @@
 //! One command, carried out: the part that fits it, in the state that it wants, and then its last line in the room that was kept for it.
 //! What each part does is told in the modules of the commands.
 
-ghost use Rattle.std.specs.Prelude.{◌≡◌, ◌↔◌, ◌+◌, ◌≤◌, ◌++◌, length, true, false, None, IfOk, OnOk, OnErr, IfErr, vec_len};
+ghost use Rattle.std.specs.Prelude.{◌≡◌, ◌↔◌, ◌+◌, ◌≤◌, ◌++◌, length, true, false, None, IfOk, vec_len};
 ghost use Rattle.std.specs.Vec.{vec_capacity};
 ghost use Rattle.imap_grammar.specs.declared.command.Command.TheVariants as commands;
 ghost use Rattle.imap_session.specs.Commands.{completed, fault_text, on_command, on_idle_line, showing};
@@ -9,7 +9,7 @@ ghost use Rattle.imap_session.specs.Store.{Does, Moves, after_command, after_res
 
 use crate::count::{count_mailbox, list_folders};
 use crate::expunge::show_pending;
-use crate::say::{put, put_tagged, write_line};
+use crate::say::{put, put_tagged};
 use crate::select::select_mailbox;
 use crate::selected::{close, expunge, fetch, store_flags, uid_expunge, unselect};
 use crate::standing::{After, Folder, Selected};
@@ -21,8 +21,8 @@ use std::alloc::Global;
 /// Room for the last line of any answer beside its tag, and for a line that says BYE.
 pub(crate) const LAST: usize = 48;
 
-/// Room for the line that LOGOUT writes before its last one.
-pub(crate) const FAREWELL: usize = 19;
+/// Room for the line that CAPABILITY, NAMESPACE or LOGOUT writes before its last one.
+pub(crate) const FIRST: usize = 32;
 
 const CAPABILITY: &[u8] = b"* CAPABILITY IMAP4rev2 IDLE\r\n";
 
@@ -115,26 +115,6 @@ pub(crate) fn end_idle<S: Store>(
     Ok(b"OK IDLE completed")
 }
 
-// Writes a line, and answers these words for the last one.
-fn tell(
-    line: &[u8],
-    words: &'static [u8],
-    keep: usize,
-    out: &mut Vec<u8>,
-) -> Result<&'static [u8], MailFault>
-    requires room { vec_len out.old + keep ≤ vec_capacity out.old }
-    ensures text { OnOk result (out.new.items ≡ out.old.items ++ line.now) }
-    ensures words { IfOk result (λ last. last.now ≡ words.now) }
-    ensures err { OnErr result (out.new.items ≡ out.old.items) }
-    ensures fault { IfErr result (λ f. f ≡ MailFault.NoMemory) }
-    ensures room { vec_len out.new + keep ≤ vec_capacity out.new }
-{
-    match write_line(line, keep, out) {
-        Err(fault) => Err(fault),
-        Ok(()) => Ok(words),
-    }
-}
-
 // NOOP: what is pending is shown, where a mailbox is selected.
 fn note_nothing<S: Store>(
     selected: Option<Selected>,
@@ -163,7 +143,7 @@ pub(crate) fn carry_out<S: Store>(
     keep: usize,
     out: &mut Vec<u8>,
 ) -> Result<&'static [u8], MailFault>
-    requires room { vec_len out.old + (keep + FAREWELL) ≤ vec_capacity out.old }
+    requires room { vec_len out.old + (keep + FIRST) ≤ vec_capacity out.old }
     requires other { is_idle command.now ≡ false }
     ensures done { Moves S.step selected.old selected.new
         (on_command (record { folders = folders.now; selected = selected.old; idling = None; ended = false }) command.now)
@@ -172,8 +152,14 @@ pub(crate) fn carry_out<S: Store>(
     ensures room { vec_len out.new + keep ≤ vec_capacity out.new }
 {
     match command {
-        Command::Capability => tell(CAPABILITY, b"OK CAPABILITY completed", keep, out),
-        Command::Namespace => tell(NAMESPACE, b"OK NAMESPACE completed", keep, out),
+        Command::Capability => {
+            put(CAPABILITY, out);
+            Ok(b"OK CAPABILITY completed")
+        }
+        Command::Namespace => {
+            put(NAMESPACE, out);
+            Ok(b"OK NAMESPACE completed")
+        }
         Command::Noop => note_nothing(*selected, store, keep, out),
         Command::Logout => {
             put(b"* BYE Logging out\r\n", out);

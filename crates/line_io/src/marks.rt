@@ -1,13 +1,28 @@
 //! Lines that are printed with a mark that tells who said them. What they say is for the crates above.
 
-ghost use Rattle.std.specs.Prelude.{◌≡◌, ◌++◌, ◌+◌, ◌<◌, ℕ, List, length, codes, decimal, flat_map, slice_index, take, drop, IfSome, IfNone, OnOk, OnErr, ◌∷◌, []};
+ghost use Rattle.std.specs.Prelude.{◌≡◌, ◌++◌, ◌+◌, ◌<◌, ◌≤◌, ℕ, List, length, codes, decimal, flat_map, slice_index, take, drop, IfSome, IfNone, OnOk, OnErr, ◌∷◌, []};
 ghost use Rattle.std.specs.Io.{StartsWith};
 ghost use Rattle.line_io.specs.Marks.{marked};
 ghost use Rattle.line_io.specs.Wire.{wire_lines};
 
 use crate::append_parts;
 use itoa::Buffer;
+use memchr::memchr;
 use std::alloc::AllocError;
+
+// Where the first CR stands, from a place on.
+fn next_cr(bytes: &[u8], from: usize) -> Option<usize>
+    requires { from ≤ length bytes.now }
+    ensures within { IfSome result (λ at. (from ≤ at) × (at < length bytes.now)) }
+    ensures cr { IfSome result (λ at. slice_index bytes.now at ≡ 13) }
+    ensures before { IfSome result (λ at. (k : ℕ) → from ≤ k → k < at → slice_index bytes.now k ≡ 13 → ⊥) }
+    ensures none { IfNone result ((k : ℕ) → from ≤ k → k < length bytes.now → slice_index bytes.now k ≡ 13 → ⊥) }
+{
+    match memchr(b'\r', &bytes[from..]) {
+        Some(at) => Some(from + at),
+        None => None,
+    }
+}
 
 // Where the first CRLF stands.
 fn first_crlf(bytes: &[u8]) -> Option<usize>
@@ -17,10 +32,12 @@ fn first_crlf(bytes: &[u8]) -> Option<usize>
     ensures before { IfSome result (λ at. (k : ℕ) → k < at → slice_index bytes.now k ≡ 13 → slice_index bytes.now (k + 1) ≡ 10 → ⊥) }
     ensures none { IfNone result ((k : ℕ) → k + 1 < length bytes.now → slice_index bytes.now k ≡ 13 → slice_index bytes.now (k + 1) ≡ 10 → ⊥) }
 {
-    for at in 1..bytes.len() {
-        if bytes[at - 1] == b'\r' && bytes[at] == b'\n' {
-            return Some(at - 1);
+    let mut from = 0;
+    while let Some(at) = next_cr(bytes, from) {
+        if at + 1 < bytes.len() && bytes[at + 1] == b'\n' {
+            return Some(at);
         }
+        from = at + 1;
     }
     None
 }

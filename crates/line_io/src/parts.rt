@@ -1,6 +1,6 @@
-//! Bytes that are appended in several parts. What they say is for the crates above.
+//! Bytes that are appended in several parts, or go from the front. What they say is for the crates above.
 
-ghost use Rattle.std.specs.Prelude.{◌≡◌, ◌≤◌, ◌++◌, flat_map, OnOk, OnErr, vec_capacity};
+ghost use Rattle.std.specs.Prelude.{◌≡◌, ◌≤◌, ◌++◌, drop, flat_map, OnOk, OnErr, vec_len, vec_capacity};
 
 use std::alloc::AllocError;
 
@@ -20,4 +20,14 @@ pub fn append_parts(parts: &[&[u8]], out: &mut Vec<u8>) -> Result<(), AllocError
         };
     }
     Ok(())
+}
+
+/// Takes so many bytes from the front, and moves the others up. The room stays.
+pub fn drop_front(bytes: &mut Vec<u8>, count: usize)
+    requires { count ≤ vec_len bytes.old }
+    ensures { bytes.new.items ≡ drop count bytes.old.items }
+{
+    let left = bytes.len() - count;
+    bytes.copy_within(count.., 0);
+    bytes.truncate(left);
 }

@@ -1,5 +1,5 @@
 -- One call after others.
-use Rattle.std.proofs.Common.{◌≡◌, ℕ, zero, suc, ◌+◌, ◌-◌, ◌≤◌, List, [], ◌∷◌, ◌++◌, length, take, drop, refl, ap, sym, subst, ◌∙◌, append_assoc, arith, length-drop}
+use Rattle.std.proofs.Common.{◌≡◌, inl, inr, ℕ, zero, suc, ◌+◌, ◌-◌, ◌≤◌, List, [], ◌∷◌, ◌++◌, length, take, drop, refl, ap, sym, subst, ◌∙◌, append_assoc, arith, length-drop}
 use Rattle.std.proofs.lemmas.List.{append-nil}
 use Rattle.line_io.specs.Wire.{IsUncut, crlf}
 use Rattle.envelope.specs.Directory.{Directory}
@@ -43,7 +43,7 @@ pub nothing_taken : (S : Conversation → Type 0) (setting : Setting) (host : Li
 nothing_taken S setting host directory c old what pending p s e tells = record {
   turn = turn c.standing.phase c.standing.submitted [];
   after = c;
-  leads = record { lines = []; events = []; cut = record { whole = append-nil c.unfinished; each = λ k d h. absurd (omega arith); open_end = p }; heard = none; turns = refl; stands = refl };
+  leads = record { lines = []; events = []; cut = record { whole = append-nil c.unfinished; each = λ k d h. absurd (omega arith); open_end = p }; heard = none; may = tt; turns = refl; stands = refl; behind = inr (inl refl) };
   stands = s;
   said = sym (append-nil old);
   tells = tells;

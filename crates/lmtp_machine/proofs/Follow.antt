@@ -25,12 +25,12 @@ use Rattle.lmtp_machine.specs.declared.reply.Reply.TheVariants.{LineTooLong, Out
 use Rattle.lmtp_machine.specs.Replies.{wire}
 use Rattle.lmtp_machine.specs.Message.{plain, outcome}
 use Rattle.lmtp_machine.specs.Standing.{CommandState, standing_of, phase_of, IsOpen, Takes}
-use Rattle.lmtp_machine.specs.Dialogue.{Phase, Start, Ready, Transaction, Data, Ended, Standing, Setting, Submission, Event, Line, Starved, Turn, turn, dialogue, on_event, on_line, on_command_line, on_outcome, at_end, is_dot}
-use Rattle.lmtp_machine.specs.Conversation.{Conversation, Heard, none, line, starved, ◌⨾◌}
+use Rattle.lmtp_machine.specs.Dialogue.{Phase, Start, Ready, Transaction, Data, Waiting, Ended, Standing, Setting, Submission, Event, Line, Starved, Turn, turn, dialogue, on_event, on_line, on_command_line, on_outcome, at_end, is_dot}
+use Rattle.lmtp_machine.specs.Conversation.{Conversation, Heard, none, line, starved, IsListening, MayHear, EachMayBeHeard, ◌⨾◌}
 use Rattle.lmtp_machine.specs.Machine.{Machine, IsPending, BetweenLines, WithinData, IsHere, StandsFor}
-use Rattle.lmtp_machine.specs.Calls.{Follows, Tells, IsQuiet, IsListening}
+use Rattle.lmtp_machine.specs.Calls.{Follows, Tells, IsQuiet}
 use Rattle.lmtp_machine.specs.Ending.{Becomes, Does, IsBetween, what_of}
-use Rattle.lmtp_machine.proofs.Pieces.{goes_on, heard-append}
+use Rattle.lmtp_machine.proofs.Pieces.{goes_on, heard-append, may-append}
 use Rattle.lmtp_machine.proofs.Turns.{IsGoing, Spoken, line_spoken, too_long, outcome_is, is_refused}
 
 -- ---- wire lines
@@ -92,6 +92,10 @@ open_listening stages.Transaction sender recipients o = tt
 open_listening stages.Data sender recipients o = absurd o
 open_listening stages.Waiting sender recipients o = absurd o
 open_listening stages.Ended sender recipients o = absurd o
+
+-- between commands, where a command line may come
+listens_at : (m : Machine) (c : Conversation) → IsOpen m.commands.stage → BetweenLines m c → IsListening c.standing.phase
+listens_at m c o b = subst (λ (x : Standing). IsListening x.phase) (sym b.standing) (open_listening m.commands.stage m.commands.sender m.commands.recipients o)
 
 open_more : (stage : Stage) → IsOpen stage → what_of stage ≡ More
 open_more stages.Start o = refl
@@ -200,11 +204,13 @@ line_follows m new directory c piece used what old out l o s eu kt el tk ep ew =
         events = Line l ∷ [];
         cut = subst (λ (x : List (List ℕ)). IsCut bytes x []) ls (subst (λ (x : List ℕ). IsCut bytes (wire_lines bytes) x) el.rest (reading_cut bytes));
         heard = line l none;
+        may = (listens_at m c o b, tt);
         turns =
             sym (line_at m.setting directory m.commands.stage m.commands.sender m.commands.recipients m.commands.submitted l o)
             ∙ sym (one_event m.setting directory (standing_of m.commands) (Line l))
             ∙ ap (λ (x : Standing). dialogue m.setting directory x (Line l ∷ [])) (sym b.standing);
         stands = refl;
+        behind = inr (inr refl);
       };
       stands = record {
         open_end = uncut_nil;
@@ -213,7 +219,7 @@ line_follows m new directory c piece used what old out l o s eu kt el tk ep ew =
       said = tk.said;
       tells = subst (λ (w : What). Tells w t) (sym ew) (tells_of new.commands.stage new.commands.sender new.commands.recipients t (ap (λ (x : Standing). x.phase) tk.standing) spoken);
       submits = ep ∙ sym spoken.submissions;
-      stops = λ h. inl spoken.said;
+      stops = λ h. inl (let one = spoken.said in omega (arith, one));
       one = λ events last h. before_only m.setting directory c.standing (Line l) events last h;
       ended = λ e. absurd (open_not_ended m.commands.stage m.commands.sender m.commands.recipients o (ap (λ (x : Standing). x.phase) (sym b.standing) ∙ e));
     }
@@ -233,7 +239,7 @@ more_follows m new directory c piece used what old out o s ec eu kt el all eo ep
     record {
       turn = t;
       after = after;
-      leads = record { lines = []; events = []; cut = record { whole = refl; each = All-nil IsUncut; open_end = uncut }; heard = none; turns = refl; stands = refl };
+      leads = record { lines = []; events = []; cut = record { whole = refl; each = All-nil IsUncut; open_end = uncut }; heard = none; may = tt; turns = refl; stands = refl; behind = inl (listens_at m c o b) };
       stands = record {
         open_end = uncut;
         here = here_between new.commands.stage new after (open_between new.commands.stage o') (record {
@@ -318,6 +324,17 @@ data_lines setting directory n sender recipients lines (l ∷ ls) h =
     ∙ data_lines setting directory n sender recipients (lines ++ l ∷ []) ls (All-tail (λ l. l ≢ dot) l ls h)
     ∙ ap (λ (x : List (List ℕ)). turn (Data sender recipients x) n []) (append_assoc lines (l ∷ []) ls)
 
+-- and each of them may be heard
+data_may : (setting : Setting) (directory : Directory) (n : ℕ) (sender recipients : List ℕ) (lines ls : List (List ℕ)) → All (λ l. l ≢ dot) ls
+    → EachMayBeHeard setting directory (in_data sender recipients lines n) (map Line ls)
+data_may setting directory n sender recipients lines [] h = tt
+data_may setting directory n sender recipients lines (l ∷ ls) h =
+    let next : Bool → Turn = λ b. (if b then at_end setting false n sender recipients lines else turn (Data sender recipients (lines ++ l ∷ [])) n []) in (
+      tt,
+      subst (λ (b : Bool). EachMayBeHeard setting directory (next b).standing (map Line ls)) (sym (is_not_dot l (All-head (λ l. l ≢ dot) l ls h)))
+          (data_may setting directory n sender recipients (lines ++ l ∷ []) ls (All-tail (λ l. l ≢ dot) l ls h)),
+    )
+
 -- a quiet dialogue was quiet on the way
 quiet_before : (setting : Setting) (directory : Directory) (s : Standing) (events more : List Event) → IsQuiet (dialogue setting directory s (events ++ more)) → IsQuiet (dialogue setting directory s events)
 quiet_before setting directory s events more h =
@@ -333,6 +350,10 @@ standing_in : (m : Machine) (c : Conversation) (d : WithinData m c) → c.standi
 standing_in m c d =
     ap (λ (p : Phase). let s : Standing = record { phase = p; submitted = c.standing.submitted } in s) d.phase
     ∙ ap (λ (n : ℕ). in_data m.commands.sender m.commands.recipients d.lines n) d.submitted
+
+may_at : (setting : Setting) (directory : Directory) (m : Machine) (c : Conversation) (d : WithinData m c) (events : List Event)
+    → EachMayBeHeard setting directory (in_data m.commands.sender m.commands.recipients d.lines m.commands.submitted) events → EachMayBeHeard setting directory c.standing events
+may_at setting directory m c d events h = subst (λ (x : Standing). EachMayBeHeard setting directory x events) (sym (standing_in m c d)) h
 
 not_ended_in_data : (m : Machine) (c : Conversation) → WithinData m c → c.standing.phase ≡ Ended → ⊥
 not_ended_in_data m c d e = let k : ◌≡◌ {A = Phase} (Data m.commands.sender m.commands.recipients d.lines) Ended = sym d.phase ∙ e in cc
@@ -377,7 +398,16 @@ data_more_follows m new directory c piece used old out es s ec ek goes all eo ep
     record {
       turn = t;
       after = after;
-      leads = record { lines = news; events = map Line news; cut = cut; heard = heard_lines news; turns = sym said; stands = refl };
+      leads = record {
+        lines = news;
+        events = map Line news;
+        cut = cut;
+        heard = heard_lines news;
+        may = may_at m.setting directory m c d (map Line news) (data_may m.setting directory m.commands.submitted m.commands.sender m.commands.recipients d.lines news none_dot);
+        turns = sym said;
+        stands = refl;
+        behind = inl tt;
+      };
       stands = record { open_end = cut.open_end; here = subst (λ (x : Stage). IsHere x new after) (sym (ap (λ (x : CommandState). x.stage) ec ∙ es)) w };
       said = eo ∙ sym (append-nil old);
       tells = (refl, tt);
@@ -396,6 +426,10 @@ ends_by false = Line dot
 heard_end : (refused : Bool) → Heard (dot ∷ []) (ends_by refused ∷ [])
 heard_end true = starved none
 heard_end false = line dot none
+
+end_may : (refused : Bool) (sender recipients : List ℕ) (lines : List (List ℕ)) → MayHear (Data sender recipients lines) (ends_by refused)
+end_may true sender recipients lines = tt
+end_may false sender recipients lines = tt
 
 end_event : (setting : Setting) (directory : Directory) (refused : Bool) (sender recipients : List ℕ) (lines : List (List ℕ)) (n : ℕ)
     → on_event setting directory (in_data sender recipients lines n) (ends_by refused) ≡ at_end setting refused n sender recipients lines
@@ -482,8 +516,12 @@ data_done_follows m new fresh directory c piece used what old out u o es s ef te
         events = map Line f.front ++ ends_by refused ∷ [];
         cut = cut;
         heard = heard-append (heard_lines f.front) (heard_end refused);
+        may = may-append m.setting directory c.standing (map Line f.front) (ends_by refused ∷ [])
+            (may_at m.setting directory m c d (map Line f.front) (data_may m.setting directory n sender recipients d.lines f.front none_front))
+            (subst (λ (x : Turn). EachMayBeHeard m.setting directory x.standing (ends_by refused ∷ [])) (sym front_said) (end_may refused sender recipients lines, tt));
         turns = sym said;
         stands = refl;
+        behind = inr (inr refl);
       };
       stands = record {
         open_end = uncut_nil;
@@ -503,6 +541,24 @@ data_done_follows m new fresh directory c piece used what old out u o es s ef te
       ended = λ e. absurd (not_ended_in_data m c d e);
     }
 
+-- ---- who listens
+
+-- a connection that has not ended and awaits no verdicts listens
+pub still_listens : (m : Machine) (c : Conversation) → StandsFor m c → (m.commands.stage ≡ stages.Ended → ⊥) → ((n : ℕ) → c.standing.phase ≡ Waiting n → ⊥)
+    → IsListening c.standing.phase
+still_listens m c s going unawaited = by_stage m.commands.stage refl s.here
+  where
+    at : (stage : Stage) → m.commands.stage ≡ stage → c.standing ≡ standing_of m.commands → c.standing.phase ≡ phase_of stage m.commands.sender m.commands.recipients
+    at stage e b = ap (λ (x : Standing). x.phase) b ∙ ap (λ (x : Stage). phase_of x m.commands.sender m.commands.recipients) e
+
+    by_stage : (stage : Stage) → m.commands.stage ≡ stage → IsHere stage m c → IsListening c.standing.phase
+    by_stage stages.Start e h = subst (λ (p : Phase). IsListening p) (sym (at stages.Start e h.standing)) tt
+    by_stage stages.Ready e h = subst (λ (p : Phase). IsListening p) (sym (at stages.Ready e h.standing)) tt
+    by_stage stages.Transaction e h = subst (λ (p : Phase). IsListening p) (sym (at stages.Transaction e h.standing)) tt
+    by_stage stages.Data e h = subst (λ (p : Phase). IsListening p) (sym h.phase) tt
+    by_stage stages.Waiting e h = absurd (unawaited (length m.commands.recipients) (at stages.Waiting e h.standing))
+    by_stage stages.Ended e h = absurd (going e)
+
 -- ---- the end
 
 pub ended_follows : (m : Machine) (directory : Directory) (c : Conversation) (piece old : List ℕ) → m.commands.stage ≡ stages.Ended → StandsFor m c → m.pending ≡ []
@@ -513,7 +569,7 @@ ended_follows m directory c piece old es s ep =
     record {
       turn = turn c.standing.phase c.standing.submitted [];
       after = c;
-      leads = record { lines = []; events = []; cut = record { whole = append-nil c.unfinished; each = All-nil IsUncut; open_end = s.open_end }; heard = none; turns = refl; stands = refl };
+      leads = record { lines = []; events = []; cut = record { whole = append-nil c.unfinished; each = All-nil IsUncut; open_end = s.open_end }; heard = none; may = tt; turns = refl; stands = refl; behind = inr (inl refl) };
       stands = s;
       said = sym (append-nil old);
       tells = (refl, phase);

@@ -30,10 +30,10 @@ IsGoing (Data sender recipients lines) = 0 < length recipients
 IsGoing (Waiting count) = ⊥
 IsGoing Ended = Unit {0}
 
--- something was said, nothing submitted
+-- one thing was said, nothing submitted
 pub record Spoken (t : Turn) : Type 0 where
   pub submissions : t.submissions ≡ []
-  pub said : 0 < length t.replies
+  pub said : length t.replies ≡ 1
   pub going : IsGoing t.standing.phase
 
 one : (phase : Phase) (n : ℕ) (reply : Reply) → IsGoing phase → Spoken (turn phase n (reply ∷ []))

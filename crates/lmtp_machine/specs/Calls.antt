@@ -6,21 +6,12 @@ use Rattle.lmtp_machine.specs.declared.connection.What.TheVariants.{More, Submit
 use Rattle.lmtp_machine.specs.declared.connection.Fed.{Fed}
 use Rattle.lmtp_machine.specs.declared.connection.Submission as code
 use Rattle.lmtp_machine.specs.Replies.{wire}
-use Rattle.lmtp_machine.specs.Dialogue.{Phase, Start, Ready, Transaction, Data, Waiting, Ended, Setting, Submission, Event, Turn, dialogue, on_event}
-use Rattle.lmtp_machine.specs.Conversation.{Conversation, Leads, led_by}
+use Rattle.lmtp_machine.specs.Dialogue.{Waiting, Ended, Setting, Submission, Event, Turn, dialogue, on_event}
+use Rattle.lmtp_machine.specs.Conversation.{Conversation, IsListening, Leads, led_by}
 
 -- a submission of the code, as one of the dialogue
 abbrev pub submission_of : code.Submission → Submission
 submission_of s = record { keys = s.keys.items; mailboxes = s.mailboxes.items; text = s.text }
-
--- the next bytes may come: the dialogue goes on and awaits no verdicts
-abbrev pub IsListening : Phase → Type 0
-IsListening Start = Unit {0}
-IsListening Ready = Unit {0}
-IsListening (Transaction sender recipients) = Unit {0}
-IsListening (Data sender recipients lines) = Unit {0}
-IsListening (Waiting count) = ⊥
-IsListening Ended = ⊥
 
 -- a message was submitted, and a verdict for each of its keys is awaited
 pub record Submits (turn : Turn) : Type 0 where

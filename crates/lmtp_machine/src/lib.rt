@@ -12,6 +12,6 @@ mod reply;
 mod tests;
 
 pub use connection::{Fed, Limits, Submission, What};
-pub use laws::{any_pieces, messages_are_numbered};
+pub use laws::{any_pieces, lines_are_heard_in_time, messages_are_numbered};
 pub use machine::LmtpMachine;
 pub use reply::Reply;

@@ -2,7 +2,7 @@
 //! messages are submitted. Answers to command lines are in commands.rt, building a message in message.rt; it knows nothing of sockets,
 //! queues and mailboxes.
 
-ghost use Rattle.std.specs.Prelude.{All, ◌≡◌, ◌+◌, ◌*◌, ◌++◌, ◌≤◌, ◌<◌, take, codes, replicate, Some, List, [], ◌∷◌, length, IfOk, OnOk, OnErr, ℕ, vec_len, vec_capacity};
+ghost use Rattle.std.specs.Prelude.{All, ◌≡◌, ◌+◌, ◌*◌, ◌++◌, ◌≤◌, ◌<◌, take, codes, replicate, true, false, Some, List, [], ◌∷◌, length, IfOk, OnOk, OnErr, ℕ, vec_len, vec_capacity};
 ghost use Rattle.lmtp_machine.specs.Dialogue as dialogue;
 ghost use Rattle.lmtp_machine.specs.Conversation.{Conversation, opened};
 ghost use Rattle.envelope.specs.Directory.{Directory};
@@ -139,6 +139,7 @@ impl LmtpMachine {
         ensures same { OnOk result ((self.new.setting ≡ self.old.setting) × (self.new.host ≡ self.old.host)) }
         ensures err { OnErr result ((self.new ≡ self.old) × (out.new.items ≡ out.old.items)) }
         ensures full { OnErr result (vec_capacity out.old < vec_len out.old + length self.old.host + 4000) }
+        ensures asks { OnErr result (self.old.commands.stage ≡ Stage.Ended → ⊥) }
     {
         match self.commands.stage() {
             Stage::Ended => Ok(Fed {
@@ -147,6 +148,18 @@ impl LmtpMachine {
             }),
             Stage::Data => self.feed_data(piece, directory, out),
             _ => self.feed_commands(piece, directory, out),
+        }
+    }
+
+    /// Whether the connection has ended: then it takes no more bytes.
+    pub fn has_ended(&self) -> bool
+        ensures ended { result ≡ true → self.now.commands.stage ≡ Stage.Ended }
+        ensures going { result ≡ false → self.now.commands.stage ≡ Stage.Ended → ⊥ }
+    {
+        match self.commands.stage() {
+            Stage::Ended => true,
+            Stage::Start | Stage::Ready | Stage::Transaction | Stage::Data | Stage::Waiting =>
+                false,
         }
     }
 
@@ -172,6 +185,7 @@ impl LmtpMachine {
         ensures pending { OnOk result (self.new.pending ≡ []) }
         ensures err { OnErr result ((self.new ≡ self.old) × (out.new.items ≡ out.old.items)) }
         ensures full { OnErr result (vec_capacity out.old < vec_len out.old + 4000) }
+        ensures asks { OnErr result (self.old.pending ≡ [] → ⊥) }
     {
         if self.submission.is_none() {
             return Ok(());

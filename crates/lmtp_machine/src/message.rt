@@ -41,7 +41,8 @@ pub fn keys_of(
 pub fn text_of(alloc: Global, sender: &[u8], body: &[u8]) -> Result<Vec<u8>, AllocError>
     ensures { IfOk result (λ v. v.items ≡ codes "Return-Path: <" ++ sender.now ++ codes ">" ++ crlf ++ body.now) }
 {
-    let mut text = Vec::new(alloc);
+    let room = body.len().saturating_add(sender.len()).saturating_add(17);
+    let mut text = Vec::with_capacity(alloc, room)?;
     text.extend_from_slice(b"Return-Path: <")?;
     text.extend_from_slice(sender)?;
     text.extend_from_slice(b">\r\n")?;

@@ -2,8 +2,8 @@
 
 ghost use Rattle.std.specs.Prelude.{◌≡◌, ◌≤◌, ◌<◌, [], length, IfOk, OnOk};
 
-use crate::{Fed, Limits, LmtpMachine, What};
-use delivery_token::{Refusal, Verdict};
+use crate::{Fed, Limits, LmtpMachine, Submission, What};
+use delivery_token::{CopyKey, Refusal, Verdict};
 use envelope::{Directory, DirectoryFault};
 use std::alloc::Global;
 
@@ -44,6 +44,27 @@ fn hear(
     Ok(fed)
 }
 
+// Feeds all these bytes, in pieces of this size.
+fn hear_all(
+    alloc: Global,
+    machine: &mut LmtpMachine,
+    directory: &Directory,
+    pieces: (&[u8], usize),
+    first: Verdict,
+    out: &mut Vec<u8>,
+) -> Result<(), DirectoryFault>
+    requires { machine.old.pending ≡ [] }
+    ensures { OnOk result (machine.new.pending ≡ []) }
+{
+    let (mut rest, size) = pieces;
+    for _turn in 0..rest.len() {
+        let piece = &rest[..size.min(rest.len())];
+        let fed = hear(alloc, machine, directory, piece, first, out)?;
+        rest = &rest[fed.used..];
+    }
+    Ok(())
+}
+
 // All that is said on a connection whose bytes come in pieces of this size.
 fn converse(
     alloc: Global,
@@ -60,65 +81,113 @@ fn converse(
     let mut machine = LmtpMachine::new(alloc, 0, 0, limits)?;
     let mut out = Vec::new(alloc);
     machine.greet(&mut out)?;
-    let mut rest = bytes;
-    for _turn in 0..bytes.len() {
-        let piece = &rest[..size.min(rest.len())];
-        let fed = hear(alloc, &mut machine, &directory, piece, first, &mut out)?;
-        rest = &rest[fed.used..];
-    }
+    hear_all(
+        alloc,
+        &mut machine,
+        &directory,
+        (bytes, size),
+        first,
+        &mut out,
+    )?;
     Ok(out)
 }
 
 const STORED: Verdict = Verdict::Stored { uid: 1 };
 
-#[test]
-fn first_message(rt: HostRuntime) -> Result<(), DirectoryFault> {
-    let bytes =
-        b"LHLO c.example\r\nMAIL FROM:<s@a.example>\r\nRCPT TO:<alice@example.org>\r\nDATA\r\nhi\r\n.\r\nQUIT\r\n";
-    for size in [1, 7, 1000] {
-        let out = converse(rt.alloc(), 1048576, STORED, bytes, size)?;
-        let mut want = Vec::from_slice(rt.alloc(), GREETED)?;
-        want.extend_from_slice(
-            b"250 2.1.0 Sender OK\r\n250 2.1.5 Recipient OK\r\n354 Start mail input\r\n250 2.1.5 Delivered\r\n221 2.0.0 Bye\r\n",
-        )?;
-        assert_eq!(rt; out.as_slice(), want.as_slice());
-    }
-    Ok(())
+// A connection: the most bytes of a message, the verdict of the first copy, the size of the pieces, what is said, and what is replied
+// after the reply to LHLO.
+struct Dialogue {
+    max_message: usize,
+    first: Verdict,
+    size: usize,
+    bytes: &'static [u8],
+    replied: &'static [u8],
 }
 
-#[test]
-fn two_recipients_have_two_replies(rt: HostRuntime) -> Result<(), DirectoryFault> {
-    let bytes =
-        b"LHLO c.example\r\nMAIL FROM:<s@a.example>\r\nRCPT TO:<alice@example.org>\r\nRCPT TO:<carol@example.org>\r\nRCPT TO:<alice@example.org>\r\nDATA\r\nhi\r\n.\r\n";
+const FIRST_MESSAGE: Dialogue = Dialogue {
+    max_message: 1048576,
+    first: STORED,
+    size: 1,
+    bytes: b"LHLO c.example\r\nMAIL FROM:<s@a.example>\r\nRCPT TO:<alice@example.org>\r\nDATA\r\nhi\r\n.\r\nQUIT\r\n",
+    replied: b"250 2.1.0 Sender OK\r\n250 2.1.5 Recipient OK\r\n354 Start mail input\r\n250 2.1.5 Delivered\r\n221 2.0.0 Bye\r\n",
+};
+
+const TWO_RECIPIENTS: Dialogue = Dialogue {
+    max_message: 1048576,
+    first: Verdict::Refused(Refusal::MailboxFull),
+    size: 1000,
+    bytes: b"LHLO c.example\r\nMAIL FROM:<s@a.example>\r\nRCPT TO:<alice@example.org>\r\nRCPT TO:<carol@example.org>\r\nRCPT TO:<alice@example.org>\r\nDATA\r\nhi\r\n.\r\n",
+    replied: b"250 2.1.0 Sender OK\r\n250 2.1.5 Recipient OK\r\n550 5.1.1 Mailbox unknown\r\n250 2.1.5 Recipient OK\r\n354 Start mail input\r\n452 4.2.2 Mailbox full\r\n250 2.1.5 Delivered\r\n",
+};
+
+const TOO_BIG_AND_NUL: Dialogue = Dialogue {
+    max_message: 3,
+    first: STORED,
+    size: 1,
+    bytes: b"LHLO c.example\r\nMAIL FROM:<s@a.example>\r\nRCPT TO:<alice@example.org>\r\nDATA\r\nhi\r\n.\r\nMAIL FROM:<s@a.example>\r\nRCPT TO:<alice@example.org>\r\nDATA\r\n\0\r\n.\r\n",
+    replied: b"250 2.1.0 Sender OK\r\n250 2.1.5 Recipient OK\r\n354 Start mail input\r\n552 5.3.4 Message too big\r\n250 2.1.0 Sender OK\r\n250 2.1.5 Recipient OK\r\n354 Start mail input\r\n554 5.6.0 NUL byte\r\n",
+};
+
+const FULL: Dialogue = Dialogue {
+    max_message: 100,
+    first: Verdict::Refused(Refusal::Full),
+    size: 1000,
+    bytes: b"LHLO c.example\r\nMAIL FROM:<s@a.example>\r\nRCPT TO:<alice@example.org>\r\nDATA\r\nhi\r\n.\r\n",
+    replied: b"250 2.1.0 Sender OK\r\n250 2.1.5 Recipient OK\r\n354 Start mail input\r\n452 4.3.1 Shard full\r\n",
+};
+
+const DIALOGUES: &[Dialogue] = &[
+    FIRST_MESSAGE,
+    Dialogue {
+        size: 7,
+        ..FIRST_MESSAGE
+    },
+    Dialogue {
+        size: 1000,
+        ..FIRST_MESSAGE
+    },
+    TWO_RECIPIENTS,
+    TOO_BIG_AND_NUL,
+    Dialogue {
+        size: 1000,
+        ..TOO_BIG_AND_NUL
+    },
+    // Each refusal has its reply.
+    FULL,
+    Dialogue {
+        first: Verdict::Refused(Refusal::MailboxFull),
+        replied: b"250 2.1.0 Sender OK\r\n250 2.1.5 Recipient OK\r\n354 Start mail input\r\n452 4.2.2 Mailbox full\r\n",
+        ..FULL
+    },
+    Dialogue {
+        first: Verdict::Refused(Refusal::NoMemory),
+        replied: b"250 2.1.0 Sender OK\r\n250 2.1.5 Recipient OK\r\n354 Start mail input\r\n451 4.3.0 Out of memory\r\n",
+        ..FULL
+    },
+    Dialogue {
+        first: Verdict::Refused(Refusal::UidSpent),
+        replied: b"250 2.1.0 Sender OK\r\n250 2.1.5 Recipient OK\r\n354 Start mail input\r\n554 5.2.0 No UID left\r\n",
+        ..FULL
+    },
+];
+
+// Whether the replies are those wanted, no byte less or more.
+fn goes(alloc: Global, dialogue: &Dialogue) -> Result<bool, DirectoryFault> {
     let out = converse(
-        rt.alloc(),
-        1048576,
-        Verdict::Refused(Refusal::MailboxFull),
-        bytes,
-        1000,
+        alloc,
+        dialogue.max_message,
+        dialogue.first,
+        dialogue.bytes,
+        dialogue.size,
     )?;
-    let mut want = Vec::from_slice(rt.alloc(), GREETED)?;
-    want.extend_from_slice(
-        b"250 2.1.0 Sender OK\r\n250 2.1.5 Recipient OK\r\n550 5.1.1 Mailbox unknown\r\n250 2.1.5 Recipient OK\r\n354 Start mail input\r\n452 4.2.2 Mailbox full\r\n250 2.1.5 Delivered\r\n",
-    )?;
-    assert_eq!(rt; out.as_slice(), want.as_slice());
-    Ok(())
+    Ok(out.strip_prefix(GREETED) == Some(dialogue.replied))
 }
 
 #[test]
-fn too_big_and_nul(rt: HostRuntime) -> Result<(), DirectoryFault> {
-    let bytes =
-        b"LHLO c.example\r\nMAIL FROM:<s@a.example>\r\nRCPT TO:<alice@example.org>\r\nDATA\r\nhi\r\n.\r\nMAIL FROM:<s@a.example>\r\nRCPT TO:<alice@example.org>\r\nDATA\r\n\0\r\n.\r\n";
-    for size in [1, 1000] {
-        let out = converse(rt.alloc(), 3, STORED, bytes, size)?;
-        let mut want = Vec::from_slice(rt.alloc(), GREETED)?;
-        want.extend_from_slice(
-            b"250 2.1.0 Sender OK\r\n250 2.1.5 Recipient OK\r\n354 Start mail input\r\n552 5.3.4 Message too big\r\n",
-        )?;
-        want.extend_from_slice(
-            b"250 2.1.0 Sender OK\r\n250 2.1.5 Recipient OK\r\n354 Start mail input\r\n554 5.6.0 NUL byte\r\n",
-        )?;
-        assert_eq!(rt; out.as_slice(), want.as_slice());
+fn each_dialogue_goes_as_wanted(rt: HostRuntime) -> Result<(), DirectoryFault> {
+    for dialogue in DIALOGUES {
+        let went = goes(rt.alloc(), dialogue)?;
+        assert!(rt; went, "{:?} {}", dialogue.first, dialogue.size);
     }
     Ok(())
 }
@@ -142,122 +211,140 @@ fn a_transaction_has_100_recipients(rt: HostRuntime) -> Result<(), DirectoryFaul
     Ok(())
 }
 
+const OPENING: &[u8] =
+    b"LHLO c.example\r\nMAIL FROM:<s@a.example>\r\nRCPT TO:<bob@example.org>\r\nDATA\r\n";
+
+// The second mailbox's one copy, by the keys of its seat, and this text.
+fn is_to_bob(message: &Submission, text: &[u8]) -> bool {
+    let key = CopyKey {
+        seat: 3,
+        serial: 9,
+        message: 0,
+        recipient: 0,
+    };
+    message.mailboxes.as_slice() == [1].as_slice()
+        && message.keys.as_slice() == [key].as_slice()
+        && message.text.as_slice() == text
+}
+
+// A machine that has heard the opening and these bytes.
+fn opened(alloc: Global, directory: &Directory, begun: &[u8]) -> Result<LmtpMachine, DirectoryFault>
+    ensures { IfOk result (λ machine. machine.pending ≡ []) }
+{
+    let limits = Limits {
+        host: b"mx.example.org",
+        max_message: 100,
+    };
+    let mut machine = LmtpMachine::new(alloc, 3, 9, limits)?;
+    let mut out = Vec::new(alloc);
+    hear_all(
+        alloc,
+        &mut machine,
+        directory,
+        (OPENING, 4096),
+        STORED,
+        &mut out,
+    )?;
+    hear_all(
+        alloc,
+        &mut machine,
+        directory,
+        (begun, 4096),
+        STORED,
+        &mut out,
+    )?;
+    Ok(machine)
+}
+
+// How many of these bytes are used and how long the text is, where a submission of this text comes of them; 0 where it doesn't.
+fn submits(
+    machine: &mut LmtpMachine,
+    directory: &Directory,
+    bytes: &[u8],
+    text: &[u8],
+    out: &mut Vec<u8>,
+) -> Result<(usize, usize), DirectoryFault>
+    requires { machine.old.pending ≡ [] }
+{
+    let fed = machine.feed(bytes, directory, out)?;
+    match fed.what {
+        What::Submit if is_to_bob(machine.submission(), text) => Ok((
+            fed.used,
+            machine.submission().text.as_slice().len(),
+        )),
+        _ => Ok((0, 0)),
+    }
+}
+
+// Whether it says so where it shuts down, and hears nothing after.
+fn shuts(
+    machine: &mut LmtpMachine,
+    directory: &Directory,
+    out: &mut Vec<u8>,
+) -> Result<bool, DirectoryFault> {
+    out.clear();
+    machine.shut(out)?;
+    let over = Fed {
+        used: 0,
+        what: What::Quit,
+    };
+    let fed = machine.feed(b"NOOP\r\n", directory, out)?;
+    Ok(fed == over && out.as_slice() == b"421 4.3.2 Shutting down\r\n".as_slice())
+}
+
+// What `submits` answers, and whether the machine shuts down after.
+fn submits_and_shuts(
+    alloc: Global,
+    begun: &[u8],
+    bytes: &[u8],
+    text: &[u8],
+) -> Result<((usize, usize), bool), DirectoryFault> {
+    let directory = house(alloc)?;
+    let mut machine = opened(alloc, &directory, begun)?;
+    let mut out = Vec::new(alloc);
+    let submitted = submits(&mut machine, &directory, bytes, text, &mut out)?;
+    let shut = shuts(&mut machine, &directory, &mut out)?;
+    Ok((submitted, shut))
+}
+
+// What is said after DATA in pieces of its own, the piece that ends the message and how many of its bytes are used, and the text and its size.
+const SUBMITTED: &[(&[u8], &[u8], usize, &[u8], usize)] = &[
+    (
+        b"..x\r\n",
+        b".\r\nQUIT\r\n",
+        3,
+        b"Return-Path: <s@a.example>\r\n.x\r\n",
+        32,
+    ),
+    (b"", b".\r\n", 3, b"Return-Path: <s@a.example>\r\n", 28),
+    (
+        b"",
+        b"..\r\n..x\r\nx.\r\n.\r\n",
+        16,
+        b"Return-Path: <s@a.example>\r\n.\r\n.x\r\nx.\r\n",
+        39,
+    ),
+    (
+        b"",
+        b"..\r\n.x\r\nx.\r\n.\r\n",
+        15,
+        b"Return-Path: <s@a.example>\r\n.\r\nx\r\nx.\r\n",
+        38,
+    ),
+    (
+        b"",
+        b"a\n.\r\n\n.\nb\r\n.\r\n",
+        14,
+        b"Return-Path: <s@a.example>\r\na\n.\r\n\n.\nb\r\n",
+        39,
+    ),
+];
+
 #[test]
 fn what_is_submitted(rt: HostRuntime) -> Result<(), DirectoryFault> {
-    let directory = house(rt.alloc())?;
-    let limits = Limits {
-        host: b"mx.example.org",
-        max_message: 100,
-    };
-    let mut machine = LmtpMachine::new(rt.alloc(), 3, 9, limits)?;
-    let mut out = Vec::new(rt.alloc());
-    for piece in [
-        b"LHLO c.example\r\n".as_slice(),
-        b"MAIL FROM:<s@a.example>\r\n",
-        b"RCPT TO:<bob@example.org>\r\n",
-        b"DATA\r\n",
-        b"..x\r\n",
-    ] {
-        let _fed = hear(
-            rt.alloc(),
-            &mut machine,
-            &directory,
-            piece,
-            STORED,
-            &mut out,
-        )?;
-    }
-    let fed = machine.feed(b".\r\nQUIT\r\n", &directory, &mut out)?;
-    assert_eq!(rt; fed.used, 3);
-    assert_eq!(rt; fed.what, What::Submit);
-    if let What::Submit = fed.what {
-        let message = machine.submission();
-        assert_eq!(rt; message.mailboxes.as_slice(), [1].as_slice());
-        assert_eq!(rt;
-            message.text.as_slice(),
-            b"Return-Path: <s@a.example>\r\n.x\r\n".as_slice()
-        );
-        for key in &message.keys {
-            assert_eq!(rt;
-                (key.seat, key.serial, key.message, key.recipient),
-                (3, 9, 0, 0)
-            );
-        }
-    }
-    out.clear();
-    machine.shut(&mut out)?;
-    assert_eq!(rt; out.as_slice(), b"421 4.3.2 Shutting down\r\n".as_slice());
-    let fed = machine.feed(b"NOOP\r\n", &directory, &mut out)?;
-    assert_eq!(rt;
-        fed,
-        Fed {
-            used: 0,
-            what: What::Quit
-        }
-    );
-    Ok(())
-}
-
-// The text that is submitted where these bytes follow DATA.
-fn text_of(alloc: Global, data: &[u8]) -> Result<Vec<u8>, DirectoryFault> {
-    let directory = house(alloc)?;
-    let limits = Limits {
-        host: b"mx.example.org",
-        max_message: 100,
-    };
-    let mut machine = LmtpMachine::new(alloc, 0, 0, limits)?;
-    let mut out = Vec::new(alloc);
-    for piece in [
-        b"LHLO c.example\r\n".as_slice(),
-        b"MAIL FROM:<s@a.example>\r\n",
-        b"RCPT TO:<bob@example.org>\r\n",
-        b"DATA\r\n",
-    ] {
-        let _fed = hear(alloc, &mut machine, &directory, piece, STORED, &mut out)?;
-    }
-    let fed = machine.feed(data, &directory, &mut out)?;
-    match fed.what {
-        What::Submit => Ok(Vec::from_slice(alloc, machine.submission().text.as_slice())?),
-        _ => Ok(Vec::new(alloc)),
-    }
-}
-
-#[test]
-fn texts_of_messages(rt: HostRuntime) -> Result<(), DirectoryFault> {
-    let cases = [
-        (b".\r\n".as_slice(), b"".as_slice(), 28),
-        (b"..\r\n..x\r\nx.\r\n.\r\n", b".\r\n.x\r\nx.\r\n", 39),
-        (b"..\r\n.x\r\nx.\r\n.\r\n", b".\r\nx\r\nx.\r\n", 38),
-        (b"a\n.\r\n\n.\nb\r\n.\r\n", b"a\n.\r\n\n.\nb\r\n", 39),
-    ];
-    for (data, lines, size) in cases {
-        let mut want = Vec::from_slice(rt.alloc(), b"Return-Path: <s@a.example>\r\n")?;
-        want.extend_from_slice(lines)?;
-        let text = text_of(rt.alloc(), data)?;
-        assert_eq!(rt; text.as_slice(), want.as_slice());
-        assert_eq!(rt; text.len(), size);
-    }
-    Ok(())
-}
-
-#[test]
-fn each_refusal_has_its_reply(rt: HostRuntime) -> Result<(), DirectoryFault> {
-    let cases = [
-        (Refusal::Full, b"452 4.3.1 Shard full\r\n".as_slice()),
-        (Refusal::MailboxFull, b"452 4.2.2 Mailbox full\r\n"),
-        (Refusal::NoMemory, b"451 4.3.0 Out of memory\r\n"),
-        (Refusal::UidSpent, b"554 5.2.0 No UID left\r\n"),
-    ];
-    let bytes =
-        b"LHLO c.example\r\nMAIL FROM:<s@a.example>\r\nRCPT TO:<alice@example.org>\r\nDATA\r\nhi\r\n.\r\n";
-    for (refusal, reply) in cases {
-        let out = converse(rt.alloc(), 100, Verdict::Refused(refusal), bytes, 1000)?;
-        let mut want = Vec::from_slice(rt.alloc(), GREETED)?;
-        want.extend_from_slice(
-            b"250 2.1.0 Sender OK\r\n250 2.1.5 Recipient OK\r\n354 Start mail input\r\n",
-        )?;
-        want.extend_from_slice(reply)?;
-        assert_eq!(rt; out.as_slice(), want.as_slice());
+    for (begun, bytes, used, text, size) in SUBMITTED {
+        let went = submits_and_shuts(rt.alloc(), begun, bytes, text)?;
+        assert_eq!(rt; went, ((*used, *size), true), "{:?}", *bytes);
     }
     Ok(())
 }

@@ -2,3 +2,4 @@ pub mod StandsLaws
 pub mod MessageLaws
 pub mod RemovalLaws
 pub mod Seats
+pub mod WindowMoves

@@ -3,19 +3,18 @@ use Rattle.std.proofs.Common.{◌≡◌, ◌≢◌, ℕ, zero, suc, ◌+◌, ◌
 use Rattle.std.specs.Prelude.{count_by, ◌&&◌}
 use Rattle.std.specs.List.{AllByRecursion, list_any}
 use Rattle.std.proofs.lemmas.Bool.Decides.{eqb_tells}
-use Rattle.std.proofs.lemmas.Bool.{cases_lt}
 use Rattle.std.proofs.lemmas.List.{length-map}
 use Rattle.std.proofs.lemmas.List.Sums.{length-filter}
 use Rattle.change_ring.specs.declared.change.Change.{Change}
 use Rattle.change_ring.specs.declared.change.Change.TheVariants.{Gone}
 use Rattle.change_ring.specs.Log.{Row, FitsView, without, without_row, rows_after, added}
 use Rattle.change_ring.specs.Logged.{removals}
-use Rattle.change_ring.specs.Window.{Window, IsWindowOf, BaseAfter, total}
-use Rattle.change_ring.proofs.WindowLaws.{BaseAfter-append, BaseAfter-less, BaseAfter-rises}
+use Rattle.change_ring.specs.Window.{Window, IsWindowOf, total}
 use Rattle.cursor_set.specs.Cursors.{Cursors}
 use Rattle.cursor_set.proofs.Places.{Rises}
 use Rattle.mailbox.specs.Choices.{is_taken}
 use Rattle.mailbox.specs.Events.{GoesOn, Moves}
+use Rattle.mailbox.proofs.WindowMoves.{Moves-append, moves_logged}
 use Rattle.mailbox.specs.Mail.{Message, row_of, uids_of, remaining}
 
 -- ---- a list of UIDs has one
@@ -145,22 +144,6 @@ module _ (test : ℕ → Bool) where
 pub GoesOn-append : (old middle new : Window) (cs ds : List Change) → GoesOn old middle cs → GoesOn middle new ds → GoesOn old new (cs ++ ds)
 GoesOn-append old middle new cs ds first second = λ log is. subst (IsWindowOf new) (append_assoc log cs ds) (second (log ++ cs) (first log is))
 
-pub Moves-append : (cursors : Cursors) (old middle new : Window) (cs ds : List Change) → Moves cursors old middle cs → Moves cursors middle new ds → Moves cursors old new (cs ++ ds)
-Moves-append cursors old middle new cs ds first second =
-    let low = BaseAfter-rises old.capacity (total old) old.base cs middle.base first.base in
-    let high = BaseAfter-rises middle.capacity (total middle) middle.base ds new.base second.base in
-    let less = BaseAfter-less middle.capacity old.capacity (total middle) middle.base ds new.base first.grows second.base in
-    record {
-      logged = omega (arith, first.logged, second.logged, length-append cs ds);
-      base = BaseAfter-append old.capacity (total old) old.base cs ds middle.base new.base first.base (subst (λ (t : ℕ). BaseAfter old.capacity t middle.base ds new.base) first.logged less);
-      grows = omega (arith, first.grows, second.grows);
-      wanted = λ more. elim (cases_lt old.capacity middle.capacity) [
-        | inl now ↦ let w = first.wanted now in (w.0, w.1, w.2, omega (arith, w.3, high))
-        | inr not_yet ↦ let w = second.wanted (omega (arith, more, not_yet)) in (w.0, w.1, omega (arith, low, w.2), w.3)
-      ];
-      max = second.max ∙ first.max;
-    }
-
 -- some of all these changes are logged, and some are left
 pub record IsLogging (cursors : Cursors) (old new : Window) (all left : List Change) : Type 0 where
   pub done : List Change
@@ -173,7 +156,7 @@ none_logged cursors w all = record {
   done = [];
   split = refl;
   goes_on = λ log is. subst (IsWindowOf w) (sym (append-nil log)) is;
-  moves = record { logged = omega arith; base = refl; grows = omega arith; wanted = λ l. absurd (omega (arith, l)); max = refl };
+  moves = refl;
 }
 
 pub one_logged : (cursors : Cursors) (old middle new : Window) (all left : List Change) (c : Change) → IsLogging cursors old middle all (c ∷ left) →
@@ -186,7 +169,7 @@ one_logged cursors old middle new all left c h goes moves = record {
 }
 
 pub room_left : (cursors : Cursors) (old middle : Window) (all left : List Change) (c : Change) (most : ℕ) → IsLogging cursors old middle all (c ∷ left) → total old + length all ≤ most → total middle < most
-room_left cursors old middle all left c most h room = omega (arith, room, h.moves.logged, ap length h.split, length-append h.done (c ∷ left))
+room_left cursors old middle all left c most h room = omega (arith, room, moves_logged cursors old middle h.done h.moves, ap length h.split, length-append h.done (c ∷ left))
 
 pub all_logged : (cursors : Cursors) (old new : Window) (all : List Change) → IsLogging cursors old new all [] → GoesOn old new all × Moves cursors old new all
 all_logged cursors old new all h =

@@ -8,7 +8,7 @@ use Rattle.std.proofs.Math.Seq.{take-add}
 use Rattle.change_ring.specs.declared.change.Change.{Change}
 use Rattle.change_ring.specs.declared.change.Change.TheVariants.{Add}
 use Rattle.change_ring.specs.Log.{Row, IsLegalLog, no_flags, FitsView, rows_after, replay, view_at, added}
-use Rattle.change_ring.specs.Window.{Window, changes_from, total}
+use Rattle.change_ring.specs.Window.{changes_from, total}
 use Rattle.change_ring.proofs.LogLaws.{FitsView-append, rows_after-append, added-append, replay-append, uids-rows_after}
 use Rattle.change_ring.proofs.RangeLaws.{range-push}
 use Rattle.change_ring.proofs.WindowLaws.{changes_from-log}
@@ -18,7 +18,7 @@ use Rattle.cursor_set.specs.Lines.{lines}
 use Rattle.cursor_set.proofs.LegalLaws.{legal_log, legal_rises}
 use Rattle.cursor_set.proofs.Places.{Rises, Rises-to}
 use Rattle.delivery_token.specs.declared.CopyKey.{CopyKey}
-use Rattle.mailbox.specs.Events.{GoesOn, Logs, Moves}
+use Rattle.mailbox.specs.Events.{GoesOn, Logs}
 use Rattle.mailbox.specs.Mail.{Mail, Message, row_of, uids_of, accepted_uids, next_uid}
 use Rattle.mailbox.specs.Stands.{Stands, IsShown, next_of}
 
@@ -56,49 +56,49 @@ Stands-rising m log is =
 
 -- ---- changes are logged
 
--- a cursor that a longer log's window still has was shown the same
-IsShown-more : (base later : ℕ) (log more : List Change) (o : Open) → base ≤ later → IsShown base log o → IsShown later (log ++ more) o
-IsShown-more base later log more o rises is = record {
+-- a cursor was shown the same of a longer log
+IsShown-more : (log more : List Change) (o : Open) → IsShown log o → IsShown (log ++ more) o
+IsShown-more log more o is = record {
   within = omega (arith, is.within, length-append log more);
-  view = λ here. is.view (omega (arith, here, rises)) ∙ ap (replay []) (sym (take-append-le o.at log more is.within));
+  view = is.view ∙ ap (replay []) (sym (take-append-le o.at log more is.within));
 }
 
 -- changes that fit what is there, with the cursors as they were
 pub Stands-logged : (m n : Mail) (log cs : List Change) → Stands m log → FitsView (uids_of m.messages) cs →
     map row_of n.messages ≡ rows_after (map row_of m.messages) cs →
-    GoesOn m.window n.window cs → m.window.base ≤ n.window.base →
+    GoesOn m.window n.window cs →
     accepted_uids n ≡ accepted_uids m ++ added cs → accepted_uids n ≡ range_with_len n.first_uid (length n.accepted) →
     n.cursors ≡ m.cursors → Stands n (log ++ cs)
-Stands-logged m n log cs s fits rows goes based accepts numbered cursors = record {
+Stands-logged m n log cs s fits rows goes accepts numbered cursors = record {
   there = FitsView-append [] log cs s.there (subst (λ (us : List ℕ). FitsView us cs) (view-all m log s) fits);
   messages = rows ∙ ap (λ (rs : List Row). rows_after rs cs) s.messages ∙ sym (rows_after-append [] log cs);
   window = goes log s.window;
   accepted = accepts ∙ ap (λ (us : List ℕ). us ++ added cs) s.accepted ∙ sym (added-append log cs);
   numbered = numbered;
-  cursors = λ slot o found. IsShown-more m.window.base n.window.base log cs o based (s.cursors slot o (ap (λ (t : Cursors). in_slot t slot) (sym cursors) ∙ found));
+  cursors = λ slot o found. IsShown-more log cs o (s.cursors slot o (ap (λ (t : Cursors). in_slot t slot) (sym cursors) ∙ found));
 }
 
 -- the same where no message is added
 pub Stands-changed : (m n : Mail) (log cs : List Change) → Stands m log → FitsView (uids_of m.messages) cs →
-    map row_of n.messages ≡ rows_after (map row_of m.messages) cs → GoesOn m.window n.window cs → m.window.base ≤ n.window.base → added cs ≡ [] →
+    map row_of n.messages ≡ rows_after (map row_of m.messages) cs → GoesOn m.window n.window cs → added cs ≡ [] →
     n.accepted ≡ m.accepted → n.first_uid ≡ m.first_uid → n.cursors ≡ m.cursors → Stands n (log ++ cs)
-Stands-changed m n log cs s fits rows goes based adds accepted first cursors =
+Stands-changed m n log cs s fits rows goes adds accepted first cursors =
     let same : accepted_uids n ≡ accepted_uids m = ap (map (λ (a : CopyKey × ℕ). a.1)) accepted in
-    Stands-logged m n log cs s fits rows goes based
+    Stands-logged m n log cs s fits rows goes
     (same ∙ sym (ap (λ (us : List ℕ). accepted_uids m ++ us) adds ∙ append-nil (accepted_uids m)))
     (same ∙ s.numbered ∙ ap₂ range_with_len (sym first) (ap length (sym accepted))) cursors
 
 -- a delivery
 pub Stands-deliver : (m n : Mail) (log : List Change) (key : CopyKey) (uid : ℕ) (text : List ℕ) → uid ≡ next_uid m →
     n.messages ≡ m.messages ++ record { uid = uid; flags = no_flags; text = text } ∷ [] →
-    GoesOn m.window n.window (Add uid ∷ []) → m.window.base ≤ n.window.base →
+    GoesOn m.window n.window (Add uid ∷ []) →
     n.accepted ≡ m.accepted ++ (key, uid) ∷ [] → n.cursors ≡ m.cursors → n.first_uid ≡ m.first_uid → Stands m log → Stands n (log ++ Add uid ∷ [])
-Stands-deliver m n log key uid text next messages goes based accepted cursors first s =
+Stands-deliver m n log key uid text next messages goes accepted cursors first s =
     let one : Message = record { uid = uid; flags = no_flags; text = text } in
     let accepts : accepted_uids n ≡ accepted_uids m ++ uid ∷ [] =
     ap (map (λ (a : CopyKey × ℕ). a.1)) accepted ∙ map-append (λ (a : CopyKey × ℕ). a.1) m.accepted ((key, uid) ∷ []) in
     let longer : length m.accepted + 1 ≡ length n.accepted = sym (ap length accepted ∙ length-append m.accepted ((key, uid) ∷ [])) in
-    Stands-logged m n log (Add uid ∷ []) s (tt, tt) (ap (map row_of) messages ∙ map-append row_of m.messages (one ∷ [])) goes based accepts
+    Stands-logged m n log (Add uid ∷ []) s (tt, tt) (ap (map row_of) messages ∙ map-append row_of m.messages (one ∷ [])) goes accepts
     (accepts ∙ ap₂ (λ (us : List ℕ) (u : ℕ). us ++ u ∷ []) s.numbered next ∙ range-push m.first_uid (length m.accepted) ∙ ap₂ range_with_len (sym first) longer)
     cursors
 
@@ -126,7 +126,7 @@ Stands-new m messages base changes accepted cursors = record {
 
 -- other cursors, each shown what it says
 pub Stands-cursors : (m : Mail) (s : Cursors) (log : List Change) → Stands m log →
-    ((slot : ℕ) (o : Open) → in_slot s slot ≡ Some o → IsShown m.window.base log o) → Stands (record m { cursors = s }) log
+    ((slot : ℕ) (o : Open) → in_slot s slot ≡ Some o → IsShown log o) → Stands (record m { cursors = s }) log
 Stands-cursors m s log is shown = record {
   there = is.there;
   messages = is.messages;
@@ -140,10 +140,10 @@ same_some : {o p : Open} → Some o ≡ Some p → o ≡ p
 same_some e = cc
 
 -- one slot has another cursor
-Stands-slot : (m : Mail) (s : Cursors) (log : List Change) (slot : ℕ) (p : Open) → Stands m log → Updates m.cursors s slot (Some p) → IsShown m.window.base log p → Stands (record m { cursors = s }) log
+Stands-slot : (m : Mail) (s : Cursors) (log : List Change) (slot : ℕ) (p : Open) → Stands m log → Updates m.cursors s slot (Some p) → IsShown log p → Stands (record m { cursors = s }) log
 Stands-slot m s log slot p is changes shown =
     Stands-cursors m s log is (λ k o found. elim (cases_eq k slot) [
-      | inl same ↦ subst (IsShown m.window.base log) (same_some (sym changes.changed ∙ ap (in_slot s) (sym same) ∙ found)) shown
+      | inl same ↦ subst (IsShown log) (same_some (sym changes.changed ∙ ap (in_slot s) (sym same) ∙ found)) shown
       | inr other ↦ is.cursors k o (sym (changes.others k other) ∙ found)
     ])
 
@@ -153,7 +153,7 @@ pub Stands-enter : (m : Mail) (s : Cursors) (log : List Change) (slot serial : �
 Stands-enter m s log slot serial is changes =
     Stands-slot m s log slot (record { serial = serial; at = total m.window; view = uids_of m.messages }) is changes (record {
       within = omega (arith, is.window.long);
-      view = λ low. view-end m log is;
+      view = view-end m log is;
     })
 
 -- a cursor is closed
@@ -176,31 +176,22 @@ Stands-feed m s log slot n o is found low few long changes =
     let known = is.cursors slot o found in
     Stands-slot m s log slot (after_showing (next_changes m.window o.at n) o) is changes (record {
       within = omega (arith, known.within, is.window.long, long);
-      view = λ later. ap₂ replay (known.view low) (next-log m log n o is low) ∙ sym (replay-append [] (take o.at log) (next_of log o.at n))
+      view = ap₂ replay known.view (next-log m log n o is low) ∙ sym (replay-append [] (take o.at log) (next_of log o.at n))
           ∙ ap (replay []) (sym (take-add o.at n log)) ∙ ap (λ (k : ℕ). view_at log (o.at + k)) (sym long);
     })
 
 -- the lines of what a cursor is shown are those of the log
 pub lines-log : (m : Mail) (log : List Change) (slot n : ℕ) (o : Open) → Stands m log → in_slot m.cursors slot ≡ Some o → m.window.base ≤ o.at →
     lines o.view (next_changes m.window o.at n) ≡ lines (view_at log o.at) (next_of log o.at n)
-lines-log m log slot n o is found low = ap₂ lines ((is.cursors slot o found).view low) (next-log m log n o is low)
+lines-log m log slot n o is found low = ap₂ lines (is.cursors slot o found).view (next-log m log n o is low)
 
 -- what a cursor is to be shown may be shown to it
 pub pending-legal : (m : Mail) (log : List Change) (slot : ℕ) (o : Open) → Stands m log → in_slot m.cursors slot ≡ Some o → m.window.base ≤ o.at →
     IsLegalOn o.view (changes_from o.at m.window)
 pending-legal m log slot o s found low =
-    subst (λ (v : List ℕ). IsLegalOn v (changes_from o.at m.window)) (sym ((s.cursors slot o found).view low))
+    subst (λ (v : List ℕ). IsLegalOn v (changes_from o.at m.window)) (sym (s.cursors slot o found).view)
     (subst (IsLegalOn (view_at log o.at)) (sym (changes_from-log m.window log o.at s.window low)) (legal_log log o.at (Stands-legal m log s)))
 
 -- nothing was logged
-pub Moves-nothing : (cursors : Cursors) (w : Window) → Moves cursors w w []
-Moves-nothing cursors w = record {
-  logged = omega arith;
-  base = refl;
-  grows = omega arith;
-  wanted = λ l. absurd (omega (arith, l));
-  max = refl;
-}
-
 pub Logs-nothing : (m : Mail) (changes : List Change) → changes ≡ [] → Logs m m changes
 Logs-nothing m changes none = λ log s. subst (λ (cs : List Change). Stands m (log ++ cs)) (sym none) (subst (Stands m) (sym (append-nil log)) s)

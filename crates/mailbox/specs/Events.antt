@@ -1,9 +1,9 @@
 -- What a call of a mailbox logs, shows and refuses.
-use Rattle.std.specs.Prelude.{◌≡◌, ℕ, ◌+◌, ◌<◌, ◌≤◌, ◌==◌, Bool, true, false, List, [], ◌∷◌, ◌++◌, length, Option, Some, None, IsSome, Contains}
+use Rattle.std.specs.Prelude.{◌≡◌, ℕ, ◌+◌, ◌*◌, ◌<◌, ◌≤◌, ◌==◌, min, Bool, true, false, List, [], ◌∷◌, ◌++◌, length, Option, Some, None, IsSome, Contains}
 use Rattle.std.specs.List.{list_any}
 use Rattle.change_ring.specs.declared.change.Change.{Change}
 use Rattle.change_ring.specs.Log.{no_flags}
-use Rattle.change_ring.specs.Window.{Window, IsWindowOf, BaseAfter, total}
+use Rattle.change_ring.specs.Window.{Window, IsWindowOf, total}
 use Rattle.change_ring.specs.declared.flag_op.FlagOp.{FlagOp}
 use Rattle.change_ring.specs.declared.flag_op.FlagOp.TheVariants.{Insert}
 use Rattle.cursor_set.specs.Cursors.{Cursors, Seat, held, open_numbers}
@@ -22,14 +22,19 @@ KeepsLog old new = (log : List Change) → Stands old log → Stands new log
 abbrev pub GoesOn : Window → Window → List Change → Type 0
 GoesOn old new changes = (log : List Change) → IsWindowOf old log → IsWindowOf new (log ++ changes)
 
--- How far the window's base may have risen by these changes, and that its room grew only where some client was still to be shown
--- what would have been overwritten.
-pub record Moves (cursors : Cursors) (old new : Window) (changes : List Change) : Type 0 where
-  pub logged : total new ≡ total old + length changes
-  pub base : BaseAfter old.capacity (total old) old.base changes new.base
-  pub grows : old.capacity ≤ new.capacity
-  pub wanted : old.capacity < new.capacity → (n : ℕ) × Contains (open_numbers cursors) n × (old.base ≤ n) × (n ≤ new.base)
-  pub max : new.max ≡ old.max
+-- One change went into the window. There was room for it; or there was none, some client is still to be shown the oldest change, and the room was
+-- doubled, up to the most; or there was none, and the oldest change was dropped.
+pub data Takes (cursors : Cursors) (old : Window) (change : Change) (new : Window) : Type 0 where
+  has_room : length old.changes < old.capacity → new ≡ record old { changes = old.changes ++ change ∷ [] } → Takes cursors old change new
+  grows : length old.changes ≡ old.capacity → old.capacity < min (2 * old.capacity) old.max → Contains (open_numbers cursors) old.base
+      → new ≡ record old { changes = old.changes ++ change ∷ []; capacity = min (2 * old.capacity) old.max } → Takes cursors old change new
+  drops : length old.changes ≡ old.capacity → (oldest : Change) (others : List Change) → old.changes ≡ oldest ∷ others
+      → new ≡ record old { base = old.base + 1; changes = others ++ change ∷ [] } → Takes cursors old change new
+
+-- These changes went into the window, one after another. So its base stays only where there was room or it grew for a client.
+abbrev pub Moves : Cursors → Window → Window → List Change → Type 0
+Moves cursors old new [] = new ≡ old
+Moves cursors old new (c ∷ cs) = (between : Window) × Takes cursors old c between × Moves cursors between new cs
 
 -- so many changes more can't be numbered
 abbrev pub IsTooMany : Mail → List Change → Type 0

@@ -8,10 +8,11 @@ use Rattle.change_ring.specs.Window.{IsWindowOf, changes_from, total}
 use Rattle.cursor_set.specs.Cursors.{Open, in_slot}
 use Rattle.mailbox.specs.Mail.{Mail, row_of, uids_of, accepted_uids}
 
--- A cursor's client was shown the first changes of the log, up to the cursor's number. Of one that fell behind the window nothing is said.
-pub record IsShown (base : ℕ) (log : List Change) (o : Open) : Type 0 where
+-- A cursor's client was shown the first changes of the log, up to the cursor's number, and counts what they leave: also one that fell behind
+-- the window, since the log only grows.
+pub record IsShown (log : List Change) (o : Open) : Type 0 where
   pub within : o.at ≤ length log
-  pub view : base ≤ o.at → o.view ≡ view_at log o.at
+  pub view : o.view ≡ view_at log o.at
 
 -- the mailbox is as this log leaves it: its messages, its window, the UIDs that it gave out and what its clients count are the log's
 pub record Stands (m : Mail) (log : List Change) : Type 0 where
@@ -20,7 +21,7 @@ pub record Stands (m : Mail) (log : List Change) : Type 0 where
   pub window : IsWindowOf m.window log
   pub accepted : accepted_uids m ≡ added log
   pub numbered : accepted_uids m ≡ range_with_len m.first_uid (length m.accepted)
-  pub cursors : (slot : ℕ) (o : Open) → in_slot m.cursors slot ≡ Some o → IsShown m.window.base log o
+  pub cursors : (slot : ℕ) (o : Open) → in_slot m.cursors slot ≡ Some o → IsShown log o
 
 -- it stands for some log, whose first changes nobody knows
 abbrev pub IsSound : Mail → Type 0
@@ -41,5 +42,8 @@ pub record IsKept (m : Mail) : Type 0 where
   pub numbered : accepted_uids m ≡ range_with_len m.first_uid (length m.accepted)
   -- the window's added messages are the last that were accepted
   pub last : (earlier : List ℕ) × (accepted_uids m ≡ earlier ++ added m.window.changes)
+  -- the window has no more changes than fit, and no more fit than its most
+  pub held : length m.window.changes ≤ m.window.capacity
+  pub most : m.window.capacity ≤ m.window.max
   -- its clients' seats carry its number, so that a seat of another mailbox is a stranger
   pub seats : m.cursors.number ≡ m.number

@@ -316,6 +316,7 @@ impl Mailbox {
         ensures stranger { (result ≡ Err MailFault.Stranger) ↔ IsStranger self.old seat.now }
         ensures lapped { (result ≡ Err MailFault.Lapped) ↔ IsLapped self.old seat.now }
         ensures spent { (result ≡ Err MailFault.Spent) ↔ (IsCurrent self.old seat.now × IsTooMany self.old (seen_logged mark_seen (rows self.old) uid)) }
+        ensures memory { (result ≡ Err MailFault.NoMemory) → IsSome (message_with uid self.old.messages) }
         ensures err { OnErr result (self.new ≡ self.old) }
 
         ensures logged { OnOk result (Logs self.old self.new (seen_logged mark_seen (rows self.old) uid)) }

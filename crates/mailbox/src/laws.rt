@@ -8,5 +8,6 @@ use crate::mailbox::Mailbox;
 pub fn every_mailbox_keeps(mailbox: &Mailbox)
     ensures { IsKept mailbox.now }
 {
-    let _ = &mailbox.messages;
+    // Read for its bounds: what the window has fits it, and its room is at most its most.
+    let _room = mailbox.ring.capacity();
 }

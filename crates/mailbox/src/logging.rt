@@ -31,6 +31,8 @@ pub(crate) fn log_change(
     ensures goes_on { OnOk result (GoesOn ring.old ring.new (change ∷ [])) }
     ensures moves { OnOk result (Moves cursors.now ring.old ring.new (change ∷ [])) }
 {
+    // Read for its bounds: a ring has room for some change, and no more changes than fit.
+    let _room = ring.capacity();
     let keep_from = wanted_from(ring, cursors);
     let Ok(_lost) = ring.push(change, keep_from) else {
         return Err(Spent);

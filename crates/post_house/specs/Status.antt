@@ -1,5 +1,5 @@
 -- The exit statuses of the program.
-use Rattle.std.specs.Prelude.{ℕ, [], ◌∷◌, Contains}
+use Rattle.std.specs.Prelude.{ℕ, [], ◌∷◌, Contains, Result, Ok, Err}
 use Rattle.house.specs.declared.config.ConfigFault.{ConfigFault}
 use Rattle.house.specs.declared.config.ConfigFault.TheVariants as config_faults
 use Rattle.post_house.specs.declared.failure.Failure.{Failure}
@@ -28,3 +28,8 @@ abbrev pub run_failure : RunFault → Failure
 run_failure run_faults.Read = Device
 run_failure (run_faults.Write sent) = Device
 run_failure run_faults.NoMemory = NoMemory
+
+-- the exit status of a script that was played, or of why it wasn't, or not to its end
+abbrev pub status_for : Result (Unit {0}) Failure → ℕ
+status_for (Ok done) = 0
+status_for (Err failure) = status_of failure

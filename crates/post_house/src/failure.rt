@@ -5,27 +5,20 @@ ghost use Rattle.post_house.specs.Status.{config_failure, run_failure, status_of
 
 use house::ConfigFault;
 use script::RunFault;
-use std::fmt;
+use thiserror::Error;
 
 /// Why the program fails.
-#[derive(Clone, Copy, Debug, PartialEq, Eq)]
+#[derive(Clone, Copy, Debug, PartialEq, Eq, Error)]
 pub enum Failure {
     /// The settings are wrong.
+    #[error("bad configuration: {0}")]
     Config(ConfigFault),
     /// The input or the output failed.
+    #[error("device fault")]
     Device,
     /// Memory was refused.
+    #[error("out of memory")]
     NoMemory,
-}
-
-impl fmt::Display for Failure {
-    fn fmt<W: fmt::Write>(&self, f: &mut fmt::Formatter<W>) -> fmt::Result {
-        match self {
-            Failure::Config(fault) => write!(f, "bad configuration: {fault}"),
-            Failure::Device => f.write_str("device fault"),
-            Failure::NoMemory => f.write_str("out of memory"),
-        }
-    }
 }
 
 // Want of memory is no fault of the settings.

@@ -15,10 +15,12 @@ mod sessions;
 #[cfg(test)]
 mod tests;
 
-ghost use Rattle.std.specs.Prelude.{◌≡◌, false, ℕ, List, Some, Err, OnOk};
-ghost use Rattle.script.specs.Script.{Writes, script_of};
+ghost use Rattle.std.specs.Prelude.{◌≡◌, ◌⊎◌, false, ℕ, List, Some, Err};
+ghost use Rattle.script.specs.Script.{script_of};
+ghost use Rattle.script.specs.Promise.{WroteOnce};
 ghost use Rattle.house.specs.Settings.{IsInRange, config_fault, setup_of};
 ghost use Rattle.house.specs.declared.config.ConfigFault.{ConfigFault};
+ghost use Rattle.post_house.specs.Playing.{Played, RanScript};
 ghost use Rattle.post_house.specs.Status.{IsStatus, status_of};
 
 use crate::arguments::config_of;
@@ -81,7 +83,8 @@ fn play<R: BufRead, W: Sink>(
 ) -> Result<(), Failure>
     requires range { IsInRange config.now }
     requires live { W.failed output.old ≡ false }
-    ensures ok { OnOk result ((bytes : List ℕ) → R.remaining input.old ≡ Some bytes → Writes (setup_of config.now) (script_of bytes) (W.taken output.old) (W.taken output.new)) }
+    ensures played { (bytes : List ℕ) → R.remaining input.old ≡ Some bytes → Played config.now (script_of bytes) (W.failed output.new) result (W.taken output.old) (W.taken output.new) }
+    ensures once { (bytes : List ℕ) → R.remaining input.old ≡ Some bytes → WroteOnce (setup_of config.now) (script_of bytes) (W.taken output.old) (W.taken output.new) }
     ensures fault { (fault : ConfigFault) → result ≡ Err (Failure.Config fault) → config_fault config.now ≡ Some fault }
     ensures not_set { (fault : ConfigFault) → result ≡ Err (Failure.Config fault) → output.new ≡ output.old }
 {
@@ -97,7 +100,9 @@ fn play<R: BufRead, W: Sink>(
 
 /// Does what the words ask for, the first of which is the program's name, and gives the exit status: 0 where all was done, also where
 /// only the help was asked for; 2 for a command line that is refused, with clap's text on `faults`; 3 for settings that are wrong,
+/// only the help was asked for; 2 for a command line that is refused, with clap's text on `faults`; 3 for settings that are wrong,
 /// 4 for a device that fails and 5 for want of memory, each with a line of its own on `faults`. At 2 and 3 nothing is written to `output`.
+/// Where the input was touched it was played as a script, and all that was written is what that prints, or a beginning of it.
 fn command<S: AsStr, R: BufRead, W: Sink, F: Write>(
     alloc: Global,
     words: &[S],
@@ -109,6 +114,7 @@ fn command<S: AsStr, R: BufRead, W: Sink, F: Write>(
     ensures status { IsStatus result }
     ensures not_asked { result ≡ NOT_ASKED_RIGHT → output.new ≡ output.old }
     ensures not_set { result ≡ 3 → output.new ≡ output.old }
+    ensures ran { (bytes : List ℕ) → R.remaining input.old ≡ Some bytes → (input.new ≡ input.old) ⊎ RanScript bytes (W.failed output.new) result (W.taken output.old) (W.taken output.new) }
 {
     let config = match config_of(alloc, words) {
         Ok(config) => config,

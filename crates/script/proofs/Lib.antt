@@ -2,3 +2,4 @@ pub mod ScriptLaws
 pub mod RunLaws
 pub mod SessionLaws
 pub mod Once
+pub mod Refuted

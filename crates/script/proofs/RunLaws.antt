@@ -22,16 +22,19 @@ use Rattle.script.specs.declared.run.TurnFault.TheVariants as turn_faults
 use Rattle.callers.specs.Line.{Line}
 use Rattle.house.specs.State.{State}
 use Rattle.callers.specs.Caller.{Caller, Setup}
-use Rattle.house.specs.Scene.{HasEnded, Scene, empty_scene, most_serials, seat_of}
+use Rattle.house.specs.Scene.{HasEnded, Plays, Scene, empty_scene, most_serials, seat_of}
 use Rattle.house.specs.Stands.{StandsFor, StandsForOne}
-use Rattle.house.specs.Steps.{IsEmptySeat, IsNoSeat, IsSpent, IsUnread, Led, is_unread}
-use Rattle.house.specs.Settled.{SettledFrom, is_held}
+use Rattle.house.specs.declared.event.Event.{Event}
+use Rattle.house.specs.Steps.{FollowsInPart, IsEmptySeat, IsNoSeat, IsSpent, IsUnread, Led, is_unread}
+use Rattle.house.specs.Settled.{HappenedFrom, SettledFrom, is_held}
 use Rattle.house.specs.Settling.{Settles}
 use Rattle.house.specs.Window.{PrintsWindow}
-use Rattle.script.specs.Script.{IsAway, IsNoConnection, IsOwing, LinePlays, NobodyThere, Script, ScriptLine, Asks, Enters, Leaves, Sends, Vanishes, Hold, Free, Tail, Skip, Bad, Writes, WritesBeginning, WritesFirst, asked, brought, goes_again, goes_nobody, held_after, is_bad, is_digit, line_of, none_held, refusal, script_of, sends, sends_to_nobody, sends_to_owing, skips, stands_nobody, stands_still, tails, tails_nobody, vanishes, vanishes_again, vanishes_away}
-use Rattle.std.specs.Prelude.{Bool, IfNone, codes, false, true}
-use Rattle.script.specs.Running.{HasRun, IsClipped, IsOver, LineCut, LineDone, LinePlayed, LineWritten, SetsHeld, TurnTells, held_by, sets, sets_nobody}
+use Rattle.script.specs.Script.{IsAway, IsNoConnection, IsOwing, LinePlays, NobodyThere, Script, ScriptLine, Asks, Enters, Leaves, Sends, Vanishes, Hold, Free, Tail, Skip, Bad, asked, brought, goes_again, goes_nobody, held_after, is_bad, is_digit, line_of, none_held, refusal, script_of, sends, sends_to_nobody, sends_to_owing, skips, stands_nobody, stands_still, tails, tails_nobody, vanishes, vanishes_again, vanishes_away}
+use Rattle.script.specs.Leaving.{Writes, WritesBeginning, WritesFirst, IsLeftWanting, unread, unwritten, LineBegins, LineWanting, undone, begun, PlayWanting, doing, settling}
+use Rattle.std.specs.Prelude.{Bool, IfNone, IfSome, codes, false, true}
+use Rattle.script.specs.Running.{HasRun, IsClipped, IsOver, IsUnread as IsUnreadTurn, IsUnwritten, LineCut, LineDone, LinePlayed, LineWritten, SetsHeld, TurnTells, held_by, sets, sets_nobody}
 use Rattle.house.proofs.Ended.{ended_somewhere}
+use Rattle.script.proofs.Once.{script_once}
 use Rattle.script.proofs.ScriptLaws.{first_line, script_push}
 
 -- ---- nobody is there
@@ -207,7 +210,7 @@ turn_written k number held holds s input piece text h left old new sent e some r
 
 pub turn_cut : (k : Setup) (number : ℕ) (held : List Bool) (s : Scene) (input piece text : List ℕ) (h : State) (old new : Option (List ℕ)) (sent : ℕ)
     → piece ≡ take_through 10 input → 0 < length piece → LinePlayed k number held (asked (line_of piece)) s h [] text
-    → Appends old new (take sent text) → sent < length text → LineCut k number held s input old new sent
+    → Appends old new (take sent text) → sent < length text → LineCut k number held s input h old new sent
 turn_cut k number held s input piece text h old new sent e some p a n = record {
   line = asked (line_of piece);
   others = script_of (drop_through 10 input);
@@ -215,7 +218,8 @@ turn_cut k number held s input piece text h old new sent e some p a n = record {
   after = p.after;
   printed = p.printed;
   plays = p.plays;
-  within = (let l : length text ≡ length p.printed = ap length p.out in omega arith);
+  stands = p.stands;
+  within = subst (λ (x : List ℕ). sent < length x) p.out n;
   out = subst (λ (x : List ℕ). Appends old new (take sent x)) p.out a;
 }
 
@@ -308,54 +312,103 @@ run_more k input count g h held holds before left old mid new sent more start r 
     }
 
 pub run_over : (k : Setup) (input : List ℕ) (count : ℕ) (g h : State) (held holds : List Bool) (before left old mid new : Option (List ℕ)) (sent : ℕ)
-    → (r : HasRun k input count g held before old mid sent empty_scene) → (o : Option ℕ) → o ≡ None → TurnTells k (count + 1) held r.after r.rest h holds left mid new (Ok o) → Writes k (script_of input) old new
+    → (r : HasRun k input count g held before old mid sent empty_scene) → (o : Option ℕ) → o ≡ None → TurnTells k (count + 1) held r.after r.rest h holds left mid new (Ok o) → Writes k (script_of input) h old new
 run_over k input count g h held holds before left old mid new sent r o is tells =
-    let over : IsOver r.rest mid new = subst (λ (x : Option ℕ). TurnTells k (count + 1) held r.after r.rest h holds left mid new (Ok x)) is tells in
+    let over : IsOver k r.after r.rest h mid new = subst (λ (x : Option ℕ). TurnTells k (count + 1) held r.after r.rest h holds left mid new (Ok x)) is tells in
+    let played = subst (λ (ls : List ScriptLine). Script k 1 (none_held k) ls empty_scene r.after r.printed) (sym (r.split ∙ ap (λ (x : List ℕ). r.lines ++ script_of x) over.ended ∙ append-nil r.lines)) r.script in
     record {
       after = r.after;
       printed = r.printed;
-      script = subst (λ (ls : List ScriptLine). Script k 1 (none_held k) ls empty_scene r.after r.printed) (sym (r.split ∙ ap (λ (x : List ℕ). r.lines ++ script_of x) over.ended ∙ append-nil r.lines)) r.script;
+      script = played;
+      once = script_once k (script_of input) r.after r.printed played;
+      stands = over.stands;
       out = subst (λ (x : Option (List ℕ)). Appends old x r.printed) (sym over.silent) r.out;
     }
 
-pub run_stops : (k : Setup) (input : List ℕ) (count : ℕ) (h : State) (held : List Bool) (left old mid new : Option (List ℕ)) (sent : ℕ)
-    → (r : HasRun k input count h held left old mid sent empty_scene) → new ≡ mid → WritesBeginning k (script_of input) old new
-run_stops k input count h held left old mid new sent r same = record {
+pub run_stops : (k : Setup) (input : List ℕ) (count : ℕ) (h : State) (held : List Bool) (left old mid new : Option (List ℕ)) (sent : ℕ) (Left : ℕ → List ScriptLine → Scene → Type 0)
+    → (r : HasRun k input count h held left old mid sent empty_scene) → Left (count + 1) (script_of r.rest) r.after → new ≡ mid → WritesBeginning k (script_of input) Left old new
+run_stops k input count h held left old mid new sent Left r is same = record {
   some = r.lines;
   others = script_of r.rest;
   split = r.split;
   after = r.after;
   printed = r.printed;
   script = r.script;
+  once = script_once k r.lines r.after r.printed r.script;
+  left = subst (λ (n : ℕ). Left (n + 1) (script_of r.rest) r.after) (sym r.counted) is;
   out = subst (λ (x : Option (List ℕ)). Appends old x r.printed) (sym same) r.out;
 }
 
 -- nothing was read or written yet
-pub run_unbegun : (k : Setup) (lines : List ScriptLine) (old : Option (List ℕ)) → WritesBeginning k lines old old
-run_unbegun k lines old = record { some = []; others = lines; split = refl; after = empty_scene; printed = []; script = (refl, refl); out = Appends-nil old }
+pub run_unbegun : (k : Setup) (lines : List ScriptLine) (old : Option (List ℕ)) (Left : ℕ → List ScriptLine → Scene → Type 0) → Left 1 lines empty_scene → WritesBeginning k lines Left old old
+run_unbegun k lines old Left is = record { some = []; others = lines; split = refl; after = empty_scene; printed = []; script = (refl, refl); once = script_once k [] empty_scene [] (refl, refl); left = is; out = Appends-nil old }
 
 pub run_cut : (k : Setup) (input : List ℕ) (count : ℕ) (g h : State) (held holds : List Bool) (before left old mid new : Option (List ℕ)) (sent more : ℕ)
     → (r : HasRun k input count g held before old mid sent empty_scene) → (f : TurnFault) → f ≡ turn_faults.Write more → TurnTells k (count + 1) held r.after r.rest h holds left mid new (Err f)
-    → WritesFirst k (script_of input) (sent + more) old new
+    → WritesFirst k (script_of input) (sent + more) h old new
 run_cut k input count g h held holds before left old mid new sent more r f is tells =
-    let w : LineCut k (count + 1) held r.after r.rest mid new more = subst (λ (x : TurnFault). TurnTells k (count + 1) held r.after r.rest h holds left mid new (Err x)) is tells in
+    let w : LineCut k (count + 1) held r.after r.rest h mid new more = subst (λ (x : TurnFault). TurnTells k (count + 1) held r.after r.rest h holds left mid new (Err x)) is tells in
+    let played = script_push k 1 (count + 1) (none_held k) r.lines w.line empty_scene r.after w.after r.printed w.printed (let e = r.counted in omega arith) r.script
+    (subst (λ (x : List Bool). LinePlays k (count + 1) x w.line r.after w.after w.printed) r.holds_now w.plays) in
     record {
       some = r.lines ++ w.line ∷ [];
       others = w.others;
       split = r.split ∙ ap (λ (x : List ScriptLine). r.lines ++ x) w.first ∙ sym (append_assoc r.lines (w.line ∷ []) w.others);
       after = w.after;
       printed = r.printed ++ w.printed;
-      script = script_push k 1 (count + 1) (none_held k) r.lines w.line empty_scene r.after w.after r.printed w.printed (let e = r.counted in omega arith) r.script
-          (subst (λ (x : List Bool). LinePlays k (count + 1) x w.line r.after w.after w.printed) r.holds_now w.plays);
+      script = played;
+      once = script_once k (r.lines ++ w.line ∷ []) w.after (r.printed ++ w.printed) played;
+      stands = w.stands;
       within = (let a = r.total in let b = w.within in let l = length-append r.printed w.printed in omega arith);
       out = subst (Appends old new) (sym (take-append-add r.printed w.printed more) ∙ ap (λ (n : ℕ). take (n + more) (r.printed ++ w.printed)) (sym r.total)) (Appends-trans old mid new r.printed (take more w.printed) r.out w.out);
     }
 
--- a turn failed before it wrote anything
-pub turn_silent : (k : Setup) (number : ℕ) (held : List Bool) (s : Scene) (input : List ℕ) (h : State) (holds : List Bool) (left old new : Option (List ℕ)) (f : TurnFault)
-    → (f ≡ turn_faults.Read) ⊎ (f ≡ turn_faults.NoMemory) → TurnTells k number held s input h holds left old new (Err f) → new ≡ old
-turn_silent k number held s input h holds left old new f (inl is) tells = subst (λ (x : TurnFault). TurnTells k number held s input h holds left old new (Err x)) is tells
-turn_silent k number held s input h holds left old new f (inr is) tells = subst (λ (x : TurnFault). TurnTells k number held s input h holds left old new (Err x)) is tells
+-- a turn failed before it read anything
+pub turn_unread : (k : Setup) (number : ℕ) (held : List Bool) (s : Scene) (input : List ℕ) (h : State) (holds : List Bool) (left old new : Option (List ℕ)) (f : TurnFault)
+    → f ≡ turn_faults.Read → TurnTells k number held s input h holds left old new (Err f) → IsUnreadTurn k s h old new
+turn_unread k number held s input h holds left old new f is tells = subst (λ (x : TurnFault). TurnTells k number held s input h holds left old new (Err x)) is tells
+
+-- memory was wanting in a turn
+pub turn_unwritten : (k : Setup) (number : ℕ) (held : List Bool) (s : Scene) (input : List ℕ) (h : State) (holds : List Bool) (left old new : Option (List ℕ)) (f : TurnFault)
+    → f ≡ turn_faults.NoMemory → TurnTells k number held s input h holds left old new (Err f) → IsUnwritten k number s input h old new
+turn_unwritten k number held s input h holds left old new f is tells = subst (λ (x : TurnFault). TurnTells k number held s input h holds left old new (Err x)) is tells
+
+-- memory was wanting as a line was played
+pub turn_wanting : (k : Setup) (number : ℕ) (s : Scene) (input piece : List ℕ) (h : State) (old new : Option (List ℕ))
+    → piece ≡ take_through 10 input → 0 < length piece → PlayWanting k number (asked (line_of piece)) s h → new ≡ old → IsUnwritten k number s input h old new
+turn_wanting k number s input piece h old new e some p same = record {
+  left = unwritten (asked (line_of piece)) (script_of (drop_through 10 input))
+      (first_line input (subst (λ (x : List ℕ). 0 < length x) e some) ∙ ap (λ (x : List ℕ). asked (line_of x) ∷ script_of (drop_through 10 input)) (sym e)) p;
+  silent = same;
+}
+
+-- memory was wanting as the house settled behind a line
+pub settling_wanting : (k : Setup) (number : ℕ) (line : ScriptLine) (s : Scene) (g h : State) (mid new : List ℕ) → LineDone k number line s g [] mid
+    → ((j : Setup) (t : Scene) → StandsFor j g t → HappenedFrom j t h mid new) → PlayWanting k number line s h
+settling_wanting k number line s g h mid new d f = let t = f k d.after d.stands in settling d.after d.printed t.events t.after t.printed d.does t.happened t.stands
+
+-- ---- where memory is wanting
+
+-- nothing happened, since the house is as it was
+pub nothing_done : (k : Setup) (line : ScriptLine) (s : Scene) (g h : State) → h ≡ g → StandsFor k g s → LineWanting k line s h
+nothing_done k line s g h e st = undone (subst (λ (x : State). StandsFor k x s) (sym e) st)
+
+-- a step of the house failed
+pub step_failed : (k : Setup) (line : ScriptLine) (event : Event) (s : Scene) (g h : State) (old new : List ℕ) (f : HouseFault)
+    → ((t : Scene) (printed : List ℕ) → Plays k false s event t printed → LineBegins k s t printed line)
+    → (◌≡◌ {A = Result (Unit {0}) HouseFault} (Err f) (Err faults.NoMemory) → FollowsInPart g event h old new)
+    → ((◌≡◌ {A = Result (Unit {0}) HouseFault} (Err f) (Err faults.NoMemory) → ⊥) → (h ≡ g) × (new ≡ old)) → StandsFor k g s → LineWanting k line s h
+step_failed k line event s g h old new faults.NoMemory begins part whole st = in_part (part refl k s st)
+  where
+    in_part : Led k false s event h old new ⊎ (StandsFor k h s × (new ≡ old)) → LineWanting k line s h
+    in_part (inl l) = begun l.after l.printed (begins l.after l.printed l.plays) l.stands
+    in_part (inr x) = undone x.0
+step_failed k line event s g h old new faults.Nobody begins part whole st = nothing_done k line s g h (whole none_wanting).0 st
+step_failed k line event s g h old new faults.Busy begins part whole st = nothing_done k line s g h (whole wants_other).0 st
+step_failed k line event s g h old new faults.Nothing begins part whole st = nothing_done k line s g h (whole wants_nothing).0 st
+  where
+    wants_nothing : ◌≡◌ {A = Result (Unit {0}) HouseFault} (Err faults.Nothing) (Err faults.NoMemory) → ⊥
+    wants_nothing e = cc
 
 -- ---- hexadecimal digits
 
@@ -372,6 +425,17 @@ if_none {A = A} (Some x) P e h = absurd (none_some x e)
   where
     none_some : (x : A) → ◌≡◌ {A = Option A} (Some x) None → ⊥
     none_some x e = cc
+
+-- what holds where there is something
+pub if_some : {A : Type 0} (o : Option A) (P : A → Type 0) (x : A) → o ≡ Some x → IfSome o P → P x
+if_some {A = A} (Some y) P x e h = subst P (same e) h
+  where
+    same : ◌≡◌ {A = Option A} (Some y) (Some x) → y ≡ x
+    same e = cc
+if_some {A = A} None P x e h = absurd (none_some e)
+  where
+    none_some : ◌≡◌ {A = Option A} None (Some x) → ⊥
+    none_some e = cc
 
 -- digits that can't be read are a bad line
 pub digits_refused : (k : Setup) (number : ℕ) (s : Scene) (brings : List ℕ → ScriptLine) (r : Result (List ℕ) FromHexError) (h : State) (old new : List ℕ)

@@ -5,6 +5,7 @@ use Rattle.house.specs.State.{State}
 use Rattle.callers.specs.Caller.{Setup}
 use Rattle.house.specs.Scene.{Scene}
 use Rattle.script.specs.Script.{LineDoes, LinePlays, Script, ScriptLine, held_after, none_held, refusal, script_of}
+use Rattle.script.specs.Leaving.{IsLeftWanting}
 use Rattle.house.specs.Stands.{StandsFor}
 use Rattle.script.specs.declared.run.TurnFault.{TurnFault}
 use Rattle.script.specs.declared.run.TurnFault.TheVariants as faults
@@ -40,28 +41,40 @@ pub record LineWritten (k : Setup) (number : ℕ) (held : List Bool) (s : Scene)
   pub count : sent ≡ length printed
 
 -- of what it printed only the first bytes were written
-pub record LineCut (k : Setup) (number : ℕ) (held : List Bool) (s : Scene) (input : List ℕ) (old new : Option (List ℕ)) (sent : ℕ) : Type 0 where
+pub record LineCut (k : Setup) (number : ℕ) (held : List Bool) (s : Scene) (input : List ℕ) (h : State) (old new : Option (List ℕ)) (sent : ℕ) : Type 0 where
   pub line : ScriptLine
   pub others : List ScriptLine
   pub first : script_of input ≡ line ∷ others
   pub after : Scene
   pub printed : List ℕ
   pub plays : LinePlays k number held line s after printed
-  pub within : sent ≤ length printed
+  pub stands : StandsFor k h after
+  pub within : sent < length printed
   pub out : Appends old new (take sent printed)
 
--- the input was at its end, and nothing was written
-pub record IsOver (input : List ℕ) (old new : Option (List ℕ)) : Type 0 where
+-- the input was at its end, nothing was written, and the house stands for the scene that it stood for
+pub record IsOver (k : Setup) (s : Scene) (input : List ℕ) (h : State) (old new : Option (List ℕ)) : Type 0 where
   pub ended : input ≡ []
+  pub stands : StandsFor k h s
+  pub silent : new ≡ old
+
+-- the reader failed, and nothing was done or written
+pub record IsUnread (k : Setup) (s : Scene) (h : State) (old new : Option (List ℕ)) : Type 0 where
+  pub stands : StandsFor k h s
+  pub silent : new ≡ old
+
+-- memory was wanting, and nothing was written
+pub record IsUnwritten (k : Setup) (number : ℕ) (s : Scene) (input : List ℕ) (h : State) (old new : Option (List ℕ)) : Type 0 where
+  pub left : IsLeftWanting k h number (script_of input) s
   pub silent : new ≡ old
 
 -- what a turn says by its answer
 abbrev pub TurnTells : Setup → ℕ → (held : List Bool) → Scene → List ℕ → State → (holds : List Bool) → (left old new : Option (List ℕ)) → Result (Option ℕ) TurnFault → Type 0
-TurnTells k number held s input h holds left old new (Ok None) = IsOver input old new
+TurnTells k number held s input h holds left old new (Ok None) = IsOver k s input h old new
 TurnTells k number held s input h holds left old new (Ok (Some sent)) = LineWritten k number held s input h holds left old new sent
-TurnTells k number held s input h holds left old new (Err (faults.Write sent)) = LineCut k number held s input old new sent
-TurnTells k number held s input h holds left old new (Err faults.Read) = new ≡ old
-TurnTells k number held s input h holds left old new (Err faults.NoMemory) = new ≡ old
+TurnTells k number held s input h holds left old new (Err (faults.Write sent)) = LineCut k number held s input h old new sent
+TurnTells k number held s input h holds left old new (Err faults.Read) = IsUnread k s h old new
+TurnTells k number held s input h holds left old new (Err faults.NoMemory) = IsUnwritten k number s input h old new
 
 -- which shards are held after these lines
 abbrev pub held_by : List Bool → List ScriptLine → List Bool

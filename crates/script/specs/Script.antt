@@ -1,7 +1,6 @@
 -- A script: what its lines are, what each does to the house, and what is written.
 use Rattle.std.specs.Prelude.{◌≡◌, ℕ, ◌+◌, ◌-◌, ◌<◌, ◌≤◌, ◌==◌, ◌&&◌, nat_eq, nat_le, nat_lt, ◌⊎◌, Bool, true, false, if◌then◌else◌, List, [], ◌∷◌, ◌++◌, length, map, drop, take, codes, decimal, replicate, slice_set, Option, Some, None, Result, Ok, Err}
 use Rattle.std.specs.Io.BufRead.{ends_with_byte, strip_last}
-use Rattle.std.specs.Io.KnownBytes.{Appends}
 use Rattle.std.specs.List.{list_all, list_any, starts_with}
 use Rattle.std.specs.Str.Parse.{digits_value}
 use Rattle.hex.specs.Hex.{decode_of}
@@ -294,31 +293,3 @@ abbrev pub Script : Setup → ℕ → List Bool → List ScriptLine → Scene �
 Script k number held [] s t printed = (t ≡ s) × (printed ≡ [])
 Script k number held (line ∷ lines) s t printed = (m : Scene) × (one : List ℕ) × (two : List ℕ)
     × LinePlays k number held line s m one × Script k (number + 1) (held_after held line) lines m t two × (printed ≡ one ++ two)
-
--- These bytes were written, and they are what a script of these lines prints.
-pub record Writes (k : Setup) (lines : List ScriptLine) (old new : Option (List ℕ)) : Type 0 where
-  pub after : Scene
-  pub printed : List ℕ
-  pub script : Script k 1 (none_held k) lines empty_scene after printed
-  pub out : Appends old new printed
-
--- The first `sent` bytes of what some of the first lines print were written.
-pub record WritesFirst (k : Setup) (lines : List ScriptLine) (sent : ℕ) (old new : Option (List ℕ)) : Type 0 where
-  pub some : List ScriptLine
-  pub others : List ScriptLine
-  pub split : lines ≡ some ++ others
-  pub after : Scene
-  pub printed : List ℕ
-  pub script : Script k 1 (none_held k) some empty_scene after printed
-  pub within : sent ≤ length printed
-  pub out : Appends old new (take sent printed)
-
--- What some of the first lines print was written, whole.
-pub record WritesBeginning (k : Setup) (lines : List ScriptLine) (old new : Option (List ℕ)) : Type 0 where
-  pub some : List ScriptLine
-  pub others : List ScriptLine
-  pub split : lines ≡ some ++ others
-  pub after : Scene
-  pub printed : List ℕ
-  pub script : Script k 1 (none_held k) some empty_scene after printed
-  pub out : Appends old new printed

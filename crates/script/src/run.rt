@@ -14,7 +14,8 @@ ghost use Rattle.house.specs.Scene as scene;
 ghost use Rattle.callers.specs.Caller.{Setup};
 ghost use Rattle.house.specs.Scene.{empty_scene};
 ghost use Rattle.script.specs.Script as spec;
-ghost use Rattle.script.specs.Script.{Writes, WritesBeginning, WritesFirst, as_spec, asked, brought, held_after, is_digit, line_of, refusal, script_of};
+ghost use Rattle.script.specs.Script.{as_spec, asked, brought, held_after, is_digit, line_of, refusal, script_of};
+ghost use Rattle.script.specs.Leaving.{IsLeft, IsLeftWanting, LineWanting, PlayWanting, Writes, WritesBeginning, WritesFirst};
 ghost use Rattle.house.specs.Stands.{StandsFor};
 ghost use Rattle.script.specs.Promise.{WroteOnce};
 
@@ -25,18 +26,22 @@ use itoa::Buffer;
 use line_io::{Sink, append_parts, send};
 use std::alloc::{AllocError, Global};
 use std::io::{BufRead, ErrorKind};
+use thiserror::Error;
 
 /// How often a run reads: a script of this many lines or more doesn't end.
 pub const MOST_LINES: u64 = 4_294_967_296;
 
 /// Why a run ended before the end of its input.
-#[derive(Clone, Copy, Debug, PartialEq, Eq)]
+#[derive(Clone, Copy, Debug, PartialEq, Eq, Error)]
 pub enum RunFault {
     /// The input could not be read, or 2^32 lines of it were.
+    #[error("the input could not be read")]
     Read,
     /// The output took no more than the first `sent` bytes.
+    #[error("the output failed after {sent} bytes")]
     Write { sent: u128 },
     /// Memory was wanting.
+    #[error("out of memory")]
     NoMemory,
 }
 
@@ -95,7 +100,8 @@ fn hear_bytes(
     bytes: &[u8],
     out: &mut Vec<u8>,
 ) -> Result<(), AllocError>
-    ensures { OnOk result ((k : Setup) (s : scene.Scene) → StandsFor k house.old s → LineDone k number (spec.Sends connection bytes.now) s house.new out.old.items out.new.items) }
+    ensures done { OnOk result ((k : Setup) (s : scene.Scene) → StandsFor k house.old s → LineDone k number (spec.Sends connection bytes.now) s house.new out.old.items out.new.items) }
+    ensures wanting { OnErr result ((k : Setup) (s : scene.Scene) → StandsFor k house.old s → LineWanting k (spec.Sends connection bytes.now) s house.new) }
 {
     match house.step(Event::Bytes(connection, bytes), out) {
         Ok(()) => Ok(()),
@@ -114,7 +120,8 @@ fn hear_line(
     piece: &mut Vec<u8>,
     out: &mut Vec<u8>,
 ) -> Result<(), AllocError>
-    ensures { OnOk result ((k : Setup) (s : scene.Scene) → StandsFor k house.old s → LineDone k number (spec.Sends connection (text.now ++ crlf)) s house.new out.old.items out.new.items) }
+    ensures done { OnOk result ((k : Setup) (s : scene.Scene) → StandsFor k house.old s → LineDone k number (spec.Sends connection (text.now ++ crlf)) s house.new out.old.items out.new.items) }
+    ensures wanting { OnErr result ((k : Setup) (s : scene.Scene) → StandsFor k house.old s → LineWanting k (spec.Sends connection (text.now ++ crlf)) s house.new) }
 {
     put_line(text, piece)?;
     hear_bytes(house, number, connection, piece, out)
@@ -152,7 +159,8 @@ fn hear_hex(
     digits: &[u8],
     out: &mut Vec<u8>,
 ) -> Result<(), AllocError>
-    ensures { OnOk result ((k : Setup) (s : scene.Scene) → StandsFor k house.old s → LineDone k number (brought (spec.Sends connection) (decode_of digits.now)) s house.new out.old.items out.new.items) }
+    ensures done { OnOk result ((k : Setup) (s : scene.Scene) → StandsFor k house.old s → LineDone k number (brought (spec.Sends connection) (decode_of digits.now)) s house.new out.old.items out.new.items) }
+    ensures wanting { OnErr result ((k : Setup) (s : scene.Scene) → StandsFor k house.old s → LineWanting k (brought (spec.Sends connection) (decode_of digits.now)) s house.new) }
 {
     match bytes_of(alloc, digits)? {
         Some(bytes) => hear_bytes(house, number, connection, &bytes, out),
@@ -167,7 +175,8 @@ fn lose_peer(
     connection: u8,
     out: &mut Vec<u8>,
 ) -> Result<(), AllocError>
-    ensures { OnOk result ((k : Setup) (s : scene.Scene) → StandsFor k house.old s → LineDone k number (spec.Vanishes connection) s house.new out.old.items out.new.items) }
+    ensures done { OnOk result ((k : Setup) (s : scene.Scene) → StandsFor k house.old s → LineDone k number (spec.Vanishes connection) s house.new out.old.items out.new.items) }
+    ensures wanting { OnErr result ((k : Setup) (s : scene.Scene) → StandsFor k house.old s → LineWanting k (spec.Vanishes connection) s house.new) }
 {
     match house.step(Event::Vanish(connection), out) {
         Ok(()) => Ok(()),
@@ -229,7 +238,8 @@ fn enter_session(
     user: &[u8],
     out: &mut Vec<u8>,
 ) -> Result<(), AllocError>
-    ensures { OnOk result ((k : Setup) (s : scene.Scene) → StandsFor k house.old s → LineDone k number (spec.Enters session user.now) s house.new out.old.items out.new.items) }
+    ensures done { OnOk result ((k : Setup) (s : scene.Scene) → StandsFor k house.old s → LineDone k number (spec.Enters session user.now) s house.new out.old.items out.new.items) }
+    ensures wanting { OnErr result ((k : Setup) (s : scene.Scene) → StandsFor k house.old s → LineWanting k (spec.Enters session user.now) s house.new) }
 {
     match house.step(Event::Enter(session, user), out) {
         Ok(()) => Ok(()),
@@ -247,7 +257,8 @@ fn ask_bytes(
     bytes: &[u8],
     out: &mut Vec<u8>,
 ) -> Result<(), AllocError>
-    ensures { OnOk result ((k : Setup) (s : scene.Scene) → StandsFor k house.old s → LineDone k number (spec.Asks session bytes.now) s house.new out.old.items out.new.items) }
+    ensures done { OnOk result ((k : Setup) (s : scene.Scene) → StandsFor k house.old s → LineDone k number (spec.Asks session bytes.now) s house.new out.old.items out.new.items) }
+    ensures wanting { OnErr result ((k : Setup) (s : scene.Scene) → StandsFor k house.old s → LineWanting k (spec.Asks session bytes.now) s house.new) }
 {
     match house.step(Event::Say(session, bytes), out) {
         Ok(()) => Ok(()),
@@ -265,7 +276,8 @@ fn ask_line(
     piece: &mut Vec<u8>,
     out: &mut Vec<u8>,
 ) -> Result<(), AllocError>
-    ensures { OnOk result ((k : Setup) (s : scene.Scene) → StandsFor k house.old s → LineDone k number (spec.Asks session (text.now ++ crlf)) s house.new out.old.items out.new.items) }
+    ensures done { OnOk result ((k : Setup) (s : scene.Scene) → StandsFor k house.old s → LineDone k number (spec.Asks session (text.now ++ crlf)) s house.new out.old.items out.new.items) }
+    ensures wanting { OnErr result ((k : Setup) (s : scene.Scene) → StandsFor k house.old s → LineWanting k (spec.Asks session (text.now ++ crlf)) s house.new) }
 {
     put_line(text, piece)?;
     ask_bytes(house, number, session, piece, out)
@@ -280,7 +292,8 @@ fn ask_hex(
     digits: &[u8],
     out: &mut Vec<u8>,
 ) -> Result<(), AllocError>
-    ensures { OnOk result ((k : Setup) (s : scene.Scene) → StandsFor k house.old s → LineDone k number (brought (spec.Asks session) (decode_of digits.now)) s house.new out.old.items out.new.items) }
+    ensures done { OnOk result ((k : Setup) (s : scene.Scene) → StandsFor k house.old s → LineDone k number (brought (spec.Asks session) (decode_of digits.now)) s house.new out.old.items out.new.items) }
+    ensures wanting { OnErr result ((k : Setup) (s : scene.Scene) → StandsFor k house.old s → LineWanting k (brought (spec.Asks session) (decode_of digits.now)) s house.new) }
 {
     match bytes_of(alloc, digits)? {
         Some(bytes) => ask_bytes(house, number, session, &bytes, out),
@@ -295,7 +308,8 @@ fn leave_session(
     session: u8,
     out: &mut Vec<u8>,
 ) -> Result<(), AllocError>
-    ensures { OnOk result ((k : Setup) (s : scene.Scene) → StandsFor k house.old s → LineDone k number (spec.Leaves session) s house.new out.old.items out.new.items) }
+    ensures done { OnOk result ((k : Setup) (s : scene.Scene) → StandsFor k house.old s → LineDone k number (spec.Leaves session) s house.new out.old.items out.new.items) }
+    ensures wanting { OnErr result ((k : Setup) (s : scene.Scene) → StandsFor k house.old s → LineWanting k (spec.Leaves session) s house.new) }
 {
     match house.step(Event::Leave(session), out) {
         Ok(()) => Ok(()),
@@ -326,6 +340,7 @@ fn do_line(
 ) -> Result<(), AllocError>
     requires { length held.old.items ≤ 256 }
     ensures done { OnOk result ((k : Setup) (s : scene.Scene) → StandsFor k house.old s → length held.old.items ≡ k.config.shards → LineDone k number (asked line.now) s house.new out.old.items out.new.items) }
+    ensures wanting { OnErr result ((k : Setup) (s : scene.Scene) → StandsFor k house.old s → LineWanting k (asked line.now) s house.new) }
     ensures held { OnOk result (held.new.items ≡ held_after held.old.items (asked line.now)) }
     ensures places { length held.new.items ≡ length held.old.items }
 {
@@ -356,6 +371,8 @@ fn play_line(house: &mut House, number: u64, room: &mut Room) -> Result<(), Allo
     requires { length room.old.held.items ≤ 256 }
     ensures played { OnOk result ((k : Setup) (s : scene.Scene) → StandsFor k house.old s → length room.old.held.items ≡ k.config.shards →
         LinePlayed k number room.old.held.items (asked (line_of room.old.line.items)) s house.new [] room.new.out.items) }
+    ensures wanting { OnErr result ((k : Setup) (s : scene.Scene) → StandsFor k house.old s → length room.old.held.items ≡ k.config.shards →
+        PlayWanting k number (asked (line_of room.old.line.items)) s house.new) }
     ensures held { OnOk result (room.new.held.items ≡ held_after room.old.held.items (asked (line_of room.old.line.items))) }
     ensures places { length room.new.held.items ≡ length room.old.held.items }
 {
@@ -415,6 +432,7 @@ fn take_turn<R: BufRead, W: Sink>(
         TurnTells k number room.old.held.items s input house.new room.new.held.items (R.remaining reader.new) (W.taken writer.old) (W.taken writer.new) result }
     ensures live { OnOk result (W.failed writer.new ≡ false) }
     ensures places { length room.new.held.items ≡ length room.old.held.items }
+    ensures failed { (sent : ℕ) → result ≡ Err (TurnFault.Write sent) → W.failed writer.new ≡ true }
     ensures short { (sent : ℕ) → result ≡ Err (TurnFault.Write sent) → sent < 2 ^ 64 }
 {
     if !read_piece(reader, &mut room.line)? {
@@ -438,8 +456,11 @@ fn take_turn<R: BufRead, W: Sink>(
 /// history exactly once, under one UID, and the copies of each connection in the order in which it sent them; no copy was taken from a
 /// shard after its close; and what a session was shown since its SELECT is exactly the mailbox's changes up to its cursor, in order.
 ///
-/// `Read`: the reader failed, or 2^32 lines were read; `NoMemory`: memory was wanting. What the lines before printed was then written,
-/// and nothing of the line at hand. `Write`: the writer failed; the first `sent` bytes of what the script prints were written.
+/// The house that is left is what the lines made of it that were played: nothing else was done.
+///
+/// `Read`: the reader failed, or 2^32 lines were read; `NoMemory`: memory was wanting, and the line at hand was done in part or not at all. What
+/// the lines before printed was then written, and nothing of the line at hand. `Write`: the writer failed; the first `sent` bytes of what the
+/// script prints were written, and not all that its last line printed.
 pub fn drive<R: BufRead, W: Sink>(
     alloc: Global,
     house: &mut House,
@@ -447,14 +468,16 @@ pub fn drive<R: BufRead, W: Sink>(
     writer: &mut W,
 ) -> Result<(), RunFault>
     requires { W.failed writer.old ≡ false }
-    ensures ok { OnOk result ((k : Setup) (input : List ℕ) → StandsFor k house.old empty_scene → R.remaining reader.old ≡ Some input → Writes k (script_of input) (W.taken writer.old) (W.taken writer.new)) }
+    ensures ok { OnOk result ((k : Setup) (input : List ℕ) → StandsFor k house.old empty_scene → R.remaining reader.old ≡ Some input →
+        Writes k (script_of input) house.new (W.taken writer.old) (W.taken writer.new)) }
     ensures write { (sent : ℕ) → result ≡ Err (RunFault.Write sent) → (k : Setup) (input : List ℕ) → StandsFor k house.old empty_scene → R.remaining reader.old ≡ Some input →
-        WritesFirst k (script_of input) sent (W.taken writer.old) (W.taken writer.new) }
+        WritesFirst k (script_of input) sent house.new (W.taken writer.old) (W.taken writer.new) }
+    ensures failed { (sent : ℕ) → result ≡ Err (RunFault.Write sent) → W.failed writer.new ≡ true }
     ensures no_memory { result ≡ Err RunFault.NoMemory → (k : Setup) (input : List ℕ) → StandsFor k house.old empty_scene → R.remaining reader.old ≡ Some input →
-        WritesBeginning k (script_of input) (W.taken writer.old) (W.taken writer.new) }
+        WritesBeginning k (script_of input) (IsLeftWanting k house.new) (W.taken writer.old) (W.taken writer.new) }
     ensures once { (k : Setup) (input : List ℕ) → StandsFor k house.old empty_scene → R.remaining reader.old ≡ Some input → WroteOnce k (script_of input) (W.taken writer.old) (W.taken writer.new) }
     ensures read { result ≡ Err RunFault.Read → (k : Setup) (input : List ℕ) → StandsFor k house.old empty_scene → R.remaining reader.old ≡ Some input →
-        WritesBeginning k (script_of input) (W.taken writer.old) (W.taken writer.new) }
+        WritesBeginning k (script_of input) (IsLeft k house.new) (W.taken writer.old) (W.taken writer.new) }
 {
     let Ok(held) = none_held(alloc, house.shards()) else {
         return Err(RunFault::NoMemory);

@@ -15,9 +15,9 @@ use Rattle.mailbox.specs.declared.clients.Opening.{Opening}
 use Rattle.mailbox.specs.declared.clients.Row.{Row}
 use Rattle.mailbox.specs.declared.mailbox.Status.{Status}
 use Rattle.world.specs.World as world
-use Rattle.world.specs.World.{Config, World, Box, Session, Event, Step, Allowed, EnterStep, enters, enter_no_memory, LeaveStep, leave_spent, MailStep, mails, mail_lapped, mail_spent, mail_no_memory, Selected, pending}
+use Rattle.world.specs.World.{Config, World, Box, Session, Event, Step, Allowed, EnterStep, enters, enter_spent, enter_no_memory, LeaveStep, leave_spent, MailStep, mails, mail_lapped, mail_spent, mail_no_memory, Selected, pending}
 use Rattle.delivery_core.specs.Changes.{SameCounts, SameDelivery}
-use Rattle.delivery_core.specs.Clients.{Alters, Does, Done, Enters, Expunges, Feeds, IsStatus, Leaves, Makes, Reads, Refuses, Sees}
+use Rattle.delivery_core.specs.Clients.{Alters, Does, Done, Enters, Expunges, Feeds, IsStatus, Leaves, Makes, Opens, Reads, Refuses, Sees}
 use Rattle.delivery_core.specs.declared.client.Client.{Client}
 use Rattle.delivery_core.specs.Held.{Held, behind, client_of, pending_for, view_of}
 use Rattle.delivery_core.specs.Stands.{StandsFor}
@@ -194,19 +194,21 @@ validity_here : (k : Config) (w : World) (old : Held) (m u : ℕ) → StandsFor 
 validity_here k w old m u S l same = let b = mail_at old.boxes m l in same b.0 ∙ (S.boxes m b.0 l).uidvalidity
 
 mailbox_there : (k : Config) (w v : World) (n m : ℕ) → EnterStep k w n m v → m < k.mailboxes
-mailbox_there k w v n m (enters a b c e) = b
-mailbox_there k w v n m (enter_no_memory a b c e) = b
+mailbox_there k w v n m (enters a b c d e) = b
+mailbox_there k w v n m (enter_spent a b c d e) = b
+mailbox_there k w v n m (enter_no_memory a b c d e) = b
 
-turned_away : (k : Config) (w : World) (n m : ℕ) (fault : MailFault) → (fault ≡ Lapped → ⊥) → (fault ≡ Stranger → Allowed k w (world.Enter n m) → ⊥) → ((fault ≡ Stranger → ⊥) → Step k w (world.Enter n m) w) → IsTurnedAway k n m w fault w
+turned_away : (k : Config) (w : World) (n m : ℕ) (fault : MailFault) → (fault ≡ Lapped → ⊥) → (fault ≡ Stranger → Allowed k w (world.Enter n m) → ⊥) → ((fault ≡ Stranger → ⊥) → Step k w (world.Enter n m) w × Opens k w m (Err fault)) → IsTurnedAway k n m w fault w
 turned_away k w n m Stranger lapsed strange step = (strange refl, refl)
 turned_away k w n m Lapped lapsed strange step = absurd (lapsed refl)
-turned_away k w n m Spent lapsed strange step = (step (λ e. cc), refl)
-turned_away k w n m NoMemory lapsed strange step = (step (λ e. cc), refl)
+turned_away k w n m Spent lapsed strange step = let s = step (λ e. cc) in (s.0, refl, s.1)
+turned_away k w n m NoMemory lapsed strange step = let s = step (λ e. cc) in (s.0, refl, s.1)
 
 -- a session that may enter now
 still : (k : Config) (w v : World) (n m : ℕ) → EnterStep k w n m v → EnterStep k w n m w
-still k w v n m (enters a b c e) = enter_no_memory a b c refl
-still k w v n m (enter_no_memory a b c e) = enter_no_memory a b c refl
+still k w v n m (enters a b c d e) = enter_no_memory a b c d refl
+still k w v n m (enter_spent a b c d e) = enter_spent a b c d refl
+still k w v n m (enter_no_memory a b c d e) = enter_no_memory a b c d refl
 
 not_allowed : (k : Config) (w : World) (old : Held) (n m : ℕ) → StandsFor k old w → (length old.clients ≤ n) ⊎ (IsSome (client_of old n) ⊎ (length old.boxes ≤ m)) → Allowed k w (world.Enter n m) → ⊥
 not_allowed k w old n m S (inl few) (a, b, c) = absurd (omega (arith, few, a, S.sessions))
@@ -249,7 +251,7 @@ opens old new n m (Err fault) strange lapsed event entered validity rest counts 
   meets = λ k w S. (
     w,
     turned_away k w n m fault (λ e. lapsed (ap (λ f. Err f) e)) (λ e. not_allowed k w old n m S (strange.0 (ap (λ f. Err f) e)))
-        (λ other. let d = event (λ e. other (same_fault (Err fault) fault Stranger refl e)) k w S in still k w d.0 n m d.1),
+        (λ other. let d = event (λ e. other (same_fault (Err fault) fault Stranger refl e)) k w S in (still k w d.0 n m d.1, d.3)),
     subst (λ h. StandsFor k h w) (sym refused) S,
   );
   rest = rest;
@@ -261,11 +263,11 @@ opens old new n m (Err fault) strange lapsed event entered validity rest counts 
 -- ---- Look, Count
 
 pub looked : (core : Held) (n : ℕ) (view copied : List ℕ) → copied ≡ view → view ≡ view_of core n
-    → ((k : Config) (w : World) → StandsFor k core w → Selected w n (λ s. (w.box s.mailbox).base ≤ s.cursor → view ≡ view_at (w.box s.mailbox).log s.cursor))
+    → ((k : Config) (w : World) → StandsFor k core w → Selected w n (λ s. view ≡ view_at (w.box s.mailbox).log s.cursor))
     → Serves (serving core n) Look (Looked copied) (serving core n)
 looked core n view copied same is log = record {
   same = refl;
-  meets = λ k w S. let d = log k w S in (w, (refl, (d.0, d.1, λ low. same ∙ d.2 low)), S);
+  meets = λ k w S. let d = log k w S in (w, (refl, (d.0, d.1, same ∙ d.2)), S);
   rest = same_delivery core;
   counts = same_counts core;
   view = (same ∙ is, refl);
@@ -321,12 +323,15 @@ seen : (k : Config) (w : World) (old : Held) (n : ℕ) (s : Session) → StandsF
 seen k w old n s S some is low =
     let c = client_is (client_of old n) some in
     let b = mail_at old.boxes c.0.mailbox (there_at k w old n c.0 S c.1) in (
-      here (λ (t : Session). view_of old n ≡ view_at (w.box t.mailbox).log t.cursor) (view_seen k w old n c.0 b.0 S c.1 b.1),
+      always (λ (t : Session). view_of old n ≡ view_at (w.box t.mailbox).log t.cursor) (view_seen k w old n c.0 b.0 S c.1 b.1),
       here (λ (t : Session). pending_for old n ≡ pending (w.box t.mailbox) t) (pending_seen k w old n c.0 b.0 S c.1 b.1),
     )
   where
     same : (t : Session) → w.session n ≡ Some t → t ≡ s
     same t e = cc
+
+    always : (P : Session → Type 0) → Selected w n (λ t. P t) → P s
+    always P (t, e, shown) = subst P (same t e) shown
 
     here : (P : Session → Type 0) → Selected w n (λ t. (w.box t.mailbox).base ≤ t.cursor → P t) → P s
     here P (t, e, shown) = subst (λ (x : Session). (w.box x.mailbox).base ≤ x.cursor → P x) (same t e) shown low

@@ -7,7 +7,7 @@ use Rattle.mailbox.specs.Events.{in_set}
 use Rattle.mailbox.specs.declared.clients.MailFault.{MailFault}
 use Rattle.mailbox.specs.declared.clients.MailFault.TheVariants.{Stranger, Lapped, Spent, NoMemory}
 use Rattle.world.specs.World as world
-use Rattle.world.specs.World.{Config, World, Box, Session, Event, Step, Allowed, Selected, pending}
+use Rattle.world.specs.World.{Config, World, Box, Session, Event, Step, Allowed, Selected, most_entries, pending}
 use Rattle.delivery_core.specs.Clients.{Alters, Done, IsStatus, Leaves, Opens, Reads, Refuses}
 use Rattle.imap_session.specs.Exchange.{Call, Answer, Enter, Look, Read, Count, Alter, Expunge, Feed, Leave, Entered, Looked, Found, Counted, Altered, Expunged, Fed, Left, Refused}
 
@@ -27,12 +27,13 @@ IsRefused n w Lapped why v = (v ≡ w) × why
 IsRefused n w Spent why v = (v ≡ w) × why
 IsRefused n w NoMemory why v = (v ≡ w) × why
 
--- Session n was not let into mailbox m, and nothing changed. A stranger is one that may not enter now; any other could have entered.
+-- Session n was not let into mailbox m, and nothing changed. A stranger is one that may not enter now. Any other may: it is told Spent where the
+-- mailbox has no serial left for its cursor, and there alone, and NoMemory where it has one.
 abbrev pub IsTurnedAway : Config → (n m : ℕ) → World → MailFault → World → Type 0
 IsTurnedAway k n m w Stranger v = (Allowed k w (world.Enter n m) → ⊥) × (v ≡ w)
 IsTurnedAway k n m w Lapped v = ⊥
-IsTurnedAway k n m w Spent v = Step k w (world.Enter n m) v × (v ≡ w)
-IsTurnedAway k n m w NoMemory v = Step k w (world.Enter n m) v × (v ≡ w)
+IsTurnedAway k n m w Spent v = Step k w (world.Enter n m) v × (v ≡ w) × (most_entries ≤ w.opened m)
+IsTurnedAway k n m w NoMemory v = Step k w (world.Enter n m) v × (v ≡ w) × (w.opened m < most_entries)
 
 -- the session's window has all that is pending; it had this view, and was shown these changes
 pub record Shows (view : List ℕ) (changes shown : List Change) (b : Box) (s : Session) : Type 0 where
@@ -42,9 +43,9 @@ pub record Shows (view : List ℕ) (changes shown : List Change) (b : Box) (s : 
 
 -- Session n's call leads from world w to world v with this answer.
 abbrev pub Meets : Config → ℕ → World → Call → Answer → World → Type 0
-Meets k n w (Enter m) (Entered opening) v = Step k w (world.Enter n m) v × Selected v n (λ s. s.mailbox ≡ m) × Opens k (Ok opening) (w.box m) × (opening.uidvalidity ≡ k.uidvalidity)
+Meets k n w (Enter m) (Entered opening) v = Step k w (world.Enter n m) v × Selected v n (λ s. s.mailbox ≡ m) × Opens k w m (Ok opening) × (opening.uidvalidity ≡ k.uidvalidity)
 Meets k n w (Enter m) (Refused fault) v = IsTurnedAway k n m w fault v
-Meets k n w Look (Looked view) v = (v ≡ w) × Selected w n (λ s. (w.box s.mailbox).base ≤ s.cursor → view ≡ view_at (w.box s.mailbox).log s.cursor)
+Meets k n w Look (Looked view) v = (v ≡ w) × Selected w n (λ s. view ≡ view_at (w.box s.mailbox).log s.cursor)
 Meets k n w Look (Refused fault) v = IsRefused n w fault (fault ≡ NoMemory) v
 Meets k n w (Read uid mark) (Found row) v = IsDone k n w (world.Read n uid mark) (λ b s. []) (λ b. seen_logged mark (rows_of b.log) uid) (Reads mark uid (Ok row)) v
 Meets k n w (Read uid mark) (Refused fault) v = IsRefused n w fault (Mails k n w (world.Read n uid mark) (Reads mark uid (Err fault)) v) v

@@ -14,7 +14,7 @@ use Rattle.shard_queue.specs.declared.lane.Entry.TheVariants.{Item, End}
 use Rattle.shard_queue.specs.declared.shared.View.{View}
 use Rattle.shard_queue.specs.declared.shared.View.TheVariants.{Consumer, Producer, Spent}
 use Rattle.shard_queue.specs.Lane.{producer, of, has_end, Lane, IsMerge, EndsLast}
-use Rattle.shard_queue.specs.Shared.{consumer, sender, spent, list_of, IsSharedBy, Saw, Takes, putting, heard_out}
+use Rattle.shard_queue.specs.Shared.{consumer, sender, spent, list_of, seen_of, IsSharedBy, Saw, IsStartOf, Takes, Puts, heard_out}
 use Rattle.shard_queue.specs.Closing.{HasAllEnds, IsWhole}
 use Rattle.shard_queue.specs.Seats.{AreMarks, numbers, WasFull, WasEmpty}
 use Rattle.shard_queue.proofs.LaneLaws.{of_append, of_own, of_other, closed_is_empty}
@@ -27,8 +27,11 @@ marked (b ∷ marks) (suc p) h = marked marks p (omega arith)
 
 module _ {T : Type 0} where
   -- after a put, as the seat sees it
-  pub sent_more : (k p : ℕ) (sent : List (Entry T)) (v w : View T) (e : Entry T) → v ≡ sender k p sent → w ≡ putting v e → (w ≡ sender k p (list_of w)) × (list_of w ≡ sent ++ e ∷ [])
-  sent_more k p sent v w e is new = let w' : w ≡ sender k p (sent ++ e ∷ []) = new ∙ ap (λ x. putting x e) is in (w' ∙ ap (λ xs. sender k p xs) (sym (ap list_of w')), ap list_of w')
+  pub sent_more : (k p : ℕ) (sent seen : List (Entry T)) (v w : View T) (e : Entry T) → v ≡ sender k p sent seen → Puts v e w
+      → (w ≡ sender k p (list_of w) (seen_of w)) × (list_of w ≡ sent ++ e ∷ []) × ((before : List (Entry T)) × (seen_of w ≡ before ++ e ∷ []) × IsStartOf seen before)
+  sent_more k p sent seen v w e is new =
+      let t : Puts (sender k p sent seen) e w = subst (λ x. Puts x e w) is new in
+      (t.1 ∙ (λ i. sender k p (sym (ap list_of t.1) i) (sym (ap seen_of t.1) i)), ap list_of t.1, (t.0, ap seen_of t.1, t.2))
 
   pub item_no_end : (xs : List (Entry T)) (p : ℕ) (x : T) → has_end (xs ++ Item p x ∷ []) ≡ has_end xs
   item_no_end [] p x = refl
@@ -41,30 +44,31 @@ module _ {T : Type 0} where
   end_has_end (End q ∷ xs) p = refl
 
   -- after a take, as the seat sees it
-  pub took_one : (n m : ℕ) (got : List (Entry T)) (heard : Option (ℕ × List (Entry T))) (v w : View T) (e : Entry T) → v ≡ consumer n m got heard → Takes v e w
-      → (w ≡ consumer n m (list_of w) heard) × (list_of w ≡ got ++ e ∷ []) × (producer e < n)
-  took_one n m got heard v w e is new =
-      let t : Takes (consumer n m got heard) e w = subst (λ x. Takes x e w) is new in
-      (t.1 ∙ ap (λ xs. consumer n m xs heard) (sym (ap list_of t.1)), ap list_of t.1, t.0)
+  pub took_one : (n m : ℕ) (got : List (Entry T)) (heard : Option (ℕ × List (Entry T))) (seen : List (Entry T)) (v w : View T) (e : Entry T) → v ≡ consumer n m got heard seen → Takes v e w
+      → (w ≡ consumer n m (list_of w) heard (seen_of w)) × (list_of w ≡ got ++ e ∷ []) × (producer e < n) × ((others : List (Entry T)) × (seen_of w ≡ (got ++ e ∷ []) ++ others) × IsStartOf seen ((got ++ e ∷ []) ++ others))
+  took_one n m got heard seen v w e is new =
+      let t : Takes (consumer n m got heard seen) e w = subst (λ x. Takes x e w) is new in
+      let r = t.1 in (r.1 ∙ (λ i. consumer n m (sym (ap list_of r.1) i) heard (sym (ap seen_of r.1) i)), ap list_of r.1, t.0, (r.0, ap seen_of r.1, r.2))
 
   -- what a full lane and an empty one tell
-  pub was_full : (n room p : ℕ) (sent : List (Entry T)) (v : View T) (waiting : List (Entry T)) → v ≡ sender n p sent → length waiting ≡ room → Saw v waiting → WasFull n room p sent
-  was_full n room p sent v waiting is full saw =
-      let s : Saw (sender n p sent) waiting = subst (λ x. Saw x waiting) is saw in
-      (s.2, subst (λ k. IsMerge k room s.2) (sym s.5.0) (subst (λ k. IsMerge s.0 k s.2) full s.4), ap length s.3 ∙ full, sym s.5.1)
+  pub was_full : (n room p : ℕ) (sent seen : List (Entry T)) (v : View T) (waiting : List (Entry T)) → v ≡ sender n p sent seen → length waiting ≡ room → Saw v waiting → WasFull n room p sent seen
+  was_full n room p sent seen v waiting is full saw =
+      let s : Saw (sender n p sent seen) waiting = subst (λ x. Saw x waiting) is saw in
+      (s.2, subst (λ k. IsMerge k room s.2) (sym s.5.0) (subst (λ k. IsMerge s.0 k s.2) full s.4), ap length s.3 ∙ full, sym s.5.1, s.5.2)
 
   none : (xs : List (Entry T)) → length xs ≡ 0 → xs ≡ []
   none [] e = refl
   none (x ∷ xs) e = absurd (omega arith)
 
-  pub was_empty : (n room k : ℕ) (got : List (Entry T)) (heard : Option (ℕ × List (Entry T))) (v : View T) (waiting : List (Entry T)) → v ≡ consumer n k got heard → length waiting ≡ 0 → Saw v waiting → WasEmpty n room got
-  was_empty n room k got heard v waiting is empty saw =
-      let s : Saw (consumer n k got heard) waiting = subst (λ x. Saw x waiting) is saw in
+  pub was_empty : (n room k : ℕ) (got : List (Entry T)) (heard : Option (ℕ × List (Entry T))) (seen : List (Entry T)) (v : View T) (waiting : List (Entry T)) → v ≡ consumer n k got heard seen → length waiting ≡ 0 → Saw v waiting → WasEmpty n room got seen
+  was_empty n room k got heard seen v waiting is empty saw =
+      let s : Saw (consumer n k got heard seen) waiting = subst (λ x. Saw x waiting) is saw in
       let m = s.4 in (
         s.2,
         subst (λ i. IsMerge i room s.2) (sym s.5.0) (record { each = m.each; known = m.known; within = (let a = ap length s.3 in omega arith); legal = m.legal }),
         s.3 ∙ none waiting empty,
         sym s.5.2,
+        subst (IsStartOf seen) (ap (λ xs. s.2.got ++ xs) (s.3 ∙ none waiting empty) ∙ append-nil s.2.got ∙ sym s.5.2) s.5.4,
       )
 
   -- marks
@@ -87,14 +91,14 @@ module _ {T : Type 0} where
     by_case (no d) = get_or-set_other marks p q true false d ∙ m q less ∙ sym (marks_of got (End p) q d)
 
   -- the consumer's seat when each producer has its own
-  pub all_seated : (n k : ℕ) (v : View T) → v ≡ consumer n k [] None → k ≡ n → v ≡ consumer n n (list_of v) None
-  all_seated n k v is all = is ∙ ap (λ i. consumer n i [] None) all ∙ ap (λ es. consumer n n es None) (sym (ap list_of is))
+  pub all_seated : (n k : ℕ) (v : View T) → v ≡ consumer n k [] None [] → k ≡ n → v ≡ consumer n n (list_of v) None (seen_of v)
+  all_seated n k v is all = is ∙ ap (λ i. consumer n i [] None []) all ∙ (λ i. consumer n n (sym (ap list_of is) i) None (sym (ap seen_of is) i))
 
   -- hearing a producer out
-  pub hears_all : (n place : ℕ) (v : View T) (door i p : ℕ) (said : List (Entry T)) (u : View T) → HasAllEnds n v → u ≡ sender i p said → has_end said ≡ true → Merges IsSharedBy place v door u (heard_out v u) spent
-  hears_all n place (Consumer k made got heard) door i p said u all is ended = hears place k made (consumer k made got heard) got heard door i p said u refl is ended
-  hears_all n place (Producer k q more) door i p said u all is ended = absurd all
-  hears_all n place Spent door i p said u all is ended = absurd all
+  pub hears_all : (n place : ℕ) (v : View T) (door i p : ℕ) (said late : List (Entry T)) (u : View T) → HasAllEnds n v → u ≡ sender i p said late → has_end said ≡ true → Merges IsSharedBy place v door u (heard_out v u) spent
+  hears_all n place (Consumer k made got heard seen) door i p said late u all is ended = hears place k made (consumer k made got heard seen) got heard seen door i p said late u refl is ended
+  hears_all n place (Producer k q more seen) door i p said late u all is ended = absurd all
+  hears_all n place Spent door i p said late u all is ended = absurd all
 
   -- where every end was taken nothing waits, and what a producer has sent is what was taken of it
   empty_now : (n made : ℕ) (got : List (Entry T)) (k : ℕ) (l : Lane T) (room : ℕ) → made ≡ n → ((p : ℕ) → p < n → has_end (of p got) ≡ true) → IsMerge k room l → made ≡ k → got ≡ l.got → l.waiting ≡ []
@@ -103,20 +107,20 @@ module _ {T : Type 0} where
   sent_is_taken : (k room : ℕ) (l : Lane T) (got : List (Entry T)) (p : ℕ) → IsMerge k room l → got ≡ l.got → l.waiting ≡ [] → l.sent p ≡ of p got
   sent_is_taken k room l got p m is empty = sym (m.each p) ∙ ap (λ es. of p (l.got ++ es)) empty ∙ ap (of p) (append-nil l.got) ∙ ap (of p) (sym is)
 
-  pub told : (n : ℕ) (v : View T) (i p : ℕ) (said waiting : List (Entry T)) (u w : View T) → HasAllEnds n v → u ≡ sender i p said → w ≡ heard_out v u → Saw w waiting → said ≡ of p (list_of v)
-  told n (Consumer k made got heard) i p said waiting u w all is new saw =
-      let s : Saw (consumer k made got (Some (p, said))) waiting = subst (λ x. Saw x waiting) (new ∙ ap (heard_out (consumer k made got heard)) is) saw in
+  pub told : (n : ℕ) (v : View T) (i p : ℕ) (said late waiting : List (Entry T)) (u w : View T) → HasAllEnds n v → u ≡ sender i p said late → w ≡ heard_out v u → Saw w waiting → said ≡ of p (list_of v)
+  told n (Consumer k made got heard seen) i p said late waiting u w all is new saw =
+      let s : Saw (consumer k made got (Some (p, said)) seen) waiting = subst (λ x. Saw x waiting) (new ∙ ap (heard_out (consumer k made got heard seen)) is) saw in
       s.5.3.0 ∙ sent_is_taken s.0 (length waiting) s.2 got p s.4 s.5.2 (empty_now n k got s.0 s.2 (length waiting) all.0 all.1 s.4 s.5.0 s.5.2)
-  told n (Producer k q more) i p said waiting u w all is new saw = absurd all
-  told n Spent i p said waiting u w all is new saw = absurd all
+  told n (Producer k q more seen) i p said late waiting u w all is new saw = absurd all
+  told n Spent i p said late waiting u w all is new saw = absurd all
 
-  pub still_all : (n : ℕ) (v : View T) (i p : ℕ) (said : List (Entry T)) (u w : View T) → HasAllEnds n v → u ≡ sender i p said → w ≡ heard_out v u → HasAllEnds n w × (list_of w ≡ list_of v)
-  still_all n (Consumer k made got heard) i p said u w all is new = let e : w ≡ consumer k made got (Some (p, said)) = new ∙ ap (heard_out (consumer k made got heard)) is in (subst (HasAllEnds n) (sym e) all, ap list_of e)
-  still_all n (Producer k q more) i p said u w all is new = absurd all
-  still_all n Spent i p said u w all is new = absurd all
+  pub still_all : (n : ℕ) (v : View T) (i p : ℕ) (said late : List (Entry T)) (u w : View T) → HasAllEnds n v → u ≡ sender i p said late → w ≡ heard_out v u → HasAllEnds n w × (list_of w ≡ list_of v)
+  still_all n (Consumer k made got heard seen) i p said late u w all is new = let e : w ≡ consumer k made got (Some (p, said)) seen = new ∙ ap (heard_out (consumer k made got heard seen)) is in (subst (HasAllEnds n) (sym e) all, ap list_of e)
+  still_all n (Producer k q more seen) i p said late u w all is new = absurd all
+  still_all n Spent i p said late u w all is new = absurd all
 
   pub whole : (n room : ℕ) (v : View T) (waiting es : List (Entry T)) → HasAllEnds n v → list_of v ≡ es → Saw v waiting → IsWhole n room es
-  whole n room (Consumer k made got heard) waiting es all is saw =
+  whole n room (Consumer k made got heard seen) waiting es all is saw =
       let m = saw.4 in
       let taken : (p : ℕ) → saw.2.sent p ≡ of p es = λ p. sent_is_taken saw.0 (length waiting) saw.2 got p m saw.5.2 (empty_now n k got saw.0 saw.2 (length waiting) all.0 all.1 m saw.5.0 saw.5.2) ∙ ap (of p) is in
       record {
@@ -128,7 +132,7 @@ module _ {T : Type 0} where
         };
         closed = λ p less. ap (λ xs. has_end (of p xs)) (sym is) ∙ all.1 p less;
       }
-  whole n room (Producer k q more) waiting es all is saw = absurd all
+  whole n room (Producer k q more seen) waiting es all is saw = absurd all
   whole n room Spent waiting es all is saw = absurd all
 
 pub below_suc : (P : ℕ → Type 0) (k : ℕ) → ((p : ℕ) → p < k → P p) → P k → (p : ℕ) → p < k + 1 → P p

@@ -17,8 +17,8 @@ module _ {E T : Type 0} where
 module _ {T : Type 0} where
   -- a consumer that has taken the end of each of so many producers
   abbrev pub HasAllEnds : ℕ → View T → Type 0
-  HasAllEnds producers (Consumer n made got heard) = (n ≡ producers) × ((p : ℕ) → p < producers → has_end (of p got) ≡ true)
-  HasAllEnds producers (Producer n p sent) = ⊥
+  HasAllEnds producers (Consumer n made got heard seen) = (n ≡ producers) × ((p : ℕ) → p < producers → has_end (of p got) ≡ true)
+  HasAllEnds producers (Producer n p sent seen) = ⊥
   HasAllEnds producers Spent = ⊥
 
 -- the lane of which all was taken that its producers sent

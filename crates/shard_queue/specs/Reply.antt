@@ -9,7 +9,7 @@ use Rattle.shard_queue.specs.declared.reply.SenderEnded.{SenderEnded}
 use Rattle.shard_queue.specs.declared.reply.ReceiverSeat.{ReceiverSeat}
 use Rattle.shard_queue.specs.declared.reply.ReplyClosed.{ReplyClosed}
 use Rattle.shard_queue.specs.Lane.{has_end}
-use Rattle.shard_queue.specs.Shared.{consumer, sender, list_of}
+use Rattle.shard_queue.specs.Shared.{consumer, sender, list_of, seen_of}
 use Rattle.shard_queue.specs.Seats.{AreMarks}
 
 module _ {T : Type 0} where
@@ -24,6 +24,18 @@ module _ {T : Type 0} where
   -- what the receiver has taken
   abbrev pub received : ReceiverSeat T → List (Entry T)
   received s = list_of (view s.pass)
+
+  -- all that had been put when this sender last sent, that entry included
+  abbrev pub send_seen : SenderSeat T → List (Entry T)
+  send_seen s = seen_of (view s.pass)
+
+  -- the same when it sent its end
+  abbrev pub last_seen : SenderEnded T → List (Entry T)
+  last_seen s = seen_of (view s.pass)
+
+  -- all that had been put when the receiver last took
+  abbrev pub receive_seen : ReceiverSeat T → List (Entry T)
+  receive_seen s = seen_of (view s.pass)
 
   -- all that was taken before the channel was closed
   abbrev pub reply_history : ReplyClosed T → List (Entry T)
@@ -43,12 +55,12 @@ module _ {T : Type 0} where
 
   -- the seat of a sender of this channel that may send more
   abbrev pub IsSender : ReplyChannel T → SenderSeat T → Type 0
-  IsSender c s = IsSeatAt (sends_on c.sender) s.pass × (view s.pass ≡ sender c.senders s.number (sent_on s)) × (has_end (sent_on s) ≡ false)
+  IsSender c s = IsSeatAt (sends_on c.sender) s.pass × (view s.pass ≡ sender c.senders s.number (sent_on s) (send_seen s)) × (has_end (sent_on s) ≡ false)
 
   -- what is left of such a seat after its end
   abbrev pub IsSenderEnded : ReplyChannel T → SenderEnded T → Type 0
-  IsSenderEnded c s = IsSeatAt (sends_on c.sender) s.pass × (view s.pass ≡ sender c.senders s.number (said_on s)) × (has_end (said_on s) ≡ true)
+  IsSenderEnded c s = IsSeatAt (sends_on c.sender) s.pass × (view s.pass ≡ sender c.senders s.number (said_on s) (last_seen s)) × (has_end (said_on s) ≡ true)
 
   -- the seat of this channel's receiver
   abbrev pub IsReceiver : ReplyChannel T → ReceiverSeat T → Type 0
-  IsReceiver c s = IsSeatAt (sends_on c.sender) s.pass × (view s.pass ≡ consumer c.senders c.senders (received s) None) × AreMarks c.senders s.ended (received s)
+  IsReceiver c s = IsSeatAt (sends_on c.sender) s.pass × (view s.pass ≡ consumer c.senders c.senders (received s) None (receive_seen s)) × AreMarks c.senders s.ended (received s)

@@ -8,28 +8,38 @@ use Rattle.shard_queue.specs.declared.shared.View.TheVariants as views
 use Rattle.shard_queue.specs.Lane.{producer, of, has_end, Lane, EndsLast, IsMerge}
 
 module _ {T : Type 0} where
-  -- a consumer that has taken `got`, of a lane with so many producers, of which so many have their seats; `heard` is the producer that was heard out last
-  -- with what it sent
-  abbrev pub consumer : ℕ → ℕ → List (Entry T) → Option (ℕ × List (Entry T)) → View T
-  consumer producers made got heard = views.Consumer producers made got heard
+  -- these were put first, and then perhaps more
+  abbrev pub IsStartOf : List (Entry T) → List (Entry T) → Type 0
+  IsStartOf first all = (more : List (Entry T)) × (all ≡ first ++ more)
 
-  -- producer p, which has sent these entries, of a lane with so many producers
-  abbrev pub sender : ℕ → ℕ → List (Entry T) → View T
-  sender producers p sent = views.Producer producers p sent
+  -- a consumer that has taken `got`, of a lane with so many producers, of which so many have their seats; `heard` is the producer that was heard out last
+  -- with what it sent; `seen` is all that had been put when it last took
+  abbrev pub consumer : ℕ → ℕ → List (Entry T) → Option (ℕ × List (Entry T)) → List (Entry T) → View T
+  consumer producers made got heard seen = views.Consumer producers made got heard seen
+
+  -- producer p, which has sent these entries, of a lane with so many producers; `seen` is all that had been put when it last put
+  abbrev pub sender : ℕ → ℕ → List (Entry T) → List (Entry T) → View T
+  sender producers p sent seen = views.Producer producers p sent seen
 
   abbrev pub spent : View T
   spent = views.Spent
 
   -- what the seat has sent or taken
   abbrev pub list_of : View T → List (Entry T)
-  list_of (views.Consumer producers made got heard) = got
-  list_of (views.Producer producers p sent) = sent
+  list_of (views.Consumer producers made got heard seen) = got
+  list_of (views.Producer producers p sent seen) = sent
   list_of views.Spent = []
+
+  -- all that had been put in the lane when the seat last put or took, that entry included
+  abbrev pub seen_of : View T → List (Entry T)
+  seen_of (views.Consumer producers made got heard seen) = seen
+  seen_of (views.Producer producers p sent seen) = seen
+  seen_of views.Spent = []
 
   -- the consumer has the first seat, then come as many of no use as there are producers, and then theirs
   abbrev pub Sits : ℕ → View T → Type 0
-  Sits place (views.Consumer producers made got heard) = place ≡ 0
-  Sits place (views.Producer producers p sent) = place ≡ suc (producers + p)
+  Sits place (views.Consumer producers made got heard seen) = place ≡ 0
+  Sits place (views.Producer producers p sent seen) = place ≡ suc (producers + p)
   Sits place views.Spent = ⊤
 
   -- a producer that was heard out has sent this, its end included
@@ -39,8 +49,8 @@ module _ {T : Type 0} where
 
   -- what a seat knows is true of this lane, which has so many producers, of which so many have their seats
   abbrev pub Knows : ℕ → ℕ → Lane T → View T → Type 0
-  Knows producers made l (views.Consumer n m got heard) = (n ≡ producers) × (m ≡ made) × (got ≡ l.got) × KnowsHeard l heard
-  Knows producers made l (views.Producer n p sent) = (n ≡ producers) × (sent ≡ l.sent p)
+  Knows producers made l (views.Consumer n m got heard seen) = (n ≡ producers) × (m ≡ made) × (got ≡ l.got) × KnowsHeard l heard × IsStartOf seen (l.got ++ l.waiting)
+  Knows producers made l (views.Producer n p sent seen) = (n ≡ producers) × (sent ≡ l.sent p) × IsStartOf seen (l.got ++ l.waiting)
   Knows producers made l views.Spent = ⊤
 
 -- These entries wait in the lane, and all seats, by their places, know what is true of it.
@@ -59,31 +69,32 @@ module _ {T : Type 0} where
 
   -- what the consumer has taken and then what waits is, of each producer, what its seat has sent; each entry is a producer's, and nothing follows an end
   abbrev pub SeatsMerge : List (Entry T) → List (View T) → Type 0
-  SeatsMerge waiting seats = (producers made : ℕ) (got : List (Entry T)) (heard : Option (ℕ × List (Entry T)))
-      → get_elem? seats 0 ≡ some (consumer producers made got heard)
-      → (p : ℕ) → ((place : ℕ) (sent : List (Entry T)) → get_elem? seats place ≡ some (sender producers p sent) → of p (got ++ waiting) ≡ sent)
+  SeatsMerge waiting seats = (producers made : ℕ) (got : List (Entry T)) (heard : Option (ℕ × List (Entry T))) (seen : List (Entry T))
+      → get_elem? seats 0 ≡ some (consumer producers made got heard seen)
+      → (p : ℕ) → ((place : ℕ) (sent seen : List (Entry T)) → get_elem? seats place ≡ some (sender producers p sent seen) → of p (got ++ waiting) ≡ sent)
       × (producers ≤ p → of p (got ++ waiting) ≡ []) × EndsLast (of p (got ++ waiting))
 
   -- what a seat learns at one moment, when these entries wait
   abbrev pub Saw : View T → List (Entry T) → Type 0
   Saw v waiting = (producers : ℕ) × (made : ℕ) × (l : Lane T) × (l.waiting ≡ waiting) × IsMerge producers (length waiting) l × Knows producers made l v
 
-  -- what a put makes of the producer's seat
-  abbrev pub putting : View T → Entry T → View T
-  putting (views.Consumer producers made got heard) e = views.Consumer producers made got heard
-  putting (views.Producer producers p sent) e = views.Producer producers p (sent ++ e ∷ [])
-  putting views.Spent e = views.Spent
+  -- what a put makes of the producer's seat: it goes behind all that had been put before
+  abbrev pub Puts : View T → Entry T → View T → Type 0
+  Puts (views.Consumer producers made got heard seen) e w = ⊥
+  Puts (views.Producer producers p sent seen) e w = (before : List (Entry T)) × (w ≡ views.Producer producers p (sent ++ e ∷ []) (before ++ e ∷ [])) × IsStartOf seen before
+  Puts views.Spent e w = ⊥
 
-  -- what a take makes of the consumer's seat: the entry is of one of the lane's producers
+  -- what a take makes of the consumer's seat: the entry is of one of the lane's producers, and these others stood behind it
   abbrev pub Takes : View T → Entry T → View T → Type 0
-  Takes (views.Consumer producers made got heard) e w = (producer e < producers) × (w ≡ views.Consumer producers made (got ++ e ∷ []) heard)
-  Takes (views.Producer producers p sent) e w = ⊥
+  Takes (views.Consumer producers made got heard seen) e w = (producer e < producers)
+      × ((others : List (Entry T)) × (w ≡ views.Consumer producers made (got ++ e ∷ []) heard ((got ++ e ∷ []) ++ others)) × IsStartOf seen ((got ++ e ∷ []) ++ others))
+  Takes (views.Producer producers p sent seen) e w = ⊥
   Takes views.Spent e w = ⊥
 
   -- there will be one more producer: the consumer's seat, and one of no use
   abbrev pub announcing : View T → View T
-  announcing (views.Consumer producers made got heard) = views.Consumer (suc producers) made got heard
-  announcing (views.Producer producers p sent) = views.Producer producers p sent
+  announcing (views.Consumer producers made got heard seen) = views.Consumer (suc producers) made got heard seen
+  announcing (views.Producer producers p sent seen) = views.Producer producers p sent seen
   announcing views.Spent = views.Spent
 
   abbrev pub announced : View T → View T
@@ -91,16 +102,16 @@ module _ {T : Type 0} where
 
   -- the next producer gets its seat: the consumer's, and the new one
   abbrev pub hiring : View T → View T
-  hiring (views.Consumer producers made got heard) = views.Consumer producers (suc made) got heard
-  hiring (views.Producer producers p sent) = views.Producer producers p sent
+  hiring (views.Consumer producers made got heard seen) = views.Consumer producers (suc made) got heard seen
+  hiring (views.Producer producers p sent seen) = views.Producer producers p sent seen
   hiring views.Spent = views.Spent
 
   abbrev pub hired : View T → View T
-  hired (views.Consumer producers made got heard) = views.Producer producers made []
-  hired (views.Producer producers p sent) = views.Spent
+  hired (views.Consumer producers made got heard seen) = views.Producer producers made [] []
+  hired (views.Producer producers p sent seen) = views.Spent
   hired views.Spent = views.Spent
 
   -- the consumer's seat after it has taken in a producer's
   abbrev pub heard_out : View T → View T → View T
-  heard_out (views.Consumer producers made got heard) (views.Producer n p sent) = views.Consumer producers made got (Some (p, sent))
+  heard_out (views.Consumer producers made got heard seen) (views.Producer n p sent late) = views.Consumer producers made got (Some (p, sent)) seen
   heard_out v w = v

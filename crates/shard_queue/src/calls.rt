@@ -1,8 +1,9 @@
 //! What a lane does. No call but `new` takes memory.
 
-ghost use Rattle.std.specs.Prelude.{◌≡◌, ◌<◌, ◌++◌, ◌∷◌, [], true, false, Some, None, Ok, IfOk, MatchResult, length, replicate, slice_set, ◌↔◌};
+ghost use Rattle.std.specs.Prelude.{◌≡◌, ◌≢◌, ◌<◌, ◌≤◌, ◌++◌, ◌∷◌, [], true, false, Some, None, Ok, IfOk, OnOk, MatchResult, length, replicate, slice_set, ◌↔◌};
 ghost use Rattle.shard_queue.specs.declared.lane.Entry.TheVariants as entries;
-ghost use Rattle.shard_queue.specs.Plain.{MayPutMore, before_taking, taken_entry, starts_with_item};
+ghost use Rattle.shard_queue.specs.Lane.{Puts, Takes, empty_lane};
+ghost use Rattle.shard_queue.specs.Plain.{Makes, MayPutMore, StandsForLane, before_taking, taken_entry, starts_with_item};
 
 use crate::lane::{Entry, Full, PlainLane, Taken};
 use std::alloc::{AllocError, Global};
@@ -12,7 +13,8 @@ impl<T: Drop> PlainLane<T> {
     /// An empty lane with room for `capacity` entries, where each of the producers 0 to
     /// `producers - 1` may put. An error where memory is refused.
     pub fn new(alloc: Global, capacity: usize, producers: u8) -> Result<PlainLane<T>, AllocError>
-        ensures { IfOk result (λ l. l ≡ record { capacity = capacity; live = replicate producers true; waiting = [] }) }
+        ensures empty { IfOk result (λ l. l ≡ record { capacity = capacity; live = replicate producers true; waiting = [] }) }
+        ensures stands { IfOk result (λ l. StandsForLane producers capacity l empty_lane) }
     {
         let entries = VecDeque::with_capacity(alloc, capacity)?;
         let live = Vec::from_elem(alloc, true, usize::from(producers))?;
@@ -43,6 +45,13 @@ impl<T: Drop> PlainLane<T> {
         }
     }
 
+    /// Whether as many entries wait as there is room for.
+    pub fn is_full(&self) -> bool
+        ensures { result ≡ true ↔ (self.now.capacity ≤ length self.now.waiting) }
+    {
+        self.entries.len() >= self.capacity
+    }
+
     /// Puts an item behind all that waits. Full exactly where as many entries wait as there is
     /// room for; the lane is then unchanged, and the item comes back.
     pub fn put(&mut self, p: u8, item: T) -> Result<(), Full<T>>
@@ -50,6 +59,7 @@ impl<T: Drop> PlainLane<T> {
         ensures put { MatchResult result
             (λ _. (length self.old.waiting < self.old.capacity) × (self.new ≡ record self.old { waiting = self.old.waiting ++ entries.Item p item ∷ [] }))
             (λ back. (back.0 ≡ item) × (length self.old.waiting ≡ self.old.capacity) × (self.new ≡ self.old)) }
+        ensures moves { OnOk result (Makes self.old (Puts (entries.Item p item)) self.new) }
     {
         if self.entries.len() == self.capacity {
             return Err(Full(item));
@@ -65,6 +75,7 @@ impl<T: Drop> PlainLane<T> {
         ensures put { MatchResult result
             (λ _. (length self.old.waiting < self.old.capacity) × (self.new ≡ record self.old { waiting = self.old.waiting ++ entries.End p ∷ []; live = slice_set self.old.live p false }))
             (λ _. (length self.old.waiting ≡ self.old.capacity) × (self.new ≡ self.old)) }
+        ensures moves { OnOk result (Makes self.old (Puts (entries.End p)) self.new) }
     {
         if self.entries.len() == self.capacity {
             return Err(Full(()));
@@ -80,6 +91,7 @@ impl<T: Drop> PlainLane<T> {
     pub fn take(&mut self) -> Taken<T>
         ensures taken { self.old ≡ record self.new { waiting = before_taking result self.new.waiting } }
         ensures empty { taken_entry result ≡ None → self.old.waiting ≡ [] }
+        ensures moves { taken_entry result ≢ None → Makes self.old Takes self.new }
     {
         match self.entries.pop_front() {
             Some(Entry::Item(p, item)) => Taken::Item(p, item),
@@ -135,9 +147,11 @@ mod tests {
     #[test]
     fn a_full_lane_hands_the_item_back(rt: HostRuntime) -> Result<(), AllocError> {
         let mut lane = PlainLane::new(rt.alloc(), 1, 1)?;
+        assert!(rt; !lane.is_full());
         if lane.is_live(0) {
             assert!(rt; lane.put(0, 7).is_ok());
         }
+        assert!(rt; lane.is_full());
         if lane.is_live(0) {
             assert!(rt; matches!(lane.put(0, 8), Err(Full(8))));
         }

@@ -9,7 +9,7 @@ ghost use Rattle.shard_queue.specs.Lane.{producer, of, has_end};
 ghost use Rattle.shard_queue.specs.Plain.{taken_entry};
 ghost use Rattle.shard_queue.specs.Shared.{consumer, sender, list_of};
 ghost use Rattle.shard_queue.specs.Closing.{IsAll, IsNotAll, IsWhole, HasAllEnds};
-ghost use Rattle.shard_queue.specs.Seats.{IsProducer, IsEnded, IsConsumer, sent, said, got, history, capacity_of, producers_of, number_of, ended_number, numbers, WasFull, WasEmpty};
+ghost use Rattle.shard_queue.specs.Seats.{IsProducer, IsEnded, IsConsumer, sent, said, got, history, capacity_of, producers_of, number_of, ended_number, numbers, put_seen, end_seen, take_seen, IsPutBehind, IsLeftBy, WasFull, WasEmpty};
 
 use crate::lane::{Entry, Full, Taken};
 use crate::shared::{Announce, HearOut, Hire, Merge, Put, Take, View, no_marks};
@@ -108,8 +108,9 @@ impl<T: Drop> ShardQueue<T> {
     }
 
     /// Puts an item behind all that waits; takes no memory. Full only where at one moment of the call as
-    /// many entries waited as there is room for; the item comes back then, and the producer has sent no
-    /// more than before.
+    /// many entries waited as there is room for, which goes on from what this producer had seen when it last
+    /// put (a mere look doesn't give that); the item comes back then, and the producer has sent no more
+    /// than before.
     pub fn put_as<R: Wait>(
         &self,
         rt: &R,
@@ -119,9 +120,10 @@ impl<T: Drop> ShardQueue<T> {
         requires seat { IsProducer self.now seat.old }
         ensures seat { IsProducer self.now seat.new × (number_of seat.new ≡ number_of seat.old) }
         ensures put { MatchResult result
-            (λ _. sent seat.new ≡ sent seat.old ++ entries.Item (number_of seat.old) item ∷ [])
-            (λ back. (back.0 ≡ item) × (sent seat.new ≡ sent seat.old)
-            × WasFull (producers_of self.now) (capacity_of self.now) (number_of seat.old) (sent seat.old)) }
+            (λ _. (sent seat.new ≡ sent seat.old ++ entries.Item (number_of seat.old) item ∷ [])
+            × IsPutBehind (put_seen seat.old) (entries.Item (number_of seat.old) item) (put_seen seat.new))
+            (λ back. (back.0 ≡ item) × (sent seat.new ≡ sent seat.old) × (put_seen seat.new ≡ put_seen seat.old)
+            × WasFull (producers_of self.now) (capacity_of self.now) (number_of seat.old) (sent seat.old) (put_seen seat.old)) }
     {
         let put = Entry::Item(seat.number, item);
         match self.queue.push_as::<Put, R>(rt, &mut seat.pass, put) {
@@ -140,9 +142,10 @@ impl<T: Drop> ShardQueue<T> {
     ) -> Result<Ended<T>, ProducerSeat<T>>
         requires seat { IsProducer self.now seat }
         ensures ended { IfOk result (λ e. IsEnded self.now e × (ended_number e ≡ number_of seat)
-            × (said e ≡ sent seat ++ entries.End (number_of seat) ∷ [])) }
-        ensures full { IfErr result (λ s. IsProducer self.now s × (number_of s ≡ number_of seat) × (sent s ≡ sent seat)
-            × WasFull (producers_of self.now) (capacity_of self.now) (number_of seat) (sent seat)) }
+            × (said e ≡ sent seat ++ entries.End (number_of seat) ∷ [])
+            × IsPutBehind (put_seen seat) (entries.End (number_of seat)) (end_seen e)) }
+        ensures full { IfErr result (λ s. IsProducer self.now s × (number_of s ≡ number_of seat) × (sent s ≡ sent seat) × (put_seen s ≡ put_seen seat)
+            × WasFull (producers_of self.now) (capacity_of self.now) (number_of seat) (sent seat) (put_seen seat)) }
     {
         let ProducerSeat { mut pass, number } = seat;
         match self
@@ -156,13 +159,16 @@ impl<T: Drop> ShardQueue<T> {
     }
 
     /// Takes the first entry that waits, which is of one of the queue's producers; takes no memory.
-    /// Empty only where at one moment of the call nothing waited; nothing was taken then.
+    /// Empty only where at one moment of the call nothing waited, so that all is taken that stood behind the
+    /// entry before (a mere look doesn't give that); nothing was taken then.
     pub fn take_as<R: Wait>(&self, rt: &R, seat: &mut ConsumerSeat<T>) -> Taken<T>
         requires seat { IsConsumer self.now seat.old }
         ensures seat { IsConsumer self.now seat.new }
         ensures taken { MatchOption (taken_entry result)
-            ((got seat.new ≡ got seat.old) × WasEmpty (producers_of self.now) (capacity_of self.now) (got seat.old))
-            (λ e. (got seat.new ≡ got seat.old ++ e ∷ []) × (producer e < producers_of self.now)) }
+            ((got seat.new ≡ got seat.old) × (take_seen seat.new ≡ take_seen seat.old)
+            × WasEmpty (producers_of self.now) (capacity_of self.now) (got seat.old) (take_seen seat.old))
+            (λ e. (got seat.new ≡ got seat.old ++ e ∷ []) × (producer e < producers_of self.now)
+            × IsLeftBy (take_seen seat.old) (got seat.new) (take_seen seat.new)) }
     {
         match self.queue.pop_as::<Take, R>(rt, &mut seat.pass) {
             Some(Entry::Item(p, item)) => Taken::Item(p, item),
@@ -244,8 +250,8 @@ fn has_ended<T>(ended: &[Ended<T>], number: u8) -> bool
 
 // How many producers there will be, so that each of their seats knows it.
 fn announce<T>(queue: &Lane<T>, pass: &mut Pass<Entry<T>, View<T>>, producers: u8)
-    requires { IsPassOf queue.now pass.old × (view pass.old ≡ consumer 0 0 [] None) }
-    ensures { IsPassOf queue.now pass.new × (view pass.new ≡ consumer producers 0 [] None) }
+    requires { IsPassOf queue.now pass.old × (view pass.old ≡ consumer 0 0 [] None []) }
+    ensures { IsPassOf queue.now pass.new × (view pass.new ≡ consumer producers 0 [] None []) }
 {
     for _ in 0..producers {
         queue.another::<Announce>(pass);
@@ -259,9 +265,9 @@ fn hire<T>(
     pass: &mut Pass<Entry<T>, View<T>>,
     number: u8,
 ) -> ProducerSeat<T>
-    requires { IsPassOf queue.now pass.old × (view pass.old ≡ consumer producers number [] None) × (number < producers) }
-    ensures pass { IsPassOf queue.now pass.new × (view pass.new ≡ consumer producers (number + 1) [] None) }
-    ensures seat { IsPassOf queue.now result.pass × (view result.pass ≡ sender producers number []) × (result.number ≡ number) }
+    requires { IsPassOf queue.now pass.old × (view pass.old ≡ consumer producers number [] None []) × (number < producers) }
+    ensures pass { IsPassOf queue.now pass.new × (view pass.new ≡ consumer producers (number + 1) [] None []) }
+    ensures seat { IsPassOf queue.now result.pass × (view result.pass ≡ sender producers number [] []) × (result.number ≡ number) }
 {
     let pass = queue.another::<Hire>(pass);
     ProducerSeat { pass, number }
@@ -270,7 +276,7 @@ fn hire<T>(
 // Hears a producer out: what it has sent is what was taken of it.
 fn hear_out<T>(queue: &Lane<T>, producers: u8, pass: &mut Pass<Entry<T>, View<T>>, ended: Ended<T>)
     requires pass { IsPassOf queue.now pass.old × HasAllEnds producers (view pass.old) }
-    requires ended { IsPassOf queue.now ended.pass × (view ended.pass ≡ sender producers ended.number (said ended)) × (has_end (said ended) ≡ true) }
+    requires ended { IsPassOf queue.now ended.pass × (view ended.pass ≡ sender producers ended.number (said ended) (end_seen ended)) × (has_end (said ended) ≡ true) }
     ensures pass { IsPassOf queue.now pass.new × HasAllEnds producers (view pass.new) × (list_of (view pass.new) ≡ list_of (view pass.old)) }
     ensures said { said ended ≡ of ended.number (list_of (view pass.old)) }
 {
@@ -289,7 +295,7 @@ fn hear_all_out<T>(
     mut ended: Vec<Ended<T>>,
 )
     requires pass { IsPassOf queue.now pass.old × HasAllEnds producers (view pass.old) }
-    requires ended { All (λ e. IsPassOf queue.now e.pass × (view e.pass ≡ sender producers e.number (said e)) × (has_end (said e) ≡ true)) ended.items }
+    requires ended { All (λ e. IsPassOf queue.now e.pass × (view e.pass ≡ sender producers e.number (said e) (end_seen e)) × (has_end (said e) ≡ true)) ended.items }
     ensures pass { IsPassOf queue.now pass.new × HasAllEnds producers (view pass.new) × (list_of (view pass.new) ≡ list_of (view pass.old)) }
     ensures said { All (λ e. said e ≡ of e.number (list_of (view pass.old))) ended.items }
 {

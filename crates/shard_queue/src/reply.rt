@@ -9,8 +9,8 @@ ghost use Rattle.shard_queue.specs.declared.lane.Entry.TheVariants as entries;
 ghost use Rattle.shard_queue.specs.Lane.{producer, of, has_end};
 ghost use Rattle.shard_queue.specs.Shared.{consumer, sender, list_of};
 ghost use Rattle.shard_queue.specs.Closing.{IsAll, IsNotAll, IsWhole, HasAllEnds};
-ghost use Rattle.shard_queue.specs.Seats.{WasFull, numbers};
-ghost use Rattle.shard_queue.specs.Reply.{IsSender, IsSenderEnded, IsReceiver, sent_on, said_on, received, reply_history, room_of, senders_of, sender_number, sender_ended_number};
+ghost use Rattle.shard_queue.specs.Seats.{IsPutBehind, IsLeftBy, WasFull, numbers};
+ghost use Rattle.shard_queue.specs.Reply.{IsSender, IsSenderEnded, IsReceiver, sent_on, said_on, received, reply_history, room_of, senders_of, sender_number, sender_ended_number, send_seen, last_seen, receive_seen};
 
 use crate::ends::ReplyChannel;
 use crate::lane::{Entry, Full};
@@ -113,9 +113,10 @@ impl<T: Drop> ReplyChannel<T> {
         requires seat { IsSender self.now seat.old }
         ensures seat { IsSender self.now seat.new × (sender_number seat.new ≡ sender_number seat.old) }
         ensures sent { MatchResult result
-            (λ _. sent_on seat.new ≡ sent_on seat.old ++ entries.Item (sender_number seat.old) item ∷ [])
-            (λ back. (back.0 ≡ item) × (sent_on seat.new ≡ sent_on seat.old)
-            × WasFull (senders_of self.now) (room_of self.now) (sender_number seat.old) (sent_on seat.old)) }
+            (λ _. (sent_on seat.new ≡ sent_on seat.old ++ entries.Item (sender_number seat.old) item ∷ [])
+            × IsPutBehind (send_seen seat.old) (entries.Item (sender_number seat.old) item) (send_seen seat.new))
+            (λ back. (back.0 ≡ item) × (sent_on seat.new ≡ sent_on seat.old) × (send_seen seat.new ≡ send_seen seat.old)
+            × WasFull (senders_of self.now) (room_of self.now) (sender_number seat.old) (sent_on seat.old) (send_seen seat.old)) }
     {
         let mut entry = Entry::Item(seat.number, item);
         // Both ends are here, so nobody is ever told that the other is gone. No clause of the channel
@@ -139,9 +140,10 @@ impl<T: Drop> ReplyChannel<T> {
     ) -> Result<SenderEnded<T>, SenderSeat<T>>
         requires seat { IsSender self.now seat }
         ensures ended { IfOk result (λ e. IsSenderEnded self.now e × (sender_ended_number e ≡ sender_number seat)
-            × (said_on e ≡ sent_on seat ++ entries.End (sender_number seat) ∷ [])) }
-        ensures full { IfErr result (λ s. IsSender self.now s × (sender_number s ≡ sender_number seat) × (sent_on s ≡ sent_on seat)
-            × WasFull (senders_of self.now) (room_of self.now) (sender_number seat) (sent_on seat)) }
+            × (said_on e ≡ sent_on seat ++ entries.End (sender_number seat) ∷ [])
+            × IsPutBehind (send_seen seat) (entries.End (sender_number seat)) (last_seen e)) }
+        ensures full { IfErr result (λ s. IsSender self.now s × (sender_number s ≡ sender_number seat) × (sent_on s ≡ sent_on seat) × (send_seen s ≡ send_seen seat)
+            × WasFull (senders_of self.now) (room_of self.now) (sender_number seat) (sent_on seat) (send_seen seat)) }
     {
         let SenderSeat { mut pass, number } = seat;
         // As in `send_as`: whoever were told that the other end is gone would try again.
@@ -163,7 +165,8 @@ impl<T: Drop> ReplyChannel<T> {
     pub fn recv_as<R: Wait>(&self, rt: &R, seat: &mut ReceiverSeat<T>) -> Entry<T>
         requires seat { IsReceiver self.now seat.old }
         ensures seat { IsReceiver self.now seat.new }
-        ensures received { (received seat.new ≡ received seat.old ++ result ∷ []) × (producer result < senders_of self.now) }
+        ensures received { (received seat.new ≡ received seat.old ++ result ∷ []) × (producer result < senders_of self.now)
+            × IsLeftBy (receive_seen seat.old) (received seat.new) (receive_seen seat.new) }
     {
         for _ in rt.forever() {
             match self.receiver.recv_as::<Take, R>(rt, &mut seat.pass) {
@@ -261,8 +264,8 @@ fn has_ended<T>(ended: &[SenderEnded<T>], number: u8) -> bool
 
 // How many senders there will be, so that each of their seats knows it.
 fn announce<T: Drop>(ends: &Sends<T>, pass: &mut Pass<Entry<T>, View<T>>, senders: u8)
-    requires { IsSeatAt (sends_on ends.now) pass.old × (view pass.old ≡ consumer 0 0 [] None) }
-    ensures { IsSeatAt (sends_on ends.now) pass.new × (view pass.new ≡ consumer senders 0 [] None) }
+    requires { IsSeatAt (sends_on ends.now) pass.old × (view pass.old ≡ consumer 0 0 [] None []) }
+    ensures { IsSeatAt (sends_on ends.now) pass.new × (view pass.new ≡ consumer senders 0 [] None []) }
 {
     for _ in 0..senders {
         ends.another::<Announce>(pass);
@@ -276,9 +279,9 @@ fn hire<T: Drop>(
     pass: &mut Pass<Entry<T>, View<T>>,
     number: u8,
 ) -> SenderSeat<T>
-    requires { IsSeatAt (sends_on ends.now) pass.old × (view pass.old ≡ consumer senders number [] None) × (number < senders) }
-    ensures pass { IsSeatAt (sends_on ends.now) pass.new × (view pass.new ≡ consumer senders (number + 1) [] None) }
-    ensures seat { IsSeatAt (sends_on ends.now) result.pass × (view result.pass ≡ sender senders number []) × (result.number ≡ number) }
+    requires { IsSeatAt (sends_on ends.now) pass.old × (view pass.old ≡ consumer senders number [] None []) × (number < senders) }
+    ensures pass { IsSeatAt (sends_on ends.now) pass.new × (view pass.new ≡ consumer senders (number + 1) [] None []) }
+    ensures seat { IsSeatAt (sends_on ends.now) result.pass × (view result.pass ≡ sender senders number [] []) × (result.number ≡ number) }
 {
     let pass = ends.another::<Hire>(pass);
     SenderSeat { pass, number }
@@ -292,7 +295,7 @@ fn hear_out<T: Drop>(
     ended: SenderEnded<T>,
 )
     requires pass { IsSeatAt (sends_on ends.now) pass.old × HasAllEnds senders (view pass.old) }
-    requires ended { IsSeatAt (sends_on ends.now) ended.pass × (view ended.pass ≡ sender senders ended.number (said_on ended)) × (has_end (said_on ended) ≡ true) }
+    requires ended { IsSeatAt (sends_on ends.now) ended.pass × (view ended.pass ≡ sender senders ended.number (said_on ended) (last_seen ended)) × (has_end (said_on ended) ≡ true) }
     ensures pass { IsSeatAt (sends_on ends.now) pass.new × HasAllEnds senders (view pass.new) × (list_of (view pass.new) ≡ list_of (view pass.old)) }
     ensures said { said_on ended ≡ of ended.number (list_of (view pass.old)) }
 {
@@ -311,7 +314,7 @@ fn hear_all_out<T: Drop>(
     mut ended: Vec<SenderEnded<T>>,
 )
     requires pass { IsSeatAt (sends_on ends.now) pass.old × HasAllEnds senders (view pass.old) }
-    requires ended { All (λ e. IsSeatAt (sends_on ends.now) e.pass × (view e.pass ≡ sender senders e.number (said_on e)) × (has_end (said_on e) ≡ true)) ended.items }
+    requires ended { All (λ e. IsSeatAt (sends_on ends.now) e.pass × (view e.pass ≡ sender senders e.number (said_on e) (last_seen e)) × (has_end (said_on e) ≡ true)) ended.items }
     ensures pass { IsSeatAt (sends_on ends.now) pass.new × HasAllEnds senders (view pass.new) × (list_of (view pass.new) ≡ list_of (view pass.old)) }
     ensures said { All (λ e. said_on e ≡ of e.number (list_of (view pass.old))) ended.items }
 {

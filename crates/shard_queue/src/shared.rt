@@ -13,10 +13,18 @@ use std::collections::LinkedList;
 /// What a seat knows of its lane. No value of it is ever made: seats carry it for contracts alone.
 pub enum View<T> {
     /// The consumer's: how many producers there are, how many of them have their seats, what was taken,
-    /// and, while the lane is closed, the producer that was heard out last with all that it has sent.
-    Consumer(u64, u64, LinkedList<Entry<T>>, Option<(u64, LinkedList<Entry<T>>)>),
-    /// A producer's: how many producers there are, its number, and what it has sent.
-    Producer(u64, u64, LinkedList<Entry<T>>),
+    /// while the lane is closed the producer that was heard out last with all that it has sent, and all
+    /// that had been put when it last took.
+    Consumer(
+        u64,
+        u64,
+        LinkedList<Entry<T>>,
+        Option<(u64, LinkedList<Entry<T>>)>,
+        LinkedList<Entry<T>>,
+    ),
+    /// A producer's: how many producers there are, its number, what it has sent, and all that had been
+    /// put when it last put, that entry included.
+    Producer(u64, u64, LinkedList<Entry<T>>, LinkedList<Entry<T>>),
     /// Of a producer that was heard out, or of no use.
     Spent,
 }
@@ -30,7 +38,7 @@ impl<T> Protocol<Entry<T>, View<T>> for Merge {
 
     ghost holds = { IsSharedBy };
 
-    ghost first = { consumer 0 0 [] None };
+    ghost first = { consumer 0 0 [] None [] };
 }
 
 impl<T> ChannelProtocol<Entry<T>, View<T>> for Merge {
@@ -39,7 +47,7 @@ impl<T> ChannelProtocol<Entry<T>, View<T>> for Merge {
 
     ghost holds = { IsSharedBy };
 
-    ghost first = { consumer 0 0 [] None };
+    ghost first = { consumer 0 0 [] None [] };
 }
 
 /// The consumer's seat learns that there will be one more producer. This makes a seat of no use.
@@ -79,10 +87,9 @@ impl<T> Join<View<T>> for HearOut {
 pub struct Put;
 
 impl<T> Outcome<Entry<T>, View<T>> for Put {
-    ghost use Rattle.shard_queue.specs.Shared.{putting};
-    ghost use Rattle.std.specs.Prelude.{◌≡◌};
+    ghost use Rattle.shard_queue.specs.Shared.{Puts};
 
-    ghost then = { λ v e w. w ≡ putting v e };
+    ghost then = { Puts };
 }
 
 impl<T> Lesson<Entry<T>, View<T>> for Put {
@@ -92,10 +99,9 @@ impl<T> Lesson<Entry<T>, View<T>> for Put {
 }
 
 impl<T> ChannelOutcome<Entry<T>, View<T>> for Put {
-    ghost use Rattle.shard_queue.specs.Shared.{putting};
-    ghost use Rattle.std.specs.Prelude.{◌≡◌};
+    ghost use Rattle.shard_queue.specs.Shared.{Puts};
 
-    ghost then = { λ v e w. w ≡ putting v e };
+    ghost then = { Puts };
 }
 
 impl<T> ChannelLesson<Entry<T>, View<T>> for Put {

@@ -9,7 +9,7 @@ ghost use Rattle.visitors.specs.Place.{Answered, HadTurn, Idled, IdledInPart, St
 
 use imap_connection::ImapConnection;
 use imap_session::{Folder, Selected, Store};
-use line_io::append_marked;
+use line_io::{append_marked, drop_front};
 use std::alloc::{AllocError, Global};
 use std::marker::Model;
 
@@ -81,12 +81,13 @@ impl Visitor {
         self.connection.is_idling()
     }
 
-    // Lets go of the bytes that were taken, once all are.
+    // Lets go of the bytes that were taken, once they are more than what waits behind them. So what is moved up was never
+    // more than what is let go, and what is kept is at most twice what waits.
     fn let_go(&mut self)
         ensures { self.new ≡ self.old }
     {
-        if self.taken == self.came.len() {
-            self.came.clear();
+        if self.taken > self.came.len() / 2 {
+            drop_front(&mut self.came, self.taken);
             self.taken = 0;
         }
     }

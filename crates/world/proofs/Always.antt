@@ -20,7 +20,7 @@ use Rattle.delivery_token.specs.Log.{stored_pair, stored_in}
 use Rattle.std.specs.List.{range_with_len}
 use Rattle.shard_queue.proofs.AtLaws.{at_cases}
 use Rattle.shard_queue.proofs.LaneLaws.{of_append, closed_is_empty, closed_not_live}
-use Rattle.world.specs.World.{Config, World, Box, Session, Event, Put, PutEnd, Take, Deliver, Answer, Hear, Enter, Status, Read, Store, Expunge, Feed, Leave, Step, Steps, IsWorld, put_joins, put_full, put_no_memory, end_joins, end_full, takes, take_empty, delivers, deliver_spent, deliver_full, deliver_no_memory, answers, answer_full, hears_one, enters, enter_no_memory, MailStep, mails, mail_lapped, mail_spent, mail_no_memory, LeaveStep, leaves, leave_spent, shard_of, pending, empty_world}
+use Rattle.world.specs.World.{Config, World, Box, Session, Event, Put, PutEnd, Take, Deliver, Answer, Hear, Enter, Status, Read, Store, Expunge, Feed, Leave, Step, Steps, IsWorld, put_joins, put_full, put_no_memory, end_joins, end_full, takes, take_empty, delivers, deliver_spent, deliver_full, deliver_no_memory, answers, answer_full, hears_one, enters, enter_spent, enter_no_memory, MailStep, mails, mail_lapped, mail_spent, mail_no_memory, LeaveStep, leaves, leave_spent, shard_of, pending, empty_world}
 use Rattle.world.specs.Law.{stored, due, accepted_of, pair_of, pairs, copies, key_of, keys, copy_for, taken_copies, IsShown, IsPart, none, keeps, skips, StandsOnce, Headline}
 use Rattle.world.proofs.Base.{Every, Rising, rising_pair, rising_map, part_more, part_front, part_self, part_both, part_rising, part_filter, part_map}
 use Rattle.world.specs.Known.{key_in}
@@ -65,7 +65,7 @@ added_removed false rows = refl
 pub kept_step : (k : Config) (w : World) (e : Event) (v : World) → Kept k w → Step k w e v → Kept k v
 kept_step k w (Put p s c) v K (put_joins may room e) = rw e (kept_put k w p s c K may room)
 kept_step k w (Put p s c) v K (put_full may room e) = rw e (kept_hears k w p _ Full K refl)
-kept_step k w (Put p s c) v K (put_no_memory may e) = rw e (kept_hears k w p _ NoMemory K refl)
+kept_step k w (Put p s c) v K (put_no_memory may room e) = rw e (kept_hears k w p _ NoMemory K refl)
 kept_step k w (PutEnd p s) v K (end_joins seat shard live room e) = rw e (kept_end k w p s K seat live room)
 kept_step k w (PutEnd p s) v K (end_full seat shard live room e) = rw e K
 kept_step k w (Take s) v K (takes x others empty front e) = rw e (kept_take k w s x others K empty front)
@@ -77,8 +77,9 @@ kept_step k w (Deliver s) v K (deliver_no_memory c was h i e) = rw e (kept_refus
 kept_step k w (Answer s) v K (answers r was room e) = rw e (kept_answer k w s r K was room)
 kept_step k w (Answer s) v K (answer_full r was room e) = rw e K
 kept_step k w (Hear p) v K (hears_one s r others front e) = rw e (kept_hear k w p s r others K front)
-kept_step k w (Enter n m) v K (enters a b c e) = rw e (kept_enter k w n m K)
-kept_step k w (Enter n m) v K (enter_no_memory a b c e) = rw e K
+kept_step k w (Enter n m) v K (enters a b c d e) = rw e (kept_enter k w n m _ K)
+kept_step k w (Enter n m) v K (enter_spent a b c d e) = rw e K
+kept_step k w (Enter n m) v K (enter_no_memory a b c d e) = rw e K
 kept_step k w (Status m) v K e = rw e K
 kept_step k w (Read n u mark) v K (s, is, step) = kept_mail_step k w n s true [] _ _ v K is (seen_there mark _ u) (added_seen mark _ u) refl step
 kept_step k w (Store n u op) v K (s, is, step) = kept_mail_step k w n s false [] _ _ v K is (flags_there _ u op) (added_flags _ u op) refl step
@@ -183,7 +184,7 @@ pub closed_step : (k : Config) (w : World) (e : Event) (v : World) (s : ℕ) →
 closed_step k w (Put p t c) v s K closed (put_joins may room e) = rw e (at_cases (λ l. l ≡ w.lane s) w.lane t _ s
     (λ same. absurd (closed_not_live k.seats k.depth (w.lane t) (K.lanes t) (subst (λ x. IsClosed k.seats (w.lane x)) same closed) p may.seat may.live)) (λ _. refl))
 closed_step k w (Put p t c) v s K closed (put_full may room e) = rw e refl
-closed_step k w (Put p t c) v s K closed (put_no_memory may e) = rw e refl
+closed_step k w (Put p t c) v s K closed (put_no_memory may room e) = rw e refl
 closed_step k w (PutEnd p t) v s K closed (end_joins seat shard live room e) = rw e (at_cases (λ l. l ≡ w.lane s) w.lane t _ s
     (λ same. absurd (closed_not_live k.seats k.depth (w.lane t) (K.lanes t) (subst (λ x. IsClosed k.seats (w.lane x)) same closed) p seat live)) (λ _. refl))
 closed_step k w (PutEnd p t) v s K closed (end_full seat shard live room e) = rw e refl
@@ -200,8 +201,9 @@ closed_step k w (Deliver t) v s K closed (deliver_no_memory c was h i e) = rw e 
 closed_step k w (Answer t) v s K closed (answers r was room e) = rw e refl
 closed_step k w (Answer t) v s K closed (answer_full r was room e) = rw e refl
 closed_step k w (Hear p) v s K closed (hears_one t r others front e) = rw e refl
-closed_step k w (Enter n m) v s K closed (enters a b c e) = rw e refl
-closed_step k w (Enter n m) v s K closed (enter_no_memory a b c e) = rw e refl
+closed_step k w (Enter n m) v s K closed (enters a b c d e) = rw e refl
+closed_step k w (Enter n m) v s K closed (enter_spent a b c d e) = rw e refl
+closed_step k w (Enter n m) v s K closed (enter_no_memory a b c d e) = rw e refl
 closed_step k w (Status m) v s K closed e = rw e refl
 closed_step k w (Read n u mark) v s K closed (x, is, step) = mail_lane k w n x _ _ _ v s step
 closed_step k w (Store n u op) v s K closed (x, is, step) = mail_lane k w n x _ _ _ v s step

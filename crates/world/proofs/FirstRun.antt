@@ -13,7 +13,7 @@ one_run_leads = (
   _,
   (
     _,
-    enters (omega arith) (omega arith) refl refl,
+    enters (omega arith) (omega arith) refl (omega arith) refl,
     (
       _,
       put_joins (record { seat = omega arith; own = refl; mailbox = omega arith; shard = (omega arith, refl); live = refl; above_sent = λ t i d l. absurd (omega arith); above_heard = λ i d l. absurd (omega arith) }) (omega arith) refl,

@@ -464,9 +464,9 @@ pub kept_leave : (k : Config) (w : World) (n : ℕ) (s : Session) (new : Box) (c
 kept_leave k w n s new changes K L names none_added = kept_logs k w s.mailbox new changes _ K L names none_added
     (at_each (λ i x. SessionOk (set_at w.box s.mailbox new) x) w.session n _ (λ i. sessions_log k w.box s.mailbox new changes [] L (w.session i) (K.sessions i)) tt)
 
-pub kept_enter : (k : Config) (w : World) (n m : ℕ) → Kept k w
-    → Kept k (record w { session = set_at w.session n (Some (record { mailbox = m; start = length (w.box m).log; cursor = length (w.box m).log; shown = [] })) })
-kept_enter k w n m K = record {
+pub kept_enter : (k : Config) (w : World) (n m : ℕ) (opened : ℕ → ℕ) → Kept k w
+    → Kept k (record w { session = set_at w.session n (Some (record { mailbox = m; start = length (w.box m).log; cursor = length (w.box m).log; shown = [] })); opened = opened })
+kept_enter k w n m opened K = record {
   lanes = K.lanes;
   own = K.own;
   rising = K.rising;

@@ -9,7 +9,7 @@ use Rattle.delivery_token.specs.declared.CopyKey.{CopyKey}
 use Rattle.delivery_token.specs.declared.Job.{Job}
 use Rattle.delivery_token.specs.declared.log.Noted.{Noted}
 use Rattle.shard_queue.proofs.AtLaws.{at_cases, at_each}
-use Rattle.world.specs.World.{Config, World, Box, Session, Hand, Empty, Taken, Done, MayPut, put_joins, put_full, put_no_memory, end_joins, end_full, takes, take_empty, delivers, deliver_spent, deliver_full, deliver_no_memory, answers, answer_full, hears_one, enters, enter_no_memory, MailStep, mails, mail_lapped, mail_spent, mail_no_memory, LeaveStep, leaves, leave_spent, Event, Put, PutEnd, Take, Deliver, Answer, Hear, Enter, Status, Read, Store, Expunge, Feed, Leave, Step, Steps, IsWorld, in_hand, puts, empty_world}
+use Rattle.world.specs.World.{Config, World, Box, Session, Hand, Empty, Taken, Done, MayPut, put_joins, put_full, put_no_memory, end_joins, end_full, takes, take_empty, delivers, deliver_spent, deliver_full, deliver_no_memory, answers, answer_full, hears_one, enters, enter_spent, enter_no_memory, MailStep, mails, mail_lapped, mail_spent, mail_no_memory, LeaveStep, leaves, leave_spent, Event, Put, PutEnd, Take, Deliver, Answer, Hear, Enter, Status, Read, Store, Expunge, Feed, Leave, Step, Steps, IsWorld, in_hand, puts, empty_world}
 use Rattle.world.proofs.Base.{Every, every_append, every_weaker}
 use Rattle.world.proofs.Mails.{IsIn}
 use Rattle.world.specs.Known.{key_in}
@@ -161,30 +161,30 @@ known_hear k w p s r others heard K front = record {
     all = subst (λ es. Every (ReplyKnown k w p) es) front (K.replies p)
 
 -- only what was heard, mailboxes and sessions change
-known_rest : (k : Config) (w : World) (heard : ℕ → List Noted) (box : ℕ → Box) (session : ℕ → Option Session) → Known k w → Known k (record w { heard = heard; box = box; session = session })
-known_rest k w heard box session K = record {
+known_rest : (k : Config) (w : World) (heard : ℕ → List Noted) (box : ℕ → Box) (session : ℕ → Option Session) (opened : ℕ → ℕ) → Known k w → Known k (record w { heard = heard; box = box; session = session; opened = opened })
+known_rest k w heard box session opened K = record {
   lanes = λ t. every_weaker _ _ (entry_more k w v (λ t p y i. i)) (w.lane t).waiting (K.lanes t);
   hands = λ t. hand_more k w v (λ t p y i. i) (w.hand t) (K.hands t);
   replies = λ p. every_weaker _ _ (reply_more k w v p (λ t p y i. i)) (w.replies p).waiting (K.replies p);
 }
   where
     v : World
-    v = record w { heard = heard; box = box; session = session }
+    v = record w { heard = heard; box = box; session = session; opened = opened }
 
 known_mail : (k : Config) (w : World) (n : ℕ) (s : Session) (a : _) (shown changes : List _) (v : World) → Known k w → MailStep k w n s a shown changes v → Known k v
-known_mail k w n s a shown changes v K (mails b i L e) = rw e (known_rest k w _ _ _ K)
+known_mail k w n s a shown changes v K (mails b i L e) = rw e (known_rest k w _ _ _ _ K)
 known_mail k w n s a shown changes v K (mail_lapped i e) = rw e K
 known_mail k w n s a shown changes v K (mail_spent i j e) = rw e K
 known_mail k w n s a shown changes v K (mail_no_memory h i j e) = rw e K
 
 known_leave : (k : Config) (w : World) (n : ℕ) (s : Session) (changes : List _) (v : World) → Known k w → LeaveStep k w n s changes v → Known k v
-known_leave k w n s changes v K (leaves b L e) = rw e (known_rest k w _ _ _ K)
+known_leave k w n s changes v K (leaves b L e) = rw e (known_rest k w _ _ _ _ K)
 known_leave k w n s changes v K (leave_spent i e) = rw e K
 
 pub known_step : (k : Config) (w : World) (e : Event) (v : World) → Known k w → Step k w e v → Known k v
 known_step k w (Put p s c) v K (put_joins may room e) = rw e (known_put k w p s c K may)
-known_step k w (Put p s c) v K (put_full may room e) = rw e (known_rest k w _ _ _ K)
-known_step k w (Put p s c) v K (put_no_memory may e) = rw e (known_rest k w _ _ _ K)
+known_step k w (Put p s c) v K (put_full may room e) = rw e (known_rest k w _ _ _ _ K)
+known_step k w (Put p s c) v K (put_no_memory may room e) = rw e (known_rest k w _ _ _ _ K)
 known_step k w (PutEnd p s) v K (end_joins seat shard live room e) = rw e (known_puts k w s (End p) K tt)
 known_step k w (PutEnd p s) v K (end_full seat shard live room e) = rw e K
 known_step k w (Take s) v K (takes x others empty front e) = rw e (known_take k w s x others K front)
@@ -196,8 +196,9 @@ known_step k w (Deliver s) v K (deliver_no_memory c was h i e) = rw e (known_han
 known_step k w (Answer s) v K (answers r was room e) = rw e (known_answer k w s r K was)
 known_step k w (Answer s) v K (answer_full r was room e) = rw e K
 known_step k w (Hear p) v K (hears_one s r others front e) = rw e (known_hear k w p s r others _ K front)
-known_step k w (Enter n m) v K (enters a b c e) = rw e (known_rest k w _ _ _ K)
-known_step k w (Enter n m) v K (enter_no_memory a b c e) = rw e K
+known_step k w (Enter n m) v K (enters a b c d e) = rw e (known_rest k w _ _ _ _ K)
+known_step k w (Enter n m) v K (enter_spent a b c d e) = rw e K
+known_step k w (Enter n m) v K (enter_no_memory a b c d e) = rw e K
 known_step k w (Status m) v K e = rw e K
 known_step k w (Read n u mark) v K (s, is, step) = known_mail k w n s _ _ _ v K step
 known_step k w (Store n u op) v K (s, is, step) = known_mail k w n s _ _ _ v K step

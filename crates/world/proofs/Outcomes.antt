@@ -8,7 +8,7 @@ use Rattle.change_ring.specs.declared.change.Change.TheVariants.{Add}
 use Rattle.change_ring.specs.Log.{rows_of}
 use Rattle.change_ring.specs.Logged.{flags_logged, removals, seen_logged, removals_if}
 use Rattle.change_ring.specs.Window.{BaseAfter}
-use Rattle.world.specs.World.{Config, World, Box, Session, Empty, Taken, Event, Put, PutEnd, Take, Deliver, Answer, Hear, Enter, Status, Read, Store, Expunge, Feed, Leave, Step, Allowed, put_joins, put_full, put_no_memory, end_joins, end_full, TakeStep, takes, take_empty, DeliverStep, delivers, deliver_spent, deliver_full, deliver_no_memory, answers, answer_full, hears_one, enters, enter_no_memory, MailStep, mails, mail_lapped, mail_spent, LeaveStep, leaves, leave_spent, Logs, reply_room, pending, next_uid, most_changes, last_uid}
+use Rattle.world.specs.World.{Config, World, Box, Session, Empty, Taken, Event, Put, PutEnd, Take, Deliver, Answer, Hear, Enter, Status, Read, Store, Expunge, Feed, Leave, Step, Allowed, put_joins, put_full, put_no_memory, end_joins, end_full, TakeStep, takes, take_empty, DeliverStep, delivers, deliver_spent, deliver_full, deliver_no_memory, answers, answer_full, hears_one, enters, enter_spent, enter_no_memory, MailStep, mails, mail_lapped, mail_spent, LeaveStep, leaves, leave_spent, Logs, reply_room, pending, next_uid, most_changes, most_entries, last_uid}
 
 base_stays : (ring total base : ℕ) (cs : List Change) → BaseAfter ring total base cs base
 base_stays ring total base [] = refl
@@ -73,7 +73,11 @@ outcome k w (Answer s) (r, was) = go (cases_lt (length (w.replies r.key.seat).wa
     go (inl room) = (_, answers r was room refl)
     go (inr full) = (_, answer_full r was full refl)
 outcome k w (Hear p) (s, r, others, front) = (_, hears_one s r others front refl)
-outcome k w (Enter n m) (inside, box, free) = (_, enters inside box free refl)
+outcome k w (Enter n m) (inside, box, free) = go (cases_lt (w.opened m) most_entries)
+  where
+    go : (w.opened m < most_entries) ⊎ (most_entries ≤ w.opened m) → (v : World) × Step k w (Enter n m) v
+    go (inl left) = (_, enters inside box free left refl)
+    go (inr spent) = (w, enter_spent inside box free spent refl)
 outcome k w (Status m) h = (w, refl)
 outcome k w (Read n u mark) (s, is) = let o : (v : World) × MailStep k w n s true [] (seen_logged mark (rows_of (w.box s.mailbox).log) u) v = mail_outcome k w n s true [] _ in (o.0, (s, is, o.1))
 outcome k w (Store n u op) (s, is) = let o : (v : World) × MailStep k w n s false [] (flags_logged (rows_of (w.box s.mailbox).log) u op) v = mail_outcome k w n s false [] _ in (o.0, (s, is, o.1))
@@ -84,7 +88,7 @@ outcome k w (Leave n removing) (s, is) = let o : (v : World) × LeaveStep k w n 
 pub only_allowed : (k : Config) (w : World) (e : Event) (v : World) → Step k w e v → Allowed k w e
 only_allowed k w (Put p s c) v (put_joins may room e) = may
 only_allowed k w (Put p s c) v (put_full may room e) = may
-only_allowed k w (Put p s c) v (put_no_memory may e) = may
+only_allowed k w (Put p s c) v (put_no_memory may room e) = may
 only_allowed k w (PutEnd p s) v (end_joins seat shard live room e) = (seat, shard, live)
 only_allowed k w (PutEnd p s) v (end_full seat shard live room e) = (seat, shard, live)
 only_allowed k w (Take s) v (takes x others empty front e) = empty
@@ -96,8 +100,9 @@ only_allowed k w (Deliver s) v (deliver_no_memory c was h i e) = (c, was)
 only_allowed k w (Answer s) v (answers r was room e) = (r, was)
 only_allowed k w (Answer s) v (answer_full r was room e) = (r, was)
 only_allowed k w (Hear p) v (hears_one s r others front e) = (s, r, others, front)
-only_allowed k w (Enter n m) v (enters a b c e) = (a, b, c)
-only_allowed k w (Enter n m) v (enter_no_memory a b c e) = (a, b, c)
+only_allowed k w (Enter n m) v (enters a b c d e) = (a, b, c)
+only_allowed k w (Enter n m) v (enter_spent a b c d e) = (a, b, c)
+only_allowed k w (Enter n m) v (enter_no_memory a b c d e) = (a, b, c)
 only_allowed k w (Status m) v e = tt
 only_allowed k w (Read n u mark) v (s, is, step) = (s, is)
 only_allowed k w (Store n u op) v (s, is, step) = (s, is)

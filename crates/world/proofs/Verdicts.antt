@@ -18,7 +18,7 @@ use Rattle.delivery_token.specs.declared.Verdict.{Verdict}
 use Rattle.delivery_token.specs.declared.Verdict.TheVariants.{Stored, Refused}
 use Rattle.delivery_token.specs.declared.Refusal.{Refusal}
 use Rattle.delivery_token.specs.declared.log.Noted.{Noted}
-use Rattle.world.specs.World.{Config, World, Box, Session, Hand, Empty, Taken, Done, MayPut, EntryBelow, put_joins, put_full, put_no_memory, end_joins, end_full, takes, take_empty, delivers, deliver_spent, deliver_full, deliver_no_memory, answers, answer_full, hears_one, enters, enter_no_memory, MailStep, mails, mail_lapped, mail_spent, mail_no_memory, LeaveStep, leaves, leave_spent, Event, Put, PutEnd, Take, Deliver, Answer, Hear, Enter, Status, Read, Store, Expunge, Feed, Leave, Step, Steps, IsWorld, in_hand, puts, hears, shard_of, empty_world}
+use Rattle.world.specs.World.{Config, World, Box, Session, Hand, Empty, Taken, Done, MayPut, EntryBelow, put_joins, put_full, put_no_memory, end_joins, end_full, takes, take_empty, delivers, deliver_spent, deliver_full, deliver_no_memory, answers, answer_full, hears_one, enters, enter_spent, enter_no_memory, MailStep, mails, mail_lapped, mail_spent, mail_no_memory, LeaveStep, leaves, leave_spent, Event, Put, PutEnd, Take, Deliver, Answer, Hear, Enter, Status, Read, Store, Expunge, Feed, Leave, Step, Steps, IsWorld, in_hand, puts, hears, shard_of, empty_world}
 use Rattle.world.specs.Law.{item_of, items, stored, held, due, accepted_of, pair_of, pairs}
 use Rattle.world.specs.Known.{key_in}
 use Rattle.world.proofs.Base.{Every, every_append, every_map, every_weaker, every_of_all, all_of_every, Rising, rising_pair}
@@ -368,23 +368,23 @@ verdicts_hear k w p s r others K V front = record {
 -- Every event
 
 -- only mailboxes and sessions change
-verdicts_rest : (w : World) (box : ℕ → Box) (session : ℕ → Option Session) → Verdicts w → Verdicts (record w { box = box; session = session })
-verdicts_rest w box session V = record { own = V.own; alone = V.alone }
+verdicts_rest : (w : World) (box : ℕ → Box) (session : ℕ → Option Session) (opened : ℕ → ℕ) → Verdicts w → Verdicts (record w { box = box; session = session; opened = opened })
+verdicts_rest w box session opened V = record { own = V.own; alone = V.alone }
 
 verdicts_mail : (k : Config) (w : World) (n : ℕ) (s : Session) (a : _) (shown changes : List _) (v : World) → Verdicts w → MailStep k w n s a shown changes v → Verdicts v
-verdicts_mail k w n s a shown changes v V (mails b i L e) = rw e (verdicts_rest w _ _ V)
+verdicts_mail k w n s a shown changes v V (mails b i L e) = rw e (verdicts_rest w _ _ _ V)
 verdicts_mail k w n s a shown changes v V (mail_lapped i e) = rw e V
 verdicts_mail k w n s a shown changes v V (mail_spent i j e) = rw e V
 verdicts_mail k w n s a shown changes v V (mail_no_memory h i j e) = rw e V
 
 verdicts_leave : (k : Config) (w : World) (n : ℕ) (s : Session) (changes : List _) (v : World) → Verdicts w → LeaveStep k w n s changes v → Verdicts v
-verdicts_leave k w n s changes v V (leaves b L e) = rw e (verdicts_rest w _ _ V)
+verdicts_leave k w n s changes v V (leaves b L e) = rw e (verdicts_rest w _ _ _ V)
 verdicts_leave k w n s changes v V (leave_spent i e) = rw e V
 
 verdicts_step : (k : Config) (w : World) (e : Event) (v : World) → Known k w → Verdicts w → Step k w e v → Verdicts v
 verdicts_step k w (Put p s c) v K V (put_joins may room e) = rw e (verdicts_put k w p s c K V may)
 verdicts_step k w (Put p s c) v K V (put_full may room e) = rw e (verdicts_hears k w p s c _ K V may refl)
-verdicts_step k w (Put p s c) v K V (put_no_memory may e) = rw e (verdicts_hears k w p s c _ K V may refl)
+verdicts_step k w (Put p s c) v K V (put_no_memory may room e) = rw e (verdicts_hears k w p s c _ K V may refl)
 verdicts_step k w (PutEnd p s) v K V (end_joins seat shard live room e) = rw e (verdicts_end w p s V)
 verdicts_step k w (PutEnd p s) v K V (end_full seat shard live room e) = rw e V
 verdicts_step k w (Take s) v K V (takes x others empty front e) = rw e (verdicts_take w s x others V empty front)
@@ -396,8 +396,9 @@ verdicts_step k w (Deliver s) v K V (deliver_no_memory c was h i e) = rw e (verd
 verdicts_step k w (Answer s) v K V (answers r was room e) = rw e (verdicts_answer w s r V was)
 verdicts_step k w (Answer s) v K V (answer_full r was room e) = rw e V
 verdicts_step k w (Hear p) v K V (hears_one s r others front e) = rw e (verdicts_hear k w p s r others K V front)
-verdicts_step k w (Enter n m) v K V (enters a b c e) = rw e (verdicts_rest w _ _ V)
-verdicts_step k w (Enter n m) v K V (enter_no_memory a b c e) = rw e V
+verdicts_step k w (Enter n m) v K V (enters a b c d e) = rw e (verdicts_rest w _ _ _ V)
+verdicts_step k w (Enter n m) v K V (enter_spent a b c d e) = rw e V
+verdicts_step k w (Enter n m) v K V (enter_no_memory a b c d e) = rw e V
 verdicts_step k w (Status m) v K V e = rw e V
 verdicts_step k w (Read n u mark) v K V (s, is, step) = verdicts_mail k w n s _ _ _ v V step
 verdicts_step k w (Store n u op) v K V (s, is, step) = verdicts_mail k w n s _ _ _ v V step

@@ -1,5 +1,5 @@
 -- The whole house as lists and numbers, the events that change it, and the worlds that come from the empty one.
-use Rattle.std.specs.Prelude.{◌≡◌, ℕ, suc, ◌+◌, ◌-◌, ◌%◌, ◌^◌, ◌<◌, ◌≤◌, Bool, true, false, ◌⊎◌, List, [], ◌∷◌, ◌++◌, length, take, drop, All, Option, Some, None}
+use Rattle.std.specs.Prelude.{◌≡◌, ℕ, ◌+◌, ◌-◌, ◌%◌, ◌^◌, ◌<◌, ◌≤◌, Bool, true, false, ◌⊎◌, List, [], ◌∷◌, ◌++◌, length, take, drop, All, Option, Some, None}
 use Rattle.shard_queue.specs.Lane.{Lane, empty_lane, put, took, IsLive}
 use Rattle.shard_queue.specs.declared.lane.Entry.{Entry}
 use Rattle.shard_queue.specs.declared.lane.Entry.TheVariants.{Item, End}
@@ -29,6 +29,7 @@ pub record Config : Type 0 where
   pub depth : ℕ  -- entries that a shard's lane has room for
   pub messages : ℕ  -- rows that a mailbox has room for
   pub ring : ℕ  -- changes that a mailbox's window keeps at least
+  pub ring_max : ℕ  -- and at most
   pub first_uid : ℕ
   pub uidvalidity : ℕ
 
@@ -39,6 +40,10 @@ reply_room = 128
 -- a mailbox logs no more changes than this
 abbrev pub most_changes : ℕ
 most_changes = 2 ^ 62
+
+-- a mailbox is entered no more often than this: each cursor has a serial of its own
+abbrev pub most_entries : ℕ
+most_entries = 2 ^ 64 - 1
 
 -- no message gets this UID or a greater one
 abbrev pub last_uid : ℕ
@@ -65,6 +70,7 @@ pub record World : Type 0 where
   pub heard : ℕ → List Noted  -- by seat
   pub box : ℕ → Box  -- by mailbox
   pub session : ℕ → Option Session
+  pub opened : ℕ → ℕ  -- by mailbox: how often it was entered
 
 -- nothing has happened yet
 abbrev pub empty_world : World
@@ -75,6 +81,7 @@ empty_world = record {
   heard = λ _. [];
   box = λ _. record { log = []; base = 0; accepted = [] };
   session = λ _. None;
+  opened = λ _. 0;
 }
 
 -- the shard that a mailbox's copies pass through
@@ -136,7 +143,7 @@ pub data PutStep (k : Config) (w : World) (p s : ℕ) (c : Job) (v : World) : Ty
   put_joins : MayPut k w p s c → length (w.lane s).waiting < k.depth → v ≡ puts w s (Item p c) → PutStep k w p s c v
   put_full : MayPut k w p s c → k.depth ≤ length (w.lane s).waiting → v ≡ hears w p (reply_to c (Refused Full)) → PutStep k w p s c v
   -- a growth was refused
-  put_no_memory : MayPut k w p s c → v ≡ hears w p (reply_to c (Refused NoMemory)) → PutStep k w p s c v
+  put_no_memory : MayPut k w p s c → length (w.lane s).waiting < k.depth → v ≡ hears w p (reply_to c (Refused NoMemory)) → PutStep k w p s c v
 
 -- seat p puts its end into the lane of shard s, unless that is full
 pub data EndStep (k : Config) (w : World) (p s : ℕ) (v : World) : Type 0 where
@@ -222,11 +229,17 @@ pending b s = drop s.cursor b.log
 abbrev pub shows : Session → List Change → Session
 shows s cs = record { mailbox = s.mailbox; start = s.start; cursor = s.cursor + length cs; shown = s.shown ++ cs }
 
--- session n, which has not selected, selects mailbox m; or nothing happens, where memory is refused or the mailbox has no serial left for a cursor
+-- session n, which has not selected, selects mailbox m; or nothing happens, where the mailbox has no serial left for a cursor, or else for want
+-- of memory
 pub data EnterStep (k : Config) (w : World) (n m : ℕ) (v : World) : Type 0 where
-  enters : n < k.sessions → m < k.mailboxes → w.session n ≡ None
-      → v ≡ record w { session = set_at w.session n (Some (record { mailbox = m; start = length (w.box m).log; cursor = length (w.box m).log; shown = [] })) } → EnterStep k w n m v
-  enter_no_memory : n < k.sessions → m < k.mailboxes → w.session n ≡ None → v ≡ w → EnterStep k w n m v
+  enters : n < k.sessions → m < k.mailboxes → w.session n ≡ None → w.opened m < most_entries
+      → v ≡ record w {
+        session = set_at w.session n (Some (record { mailbox = m; start = length (w.box m).log; cursor = length (w.box m).log; shown = [] }));
+        opened = set_at w.opened m (w.opened m + 1);
+      } → EnterStep k w n m v
+  enter_spent : n < k.sessions → m < k.mailboxes → w.session n ≡ None → most_entries ≤ w.opened m → v ≡ w → EnterStep k w n m v
+  -- a growth was refused
+  enter_no_memory : n < k.sessions → m < k.mailboxes → w.session n ≡ None → w.opened m < most_entries → v ≡ w → EnterStep k w n m v
 
 -- A session that has selected is shown some changes and logs some. A cursor below the base is lapped, and a log without room is spent.
 pub data MailStep (k : Config) (w : World) (n : ℕ) (s : Session) (allocates : Bool) (shown changes : List Change) (v : World) : Type 0 where

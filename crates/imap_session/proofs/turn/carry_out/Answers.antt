@@ -1,24 +1,22 @@
 use Rattle.std.proofs.Common.{codes}
-use Rattle.imap_session.specs.declared.standing.After.TheVariants.{Bye}
-use Rattle.imap_session.specs.Exchange.{Done, bye}
+use Rattle.imap_session.specs.declared.standing.After.TheVariants.{Go, Bye}
+use Rattle.imap_session.specs.Exchange.{bye}
 use Rattle.imap_session.specs.Commands.{wrong_state}
-use Rattle.imap_session.proofs.Runs.{reaches_here, reaches_write}
-use Rattle.imap_session.proofs.Ending.{moves_still, does_tell}
+use Rattle.imap_session.proofs.Runs.{reaches_here}
+use Rattle.imap_session.proofs.Ending.{moves_still, moves_told}
 use Rattle.imap_session.proofs.turn.carry_out.Goals as goal
 
 pub returns-in-Capability-clause-done : goal.returns-in-Capability-clause-done
-returns-in-Capability-clause-done g c =
-    let told = does_tell g.S.Store.step (codes "* CAPABILITY IMAP4rev2 IDLE\r\n") (codes "OK CAPABILITY completed") c.args.store.now _ _ c.tell.result c.tell.ensures.text c.tell.ensures.words c.tell.ensures.err c.tell.ensures.fault in
-    rw c.in-Capability.is (moves_still g.S.Store.step c.args.selected.now _ _ _ _ _ _ c.tell.result told)
+returns-in-Capability-clause-done g c = rw c.in-Capability.is
+    (moves_told g.S.Store.step c.args.selected.now (codes "* CAPABILITY IMAP4rev2 IDLE\r\n") (codes "OK CAPABILITY completed") Go _ _ _ c.put.ensures.text)
 
 pub returns-in-Namespace-clause-done : goal.returns-in-Namespace-clause-done
-returns-in-Namespace-clause-done g c =
-    let told = does_tell g.S.Store.step (codes "* NAMESPACE ((\"\" \"/\")) NIL NIL\r\n") (codes "OK NAMESPACE completed") c.args.store.now _ _ c.tell-in-Namespace.result c.tell-in-Namespace.ensures.text c.tell-in-Namespace.ensures.words c.tell-in-Namespace.ensures.err c.tell-in-Namespace.ensures.fault in
-    rw c.in-Namespace.is (moves_still g.S.Store.step c.args.selected.now _ _ _ _ _ _ c.tell-in-Namespace.result told)
+returns-in-Namespace-clause-done g c = rw c.in-Namespace.is
+    (moves_told g.S.Store.step c.args.selected.now (codes "* NAMESPACE ((\"\" \"/\")) NIL NIL\r\n") (codes "OK NAMESPACE completed") Go _ _ _ c.put-in-Namespace.ensures.text)
 
 pub returns-in-Logout-clause-done : goal.returns-in-Logout-clause-done
-returns-in-Logout-clause-done g c tag now was = rw (c.in-Logout.is, ← was)
-    (reaches_write g.S.Store.step tag now (bye (codes "Logging out")) (Done (codes "OK LOGOUT completed") Bye) _ _ _ c.put.ensures.text)
+returns-in-Logout-clause-done g c = rw c.in-Logout.is
+    (moves_told g.S.Store.step c.args.selected.now (bye (codes "Logging out")) (codes "OK LOGOUT completed") Bye _ _ _ c.put-in-Logout.ensures.text)
 
 pub returns-in-Login-clause-done : goal.returns-in-Login-clause-done
 returns-in-Login-clause-done g c tag now was = rw (c.in-Login.is, ← was) (reaches_here g.S.Store.step tag now wrong_state _ _)

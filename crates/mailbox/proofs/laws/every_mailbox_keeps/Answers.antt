@@ -16,7 +16,7 @@ returns c =
     let s = c.mailbox.invariant.2.1 in
     subst IsKept c.mailbox.view_is (record {
       views = λ slot o found low.
-          ap₂ replay ((s.cursors slot o found).view low) (changes_from-log m.window log o.at s.window low)
+          ap₂ replay (s.cursors slot o found).view (changes_from-log m.window log o.at s.window low)
           ∙ sym (replay-append [] (take o.at log) (drop o.at log)) ∙ ap (replay []) (take-append-drop o.at log) ∙ sym (view-all m log s);
       within = λ slot o found. omega (arith, (s.cursors slot o found).within, s.window.long);
       rising = Stands-rising m log s;
@@ -26,5 +26,7 @@ returns c =
         s.accepted ∙ ap added (sym (take-append-drop m.window.base log)) ∙ added-append (take m.window.base log) (drop m.window.base log)
             ∙ ap (λ (cs : List Change). added (take m.window.base log) ++ added cs) s.window.rest,
       );
+      held = c.capacity-room.ensures.within;
+      most = c.capacity-room.ensures.most;
       seats = c.mailbox.invariant.3;
     })

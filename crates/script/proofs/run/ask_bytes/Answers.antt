@@ -3,17 +3,17 @@ use Rattle.std.specs.Prelude.{codes}
 use Rattle.std.proofs.lemmas.Result.{on_ok_weaker}
 use Rattle.house.specs.State.{State}
 use Rattle.house.specs.Stands.{StandsFor}
-use Rattle.script.specs.Script.{refusal}
-use Rattle.script.proofs.RunLaws.{is_nobody, not_wanting}
+use Rattle.script.specs.Script.{Asks, refusal}
+use Rattle.script.proofs.RunLaws.{step_failed, is_nobody, not_wanting}
 use Rattle.script.proofs.SessionLaws.{asked_bytes, asked_nobody, unvisited}
 use Rattle.script.proofs.run.ask_bytes.Goals as goal
 
-pub returns-in-Ok : goal.returns-in-Ok
-returns-in-Ok c k s st =
+pub returns-in-Ok-clause-done : goal.returns-in-Ok-clause-done
+returns-in-Ok-clause-done c k s st =
     asked_bytes k c.args.number s c.args.session _ c.step.new.self c.args.out.now.items c.step.new.out.items (c.in-Ok.ensures.follows k s st)
 
-pub returns-in-Err-Nobody : goal.returns-in-Err-Nobody
-returns-in-Err-Nobody c =
+pub returns-in-Err-Nobody-clause-done : goal.returns-in-Err-Nobody-clause-done
+returns-in-Err-Nobody-clause-done c =
     let e = c.in-Err-Nobody.ensures in
     let same = e.refused (not_wanting c.in-Err-Nobody.field-0 c.in-Err-Nobody.field-0-is) in
     on_ok_weaker c.refuse.result
@@ -22,3 +22,8 @@ returns-in-Err-Nobody c =
     (unvisited k c.args.house.now s c.args.session st (e.nobody.0 (is_nobody c.in-Err-Nobody.field-0 c.in-Err-Nobody.field-0-is)))
     (printed ∙ ap (λ (x : List ℕ). x ++ refusal c.args.number (codes "Nobody")) same.1))
     c.refuse.ensures.ok
+
+pub returns-in-Err-clause-wanting : goal.returns-in-Err-clause-wanting
+returns-in-Err-clause-wanting c k s st =
+    step_failed k (Asks c.args.session c.args.bytes.now) _ s c.args.house.now c.step.new.self c.args.out.now.items c.step.new.out.items c.in-Err.field-0 (λ t printed plays. plays)
+    c.in-Err.ensures.no_memory c.in-Err.ensures.refused st

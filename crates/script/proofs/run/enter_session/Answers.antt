@@ -3,17 +3,17 @@ use Rattle.std.specs.Prelude.{codes}
 use Rattle.std.proofs.lemmas.Result.{on_ok_weaker}
 use Rattle.house.specs.State.{State}
 use Rattle.house.specs.Stands.{StandsFor}
-use Rattle.script.specs.Script.{refusal}
-use Rattle.script.proofs.RunLaws.{busy_not_wanting, is_busy, is_nobody, not_wanting}
+use Rattle.script.specs.Script.{Enters, refusal}
+use Rattle.script.proofs.RunLaws.{step_failed, busy_not_wanting, is_busy, is_nobody, not_wanting}
 use Rattle.script.proofs.SessionLaws.{entered, entered_nowhere, entered_taken, known, nowhere, visited}
 use Rattle.script.proofs.run.enter_session.Goals as goal
 
-pub returns-in-Ok : goal.returns-in-Ok
-returns-in-Ok c k s st =
+pub returns-in-Ok-clause-done : goal.returns-in-Ok-clause-done
+returns-in-Ok-clause-done c k s st =
     entered k c.args.number s c.args.session _ c.step.new.self c.args.out.now.items c.step.new.out.items (c.in-Ok.ensures.follows k s st)
 
-pub returns-in-Err-Nobody : goal.returns-in-Err-Nobody
-returns-in-Err-Nobody c =
+pub returns-in-Err-Nobody-clause-done : goal.returns-in-Err-Nobody-clause-done
+returns-in-Err-Nobody-clause-done c =
     let e = c.in-Err-Nobody.ensures in
     let same = e.refused (not_wanting c.in-Err-Nobody.field-0 c.in-Err-Nobody.field-0-is) in
     on_ok_weaker c.refuse.result
@@ -23,8 +23,8 @@ returns-in-Err-Nobody c =
     (printed ∙ ap (λ (x : List ℕ). x ++ refusal c.args.number (codes "Nobody")) same.1))
     c.refuse.ensures.ok
 
-pub returns-in-Err-Busy : goal.returns-in-Err-Busy
-returns-in-Err-Busy c =
+pub returns-in-Err-Busy-clause-done : goal.returns-in-Err-Busy-clause-done
+returns-in-Err-Busy-clause-done c =
     let e = c.in-Err-Busy.ensures in
     let same = e.refused (busy_not_wanting c.in-Err-Busy.field-0 c.in-Err-Busy.field-0-is) in
     let busy = e.busy.0 (is_busy c.in-Err-Busy.field-0 c.in-Err-Busy.field-0-is) in
@@ -35,3 +35,8 @@ returns-in-Err-Busy c =
     (visited k c.args.house.now s c.args.session st busy.1)
     (printed ∙ ap (λ (x : List ℕ). x ++ refusal c.args.number (codes "Busy")) same.1))
     c.refuse-in-Err-Busy.ensures.ok
+
+pub returns-in-Err-clause-wanting : goal.returns-in-Err-clause-wanting
+returns-in-Err-clause-wanting c k s st =
+    step_failed k (Enters c.args.session c.args.user.now) _ s c.args.house.now c.step.new.self c.args.out.now.items c.step.new.out.items c.in-Err.field-0 (λ t printed plays. plays)
+    c.in-Err.ensures.no_memory c.in-Err.ensures.refused st

@@ -1,6 +1,6 @@
-use Rattle.std.proofs.Common.{arith, ◌<◌, ℕ, List, subst, take, length}
+use Rattle.std.proofs.Common.{arith, ◌<◌, ℕ, List, subst, take, length, refl}
 use Rattle.std.specs.Io.KnownBytes.{Appends}
-use Rattle.script.proofs.RunLaws.{turn_cut, turn_written}
+use Rattle.script.proofs.RunLaws.{turn_cut, turn_wanting, turn_written}
 use Rattle.script.proofs.run.take_turn.Goals as goal
 
 pub returns-in-Ok-send-clause-tells : goal.returns-in-Ok-send-clause-tells
@@ -15,3 +15,8 @@ returns-in-Err-clause-tells g c k s input st many e =
     (c.in_ok-read_piece.ensures.some input e) (c.in_ok-read_piece.ensures.more c.if-not-branch.false) (c.in-Ok.ensures.played k s st many)
     (subst (λ (x : List ℕ). Appends (g.W.Sink.taken c.args.writer.now) (g.W.Sink.taken c.send.new.w) (take c.in-Err.fault.sent x)) c.deref.ensures.value c.in-Err.ensures.fault)
     (subst (λ (x : List ℕ). c.in-Err.fault.sent < length x) c.deref.ensures.value c.in-Err.ensures.sent)
+
+pub returns-in_default-clause-tells : goal.returns-in_default-clause-tells
+returns-in_default-clause-tells g c k s input st many e =
+    turn_wanting k c.args.number s input c.read_piece.new.line.items c.play_line.new.house (g.W.Sink.taken c.args.writer.now) (g.W.Sink.taken c.args.writer.now)
+    (c.in_ok-read_piece.ensures.some input e) (c.in_ok-read_piece.ensures.more c.if-not-branch.false) (c.in_default.ensures.wanting k s st many) refl

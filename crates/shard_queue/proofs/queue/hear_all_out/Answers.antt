@@ -4,13 +4,13 @@ use Rattle.crossbeam_queue.specs.Passes.{view, IsPassOf}
 use Rattle.shard_queue.specs.declared.queue.Ended.{Ended}
 use Rattle.shard_queue.specs.Lane.{of, has_end}
 use Rattle.shard_queue.specs.Shared.{list_of, sender}
-use Rattle.shard_queue.specs.Seats.{said}
+use Rattle.shard_queue.specs.Seats.{end_seen, said}
 use Rattle.shard_queue.proofs.ClosingLaws.{all_left}
 use Rattle.shard_queue.proofs.queue.hear_all_out.Goals as goal
 
 pub loop-e-preserved : goal.loop-e-preserved
 loop-e-preserved g c =
-    let Q : Ended g.row.T.Denot → Type 0 = λ e. IsPassOf c.args.queue.now e.pass × (view e.pass ≡ sender c.args.producers e.number (said e)) × (has_end (said e) ≡ true) in
+    let Q : Ended g.row.T.Denot → Type 0 = λ e. IsPassOf c.args.queue.now e.pass × (view e.pass ≡ sender c.args.producers e.number (said e) (end_seen e)) × (has_end (said e) ≡ true) in
     let P : Ended g.row.T.Denot → Type 0 = λ e. said e ≡ of e.number (list_of (view c.args.pass.now)) in
     let i = c.loop-e.invariant in
     let items = c.in-Some.ensures.items in

@@ -5,4 +5,4 @@ use Rattle.shard_queue.specs.Shared.{consumer}
 use Rattle.shard_queue.proofs.reply.announce.Given as goal
 
 abbrev pub invariant-loop : goal.invariant-loop
-invariant-loop g l = IsSeatAt (sends_on l.ends) l.pass × (view l.pass ≡ consumer l.counter 0 [] None)
+invariant-loop g l = IsSeatAt (sends_on l.ends) l.pass × (view l.pass ≡ consumer l.counter 0 [] None [])

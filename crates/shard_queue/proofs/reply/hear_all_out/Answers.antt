@@ -5,13 +5,13 @@ use Rattle.crossbeam_channel.specs.Ends.{sends_on}
 use Rattle.shard_queue.specs.declared.reply.SenderEnded.{SenderEnded}
 use Rattle.shard_queue.specs.Lane.{of, has_end}
 use Rattle.shard_queue.specs.Shared.{list_of, sender}
-use Rattle.shard_queue.specs.Reply.{said_on}
+use Rattle.shard_queue.specs.Reply.{last_seen, said_on}
 use Rattle.shard_queue.proofs.ClosingLaws.{all_left}
 use Rattle.shard_queue.proofs.reply.hear_all_out.Goals as goal
 
 pub loop-e-preserved : goal.loop-e-preserved
 loop-e-preserved g c =
-    let Q : SenderEnded g.row.T.Denot → Type 0 = λ e. IsSeatAt (sends_on c.args.ends.now) e.pass × (view e.pass ≡ sender c.args.senders e.number (said_on e)) × (has_end (said_on e) ≡ true) in
+    let Q : SenderEnded g.row.T.Denot → Type 0 = λ e. IsSeatAt (sends_on c.args.ends.now) e.pass × (view e.pass ≡ sender c.args.senders e.number (said_on e) (last_seen e)) × (has_end (said_on e) ≡ true) in
     let P : SenderEnded g.row.T.Denot → Type 0 = λ e. said_on e ≡ of e.number (list_of (view c.args.pass.now)) in
     let i = c.loop-e.invariant in
     let items = c.in-Some.ensures.items in

@@ -2,7 +2,7 @@ use Rattle.std.proofs.Common.{◌≡◌, ◌<◌, ap, sym, subst, length, List, 
 use Rattle.delivery_token.specs.declared.Verdict.{Verdict}
 use Rattle.callers.specs.CallerStands.{WentOn}
 use Rattle.std.specs.Prelude.{true, false}
-use Rattle.lmtp_machine.specs.declared.connection.What.TheVariants.{More}
+use Rattle.lmtp_machine.specs.declared.connection.What.TheVariants.{More, Submit}
 use Rattle.lmtp_machine.specs.Dialogue.{Answered, Submission}
 use Rattle.callers.specs.Line.{Line}
 use Rattle.callers.specs.Caller.{meets}
@@ -12,9 +12,16 @@ use Rattle.callers.proofs.caller.Caller.answer.Goals as goal
 pub returns-in_default-clause-err : goal.returns-in_default-clause-err
 returns-in_default-clause-err c k seat next heard b of s = went_stalls k seat next heard b c.args.self.now c.args.out.now.items c.args.out.now.items s refl
 
+pub returns-in_default-tell-clause-err : goal.returns-in_default-tell-clause-err
+returns-in_default-tell-clause-err c k seat next heard b of s =
+    subst (λ (x : Line). WentOn k false seat next heard b More x c.args.out.now.items c.tell.new.out.items) (sym c.in_default-tell.ensures.err.0)
+    (went_stalls k seat next heard b c.args.self.now c.args.out.now.items c.tell.new.out.items s c.in_default-tell.ensures.err.1)
+
 pub returns-in_default-known-clause-ok : goal.returns-in_default-known-clause-ok
 returns-in_default-known-clause-ok c k seat next heard b of s =
-    went_waits k seat next heard b c.args.self.now c.args.out.now.items s c.requires (c.in-Ok.ensures.unknown (ap (λ (o : Option (Vec Verdict Global)). Ok o) c.in_default-known.is))
+    subst (λ (x : Line). WentOn k true seat next heard b Submit x c.args.out.now.items c.tell.new.out.items) (sym c.in-Ok-tell.ensures.ok.0)
+    (went_waits k seat next heard c.args.number b c.args.self.now c.args.out.now.items c.tell.new.out.items of.numbered s c.requires
+    (c.in-Ok.ensures.unknown (ap (λ (o : Option (Vec Verdict Global)). Ok o) c.in_default-known.is)) c.in-Ok-tell.ensures.ok.1)
 
 pub returns-in_default-say-clause-err : goal.returns-in_default-say-clause-err
 returns-in_default-say-clause-err c k seat next heard b of s =

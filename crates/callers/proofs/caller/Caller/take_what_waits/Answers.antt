@@ -1,4 +1,4 @@
-use Rattle.std.proofs.Common.{◌∙◌, ◌+◌, ◌*◌, ◌≤◌, ap, sym, subst, take, drop, List, arith, length, length-drop}
+use Rattle.std.proofs.Common.{◌∙◌, refl, ◌+◌, ◌*◌, ◌≤◌, ap, sym, subst, take, drop, List, arith, length, length-drop, Some}
 use Rattle.envelope.specs.Directory.{Directory}
 use Rattle.lmtp_machine.proofs.Calls.{the_rest}
 use Rattle.lmtp_machine.specs.Machine.{StandsFor}
@@ -6,7 +6,9 @@ use Rattle.lmtp_machine.specs.Dialogue.{Submission}
 use Rattle.callers.specs.Line.{Line}
 use Rattle.callers.specs.Taking.{TakenBy}
 use Rattle.callers.specs.CallerStands.{IsAwaited, StandsForCaller}
-use Rattle.callers.proofs.Callers.{took_what_waits}
+use Rattle.callers.specs.CallerSteps.{TookWhatWaits}
+use Rattle.callers.proofs.Callers.{took_nothing, took_what_waits}
+use Rattle.lmtp_machine.specs.declared.connection.What.TheVariants.{More}
 use Rattle.callers.specs.Taking.{line_effort}
 use Rattle.callers.specs.Caller.{copies_of}
 use Rattle.callers.proofs.Efforts.{took_less}
@@ -37,3 +39,12 @@ returns-clause-less c =
     let within : i.taken + r.result.used ≤ length i.came.items = let v = c.self.invariant.0 in omega (arith, u, v, ap length (the_rest i.taken c.deref.result.now), ap length c.deref.ensures.value, length-drop i.taken i.came.items) in
     subst (λ (x : Line). 501 * length (drop (i.taken + r.result.used) i.came.items) + 5 * length (drop (length i.verdicts.items) (copies_of r.new.machine.pending)) ≤ line_effort x) c.self.view_is
     (took_less i.came.items i.taken r.result.used (length i.verdicts.items) r.result.what i.machine.pending r.new.machine.pending quiet within f.moves f.awaits f.most)
+
+pub returns-then-not-has_ended-clause-took : goal.returns-then-not-has_ended-clause-took
+returns-then-not-has_ended-clause-took c k seat next heard b e s =
+    let i = c.self.inside in
+    let h : Line = record { serial = i.serial; gone = i.is_gone; machine = i.machine; waits = drop i.taken i.came.items; unsaid = i.unsaid.items; verdicts = i.verdicts.items } in
+    let s1 = subst (λ (x : Line). StandsForCaller k seat next heard x b) (sym c.self.view_is) s in
+    let quiet = ap (λ (x : Line). x.machine.pending) c.self.view_is ∙ c.requires in
+    subst (λ (x : Line). TookWhatWaits k seat next heard b (Some More) x) c.self.view_is
+    (took_nothing k seat next heard b h s1 quiet (none_left i.taken i.came.items (omega (arith, c.if-self-len.true, c.len.ensures, i.came.ok.0))) (c.if-not-has_ended.ensures.going refl))

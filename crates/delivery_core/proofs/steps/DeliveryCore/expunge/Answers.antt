@@ -23,7 +23,7 @@ invariant_of-self-2 c =
     let here = client_here i.clients.items c.from-place.result c.args.session c.index_mut.result.now c.in-Some.client c.from-place.ensures (omega (arith, c.if-place-len.false, c.len.ensures)) c.index_mut.ensures.value (sym c.take.ensures.value ∙ c.in-Some.is) in
     let there = c.index_mut-mailbox.ensures.value in
     let some = known_at i.boxes.items i.clients.items c.args.session c.in-Some.client b c.self.invariant.3 here (there ∙ ap (λ j. slice_index_or i.boxes.items j b) c.from.ensures) in
-    let moves = expunge_moves b c.expunge-gone.new.self c.in-Some.client.seat c.expunge-gone.new.seat c.args.out.now.items c.expunge-gone.new.out.items c.expunge-gone.result some e.lapped e.err e.seat e.within e.moved in (
+    let moves = expunge_moves b c.expunge-gone.new.self c.in-Some.client.seat c.expunge-gone.new.seat c.args.out.now.items c.expunge-gone.new.out.items c.expunge-gone.result some e.lapped e.err e.seat e.within e.moved e.next in (
       c.self.invariant.0,
       c.self.invariant.1,
       c.self.invariant.2,
@@ -42,7 +42,7 @@ returns-clause-event c there k w S =
     let e = c.expunge-gone.ensures in
     let here = client_here i.clients.items c.from-place.result c.args.session c.index_mut.result.now c.in-Some.client c.from-place.ensures (omega (arith, c.if-place-len.false, c.len.ensures)) c.index_mut.ensures.value (sym c.take.ensures.value ∙ c.in-Some.is) in
     expunge_follows k w _ c.args.session c.from-place.result c.from.result c.in-Some.client c.index_mut-mailbox.result.now c.expunge-gone.new.self c.expunge-gone.new.seat c.take.new.self (in_set (option_map (λ uids. uids.now) c.args.uids)) c.args.out.now.items c.expunge-gone.new.out.items c.expunge-gone.new.self.cursors c.expunge-gone.result
-    (subst (λ (h : Held). StandsFor k h w) (sym c.self.view_is) S) here c.from-place.ensures c.from.ensures c.index_mut-mailbox.ensures.value e.stranger e.lapped e.spent e.err e.shown e.seat e.within e.moved e.logged e.window e.messages e.rest e.count
+    (subst (λ (h : Held). StandsFor k h w) (sym c.self.view_is) S) here c.from-place.ensures c.from.ensures c.index_mut-mailbox.ensures.value e.stranger e.lapped e.spent e.err e.shown e.seat e.within e.moved e.next e.logged e.window e.messages e.rest e.count
 
 pub returns-clause-refused : goal.returns-clause-refused
 returns-clause-refused c =
@@ -84,4 +84,4 @@ returns-clause-done c =
     let here = client_here i.clients.items c.from-place.result c.args.session c.index_mut.result.now c.in-Some.client c.from-place.ensures (omega (arith, c.if-place-len.false, c.len.ensures)) c.index_mut.ensures.value (sym c.take.ensures.value ∙ c.in-Some.is) in
     let h : Held = record { lanes = i.lanes.items; hands = i.hands.items; replies = i.replies.items; heard = i.heard.items; boxes = i.boxes.items; next = i.next.items; clients = i.clients.items } in
     rw (← c.self.view_is) (expunge_done h c.args.session c.from-place.result c.from.result c.in-Some.client c.index_mut-mailbox.result.now c.expunge-gone.new.self c.expunge-gone.new.seat c.take.new.self (in_set (option_map (λ uids. uids.now) c.args.uids)) c.args.out.now.items
-    c.expunge-gone.new.out.items c.expunge-gone.new.self.cursors c.expunge-gone.result c.self.invariant.3 here c.from-place.ensures c.from.ensures c.index_mut-mailbox.ensures.value e.stranger e.lapped e.spent e.err e.shown e.seat e.within e.moved e.logged e.window e.messages e.rest e.count)
+    c.expunge-gone.new.out.items c.expunge-gone.new.self.cursors c.expunge-gone.result c.self.invariant.3 here c.from-place.ensures c.from.ensures c.index_mut-mailbox.ensures.value e.stranger e.lapped e.spent e.err e.shown e.seat e.within e.moved e.next e.logged e.window e.messages e.rest e.count)

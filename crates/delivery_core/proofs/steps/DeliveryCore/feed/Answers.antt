@@ -24,7 +24,7 @@ invariant_of-self-2 c =
     let here = client_here i.clients.items c.from-place.result c.args.session c.index_mut.result.now c.in-Some.client c.from-place.ensures (omega (arith, c.if-place-len.false, c.len.ensures)) c.index_mut.ensures.value (sym c.take.ensures.value ∙ c.in-Some.is) in
     let there = c.index_mut-mailbox.ensures.value in
     let some = known_at i.boxes.items i.clients.items c.args.session c.in-Some.client b c.self.invariant.3 here (there ∙ ap (λ j. slice_index_or i.boxes.items j b) c.from.ensures) in
-    let moves = feed_moves b c.feed-fed.new.self c.in-Some.client.seat c.feed-fed.new.seat c.args.limit c.args.out.now.items c.feed-fed.new.out.items c.feed-fed.result some e.lapped e.err e.count e.seat e.moved in (
+    let moves = feed_moves b c.feed-fed.new.self c.in-Some.client.seat c.feed-fed.new.seat c.args.limit c.args.out.now.items c.feed-fed.new.out.items c.feed-fed.result some e.lapped e.err e.count e.seat e.moved e.next in (
       c.self.invariant.0,
       c.self.invariant.1,
       c.self.invariant.2,
@@ -47,7 +47,7 @@ returns-clause-event c there k w S =
     let e = c.feed-fed.ensures in
     let here = client_here i.clients.items c.from-place.result c.args.session c.index_mut.result.now c.in-Some.client c.from-place.ensures (omega (arith, c.if-place-len.false, c.len.ensures)) c.index_mut.ensures.value (sym c.take.ensures.value ∙ c.in-Some.is) in
     feed_follows k w _ c.args.session c.from-place.result c.from.result c.in-Some.client c.index_mut-mailbox.result.now c.feed-fed.new.self c.feed-fed.new.seat c.take.new.self c.args.limit c.args.out.now.items c.feed-fed.new.out.items c.feed-fed.result c.answer_of.result
-    (subst (λ (h : Held). StandsFor k h w) (sym c.self.view_is) S) here c.from-place.ensures c.from.ensures c.index_mut-mailbox.ensures.value c.answer_of.ensures e.stranger e.lapped e.err e.count e.shown e.seat e.logged e.rest e.moved
+    (subst (λ (h : Held). StandsFor k h w) (sym c.self.view_is) S) here c.from-place.ensures c.from.ensures c.index_mut-mailbox.ensures.value c.answer_of.ensures e.stranger e.lapped e.err e.count e.shown e.seat e.logged e.rest e.moved e.next
 
 pub returns-clause-refused : goal.returns-clause-refused
 returns-clause-refused c =
@@ -98,7 +98,7 @@ returns-clause-done c =
     let h : Held = record { lanes = i.lanes.items; hands = i.hands.items; replies = i.replies.items; heard = i.heard.items; boxes = i.boxes.items; next = i.next.items; clients = i.clients.items } in
     rw (← c.self.view_is) (by_answer _ c.feed-fed.result c.answer_of.result c.answer_of.ensures
     (feed_done h c.args.session c.from-place.result c.from.result c.in-Some.client c.index_mut-mailbox.result.now c.feed-fed.new.self c.feed-fed.new.seat c.take.new.self c.args.limit c.args.out.now.items c.feed-fed.new.out.items c.feed-fed.result c.self.invariant.3 here
-    c.from-place.ensures c.from.ensures c.index_mut-mailbox.ensures.value e.stranger e.lapped e.err e.count e.shown e.seat e.logged e.rest e.moved))
+    c.from-place.ensures c.from.ensures c.index_mut-mailbox.ensures.value e.stranger e.lapped e.err e.count e.shown e.seat e.logged e.rest e.moved e.next))
 
 pub returns-clause-less : goal.returns-clause-less
 returns-clause-less c =

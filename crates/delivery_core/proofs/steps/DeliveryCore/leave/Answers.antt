@@ -32,7 +32,7 @@ returns-in-Ok-clause-event c there k w S =
     let e = c.in-Ok.ensures in
     let here = client_here i.clients.items c.from-place.result c.args.session c.index_mut.result.now c.in-Some.client c.from-place.ensures (omega (arith, c.if-place-len.false, c.len.ensures)) c.index_mut.ensures.value (sym c.take.ensures.value ∙ c.in-Some.is) in
     leave_follows k w _ c.args.session c.from-place.result c.from.result c.in-Some.client c.index_mut-mailbox.result.now c.close_cursor.new.self c.take.new.self c.args.remove c.in-Ok.count
-    (subst (λ (h : Held). StandsFor k h w) (sym c.self.view_is) S) here c.from-place.ensures c.from.ensures c.index_mut-mailbox.ensures.value c.take.ensures.after e.spent e.logged e.window e.messages e.closed e.rest e.count
+    (subst (λ (h : Held). StandsFor k h w) (sym c.self.view_is) S) here c.from-place.ensures c.from.ensures c.index_mut-mailbox.ensures.value c.take.ensures.after e.spent e.logged e.window e.messages e.closed e.next e.rest e.count
 
 pub invariant_of-self-2 : goal.invariant_of-self-2
 invariant_of-self-2 c =

@@ -1,4 +1,4 @@
-use Rattle.std.proofs.Common.{max}
+use Rattle.std.proofs.Common.{max, arith}
 use Rattle.delivery_core.proofs.News.{new_stands}
 use Rattle.delivery_core.proofs.steps.DeliveryCore.new.Goals as goal
 
@@ -9,4 +9,4 @@ returns-clause-stands c k f =
     c.in_ok-new_lanes.ensures.count c.in_ok-new_lanes.ensures.each c.in_ok-empty_hands.ensures.count c.in_ok-empty_hands.ensures.each
     c.in_ok-new_lanes-2.ensures.count c.in_ok-new_lanes-2.ensures.each c.in_ok-new_logs.ensures.count c.in_ok-new_logs.ensures.each
     c.in_ok-new_boxes.ensures.count (rw (f.uidvalidity, f.first_uid, f.messages, f.ring) c.in_ok-new_boxes.ensures.each) c.in_ok-first_keys.ensures.count c.in_ok-first_keys.ensures.each
-    f.sessions c.in_ok-no_clients.ensures
+    f.sessions c.in_ok-no_clients.ensures f.ring_max (omega (arith, f.ring))

@@ -1,4 +1,4 @@
-use Rattle.std.proofs.Common.{◌≡◌, ◌+◌, ◌<◌, inl, refl, sym, subst, ap, ◌∙◌, true, false, not, Some, None, Option, Err, ℕ, length, arith, [], ◌∷◌}
+use Rattle.std.proofs.Common.{◌≡◌, ◌+◌, ◌<◌, inl, inr, refl, sym, subst, ap, ◌∙◌, true, false, not, Some, None, Option, Err, ℕ, length, arith, [], ◌∷◌}
 use Rattle.std.specs.Option.{is_some}
 use Rattle.world.specs.World as world
 use Rattle.delivery_core.specs.Stands as core
@@ -58,3 +58,9 @@ returns-in-Err-Nothing-clause-idle c e k s st t printed p =
     let h : State = record { core = i.desk.core; callers = i.callers.items; serials = i.serials.items; visitors = i.visitors.items; directory = i.directory; host = i.host.items; max_message = i.max_message } in
     let st1 = subst (λ (x : State). StandsFor k x s) (sym c.self.view_is) st in
     absurd (hear_idles k h s (seat_of c.args.connection) t printed st1 (c.in-Err-Nothing.ensures.idle (ap (λ x. Err x) c.in-Err-Nothing.field-0-is)) p)
+
+pub returns-in_default-clause-asks : goal.returns-in_default-clause-asks
+returns-in_default-clause-asks c e = rw (← c.self.view_is) (inr (c.in-Ok.noted, c.in-Ok.ensures.heard))
+
+pub returns-in-Err-NoMemory-clause-asks : goal.returns-in-Err-NoMemory-clause-asks
+returns-in-Err-NoMemory-clause-asks c e = rw (← c.self.view_is) (inl (c.in-Err-NoMemory.ensures.memory (ap (λ x. Err x) c.in-Err-NoMemory.field-0-is)))

@@ -4,7 +4,7 @@ use Rattle.delivery_core.proofs.Follow.{get_or-any}
 use Rattle.house.specs.State.{State}
 use Rattle.house.specs.Scene.{IdlePlay}
 use Rattle.house.specs.Stands.{StandsFor}
-use Rattle.house.specs.Steps.{HasNoTurn, PlaceIdled, PlaceIdledInPart}
+use Rattle.house.specs.Steps.{HasNoTurn, MayIdle, PlaceIdled, PlaceIdledInPart}
 use Rattle.visitors.specs.Place.{Place}
 use Rattle.house.proofs.Visiting.{has_place}
 use Rattle.house.proofs.IdleTurn.{idle_led, idle_led_in_part, idle_none}
@@ -55,3 +55,14 @@ returns-clause-follows c k s st =
     (λ w b stands is. subst (λ (n : ℕ). PlaceIdled k true n w b i.desk.core c.turn_at.new.place c.turn_at.new.desk.core c.args.out.now.items c.turn_at.new.out.items) (sym e1)
     (c.in-Ok.ensures.ok k w b stands is)) in
     record { after = r.0; printed = r.1; plays = subst (λ (n : ℕ). IdlePlay k true s n r.0 r.1) e1 r.2; stands = r.3; out = r.4 }
+
+pub returns-in_default-turn_at-clause-asks : goal.returns-in_default-turn_at-clause-asks
+returns-in_default-turn_at-clause-asks c e =
+    let i = c.self.inside in
+    let many = ap (λ (x : State). length x.visitors) c.self.view_is in
+    let e1 = c.from.ensures in
+    let there = has_place c.args.self.now c.args.session c.has_no_place.result c.has_no_place.ensures c.if-has_no_place.false in
+    let lt : c.from.result < length i.visitors.items = omega (arith, e1, many, there.0, there.1) in
+    let some : ◌≡◌ {A = Option Place} (slice_index_or i.visitors.items c.from.result None) (Some c.in-Some.visitor) = get_or-any i.visitors.items c.from.result None _ lt ∙ sym c.index_mut-place.ensures.value ∙ c.in-Some.is in
+    let may = subst (λ (n : ℕ). MayIdle c.in-Some.visitor n i.desk.core) (sym e1) (c.has_turn.ensures.some c.if-not-has_turn.false) in
+    rw (← c.self.view_is, ← e1) (c.in-Some.visitor, some, may)

@@ -15,7 +15,7 @@ returns-clause-stands c =
     let many : length (words_of config) ≡ c.mailboxes.result = cc (c.mailboxes.ensures.value, counted) in
     new_house config _
     (c.in_ok-new.ensures.stands (setup_of config).config
-    (record { seats = refl; shards = refl; mailboxes = many; depth = refl; messages = refl; ring = refl; first_uid = refl; uidvalidity = refl; sessions = refl }))
+    (record { seats = refl; shards = refl; mailboxes = many; depth = refl; messages = refl; ring = refl; ring_max = refl; first_uid = refl; uidvalidity = refl; sessions = refl }))
     c.in_ok-new.ensures.next c.in_ok-empty_places.ensures (c.in_ok-vec.ensures.items_if_clones_equal (λ y e. e) ∙ ap (λ (n : ℕ). replicate n 0) c.from.ensures) c.in_ok-free_places.ensures
     (c.directory.view_is ∙ directory_is config c.in_ok-directory.directory made.domains homes made.shards)
     (c.in_ok-from_slice.ensures.items ∙ c.deref.ensures.value) refl c.requires.shards.0

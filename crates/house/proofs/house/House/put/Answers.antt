@@ -1,4 +1,4 @@
-use Rattle.std.proofs.Common.{◌≡◌, ◌+◌, ◌<◌, inl, refl, sym, subst, ap, ◌∙◌, true, false, None, Err, ℕ, length, arith}
+use Rattle.std.proofs.Common.{◌≡◌, ◌+◌, ◌<◌, inl, inr, refl, sym, subst, ap, ◌∙◌, true, false, None, Err, ℕ, length, arith}
 use Rattle.std.specs.Option.{option_map}
 use Rattle.delivery_core.proofs.Follow.{get_or-any}
 use Rattle.house.specs.declared.event.HouseFault.TheVariants as house_faults
@@ -54,3 +54,26 @@ returns-in-Err-clause-idle c e k s st t printed p =
     let n = c.in-Err.ensures.nothing (ap (λ x. Err x) is) in
     let some = get_or-any i.callers.items c.from-seat.result None c.index.result.now lt ∙ sym c.index.ensures ∙ n.1 in
     absurd (put_idles k h s c.from-seat.result n.0 t printed st1 lt some n.2 (subst (λ (x : ℕ). PutPlay k true s x t printed) (sym e1) p))
+
+pub returns-in_default-clause-asks : goal.returns-in_default-clause-asks
+returns-in_default-clause-asks c e =
+    let i = c.self.inside in
+    let many = ap (λ (x : State). length x.callers) c.self.view_is in
+    let e1 = c.from-seat.ensures in
+    let number : c.args.connection ≡ c.from-seat.result + 1 = let n = c.requires.seat.number in omega (arith, n, e1) in
+    let lt : c.from-seat.result < length i.callers.items = let m = c.requires.seat.seat in omega (arith, number, m, many) in
+    let p = c.in-Ok.ensures.puts in
+    let some = get_or-any i.callers.items c.from-seat.result None c.index.result.now lt ∙ sym c.index.ensures ∙ p.1 in
+    rw (← c.self.view_is, ← e1) (p.0, some, inr (c.in-Ok.why, p.2))
+
+pub returns-in-Err-clause-asks : goal.returns-in-Err-clause-asks
+returns-in-Err-clause-asks c e =
+    let i = c.self.inside in
+    let many = ap (λ (x : State). length x.callers) c.self.view_is in
+    let e1 = c.from-seat.ensures in
+    let number : c.args.connection ≡ c.from-seat.result + 1 = let n = c.requires.seat.number in omega (arith, n, e1) in
+    let lt : c.from-seat.result < length i.callers.items = let m = c.requires.seat.seat in omega (arith, number, m, many) in
+    let is : c.in-Err.fault ≡ house_faults.NoMemory = let e2 = e in cc in
+    let n = c.in-Err.ensures.memory (ap (λ x. Err x) is) in
+    let some = get_or-any i.callers.items c.from-seat.result None c.index.result.now lt ∙ sym c.index.ensures ∙ n.1 in
+    rw (← c.self.view_is, ← e1) (n.0, some, inl n.2)

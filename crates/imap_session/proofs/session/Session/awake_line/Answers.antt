@@ -18,7 +18,7 @@ returns-then-is_idle-clause-answered g c =
     answers_idle g.S.Store.step c.args.self.now c.begin_idling.new.self c.args.line.now c.as_bytes.result.now c.in-Ok.command c.args.store.now c.args.out.now.items c.begin_idling.new.out.items c.begin_idling.result
     c.requires.awake found (sym c.is_idle.ensures ∙ c.if-is_idle.true) c.begin_idling.ensures.goes_on
     (λ h. let b = c.begin_idling.ensures.begun h in (b.0, b.1 ∙ ap (λ t. t ++ codes "+ idling\r\n") c.reserve.ensures.items))
-    (λ h. let b = c.begin_idling.ensures.starved h in (b.0, b.1 ∙ ap (λ t. t ++ tagged c.as_bytes.result.now (codes "NO Out of memory")) c.reserve.ensures.items))
+    (λ h. let b = c.begin_idling.ensures.starved h in (b.0, b.1, b.2 ∙ ap (λ t. t ++ tagged c.as_bytes.result.now (codes "NO Out of memory")) c.reserve.ensures.items))
 
 pub returns-else-is_idle-clause-answered : goal.returns-else-is_idle-clause-answered
 returns-else-is_idle-clause-answered g c =

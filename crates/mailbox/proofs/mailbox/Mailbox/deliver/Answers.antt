@@ -3,8 +3,6 @@ use Rattle.std.proofs.lemmas.List.{map-append}
 use Rattle.change_ring.specs.declared.change.Change.{Change}
 use Rattle.change_ring.specs.declared.change.Change.TheVariants.{Add}
 use Rattle.change_ring.specs.Log.{no_flags}
-use Rattle.change_ring.specs.Window.{total}
-use Rattle.change_ring.proofs.WindowLaws.{BaseAfter-rises}
 use Rattle.mailbox.specs.Mail.{Mail, next_uid}
 use Rattle.mailbox.specs.Stands.{Stands}
 use Rattle.mailbox.specs.Seen.{message_of, mail_of}
@@ -20,9 +18,8 @@ delivered : (c : goal.After-result-1) (log : List Change) → Stands (mail_of c.
 delivered c log s =
     let b = c.self.inside in
     let one = ap (map message_of) (c.push_reserved.ensures.items ∙ ap (λ xs. xs ++ record { uid = b.next; flags = no_flags; text = c.in-Ok.text } ∷ []) c.reserve.ensures.items) ∙ map-append message_of b.messages.items _ in
-    let moves = c.in-Ok-log_change.ensures.moves in
     Stands-deliver (mail_of b) (after c) log c.args.job.now.key b.next c.in-Ok.text c.self.invariant.0
-    one c.in-Ok-log_change.ensures.goes_on (BaseAfter-rises b.ring.capacity (total b.ring) b.ring.base (Add b.next ∷ []) c.log_change.new.ring.base moves.base)
+    one c.in-Ok-log_change.ensures.goes_on
     (c.push_reserved-2.ensures.items ∙ ap (λ xs. xs ++ (c.args.job.now.key, b.next) ∷ []) c.reserve-2.ensures.items) refl refl s
 
 pub invariant_of-self-2 : goal.invariant_of-self-2

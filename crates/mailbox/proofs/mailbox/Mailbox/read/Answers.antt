@@ -1,11 +1,11 @@
-use Rattle.std.proofs.Common.{rules, ap, subst, sym, length, arith}
+use Rattle.std.proofs.Common.{refl, rules, ap, subst, sym, length, arith}
 use Rattle.std.specs.Prelude.{option_map}
 use Rattle.change_ring.specs.Logged.{seen_logged}
 use Rattle.mailbox.specs.Events.{Moves}
 use Rattle.mailbox.specs.Mail.{Message, rows}
 use Rattle.mailbox.specs.Seen.{message_of}
 use Rattle.mailbox.proofs.MessageLaws.{seen_none, seen_after_none, text_after, with_none, with_uid}
-use Rattle.mailbox.proofs.StandsLaws.{Logs-nothing, Moves-nothing}
+use Rattle.mailbox.proofs.StandsLaws.{Logs-nothing}
 use Rattle.mailbox.proofs.mailbox.Mailbox.read.Goals as goal
 
 pub returns-in_default-clause-spent : goal.returns-in_default-clause-spent
@@ -22,7 +22,7 @@ returns-in_default-clause-logged c =
 pub returns-in_default-clause-window : goal.returns-in_default-clause-window
 returns-in_default-clause-window c =
     let now = c.args.self.now in
-    subst (Moves now.cursors now.window now.window) (sym (seen_none c.args.mark_seen c.args.uid now.messages c.in_default.ensures.none)) (Moves-nothing now.cursors now.window)
+    subst (Moves now.cursors now.window now.window) (sym (seen_none c.args.mark_seen c.args.uid now.messages c.in_default.ensures.none)) refl
 
 pub returns-in_default-clause-messages : goal.returns-in_default-clause-messages
 returns-in_default-clause-messages c = sym (seen_after_none c.args.mark_seen c.args.uid c.args.self.now.messages c.in_default.ensures.none)

@@ -2,8 +2,6 @@ use Rattle.std.proofs.Common.{rules, of_calls, ◌≡◌, ℕ, Bool, true, false
 use Rattle.std.proofs.lemmas.Fn.{filter_same}
 use Rattle.change_ring.specs.declared.change.Change.{Change}
 use Rattle.change_ring.specs.Logged.{removals}
-use Rattle.change_ring.specs.Window.{total}
-use Rattle.change_ring.proofs.WindowLaws.{BaseAfter-rises}
 use Rattle.cursor_set.proofs.Places.{Rises-from}
 use Rattle.mailbox.specs.declared.mailbox.Message as kept
 use Rattle.mailbox.specs.Choices.{is_taken, passes}
@@ -56,7 +54,7 @@ removed c log s =
     let ms = map message_of b.messages.items in
     let up = Rises-from (uids_of ms) (Stands-rising (mail_of b) log s) in
     Stands-changed (mail_of b) (after c) log (logged c) s (removals_fit test [] ms up)
-    (ap (map row_of) (left c) ∙ sym (rows_removed test [] ms up)) (goes_on c) (BaseAfter-rises b.ring.capacity (total b.ring) b.ring.base (logged c) c.log_removals.new.ring.base (moves c).base)
+    (ap (map row_of) (left c) ∙ sym (rows_removed test [] ms up)) (goes_on c)
     (gone_adds test ms) refl refl refl
 
 pub invariant_of-self : goal.invariant_of-self

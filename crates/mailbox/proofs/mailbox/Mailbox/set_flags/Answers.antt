@@ -8,7 +8,6 @@ use Rattle.change_ring.specs.declared.change.Flags.{Flags}
 use Rattle.change_ring.specs.declared.flag_op.FlagOp.{FlagOp}
 use Rattle.change_ring.specs.Logged.{flags_after, flags_differ, flags_logged}
 use Rattle.change_ring.specs.Window.{total}
-use Rattle.change_ring.proofs.WindowLaws.{BaseAfter-rises}
 use Rattle.cursor_set.proofs.Places.{Rises-from}
 use Rattle.mailbox.specs.declared.mailbox.Message as kept
 use Rattle.mailbox.specs.Events.{Moves, was_logged}
@@ -17,7 +16,7 @@ use Rattle.mailbox.specs.Seen.{mail_of, message_of}
 use Rattle.mailbox.specs.declared.mailbox.Mailbox.TheInside.{Inside as kept_mail}
 use Rattle.mailbox.specs.Stands.{Stands, IsSound}
 use Rattle.mailbox.proofs.MessageLaws.{IsFound, found_in, stay_logged, stay_flagged, change_logged, change_fits, change_rows, set_kept, there_flagged}
-use Rattle.mailbox.proofs.StandsLaws.{Logs-nothing, Moves-nothing, Stands-changed, Stands-rising}
+use Rattle.mailbox.proofs.StandsLaws.{Logs-nothing, Stands-changed, Stands-rising}
 use Rattle.mailbox.proofs.mailbox.Mailbox.set_flags.Goals as goal
 
 -- the message is found
@@ -47,7 +46,7 @@ returns-then-not-differ_from-clause-logged c = Logs-nothing c.args.self.now (fla
 
 pub returns-then-not-differ_from-clause-window : goal.returns-then-not-differ_from-clause-window
 returns-then-not-differ_from-clause-window c =
-    subst (Moves c.args.self.now.cursors c.args.self.now.window c.args.self.now.window) (sym (stays c).0) (Moves-nothing c.args.self.now.cursors c.args.self.now.window)
+    subst (Moves c.args.self.now.cursors c.args.self.now.window c.args.self.now.window) (sym (stays c).0) refl
 
 pub returns-then-not-differ_from-clause-messages : goal.returns-then-not-differ_from-clause-messages
 returns-then-not-differ_from-clause-messages c = sym (stays c).1
@@ -105,11 +104,10 @@ changed c log s =
     let new = c.after-flags.result in
     let one : List Change = SetFlags c.args.uid new ∷ [] in
     let ms = (mail_of b).messages in
-    let moves = c.in-Ok.ensures.moves in
     let f = known c in
     Stands-changed (mail_of b) (after c) log one s (change_fits c.args.uid c.args.op ms c.args.place y new f)
     (ap (map row_of) (set_now c) ∙ change_rows c.args.uid c.args.op ms c.args.place y new (Rises-from (uids_of ms) (Stands-rising (mail_of b) log s)) f)
-    c.in-Ok.ensures.goes_on (BaseAfter-rises b.ring.capacity (total b.ring) b.ring.base one c.log_change.new.ring.base moves.base) refl refl refl refl
+    c.in-Ok.ensures.goes_on refl refl refl refl
 
 logged : (c : goal.After-self-1) → flags_logged (rows c.args.self.now) c.args.uid c.args.op ≡ SetFlags c.args.uid c.after-flags.result ∷ []
 logged c =

@@ -1,9 +1,9 @@
-use Rattle.std.proofs.Common.{ap, subst, sym, length, arith}
+use Rattle.std.proofs.Common.{refl, ap, subst, sym, length, arith}
 use Rattle.mailbox.specs.Events.{Moves}
 use Rattle.mailbox.specs.Mail.{rows, Message}
 use Rattle.std.specs.Prelude.{option_map}
 use Rattle.mailbox.proofs.MessageLaws.{logged_none, flagged_none, with_none}
-use Rattle.mailbox.proofs.StandsLaws.{Logs-nothing, Moves-nothing}
+use Rattle.mailbox.proofs.StandsLaws.{Logs-nothing}
 use Rattle.change_ring.specs.Logged.{flags_logged}
 use Rattle.mailbox.proofs.mailbox.Mailbox.store.Goals as goal
 
@@ -21,7 +21,7 @@ returns-in_default-clause-logged c =
 pub returns-in_default-clause-window : goal.returns-in_default-clause-window
 returns-in_default-clause-window c =
     let now = c.args.self.now in
-    subst (Moves now.cursors now.window now.window) (sym (logged_none c.args.op c.args.uid now.messages c.in_default.ensures.none)) (Moves-nothing now.cursors now.window)
+    subst (Moves now.cursors now.window now.window) (sym (logged_none c.args.op c.args.uid now.messages c.in_default.ensures.none)) refl
 
 pub returns-in_default-clause-messages : goal.returns-in_default-clause-messages
 returns-in_default-clause-messages c = sym (flagged_none c.args.op c.args.uid c.args.self.now.messages c.in_default.ensures.none)

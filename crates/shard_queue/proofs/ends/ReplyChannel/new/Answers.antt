@@ -15,12 +15,12 @@ bounded_with-requires-clause-rule g c = begins
 
 pub loop-p-preserved : goal.loop-p-preserved
 loop-p-preserved g c =
-    let P : SenderSeat g.row.T.Denot → Type 0 = λ s. IsSeatAt (sends_on c.in_ok-sender.sender) s.pass × (view s.pass ≡ sender {T = g.row.T.Denot} c.args.senders s.number []) in
+    let P : SenderSeat g.row.T.Denot → Type 0 = λ s. IsSeatAt (sends_on c.in_ok-sender.sender) s.pass × (view s.pass ≡ sender {T = g.row.T.Denot} c.args.senders s.number [] []) in
     let made = c.hire.ensures.seat in (
       c.hire.ensures.pass.0,
       c.hire.ensures.pass.1,
       search rules,
-      subst (All P) (sym c.push_reserved.ensures.items) (All-append P c.loop-p.seats.items _ c.loop-p.invariant.3 (All-cons P _ [] (made.0, made.1 ∙ ap (λ i. sender c.args.senders i []) (sym made.2)) (All-nil P))),
+      subst (All P) (sym c.push_reserved.ensures.items) (All-append P c.loop-p.seats.items _ c.loop-p.invariant.3 (All-cons P _ [] (made.0, made.1 ∙ ap (λ i. sender c.args.senders i [] []) (sym made.2)) (All-nil P))),
       one_more_number sender_number c.loop-p.seats.items _ c.hire.result c.loop-p.p c.loop-p.invariant.4 made.2 c.push_reserved.ensures.items,
     )
 

@@ -8,6 +8,6 @@ use Rattle.shard_queue.proofs.ends.ReplyChannel.new.Given as goal
 
 abbrev pub invariant-loop-p : goal.invariant-loop-p
 invariant-loop-p g l =
-    IsSeatAt (sends_on l.sender) l.pass × (view l.pass ≡ consumer l.senders l.p [] None) × (vec_len l.seats ≡ l.p)
-    × All (λ s. IsSeatAt (sends_on l.sender) s.pass × (view s.pass ≡ sender l.senders s.number [])) l.seats.items
+    IsSeatAt (sends_on l.sender) l.pass × (view l.pass ≡ consumer l.senders l.p [] None []) × (vec_len l.seats ≡ l.p)
+    × All (λ s. IsSeatAt (sends_on l.sender) s.pass × (view s.pass ≡ sender l.senders s.number [] [])) l.seats.items
     × (map sender_number l.seats.items ≡ numbers 0 l.p)

@@ -8,14 +8,14 @@ use Rattle.shard_queue.proofs.ClosingLaws.{took_one, marks_item, marks_end}
 use Rattle.shard_queue.proofs.ends.ReplyChannel.recv_as.Goals as goal
 
 pub recv_as-requires-clause-rule : goal.recv_as-requires-clause-rule
-recv_as-requires-clause-rule g c = (takes _ _ _ _ _ _ c.loop.invariant.0.1, learns _ _)
+recv_as-requires-clause-rule g c = (takes _ _ _ _ _ _ _ c.loop.invariant.0.1, learns _ _)
 
 pub returns-in-Ok-Item-clause-seat : goal.returns-in-Ok-Item-clause-seat
-returns-in-Ok-Item-clause-seat g c = let r = c.loop.invariant.0 in let a = c.in-Ok-Item in let t = took_one _ _ _ _ _ _ _ r.1 a.ensures.rule in
+returns-in-Ok-Item-clause-seat g c = let r = c.loop.invariant.0 in let a = c.in-Ok-Item in let t = took_one _ _ _ _ _ _ _ _ r.1 a.ensures.rule in
     (subst (λ r. IsSeatAt r c.recv_as.new.pass) c.args.self.now.both a.ensures.channel.0, t.0, marks_item _ _ _ _ _ _ (t.1 ∙ ap (λ e. received c.loop.seat ++ e ∷ []) a.field-0-is) r.2)
 
 pub returns-in-Ok-End-clause-seat : goal.returns-in-Ok-End-clause-seat
-returns-in-Ok-End-clause-seat g c = let r = c.loop.invariant.0 in let a = c.in-Ok-End in let t = took_one _ _ _ _ _ _ _ r.1 a.ensures.rule in (
+returns-in-Ok-End-clause-seat g c = let r = c.loop.invariant.0 in let a = c.in-Ok-End in let t = took_one _ _ _ _ _ _ _ _ r.1 a.ensures.rule in (
   subst (λ r. IsSeatAt r c.recv_as.new.pass) c.args.self.now.both a.ensures.channel.0,
   t.0,
   subst (λ n. AreMarks c.args.self.now.senders (set c.loop.seat.ended n true) (list_of (view c.recv_as.new.pass))) (sym c.from.ensures)

@@ -7,10 +7,10 @@ use Rattle.shard_queue.proofs.ends.ReplyChannel.send_as.Goals as goal
 
 pub try_send_as-requires-clause-rule : goal.try_send_as-requires-clause-rule
 try_send_as-requires-clause-rule g c = let i = c.loop.invariant in
-    (puts _ _ _ _ _ _ _ i.0.1 (i.1 ∙ sym (ap producer i.3)) i.0.2, learns _ _)
+    (puts _ _ _ _ _ _ _ _ i.0.1 (i.1 ∙ sym (ap producer i.3)) i.0.2, learns _ _)
 
 pub returns-in-Ok-clause-seat : goal.returns-in-Ok-clause-seat
-returns-in-Ok-clause-seat g c = let i = c.loop.invariant in let e = c.in-Ok.ensures in let t = sent_more _ _ _ _ _ _ i.0.1 e.rule in (
+returns-in-Ok-clause-seat g c = let i = c.loop.invariant in let e = c.in-Ok.ensures in let t = sent_more _ _ _ _ _ _ _ i.0.1 e.rule in (
   (
     e.channel.0,
     t.0,

@@ -14,12 +14,12 @@ ruled-requires-clause-rule g c = begins
 
 pub loop-p-preserved : goal.loop-p-preserved
 loop-p-preserved g c =
-    let P : ProducerSeat g.row.T.Denot → Type 0 = λ s. IsPassOf c.in_ok-queue.queue s.pass × (view s.pass ≡ sender {T = g.row.T.Denot} c.args.producers s.number []) in
+    let P : ProducerSeat g.row.T.Denot → Type 0 = λ s. IsPassOf c.in_ok-queue.queue s.pass × (view s.pass ≡ sender {T = g.row.T.Denot} c.args.producers s.number [] []) in
     let made = c.hire.ensures.seat in (
       c.hire.ensures.pass.0,
       c.hire.ensures.pass.1,
       search rules,
-      subst (All P) (sym c.push_reserved.ensures.items) (All-append P c.loop-p.seats.items _ c.loop-p.invariant.3 (All-cons P _ [] (made.0, made.1 ∙ ap (λ i. sender c.args.producers i []) (sym made.2)) (All-nil P))),
+      subst (All P) (sym c.push_reserved.ensures.items) (All-append P c.loop-p.seats.items _ c.loop-p.invariant.3 (All-cons P _ [] (made.0, made.1 ∙ ap (λ i. sender c.args.producers i [] []) (sym made.2)) (All-nil P))),
       one_more_number number_of c.loop-p.seats.items _ c.hire.result c.loop-p.p c.loop-p.invariant.4 made.2 c.push_reserved.ensures.items,
     )
 

@@ -6,6 +6,6 @@ use Rattle.shard_queue.proofs.queue.ShardQueue.new.Given as goal
 
 abbrev pub invariant-loop-p : goal.invariant-loop-p
 invariant-loop-p g l =
-    IsPassOf l.queue l.pass × (view l.pass ≡ consumer l.producers l.p [] None) × (vec_len l.seats ≡ l.p)
-    × All (λ s. IsPassOf l.queue s.pass × (view s.pass ≡ sender l.producers s.number [])) l.seats.items
+    IsPassOf l.queue l.pass × (view l.pass ≡ consumer l.producers l.p [] None []) × (vec_len l.seats ≡ l.p)
+    × All (λ s. IsPassOf l.queue s.pass × (view s.pass ≡ sender l.producers s.number [] [])) l.seats.items
     × (map number_of l.seats.items ≡ numbers 0 l.p)

@@ -1,0 +1,432 @@
+-- What a session says is whole lines, whatever its store answers.
+use Rattle.std.proofs.Common.{◌≡◌, ◌⊎◌, inl, inr, ℕ, zero, suc, ◌+◌, Bool, true, false, List, [], ◌∷◌, ◌++◌, map, length, refl, sym, ap, ◌∙◌, subst, append_assoc, append-nil, Option, Some, None, Result, Ok, Err}
+use Rattle.std.specs.Prelude.{codes, decimal, flat_map, if◌then◌else◌, nat_lt}
+use Rattle.std.specs.Option.{option_map}
+use Rattle.change_ring.specs.declared.change.Change.{Change}
+use Rattle.change_ring.specs.declared.change.Change.TheVariants.{Add, Gone, Flags as SetFlags}
+use Rattle.change_ring.specs.declared.change.Flags.{Flags}
+use Rattle.change_ring.specs.Log.{shown}
+use Rattle.cursor_set.specs.Lines.{lines, line, place, flag_words, spaced}
+use Rattle.line_io.specs.Wire.{IsCut, crlf, wire_lines, wire_rest}
+use Rattle.line_io.specs.WireLaws.{cut_end, cut_more, cut_none, reading_cut}
+use Rattle.mailbox.specs.declared.clients.MailFault.{MailFault}
+use Rattle.mailbox.specs.declared.clients.MailFault.TheVariants.{Stranger, Lapped, Spent, NoMemory}
+use Rattle.mailbox.specs.declared.clients.Opening.{Opening}
+use Rattle.mailbox.specs.declared.clients.Row.{Row}
+use Rattle.mailbox.specs.declared.mailbox.Status.{Status}
+use Rattle.imap_grammar.specs.Answers.{answered, asks_for_root, item_text, is_listed, list_answer, listed, name_answer, root_answer, status_text}
+use Rattle.imap_grammar.specs.Reading.{is_done, read}
+use Rattle.imap_grammar.specs.declared.command.Command.{Command}
+use Rattle.imap_grammar.specs.declared.command.Command.TheVariants as commands
+use Rattle.imap_grammar.specs.declared.command.Fetch.{Fetch}
+use Rattle.imap_grammar.specs.declared.command.ImapFault.{ImapFault}
+use Rattle.imap_grammar.specs.declared.command.ImapFault.TheVariants as faults
+use Rattle.imap_grammar.specs.declared.command.Store.{Store}
+use Rattle.imap_grammar.specs.Sets.{named_in}
+use Rattle.imap_session.specs.declared.standing.After.{After}
+use Rattle.imap_session.specs.declared.standing.After.TheVariants.{Go, Bye}
+use Rattle.imap_session.specs.declared.standing.After.TheVariants as afters
+use Rattle.imap_session.specs.declared.standing.Selected.{Selected}
+use Rattle.imap_session.specs.Exchange as ex
+use Rattle.imap_session.specs.Exchange.{Answer, Call, Entered, Looked, Found, Counted, Altered, Expunged, Fed, Left, Refused, Starved, Exchange, Folder, Standing, Turn, played, refused, refusal_text, refusal_after, saying, having, closed, tagged, bye, is_idling}
+use Rattle.imap_session.specs.Commands.{all_flags, closing, completed, counting, entering, expunge_set, fetch_messages, fetched, fetching, flags_answer, folder_of, greeting, idle_turn, idle_turn_in, if_writable, long_line_text, messages_done, on_chosen, on_command, on_folder, on_found, on_idle_line, opened, opening_text, says, showing, store_messages, stored, storing, turn_of, turn_of_long_line, unlimited, wrong_state}
+use Rattle.imap_session.specs.Commands as commands_of
+use Rattle.imap_session.specs.Store.{IdleTurns}
+use Rattle.imap_connection.specs.Dialogue.{AnswersLine, Converses, goes_on, parts, reads, silent, too_long}
+
+-- nothing, or lines of which the last one has ended
+abbrev pub IsWhole : List ℕ → Type 0
+IsWhole bytes = (bytes ≡ []) ⊎ ((front : List ℕ) × (bytes ≡ front ++ crlf))
+
+pub whole_append : (a b : List ℕ) → IsWhole a → IsWhole b → IsWhole (a ++ b)
+whole_append a b p (inl e) = subst (λ (x : List ℕ). IsWhole (a ++ x)) (sym e) (subst IsWhole (sym (append-nil a)) p)
+whole_append a b p (inr (front, e)) = inr (a ++ front, ap (λ (x : List ℕ). a ++ x) e ∙ sym (append_assoc a front crlf))
+
+-- what ends in the last word of a line
+ends : (front words : List ℕ) → IsWhole (front ++ (words ++ crlf))
+ends front words = inr (front ++ words, sym (append_assoc front words crlf))
+
+-- these are lines
+pub cut_of : (bytes : List ℕ) → IsWhole bytes → (lines : List (List ℕ)) × IsCut bytes lines []
+cut_of bytes (inl e) = ([], subst (λ (x : List ℕ). IsCut x [] []) (sym e) cut_none)
+cut_of bytes (inr (front, e)) =
+    let more = cut_more front (wire_lines front) (wire_rest front) 13 (reading_cut front) (λ lf cr. let x : 13 ≡ 10 = lf in cc) in
+    let cut = cut_end (front ++ 13 ∷ []) (wire_lines front) (wire_rest front ++ 13 ∷ []) (wire_rest front) more refl in
+    (wire_lines front ++ wire_rest front ∷ [], subst (λ (x : List ℕ). IsCut x (wire_lines front ++ wire_rest front ∷ []) []) (append_assoc front (13 ∷ []) (10 ∷ []) ∙ sym e) cut)
+
+-- ---- what is said
+
+line_whole : (view : List ℕ) (c : Change) → IsWhole (line view c)
+line_whole view (Add uid) = ends (codes "* " ++ decimal (length view + 1)) (codes " EXISTS")
+line_whole view (Gone uid) = ends (codes "* " ++ decimal (place uid view)) (codes " EXPUNGE")
+line_whole view (SetFlags uid flags) = ends (codes "* " ++ decimal (place uid view) ++ codes " FETCH (UID " ++ decimal uid ++ codes " FLAGS (" ++ spaced (flag_words flags)) (codes "))")
+
+lines_whole : (view : List ℕ) (changes : List Change) → IsWhole (lines view changes)
+lines_whole view [] = inl refl
+lines_whole view (c ∷ cs) = whole_append (line view c) (lines (shown view c) cs) (line_whole view c) (lines_whole (shown view c) cs)
+
+tagged_whole : (tag words : List ℕ) → IsWhole (tagged tag words)
+tagged_whole tag words = inr (tag ++ codes " " ++ words, refl)
+
+bye_whole : (words : List ℕ) → IsWhole (bye words)
+bye_whole words = inr (codes "* BYE " ++ words, refl)
+
+closed_whole : (now : Standing) (how : After) → IsWhole (closed now how).bytes
+closed_whole now Go = inl refl
+closed_whole now Bye = inl refl
+closed_whole now afters.Idle = inl refl
+
+refusal_whole : (tag : List ℕ) (fault : MailFault) → IsWhole (refusal_text tag fault)
+refusal_whole tag Stranger = bye_whole (codes "Internal fault")
+refusal_whole tag Lapped = bye_whole (codes "Too many changes were missed")
+refusal_whole tag Spent = tagged_whole tag (codes "NO Mailbox is spent")
+refusal_whole tag NoMemory = tagged_whole tag (codes "NO Out of memory")
+
+refused_whole : (tag : List ℕ) (now : Standing) (fault : MailFault) → IsWhole (refused tag now fault).bytes
+refused_whole tag now fault = whole_append (refusal_text tag fault) (closed now (refusal_after fault)).bytes (refusal_whole tag fault) (closed_whole now (refusal_after fault))
+
+-- ---- an exchange
+
+-- whatever the store answers, each piece that it writes is whole lines
+abbrev pub SaysWhole : Exchange → Type 0
+SaysWhole (ex.Done words how) = Unit {0}
+SaysWhole ex.Idle = Unit {0}
+SaysWhole (ex.Write bytes x) = IsWhole bytes × SaysWhole x
+SaysWhole (ex.Put bytes x) = IsWhole bytes × SaysWhole x
+SaysWhole (ex.Enter selected next) = (opening : Opening) → SaysWhole (next opening)
+SaysWhole (ex.Look next) = (view : List ℕ) → SaysWhole (next view)
+SaysWhole (ex.Read uid mark next) = (row : Option Row) → SaysWhole (next row)
+SaysWhole (ex.Count mailbox next) = (status : Status) → SaysWhole (next status)
+SaysWhole (ex.Alter uid op next) = (flags : Option Flags) → SaysWhole (next flags)
+SaysWhole (ex.Expunge uids x) = SaysWhole x
+SaysWhole (ex.Feed limit x) = SaysWhole x
+SaysWhole (ex.Leave remove x) = SaysWhole x
+
+-- of a turn, if there is one
+abbrev pub TurnWhole : Option Turn → Type 0
+TurnWhole None = Unit {0}
+TurnWhole (Some turn) = IsWhole turn.bytes
+
+then_having : (call : Call) (answer : Answer) (o : Option Turn) → TurnWhole o → TurnWhole (option_map (having call answer) o)
+then_having call answer None p = tt
+then_having call answer (Some turn) p = p
+
+then_saying : (bytes : List ℕ) (o : Option Turn) → IsWhole bytes → TurnWhole o → TurnWhole (option_map (saying bytes) o)
+then_saying bytes None w p = tt
+then_saying bytes (Some turn) w p = whole_append bytes turn.bytes w p
+
+then_showing : (call : Call) (answer : Answer) (view : List ℕ) (changes : List Change) (o : Option Turn) → TurnWhole o → TurnWhole (option_map (λ turn. having call answer (saying (lines view changes) turn)) o)
+then_showing call answer view changes None p = tt
+then_showing call answer view changes (Some turn) p = whole_append (lines view changes) turn.bytes (lines_whole view changes) p
+
+either : (b : Bool) (turn : Turn) → IsWhole turn.bytes → TurnWhole (if b then Some turn else None)
+either true turn p = p
+either false turn p = tt
+
+played_whole : (tag : List ℕ) (now : Standing) (x : Exchange) (answers : List Answer) → SaysWhole x → TurnWhole (played tag now x answers)
+played_whole tag now (ex.Done words how) [] p = whole_append (tagged tag words) (closed now how).bytes (tagged_whole tag words) (closed_whole now how)
+played_whole tag now (ex.Done words how) (answer ∷ more) p = tt
+played_whole tag now ex.Idle [] p = inr (codes "+ idling", refl)
+played_whole tag now ex.Idle ((Entered a) ∷ more) p = tt
+played_whole tag now ex.Idle ((Looked a) ∷ more) p = tt
+played_whole tag now ex.Idle ((Found a) ∷ more) p = tt
+played_whole tag now ex.Idle ((Counted a) ∷ more) p = tt
+played_whole tag now ex.Idle ((Altered a) ∷ more) p = tt
+played_whole tag now ex.Idle ((Expunged a b c) ∷ more) p = tt
+played_whole tag now ex.Idle ((Fed a b) ∷ more) p = tt
+played_whole tag now ex.Idle ((Left a) ∷ more) p = tt
+played_whole tag now ex.Idle ((Refused a) ∷ more) p = tt
+played_whole tag now ex.Idle (Starved zero ∷ []) p = either (nat_lt ex.most_in_place (length tag)) (refused tag now NoMemory) (refused_whole tag now NoMemory)
+played_whole tag now ex.Idle (Starved zero ∷ d ∷ more) p = tt
+played_whole tag now ex.Idle ((Starved (suc a)) ∷ more) p = tt
+played_whole tag now (ex.Write bytes x) [] p = then_saying bytes (played tag now x []) p.0 (played_whole tag now x [] p.1)
+played_whole tag now (ex.Write bytes x) ((Entered a) ∷ more) p = then_saying bytes (played tag now x ((Entered a) ∷ more)) p.0 (played_whole tag now x ((Entered a) ∷ more) p.1)
+played_whole tag now (ex.Write bytes x) ((Looked a) ∷ more) p = then_saying bytes (played tag now x ((Looked a) ∷ more)) p.0 (played_whole tag now x ((Looked a) ∷ more) p.1)
+played_whole tag now (ex.Write bytes x) ((Found a) ∷ more) p = then_saying bytes (played tag now x ((Found a) ∷ more)) p.0 (played_whole tag now x ((Found a) ∷ more) p.1)
+played_whole tag now (ex.Write bytes x) ((Counted a) ∷ more) p = then_saying bytes (played tag now x ((Counted a) ∷ more)) p.0 (played_whole tag now x ((Counted a) ∷ more) p.1)
+played_whole tag now (ex.Write bytes x) ((Altered a) ∷ more) p = then_saying bytes (played tag now x ((Altered a) ∷ more)) p.0 (played_whole tag now x ((Altered a) ∷ more) p.1)
+played_whole tag now (ex.Write bytes x) ((Expunged a b c) ∷ more) p = then_saying bytes (played tag now x ((Expunged a b c) ∷ more)) p.0 (played_whole tag now x ((Expunged a b c) ∷ more) p.1)
+played_whole tag now (ex.Write bytes x) ((Fed a b) ∷ more) p = then_saying bytes (played tag now x ((Fed a b) ∷ more)) p.0 (played_whole tag now x ((Fed a b) ∷ more) p.1)
+played_whole tag now (ex.Write bytes x) ((Left a) ∷ more) p = then_saying bytes (played tag now x ((Left a) ∷ more)) p.0 (played_whole tag now x ((Left a) ∷ more) p.1)
+played_whole tag now (ex.Write bytes x) ((Refused a) ∷ more) p = then_saying bytes (played tag now x ((Refused a) ∷ more)) p.0 (played_whole tag now x ((Refused a) ∷ more) p.1)
+played_whole tag now (ex.Write bytes x) (Starved zero ∷ []) p = refused_whole tag now NoMemory
+played_whole tag now (ex.Write bytes x) (Starved zero ∷ d ∷ more) p = then_saying bytes (played tag now x (Starved zero ∷ d ∷ more)) p.0 (played_whole tag now x (Starved zero ∷ d ∷ more) p.1)
+played_whole tag now (ex.Write bytes x) (Starved (suc a) ∷ []) p = then_saying bytes (played tag now x (Starved a ∷ [])) p.0 (played_whole tag now x (Starved a ∷ []) p.1)
+played_whole tag now (ex.Write bytes x) (Starved (suc a) ∷ d ∷ more) p = then_saying bytes (played tag now x (Starved (suc a) ∷ d ∷ more)) p.0 (played_whole tag now x (Starved (suc a) ∷ d ∷ more) p.1)
+played_whole tag now (ex.Put bytes x) answers p = then_saying bytes (played tag now x answers) p.0 (played_whole tag now x answers p.1)
+played_whole tag now (ex.Enter selected next) [] p = tt
+played_whole tag now (ex.Enter selected next) ((Entered a) ∷ more) p = then_having (ex.Enter selected.mailbox) (Entered a) (played tag (record now { selected = Some selected }) (next a) more) (played_whole tag (record now { selected = Some selected }) (next a) more (p a))
+played_whole tag now (ex.Enter selected next) ((Looked a) ∷ more) p = tt
+played_whole tag now (ex.Enter selected next) ((Found a) ∷ more) p = tt
+played_whole tag now (ex.Enter selected next) ((Counted a) ∷ more) p = tt
+played_whole tag now (ex.Enter selected next) ((Altered a) ∷ more) p = tt
+played_whole tag now (ex.Enter selected next) ((Expunged a b c) ∷ more) p = tt
+played_whole tag now (ex.Enter selected next) ((Fed a b) ∷ more) p = tt
+played_whole tag now (ex.Enter selected next) ((Left a) ∷ more) p = tt
+played_whole tag now (ex.Enter selected next) (Refused a ∷ []) p = refused_whole tag now a
+played_whole tag now (ex.Enter selected next) (Refused a ∷ d ∷ more) p = tt
+played_whole tag now (ex.Enter selected next) ((Starved zero) ∷ more) p = tt
+played_whole tag now (ex.Enter selected next) ((Starved (suc a)) ∷ more) p = tt
+played_whole tag now (ex.Look next) [] p = tt
+played_whole tag now (ex.Look next) ((Entered a) ∷ more) p = tt
+played_whole tag now (ex.Look next) ((Looked a) ∷ more) p = then_having ex.Look (Looked a) (played tag now (next a) more) (played_whole tag now (next a) more (p a))
+played_whole tag now (ex.Look next) ((Found a) ∷ more) p = tt
+played_whole tag now (ex.Look next) ((Counted a) ∷ more) p = tt
+played_whole tag now (ex.Look next) ((Altered a) ∷ more) p = tt
+played_whole tag now (ex.Look next) ((Expunged a b c) ∷ more) p = tt
+played_whole tag now (ex.Look next) ((Fed a b) ∷ more) p = tt
+played_whole tag now (ex.Look next) ((Left a) ∷ more) p = tt
+played_whole tag now (ex.Look next) (Refused a ∷ []) p = refused_whole tag now a
+played_whole tag now (ex.Look next) (Refused a ∷ d ∷ more) p = tt
+played_whole tag now (ex.Look next) (Starved zero ∷ []) p = refused_whole tag now NoMemory
+played_whole tag now (ex.Look next) (Starved zero ∷ d ∷ more) p = tt
+played_whole tag now (ex.Look next) ((Starved (suc a)) ∷ more) p = tt
+played_whole tag now (ex.Read uid mark next) [] p = tt
+played_whole tag now (ex.Read uid mark next) ((Entered a) ∷ more) p = tt
+played_whole tag now (ex.Read uid mark next) ((Looked a) ∷ more) p = tt
+played_whole tag now (ex.Read uid mark next) ((Found a) ∷ more) p = then_having (ex.Read uid mark) (Found a) (played tag now (next a) more) (played_whole tag now (next a) more (p a))
+played_whole tag now (ex.Read uid mark next) ((Counted a) ∷ more) p = tt
+played_whole tag now (ex.Read uid mark next) ((Altered a) ∷ more) p = tt
+played_whole tag now (ex.Read uid mark next) ((Expunged a b c) ∷ more) p = tt
+played_whole tag now (ex.Read uid mark next) ((Fed a b) ∷ more) p = tt
+played_whole tag now (ex.Read uid mark next) ((Left a) ∷ more) p = tt
+played_whole tag now (ex.Read uid mark next) (Refused a ∷ []) p = refused_whole tag now a
+played_whole tag now (ex.Read uid mark next) (Refused a ∷ d ∷ more) p = tt
+played_whole tag now (ex.Read uid mark next) ((Starved zero) ∷ more) p = tt
+played_whole tag now (ex.Read uid mark next) ((Starved (suc a)) ∷ more) p = tt
+played_whole tag now (ex.Count mailbox next) [] p = tt
+played_whole tag now (ex.Count mailbox next) ((Entered a) ∷ more) p = tt
+played_whole tag now (ex.Count mailbox next) ((Looked a) ∷ more) p = tt
+played_whole tag now (ex.Count mailbox next) ((Found a) ∷ more) p = tt
+played_whole tag now (ex.Count mailbox next) ((Counted a) ∷ more) p = then_having (ex.Count mailbox) (Counted a) (played tag now (next a) more) (played_whole tag now (next a) more (p a))
+played_whole tag now (ex.Count mailbox next) ((Altered a) ∷ more) p = tt
+played_whole tag now (ex.Count mailbox next) ((Expunged a b c) ∷ more) p = tt
+played_whole tag now (ex.Count mailbox next) ((Fed a b) ∷ more) p = tt
+played_whole tag now (ex.Count mailbox next) ((Left a) ∷ more) p = tt
+played_whole tag now (ex.Count mailbox next) (Refused a ∷ []) p = refused_whole tag now a
+played_whole tag now (ex.Count mailbox next) (Refused a ∷ d ∷ more) p = tt
+played_whole tag now (ex.Count mailbox next) ((Starved zero) ∷ more) p = tt
+played_whole tag now (ex.Count mailbox next) ((Starved (suc a)) ∷ more) p = tt
+played_whole tag now (ex.Alter uid op next) [] p = tt
+played_whole tag now (ex.Alter uid op next) ((Entered a) ∷ more) p = tt
+played_whole tag now (ex.Alter uid op next) ((Looked a) ∷ more) p = tt
+played_whole tag now (ex.Alter uid op next) ((Found a) ∷ more) p = tt
+played_whole tag now (ex.Alter uid op next) ((Counted a) ∷ more) p = tt
+played_whole tag now (ex.Alter uid op next) ((Altered a) ∷ more) p = then_having (ex.Alter uid op) (Altered a) (played tag now (next a) more) (played_whole tag now (next a) more (p a))
+played_whole tag now (ex.Alter uid op next) ((Expunged a b c) ∷ more) p = tt
+played_whole tag now (ex.Alter uid op next) ((Fed a b) ∷ more) p = tt
+played_whole tag now (ex.Alter uid op next) ((Left a) ∷ more) p = tt
+played_whole tag now (ex.Alter uid op next) (Refused a ∷ []) p = refused_whole tag now a
+played_whole tag now (ex.Alter uid op next) (Refused a ∷ d ∷ more) p = tt
+played_whole tag now (ex.Alter uid op next) ((Starved zero) ∷ more) p = tt
+played_whole tag now (ex.Alter uid op next) ((Starved (suc a)) ∷ more) p = tt
+played_whole tag now (ex.Expunge uids x) [] p = tt
+played_whole tag now (ex.Expunge uids x) ((Entered a) ∷ more) p = tt
+played_whole tag now (ex.Expunge uids x) ((Looked a) ∷ more) p = tt
+played_whole tag now (ex.Expunge uids x) ((Found a) ∷ more) p = tt
+played_whole tag now (ex.Expunge uids x) ((Counted a) ∷ more) p = tt
+played_whole tag now (ex.Expunge uids x) ((Altered a) ∷ more) p = tt
+played_whole tag now (ex.Expunge uids x) ((Expunged a b c) ∷ more) p = then_showing (ex.Expunge uids) (Expunged a b c) a b (played tag now x more) (played_whole tag now x more p)
+played_whole tag now (ex.Expunge uids x) ((Fed a b) ∷ more) p = tt
+played_whole tag now (ex.Expunge uids x) ((Left a) ∷ more) p = tt
+played_whole tag now (ex.Expunge uids x) (Refused a ∷ []) p = refused_whole tag now a
+played_whole tag now (ex.Expunge uids x) (Refused a ∷ d ∷ more) p = tt
+played_whole tag now (ex.Expunge uids x) ((Starved zero) ∷ more) p = tt
+played_whole tag now (ex.Expunge uids x) ((Starved (suc a)) ∷ more) p = tt
+played_whole tag now (ex.Feed limit x) [] p = tt
+played_whole tag now (ex.Feed limit x) ((Entered a) ∷ more) p = tt
+played_whole tag now (ex.Feed limit x) ((Looked a) ∷ more) p = tt
+played_whole tag now (ex.Feed limit x) ((Found a) ∷ more) p = tt
+played_whole tag now (ex.Feed limit x) ((Counted a) ∷ more) p = tt
+played_whole tag now (ex.Feed limit x) ((Altered a) ∷ more) p = tt
+played_whole tag now (ex.Feed limit x) ((Expunged a b c) ∷ more) p = tt
+played_whole tag now (ex.Feed limit x) ((Fed a b) ∷ more) p = then_showing (ex.Feed limit) (Fed a b) a b (played tag now x more) (played_whole tag now x more p)
+played_whole tag now (ex.Feed limit x) ((Left a) ∷ more) p = tt
+played_whole tag now (ex.Feed limit x) (Refused a ∷ []) p = refused_whole tag now a
+played_whole tag now (ex.Feed limit x) (Refused a ∷ d ∷ more) p = tt
+played_whole tag now (ex.Feed limit x) ((Starved zero) ∷ more) p = tt
+played_whole tag now (ex.Feed limit x) ((Starved (suc a)) ∷ more) p = tt
+played_whole tag now (ex.Leave remove x) [] p = tt
+played_whole tag now (ex.Leave remove x) ((Entered a) ∷ more) p = tt
+played_whole tag now (ex.Leave remove x) ((Looked a) ∷ more) p = tt
+played_whole tag now (ex.Leave remove x) ((Found a) ∷ more) p = tt
+played_whole tag now (ex.Leave remove x) ((Counted a) ∷ more) p = tt
+played_whole tag now (ex.Leave remove x) ((Altered a) ∷ more) p = tt
+played_whole tag now (ex.Leave remove x) ((Expunged a b c) ∷ more) p = tt
+played_whole tag now (ex.Leave remove x) ((Fed a b) ∷ more) p = tt
+played_whole tag now (ex.Leave remove x) ((Left a) ∷ more) p = then_having (ex.Leave remove) (Left a) (played tag (record now { selected = None }) x more) (played_whole tag (record now { selected = None }) x more p)
+played_whole tag now (ex.Leave remove x) (Refused a ∷ []) p = refused_whole tag now a
+played_whole tag now (ex.Leave remove x) (Refused a ∷ d ∷ more) p = tt
+played_whole tag now (ex.Leave remove x) ((Starved zero) ∷ more) p = tt
+played_whole tag now (ex.Leave remove x) ((Starved (suc a)) ∷ more) p = tt
+
+-- ---- the commands
+
+in_either : (b : Bool) (x y : Exchange) → SaysWhole x → SaysWhole y → SaysWhole (if b then x else y)
+in_either true x y p q = p
+in_either false x y p q = q
+
+in_showing : (selected : Option Selected) (x : Exchange) → SaysWhole x → SaysWhole (showing selected x)
+in_showing None x p = p
+in_showing (Some selected) x p = p
+
+in_found : {A : Type 0} (next : A → Exchange) (gone : Exchange) → ((a : A) → SaysWhole (next a)) → SaysWhole gone → (found : Option A) → SaysWhole (on_found next gone found)
+in_found next gone p q None = q
+in_found next gone p q (Some a) = p a
+
+in_closing : (selected : Option Selected) (x : Exchange) → SaysWhole x → SaysWhole (closing selected x)
+in_closing None x p = p
+in_closing (Some selected) x p = (inr (codes "* OK [CLOSED] Previous mailbox is closed", refl), p)
+
+in_chosen : (chosen : Option (List ℕ)) (next : List ℕ → Exchange) → ((uids : List ℕ) → SaysWhole (next uids)) → SaysWhole (on_chosen chosen next)
+in_chosen None next p = tt
+in_chosen (Some uids) next p = p uids
+
+in_done : (command : Command) (by_uid gone : Bool) → SaysWhole (messages_done command by_uid gone)
+in_done command true gone = tt
+in_done command false true = tt
+in_done command false false = tt
+
+fetched_whole : (fetch : Fetch) (view : List ℕ) (uid : ℕ) (row : Row) → IsWhole (fetched fetch view uid row)
+fetched_whole fetch view uid row = ends (codes "* " ++ decimal (place uid view) ++ codes " FETCH (" ++ spaced (map (item_text row) (answered fetch.by_uid row.newly_seen fetch.items))) (codes ")")
+
+in_fetching : (fetch : Fetch) (mark : Bool) (view : List ℕ) (done : Bool → Exchange) → ((gone : Bool) → SaysWhole (done gone)) → (uids : List ℕ) (gone : Bool) → SaysWhole (fetching fetch mark view done uids gone)
+in_fetching fetch mark view done p [] gone = p gone
+in_fetching fetch mark view done p (uid ∷ uids) gone =
+    elim [ None ↦ in_fetching fetch mark view done p uids true | Some row ↦ (fetched_whole fetch view uid row, in_fetching fetch mark view done p uids gone) ]
+
+flags_whole : (by_uid : Bool) (k uid : ℕ) (flags : Flags) → IsWhole (flags_answer by_uid k uid flags)
+flags_whole by_uid k uid flags =
+    ends (codes "* " ++ decimal k ++ codes " FETCH (" ++ (if by_uid then codes "UID " ++ decimal uid ++ codes " " else []) ++ codes "FLAGS (" ++ spaced (flag_words flags)) (codes "))")
+
+stored_whole : (silent : Bool) (text : List ℕ) → IsWhole text → IsWhole (if silent then [] else text)
+stored_whole true text p = inl refl
+stored_whole false text p = p
+
+in_storing : (store : Store) (view : List ℕ) (done : Bool → Exchange) → ((gone : Bool) → SaysWhole (done gone)) → (uids : List ℕ) (gone : Bool) → SaysWhole (storing store view done uids gone)
+in_storing store view done p [] gone = p gone
+in_storing store view done p (uid ∷ uids) gone =
+    elim [ None ↦ in_storing store view done p uids true | Some flags ↦ (stored_whole store.silent _ (flags_whole store.by_uid (place uid view) uid flags), in_storing store view done p uids gone) ]
+
+opening_whole : (read_only : Bool) (name : List ℕ) (opening : Opening) → IsWhole (opening_text read_only name opening)
+opening_whole read_only name opening = inr (
+  codes "* FLAGS (" ++ all_flags ++ codes ")\r\n* " ++ decimal opening.count ++ codes " EXISTS\r\n" ++ codes "* OK [UIDVALIDITY " ++ decimal opening.uidvalidity ++ codes "] UIDs valid\r\n"
+      ++ codes "* OK [UIDNEXT " ++ decimal opening.uidnext ++ codes "] Predicted next UID\r\n" ++ codes "* OK [PERMANENTFLAGS (" ++ (if read_only then [] else all_flags) ++ codes ")] Flags kept\r\n"
+      ++ codes "* LIST () \"/\" " ++ name,
+  refl,
+)
+
+in_entering : (read_only : Bool) (folder : Folder) → SaysWhole (entering read_only folder)
+in_entering read_only folder opening = (opening_whole read_only folder.name opening, tt)
+
+listed_whole : (b : Bool) (name : List ℕ) → IsWhole (if b then name_answer name else [])
+listed_whole true name = inr (codes "* LIST () \"/\" " ++ name, refl)
+listed_whole false name = inl refl
+
+each_listed : (pattern : List ℕ) (names : List (List ℕ)) → IsWhole (flat_map (listed pattern) names)
+each_listed pattern [] = inl refl
+each_listed pattern (name ∷ names) = whole_append (listed pattern name) (flat_map (listed pattern) names) (listed_whole (is_listed pattern name) name) (each_listed pattern names)
+
+if_whole : (b : Bool) (x y : List ℕ) → IsWhole x → IsWhole y → IsWhole (if b then x else y)
+if_whole true x y p q = p
+if_whole false x y p q = q
+
+list_whole : (reference pattern : List ℕ) (names : List (List ℕ)) → IsWhole (list_answer reference pattern names)
+list_whole reference pattern names = if_whole (asks_for_root reference pattern) root_answer _ (inr (codes "* LIST (\\Noselect) \"/\" \"\"", refl)) (each_listed (reference ++ pattern) names)
+
+in_folder : (next : Folder → Exchange) → ((folder : Folder) → SaysWhole (next folder)) → (found : Option Folder) → SaysWhole (on_found next (says (codes "NO [NONEXISTENT] No such mailbox")) found)
+in_folder next p found = in_found next _ p tt found
+
+command_whole : (now : Standing) (command : Command) → SaysWhole (on_command now command)
+command_whole now commands.Capability = (inr (codes "* CAPABILITY IMAP4rev2 IDLE", refl), tt)
+command_whole now commands.Noop = in_showing now.selected _ tt
+command_whole now commands.Logout = (bye_whole (codes "Logging out"), tt)
+command_whole now commands.Namespace = (inr (codes "* NAMESPACE ((\"\" \"/\")) NIL NIL", refl), tt)
+command_whole now commands.Idle = tt
+command_whole now commands.Login = tt
+command_whole now commands.Authenticate = tt
+command_whole now commands.StartTls = tt
+command_whole now (commands.Select name) = (inl refl, in_closing now.selected _ (in_folder (entering false) (in_entering false) (folder_of name now.folders)))
+command_whole now (commands.Examine name) = (inl refl, in_closing now.selected _ (in_folder (entering true) (in_entering true) (folder_of name now.folders)))
+command_whole now (commands.List reference pattern) = (list_whole reference pattern (map (λ (folder : Folder). folder.name) now.folders), in_showing now.selected _ tt)
+command_whole now (commands.Status name items) = (
+  inl refl,
+  in_folder (counting now name items)
+      (λ folder status. (ends (codes "* STATUS " ++ folder.name ++ codes " (" ++ spaced (map (status_text status) items)) (codes ")"), in_showing now.selected _ tt)) (folder_of name now.folders),
+)
+command_whole now commands.Close = in_found _ wrong_state (λ s. tt) tt now.selected
+command_whole now commands.Unselect = in_found _ wrong_state (λ s. tt) tt now.selected
+command_whole now commands.Expunge = in_found _ wrong_state (λ (s : Selected). in_either s.read_only _ _ tt tt) tt now.selected
+command_whole now (commands.UidExpunge set) = in_found _ wrong_state (λ (s : Selected). in_either s.read_only _ (expunge_set set) tt (λ view. in_chosen (named_in true set view) (λ uids. ex.Expunge (Some uids) (ex.Feed unlimited (completed (commands.UidExpunge set)))) (λ uids. tt))) tt now.selected
+command_whole now (commands.Fetch fetch) =
+    in_found (fetch_messages fetch) wrong_state
+    (λ (s : Selected) view. in_chosen (named_in fetch.by_uid fetch.set view) _ (λ uids. in_fetching fetch _ view (messages_done (commands.Fetch fetch) fetch.by_uid) (in_done (commands.Fetch fetch) fetch.by_uid) uids false)) tt now.selected
+command_whole now (commands.Store store) =
+    in_found _ wrong_state
+    (λ (s : Selected). in_either s.read_only _ (store_messages store) tt
+    (λ view. in_chosen (named_in store.by_uid store.set view) _ (λ uids. in_storing store view (messages_done (commands.Store store) store.by_uid) (in_done (commands.Store store) store.by_uid) uids false))) tt now.selected
+
+-- ---- lines
+
+fault_whole : (fault : ImapFault) (now : Standing) (answers : List Answer) → TurnWhole (commands_of.on_read now (Err fault) answers)
+fault_whole faults.NoTag now [] = whole_append _ [] (inr (codes "* BAD Missing tag", refl)) (inl refl)
+fault_whole (faults.Unknown tag) now [] = whole_append _ [] (tagged_whole tag (codes "BAD Unknown command")) (inl refl)
+fault_whole (faults.LeftOut tag) now [] = whole_append _ [] (tagged_whole tag (codes "NO [CANNOT] Not offered here")) (inl refl)
+fault_whole (faults.Arguments tag) now [] = whole_append _ [] (tagged_whole tag (codes "BAD Invalid arguments")) (inl refl)
+fault_whole fault now (answer ∷ more) = tt
+
+read_whole : (now : Standing) (line : Result (List ℕ × Command) ImapFault) (answers : List Answer) → TurnWhole (commands_of.on_read now line answers)
+read_whole now (Ok line) answers = played_whole line.0 now (on_command now line.1) answers (command_whole now line.1)
+read_whole now (Err fault) answers = fault_whole fault now answers
+
+while_whole : (idling : Option (List ℕ)) (now : Standing) (line : List ℕ) (answers : List Answer) → TurnWhole (commands_of.turn_while idling now line answers)
+while_whole None now line answers = read_whole now (read line) answers
+while_whole (Some tag) now line answers =
+    played_whole tag (record now { idling = None }) (on_idle_line now.selected line) answers (in_either (is_done line) _ _ (in_showing now.selected _ tt) tt)
+
+some_whole : (o : Option Turn) (turn : Turn) → TurnWhole o → o ≡ Some turn → IsWhole turn.bytes
+some_whole o turn p e = subst TurnWhole e p
+
+long_whole : (idling : Option (List ℕ)) → IsWhole (long_line_text idling)
+long_whole None = inr (codes "* BAD Line too long", refl)
+long_whole (Some tag) = tagged_whole tag (codes "BAD Expected DONE")
+
+line_answered : {S : Type 0} (step : S → Call → Answer → S → Type 0) (now : Standing) (l : List ℕ) (old new : S) (said : List ℕ) (how : After) (next : Standing) → AnswersLine step now l old new [] said how next → IsWhole said
+line_answered step now l old new said how next (reads few a) = subst IsWhole (sym a.wrote) (some_whole _ _ (while_whole now.idling now l a.answers) a.played)
+line_answered step now l old new said how next (too_long many s w h n) = subst IsWhole (sym w) (long_whole now.idling)
+
+pub converses_whole : {S : Type 0} (step : S → Call → Answer → S → Type 0) {now next : Standing} {lines : List (List ℕ)} {old new : S} {said : List ℕ} {how : After} → Converses step now lines old new said how next → IsWhole said
+converses_whole step (silent now old) = inl refl
+converses_whole step (parts now next line old new said a) = line_answered step now line old new said Bye next a
+converses_whole step (goes_on now between next line others old mid new one two how a more) = whole_append one two (line_answered step now line old mid one _ between a) (converses_whole step more)
+
+-- ---- turns while it idles
+
+idle_whole : (selected : Option Selected) (idling : Bool) (now : Standing) (answers : List Answer) → TurnWhole (idle_turn_in selected idling now answers)
+idle_whole None idling now [] = inl refl
+idle_whole None idling now (answer ∷ more) = tt
+idle_whole (Some s) false now [] = inl refl
+idle_whole (Some s) false now (answer ∷ more) = tt
+idle_whole (Some s) true now [] = tt
+idle_whole (Some s) true now ((Entered a) ∷ more) = tt
+idle_whole (Some s) true now ((Looked a) ∷ more) = tt
+idle_whole (Some s) true now ((Found a) ∷ more) = tt
+idle_whole (Some s) true now ((Counted a) ∷ more) = tt
+idle_whole (Some s) true now ((Altered a) ∷ more) = tt
+idle_whole (Some s) true now ((Expunged a b c) ∷ more) = tt
+idle_whole (Some s) true now (Fed a b ∷ []) = whole_append (lines a b) [] (lines_whole a b) (inl refl)
+idle_whole (Some s) true now (Fed a b ∷ d ∷ more) = tt
+idle_whole (Some s) true now ((Left a) ∷ more) = tt
+idle_whole (Some s) true now (Refused Lapped ∷ []) = refused_whole [] now Lapped
+idle_whole (Some s) true now (Refused Lapped ∷ d ∷ more) = tt
+idle_whole (Some s) true now (Refused Stranger ∷ []) = refused_whole [] now Stranger
+idle_whole (Some s) true now (Refused Stranger ∷ d ∷ more) = tt
+idle_whole (Some s) true now (Refused Spent ∷ more) = tt
+idle_whole (Some s) true now (Refused NoMemory ∷ more) = tt
+idle_whole (Some s) true now ((Starved a) ∷ more) = tt
+
+pub idles_whole : {S : Type 0} (step : S → Call → Answer → S → Type 0) (now : Standing) (old new : S) (said : List ℕ) (count : ℕ) (next : Standing) → IdleTurns step now old new [] said count next → IsWhole said
+idles_whole step now old new said count next t = subst IsWhole (sym t.wrote) (some_whole _ _ (idle_whole now.selected (is_idling now) now t.answers) t.played)
+
+pub greeting_whole : IsWhole greeting
+greeting_whole = inr (codes "* PREAUTH IMAP4rev2 server ready", refl)

@@ -1,0 +1,71 @@
+-- From what a run promises to what the program does.
+use Rattle.std.proofs.Common.{◌≡◌, ◌⊎◌, ◌∙◌, ap, ℕ, Bool, true, List, inl, inr, refl, sym, subst, Option, Some, None, Result, Ok, Err}
+use Rattle.std.specs.Prelude.{IfSome}
+use Rattle.house.specs.Settings.{setup_of}
+use Rattle.house.specs.State.{State}
+use Rattle.house.specs.declared.config.Config.{Config}
+use Rattle.house.specs.declared.config.ConfigFault.{ConfigFault}
+use Rattle.house.specs.declared.config.ConfigFault.TheVariants as config_faults
+use Rattle.script.specs.Leaving.{IsLeft, IsLeftWanting, WritesBeginning, WritesFirst}
+use Rattle.script.specs.Promise.{WroteOnce}
+use Rattle.script.specs.Script.{ScriptLine, script_of}
+use Rattle.script.specs.declared.run.RunFault.{RunFault}
+use Rattle.script.specs.declared.run.RunFault.TheVariants as run_faults
+use Rattle.script.proofs.Once.{wrote_beginning}
+use Rattle.script.proofs.RunLaws.{run_unbegun}
+use Rattle.post_house.specs.Playing.{Played}
+use Rattle.post_house.specs.Status.{config_failure, run_failure}
+use Rattle.post_house.specs.declared.failure.Failure.{Failure}
+use Rattle.post_house.specs.declared.failure.Failure.TheVariants as failures
+
+-- what delivers nothing delivers exactly once
+pub unplayed : (config : Config) (lines : List ScriptLine) (old : Option (List ℕ)) → WroteOnce (setup_of config) lines old old
+unplayed config lines old =
+    wrote_beginning (setup_of config) lines (λ number others s. Unit {0}) old old (run_unbegun (setup_of config) lines old (λ number others s. Unit {0}) tt)
+
+-- a run that failed, by its fault
+pub failed_played : (config : Config) (lines : List ScriptLine) (h : State) (failed : Bool) (old new : Option (List ℕ)) (f : RunFault) (r : Failure) → r ≡ run_failure f
+    → ((sent : ℕ) → ◌≡◌ {A = Result (Unit {0}) RunFault} (Err f) (Err (run_faults.Write sent)) → WritesFirst (setup_of config) lines sent h old new)
+    → ((sent : ℕ) → ◌≡◌ {A = Result (Unit {0}) RunFault} (Err f) (Err (run_faults.Write sent)) → failed ≡ true)
+    → (◌≡◌ {A = Result (Unit {0}) RunFault} (Err f) (Err run_faults.NoMemory) → WritesBeginning (setup_of config) lines (IsLeftWanting (setup_of config) h) old new)
+    → (◌≡◌ {A = Result (Unit {0}) RunFault} (Err f) (Err run_faults.Read) → WritesBeginning (setup_of config) lines (IsLeft (setup_of config) h) old new)
+    → Played config lines failed (Err r) old new
+failed_played config lines h failed old new (run_faults.Write sent) r e write fails wants reads =
+    subst (λ (x : Failure). Played config lines failed (Err x) old new) (sym e) (inr (h, sent, write sent refl, fails sent refl))
+failed_played config lines h failed old new run_faults.Read r e write fails wants reads =
+    subst (λ (x : Failure). Played config lines failed (Err x) old new) (sym e) (inl (h, reads refl))
+failed_played config lines h failed old new run_faults.NoMemory r e write fails wants reads =
+    subst (λ (x : Failure). Played config lines failed (Err x) old new) (sym e) (inr (h, wants refl))
+
+-- ---- settings that are wrong
+
+-- the failure names the fault that was told
+told_fault : (f x : ConfigFault) → config_failure f ≡ failures.Config x → f ≡ x
+told_fault config_faults.TooMany x e = cc
+told_fault config_faults.BadName x e = cc
+told_fault config_faults.Twice x e = cc
+told_fault config_faults.Ring x e = cc
+told_fault config_faults.NoMemory x e = absurd (none_told e)
+  where
+    none_told : failures.NoMemory ≡ failures.Config x → ⊥
+    none_told e = cc
+
+no_config : (x : ConfigFault) → config_failure config_faults.NoMemory ≡ failures.Config x → ⊥
+no_config x e = cc
+
+same_failure : (a b : Failure) → ◌≡◌ {A = Result (Unit {0}) Failure} (Err a) (Err b) → a ≡ b
+same_failure a b e = cc
+
+same_fault : (A : Type 0) (a b : ConfigFault) → ◌≡◌ {A = Result A ConfigFault} (Err a) (Err b) → a ≡ b
+same_fault A a b e = cc
+
+-- what is wrong with the settings is what the failure names
+pub fault_named : (A : Type 0) (o : Option ConfigFault) (f : ConfigFault) (r : Failure) (x : ConfigFault)
+    → IfSome o (λ y. ◌≡◌ {A = Result A ConfigFault} (Err f) (Err y) ⊎ ◌≡◌ {A = Result A ConfigFault} (Err f) (Err config_faults.NoMemory)) → (o ≡ None → f ≡ config_faults.NoMemory)
+    → r ≡ config_failure f → ◌≡◌ {A = Result (Unit {0}) Failure} (Err r) (Err (failures.Config x)) → o ≡ Some x
+fault_named A None f r x some none is e =
+    absurd (no_config x (ap config_failure (sym (none refl)) ∙ sym is ∙ same_failure r (failures.Config x) e))
+fault_named A (Some y) f r x (inl s) none is e =
+    ap (λ (z : ConfigFault). Some z) (sym (same_fault A f y s) ∙ told_fault f x (sym is ∙ same_failure r (failures.Config x) e))
+fault_named A (Some y) f r x (inr s) none is e =
+    absurd (no_config x (ap config_failure (sym (same_fault A f config_faults.NoMemory s)) ∙ sym is ∙ same_failure r (failures.Config x) e))

@@ -1,0 +1,75 @@
+-- What a run leaves: what was written, and what the house stands for then.
+use Rattle.std.specs.Prelude.{◌≡◌, ℕ, ◌+◌, ◌<◌, false, List, ◌∷◌, ◌++◌, length, take, Option}
+use Rattle.std.specs.Io.KnownBytes.{Appends}
+use Rattle.callers.specs.Caller.{Setup}
+use Rattle.house.specs.Scene.{BytesPlay, EnterPlay, LeavePlay, SayPlay, Scene, VanishPlay, empty_scene, place_of, seat_of}
+use Rattle.house.specs.Settling.{Happened}
+use Rattle.house.specs.Stands.{StandsFor}
+use Rattle.house.specs.State.{State}
+use Rattle.house.specs.declared.event.Event.{Event}
+use Rattle.script.specs.Script.{Asks, Enters, Leaves, LineDoes, Script, ScriptLine, Sends, Vanishes, none_held}
+use Rattle.script.specs.Promise.{DeliversOnce}
+
+-- These bytes were written, they are what a script of these lines prints, and deliver exactly once; the house that is left stands for the scene that it
+-- leads to.
+pub record Writes (k : Setup) (lines : List ScriptLine) (h : State) (old new : Option (List ℕ)) : Type 0 where
+  pub after : Scene
+  pub printed : List ℕ
+  pub script : Script k 1 (none_held k) lines empty_scene after printed
+  pub once : DeliversOnce k (length lines) after printed
+  pub stands : StandsFor k h after
+  pub out : Appends old new printed
+
+-- Of what some of the first lines print the first `sent` bytes were written, and not all. The house stands for the scene that these lines lead to.
+pub record WritesFirst (k : Setup) (lines : List ScriptLine) (sent : ℕ) (h : State) (old new : Option (List ℕ)) : Type 0 where
+  pub some : List ScriptLine
+  pub others : List ScriptLine
+  pub split : lines ≡ some ++ others
+  pub after : Scene
+  pub printed : List ℕ
+  pub script : Script k 1 (none_held k) some empty_scene after printed
+  pub once : DeliversOnce k (length some) after printed
+  pub stands : StandsFor k h after
+  pub within : sent < length printed
+  pub out : Appends old new (take sent printed)
+
+-- What some of the first lines print was written, whole, and of the house that is left, by the lines behind them and the scene that these lead to, this holds.
+pub record WritesBeginning (k : Setup) (lines : List ScriptLine) (Left : ℕ → List ScriptLine → Scene → Type 0) (old new : Option (List ℕ)) : Type 0 where
+  pub some : List ScriptLine
+  pub others : List ScriptLine
+  pub split : lines ≡ some ++ others
+  pub after : Scene
+  pub printed : List ℕ
+  pub script : Script k 1 (none_held k) some empty_scene after printed
+  pub once : DeliversOnce k (length some) after printed
+  pub left : Left (length some + 1) others after
+  pub out : Appends old new printed
+
+-- nothing was done since
+abbrev pub IsLeft : Setup → State → ℕ → List ScriptLine → Scene → Type 0
+IsLeft k h number others s = StandsFor k h s
+
+-- the event that a line asks for happened in part, and printed this
+abbrev pub LineBegins : Setup → Scene → Scene → List ℕ → ScriptLine → Type 0
+LineBegins k s t printed (Sends connection bytes) = BytesPlay k false s (seat_of connection) bytes t printed
+LineBegins k s t printed (Vanishes connection) = VanishPlay k false s (seat_of connection) t printed
+LineBegins k s t printed (Enters session user) = EnterPlay k false s (place_of session) user t printed
+LineBegins k s t printed (Asks session bytes) = SayPlay k false s (place_of session) bytes t printed
+LineBegins k s t printed (Leaves session) = LeavePlay k s (place_of session) t printed
+LineBegins k s t printed _ = ⊥
+
+-- Memory was wanting as a line was done: nothing happened, or its event did in part.
+pub data LineWanting (k : Setup) (line : ScriptLine) (s : Scene) (h : State) : Type 0 where
+  undone : StandsFor k h s → LineWanting k line s h
+  begun : (after : Scene) (unsaid : List ℕ) → LineBegins k s after unsaid line → StandsFor k h after → LineWanting k line s h
+
+-- The same, or the line was done, and memory was wanting as the house settled.
+pub data PlayWanting (k : Setup) (number : ℕ) (line : ScriptLine) (s : Scene) (h : State) : Type 0 where
+  doing : LineWanting k line s h → PlayWanting k number line s h
+  settling : (between : Scene) (one : List ℕ) (events : List Event) (after : Scene) (two : List ℕ)
+      → LineDoes k number s between one line → Happened k events between after two → StandsFor k h after → PlayWanting k number line s h
+
+-- Memory was wanting before the next line was read, or as it was played. What it printed isn't written.
+pub data IsLeftWanting (k : Setup) (h : State) (number : ℕ) (others : List ScriptLine) (s : Scene) : Type 0 where
+  unread : StandsFor k h s → IsLeftWanting k h number others s
+  unwritten : (line : ScriptLine) (more : List ScriptLine) → others ≡ line ∷ more → PlayWanting k number line s h → IsLeftWanting k h number others s
