@@ -1,3 +1,4 @@
+mod Words
 pub mod ScriptLaws
 pub mod RunLaws
 pub mod SessionLaws

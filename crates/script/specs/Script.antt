@@ -1,7 +1,9 @@
 -- A script: what its lines are, what each does to the house, and what is written.
 use Rattle.std.specs.Prelude.{◌≡◌, ℕ, ◌+◌, ◌-◌, ◌<◌, ◌≤◌, ◌==◌, ◌&&◌, nat_eq, nat_le, nat_lt, ◌⊎◌, Bool, true, false, if◌then◌else◌, List, [], ◌∷◌, ◌++◌, length, map, drop, take, codes, decimal, replicate, slice_set, Option, Some, None, Result, Ok, Err}
+use Rattle.std.specs.Borrow.{Bor}
 use Rattle.std.specs.Io.BufRead.{ends_with_byte, strip_last}
 use Rattle.std.specs.List.{list_all, list_any, starts_with}
+use Rattle.std.specs.Str.{bytes_eq}
 use Rattle.std.specs.Str.Parse.{digits_value}
 use Rattle.hex.specs.Hex.{decode_of}
 use Rattle.hex.specs.declared.error.FromHexError.{FromHexError}
@@ -131,15 +133,20 @@ abbrev pub is_skipped : List ℕ → Bool
 is_skipped [] = true
 is_skipped (b ∷ bs) = b == 35
 
+-- `L` or `I`, and what follows it
+abbrev pub by_letter : List ℕ → ScriptLine
+by_letter line =
+    if begins (codes "L") line then numbered of_connection (drop 1 line)
+    else if begins (codes "I") line then numbered of_session (drop 1 line)
+    else Bad
+
 -- what a line asks for that is no comment and not too long
 abbrev pub request_of : List ℕ → ScriptLine
 request_of line =
     if begins (codes "TAIL ") line then tail_of (drop 5 line)
     else if begins (codes "HOLD ") line then held_of (drop 5 line)
     else if begins (codes "FREE ") line then freed_of (drop 5 line)
-    else if begins (codes "L") line then numbered of_connection (drop 1 line)
-    else if begins (codes "I") line then numbered of_session (drop 1 line)
-    else Bad
+    else by_letter line
 
 -- what a line asks for: comments are skipped whatever their length
 abbrev pub asked : List ℕ → ScriptLine
@@ -147,6 +154,11 @@ asked line =
     if is_skipped line then Skip
     else if nat_lt most_bytes (length line) then Bad
     else request_of line
+
+-- what was cut off a line is its first word, said of a word with no space: whether the line begins with it and a space, and what stands behind that
+abbrev pub IsCut : List ℕ → (word : List ℕ) → Option (Bor (List ℕ) × Bor (List ℕ)) → Type 0
+IsCut line word None = begins (word ++ 32 ∷ []) line ≡ false
+IsCut line word (Some (first, rest)) = (bytes_eq first.now word ≡ begins (word ++ 32 ∷ []) line) × (begins (word ++ 32 ∷ []) line ≡ true → rest.now ≡ drop (length word + 1) line)
 
 -- what was read behind a number, as a line of the script
 abbrev pub as_line : (brings : List ℕ → ScriptLine) → (gone : ScriptLine) → said.Said → ScriptLine

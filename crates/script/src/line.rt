@@ -1,10 +1,12 @@
 //! What a line of a script asks for. Reading only: no house and no printing is known here.
 
-ghost use Rattle.std.specs.Prelude.{◌≡◌, ℕ, List, true};
+ghost use Rattle.std.specs.Prelude.{◌≡◌, ℕ, List, true, false};
 ghost use Rattle.std.specs.List.{list_all};
 ghost use Rattle.std.specs.Io.BufRead.{ends_with_byte, strip_last};
 ghost use Rattle.script.specs.Script as spec;
-ghost use Rattle.script.specs.Script.{Asks, HasDigits, Leaves, as_line, as_spec, asked, behind_number, freed_of, has_space, held_of, in_hex, is_digit, is_number, is_one_to_eight, is_skipped, line_of, numbered, of_connection, of_session, request_of, tail_of};
+ghost use Rattle.script.specs.Script.{Asks, HasDigits, IsCut, Leaves, as_line, as_spec, asked, behind_number, by_letter, freed_of, has_space, held_of, in_hex, is_digit, is_number, is_one_to_eight, is_skipped, line_of, numbered, of_connection, of_session, request_of, tail_of};
+
+use bstr::ByteSlice;
 
 /// The most bytes of a line, without its end.
 pub const MOST_BYTES: usize = 65_536;
@@ -239,27 +241,42 @@ fn tail_of(word: &[u8]) -> ScriptLine<'_>
     }
 }
 
+// A line's first word, and what stands behind the one space after it.
+fn cut_word(line: &[u8]) -> Option<(&[u8], &[u8])>
+    ensures { (word : List ℕ) → has_space word ≡ false → IsCut line.now word result }
+{
+    line.split_once_str(b" ")
+}
+
+// What a line asks for that begins with the letter of a connection or a session.
+fn of_letter(line: &[u8]) -> ScriptLine<'_>
+    ensures reads { as_spec result ≡ by_letter line.now }
+    ensures digits { HasDigits result }
+{
+    match line.split_first() {
+        Some((b'L', rest)) => after_l(rest),
+        Some((b'I', rest)) => after_i(rest),
+        _ => ScriptLine::Bad,
+    }
+}
+
 // What a line asks for that is no comment and not too long.
 fn request_of(line: &[u8]) -> ScriptLine<'_>
     ensures reads { as_spec result ≡ request_of line.now }
     ensures digits { HasDigits result }
 {
-    if line.starts_with(b"TAIL ") {
-        return tail_of(&line[5..]);
+    if let Some((word, rest)) = cut_word(line) {
+        if word == b"TAIL".as_slice() {
+            return tail_of(rest);
+        }
+        if word == b"HOLD".as_slice() {
+            return held_of(rest);
+        }
+        if word == b"FREE".as_slice() {
+            return freed_of(rest);
+        }
     }
-    if line.starts_with(b"HOLD ") {
-        return held_of(&line[5..]);
-    }
-    if line.starts_with(b"FREE ") {
-        return freed_of(&line[5..]);
-    }
-    if line.starts_with(b"L") {
-        return after_l(&line[1..]);
-    }
-    if line.starts_with(b"I") {
-        return after_i(&line[1..]);
-    }
-    ScriptLine::Bad
+    of_letter(line)
 }
 
 /// What a line, without its end, asks for. A comment is skipped whatever its length; any other line of more than
