@@ -46,7 +46,7 @@ module _ (w line : List ℕ) (one : has_space w ≡ false) where
       let back : drop n line ≡ space ++ rest = ap (drop n) e ∙ drop-append_seam w (space ++ rest) in
       let here : OccursAt line space n = OccursAt-from_part line space n (omega (arith, long)) (ap (take 1) back) in
       let none : (i : ℕ) → 0 ≤ i → i < n → ¬ OccursAt line space i =
-          λ i low high at. no_space i high (ap (λ xs. get_or xs i 0) (sym front) ∙ get_or-take n line i 0 high ∙ ap (slice_index line) (sym (add-zero i)) ∙ at.reads 0 (omega arith)) in
+      λ i low high at. no_space i high (ap (λ xs. get_or xs i 0) (sym front) ∙ get_or-take n line i 0 high ∙ ap (slice_index line) (sym (add-zero i)) ∙ at.reads 0 (omega arith)) in
       sym (FindsNeedle-value line space (Some n) (record { low = omega arith; high = omega (arith, long); before = none }, here))
 
   begun : begins (w ++ space) line ≡ true → line ≡ w ++ (space ++ drop (length (w ++ space)) line)
@@ -56,9 +56,9 @@ module _ (w line : List ℕ) (one : has_space w ≡ false) where
   pub by_word : (k : ℕ) → first_of (matches line space 0) ≡ Some k → bytes_eq (take k line) w ≡ begins (w ++ space) line
   by_word k e = both _ _
       (λ same. (starts_is Decides-eqb line (w ++ space) (begins (w ++ space) line) refl).1 (drop (k + 1) line)
-          (sym (take-append-drop k line) ∙ ap (λ xs. xs ++ drop k line) ((bytes_eq-Decides (take k line) w).0 same) ∙ ap (λ xs. w ++ xs) (OccursAt-split line space k (there line k e)) ∙ sym (append_assoc w space _)))
+      (sym (take-append-drop k line) ∙ ap (λ xs. xs ++ drop k line) ((bytes_eq-Decides (take k line) w).0 same) ∙ ap (λ xs. w ++ xs) (OccursAt-split line space k (there line k e)) ∙ sym (append_assoc w space _)))
       (λ h. let at : k ≡ length w = cc (e, first_space _ (begun h)) in
-          (bytes_eq-Decides (take k line) w).1 (ap (λ i. take i line) at ∙ ap (take (length w)) (begun h) ∙ take-append_seam w _))
+      (bytes_eq-Decides (take k line) w).1 (ap (λ i. take i line) at ∙ ap (take (length w)) (begun h) ∙ take-append_seam w _))
 
   -- and then that space is the word's end
   pub ends_there : (k : ℕ) → first_of (matches line space 0) ≡ Some k → begins (w ++ space) line ≡ true → k ≡ length w

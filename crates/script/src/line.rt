@@ -354,6 +354,12 @@ mod tests {
         assert_eq!(rt; read_line(b"TAIL a b"), ScriptLine::Bad);
         assert_eq!(rt; read_line(b"TAIL  a"), ScriptLine::Bad);
         assert_eq!(rt; read_line(b" TAIL a"), ScriptLine::Bad);
+        assert_eq!(rt; read_line(b"TAIL"), ScriptLine::Bad);
+        assert_eq!(rt; read_line(b"TAILS a"), ScriptLine::Bad);
+        assert_eq!(rt;
+            read_line(b"L1 TAIL a"),
+            ScriptLine::Says(1, b"TAIL a".as_slice())
+        );
     }
 
     #[test]
