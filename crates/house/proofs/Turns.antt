@@ -80,7 +80,7 @@ put_led k h s number seat directory g c why place l whole old new st e dir lt so
     (subst (λ (x : Option Line). StandsForMaybe k seat (get_or c.next seat y) (v.heard seat) x (Some b)) (sym is) b1) in (
       with_caller (with_world s v) seat w.left,
       w.printed,
-      record { caller = a.caller; there = a.here; copy = puts.copy; others = puts.others; front = n.front; moved = v; step = step; left = w.left; goes = w.goes; after = refl },
+      record { caller = a.caller; there = a.here; copy = puts.copy; others = puts.others; front = n.front; moved = v; step = step; left = w.left; goes = w.goes; after = refl {a = with_caller (with_world s v) seat w.left} },
       after_going k h c h.serials s v s.next seat y l (noted_put (heard_verdict why) g) b whole old new st cs lt
           (λ q ne. p.heard.others q (λ z. ne (z ∙ es)))
           (λ q z ne. ap (λ (ks : List CopyKey). get_or ks q z) (p.next ∙ ap (λ (r : ℕ). set h.core.next r (past puts.copy.key)) es) ∙ get_or-set_other h.core.next seat q (past puts.copy.key) z ne)

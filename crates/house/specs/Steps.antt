@@ -241,7 +241,7 @@ pub record MayIdle (p : Place) (place : ℕ) (core : Held) : Type 0 where
 abbrev pub HasNoTurn : ℕ → Option Place → Held → Type 0
 HasNoTurn place p old = (k : Setup) (w v : World) (b : Visitor) (o : Option Visitor) (printed : List ℕ) → core.StandsFor k.config old w → StandsForVisit p (Some b) → VisitorIdles k true place w b v o printed → ⊥
 
--- When an event may be refused for want of memory. A take, a delivery, an answer, an end and a leave ask for none. A put and a hearing ask before
+-- When an event may be refused for want of memory. A take, a delivery, an answer, an end, a leave and a peer that is gone ask for none. A put and a hearing ask before
 -- anything is done for the room of one note alone, and an idling session for what there is to show.
 abbrev pub MayWant : Event → State → State → Type 0
 MayWant (Take shard) old new = ⊥
@@ -249,10 +249,10 @@ MayWant (Deliver shard) old new = ⊥
 MayWant (Answer shard) old new = ⊥
 MayWant (End connection shard) old new = ⊥
 MayWant (Leave session) old new = ⊥
+MayWant (Vanish connection) old new = ⊥
 MayWant (Put connection) old new = (h : Line) × (slice_index_or old.callers (seat_of connection) None ≡ Some h) × (CannotNote old.core h ⊎ ((why : Option Refusal) × PutsNext old.core h new.core why))
 MayWant (Hear connection) old new = HasNoRoom old.core (seat_of connection) ⊎ ((r : Noted) × Hears old.core new.core (seat_of connection) (r ∷ []))
 MayWant (Idle session) old new = (p : Place) × (slice_index_or old.visitors (place_of session) None ≡ Some p) × MayIdle p (place_of session) old.core
 MayWant (Bytes connection piece) old new = Unit {0}
-MayWant (Vanish connection) old new = Unit {0}
 MayWant (Enter session user) old new = Unit {0}
 MayWant (Say session piece) old new = Unit {0}

@@ -72,6 +72,7 @@ fn go_on_at(
         PlaceWentOn k true seat next heard b place.new out.old.items out.new.items) }
     ensures err { OnErr result ((k : Setup) (seat : ℕ) (next : CopyKey) (heard : List Noted) (b : spec.Caller) → IsOf k number seat directory.now → StandsForMaybe k seat next heard place.old (Some b) →
         PlaceWentOn k false seat next heard b place.new out.old.items out.new.items) }
+    ensures asks { OnErr result (IfSome place.old (λ h. h.gone ≡ false)) }
 {
     let Some(caller) = place else {
         return Ok(());
@@ -204,18 +205,14 @@ impl House {
         Ok(())
     }
     // The peer of a connection that stands at its place is gone.
-    fn lose(&mut self, connection: u8, out: &mut Vec<u8>) -> Result<(), HouseFault>
+    fn lose(&mut self, connection: u8, out: &mut Vec<u8>)
         requires there { IsRead self.old connection }
-        ensures follows { OnOk result (Follows self.old (events.Vanish connection) self.new out.old.items out.new.items) }
-        ensures only { IfErr result (λ e. e ≡ HouseFault.NoMemory) }
-        ensures no_memory { OnErr result (FollowsInPart self.old (events.Vanish connection) self.new out.old.items out.new.items) }
+        ensures { Follows self.old (events.Vanish connection) self.new out.old.items out.new.items }
     {
         let place = &mut self.callers[usize::from(connection - 1)];
         vanish_at(place);
-        let Ok(()) = go_on_at(place, connection, &self.directory, out) else {
-            return Err(HouseFault::NoMemory);
-        };
-        Ok(())
+        // Nobody is told anything any more, so this asks for no memory.
+        let _ = go_on_at(place, connection, &self.directory, out);
     }
 
     // Bytes came for a connection at whose place nobody stands: one is opened first, with the seat's next serial.
@@ -354,7 +351,7 @@ impl House {
     /// Nobody, Busy and Nothing come in this order, and after them nothing changed: Nobody where the connection, the shard, the session or
     /// the user isn't there; Busy where bytes, a vanishing or an end are for a seat that waits for the verdicts of a peer that is gone, an end
     /// also where a connection stands, and where a user enters at a place that is taken; Nothing where the event would change nothing. After
-    /// NoMemory, which no take, delivery, answer, end or leave answers, what was done by then stands, and the next event of the connection or
+    /// NoMemory, which no take, delivery, answer, end, leave or vanishing answers, what was done by then stands, and the next event of the connection or
     /// session goes on from there; bytes that came with it were
     /// taken up or weren't there at all.
     pub fn step(&mut self, event: Event<'_>, out: &mut Vec<u8>) -> Result<(), HouseFault>
@@ -422,8 +419,8 @@ impl House {
         ensures nobody { (result ≡ Err HouseFault.Nobody) ↔ IsNobody self.old (events.Vanish connection) }
         ensures busy { (result ≡ Err HouseFault.Busy) ↔ IsBusy self.old (events.Vanish connection) }
         ensures nothing { result ≢ Err HouseFault.Nothing }
-        ensures no_memory { result ≡ Err HouseFault.NoMemory → FollowsInPart self.old (events.Vanish connection) self.new out.old.items out.new.items }
-        ensures refused { result ≢ Err HouseFault.NoMemory → OnErr result ((self.new ≡ self.old) × (out.new.items ≡ out.old.items)) }
+        ensures memory { result ≢ Err HouseFault.NoMemory }
+        ensures refused { OnErr result ((self.new ≡ self.old) × (out.new.items ≡ out.old.items)) }
     {
         if connection == 0 || usize::from(connection) > self.callers.len() {
             return Err(HouseFault::Nobody);
@@ -435,7 +432,8 @@ impl House {
         if is_unread(&self.callers[seat]) {
             return Err(HouseFault::Busy);
         }
-        self.lose(connection, out)
+        self.lose(connection, out);
+        Ok(())
     }
 
     // A connection's seat puts its end into a shard's lane.

@@ -1,4 +1,6 @@
-use Rattle.std.proofs.Common.{◌≡◌, ◌+◌, ◌-◌, ◌<◌, inl, refl, sym, subst, ap, ◌∙◌, true, false, None, ℕ, length, arith, get_or, IsSome}
+use Rattle.std.proofs.Common.{◌≡◌, ◌+◌, ◌-◌, ◌<◌, refl, sym, subst, ap, ◌∙◌, true, false, Option, None, Some, Result, Ok, Err, OnOk, OnErr, IfSome, ℕ, length, arith, get_or, IsSome, true≢false}
+use Rattle.std.specs.declared.alloc.AllocError.{AllocError}
+use Rattle.callers.specs.Line.{Line}
 use Rattle.std.specs.Option.{option_map}
 use Rattle.delivery_core.proofs.Follow.{get_or-any}
 use Rattle.callers.specs.Taking.{with_nobody_there}
@@ -9,24 +11,14 @@ use Rattle.house.specs.Steps.{is_unread}
 use Rattle.house.proofs.Events.{vanished}
 use Rattle.house.proofs.house.House.lose.Goals as goal
 
-pub returns-in_default-clause-no_memory : goal.returns-in_default-clause-no_memory
-returns-in_default-clause-no_memory c k s st =
-    let i = c.self.inside in
-    let h : State = record { core = i.desk.core; callers = i.callers.items; serials = i.serials.items; visitors = i.visitors.items; directory = i.directory; host = i.host.items; max_message = i.max_message } in
-    let st1 = subst (λ (x : State). StandsFor k x s) (sym c.self.view_is) st in
-    let many = ap (λ (x : State). length x.callers) c.self.view_is in
-    let e = c.from.ensures in
-    let who = subst (λ (n : ℕ). IsSome (get_or i.callers.items n None)) (sym e) (subst (λ (x : State). IsSome (get_or x.callers (c.args.connection - 1) None)) (sym c.self.view_is) c.requires.there.who) in
-    let read = subst (λ (n : ℕ). is_unread (get_or i.callers.items n None) ≡ false) (sym e) (subst (λ (x : State). is_unread (get_or x.callers (c.args.connection - 1) None) ≡ false) (sym c.self.view_is) c.requires.there.read) in
-    let number : c.args.connection ≡ c.from.result + 1 = let n = c.requires.there.number in omega (arith, n, e) in
-    let lt : c.from.result < length i.callers.items = let m = c.requires.there.seat in omega (arith, number, m, many) in
-    let at = c.vanish_at.ensures ∙ ap (option_map with_nobody_there) (c.index_mut-place.ensures.value ∙ get_or-any i.callers.items c.from.result _ None lt) in
-    let r = vanished k h s c.args.connection c.from.result i.directory c.go_on_at.new.place c.vanish_at.new.place false c.args.out.now.items c.go_on_at.new.out.items st1
-    number refl lt who read at c.in_default.ensures.err in
-    inl (record { after = r.0; printed = r.1; plays = subst (λ (n : ℕ). VanishPlay k false s n r.0 r.1) e r.2; stands = r.3; out = r.4 })
+-- a peer that is gone is told nothing, and memory may be asked for only for one that is there
+sure : (P : Type 0) (r : Result Unit AllocError) (before after : Option Line) → IsSome before → after ≡ option_map with_nobody_there before → OnErr r (IfSome after (λ h. h.gone ≡ false)) → OnOk r P → P
+sure P (Ok done) before after some e asks ok = ok
+sure P (Err fault) (Some h) after some e asks ok = absurd (true≢false (subst (λ (x : Option Line). IfSome x (λ l. l.gone ≡ false)) e asks))
+sure P (Err fault) None after some e asks ok = absurd (true≢false (sym some))
 
-pub returns-clause-follows : goal.returns-clause-follows
-returns-clause-follows c k s st =
+pub returns : goal.returns
+returns c k s st =
     let i = c.self.inside in
     let h : State = record { core = i.desk.core; callers = i.callers.items; serials = i.serials.items; visitors = i.visitors.items; directory = i.directory; host = i.host.items; max_message = i.max_message } in
     let st1 = subst (λ (x : State). StandsFor k x s) (sym c.self.view_is) st in
@@ -37,6 +29,7 @@ returns-clause-follows c k s st =
     let number : c.args.connection ≡ c.from.result + 1 = let n = c.requires.there.number in omega (arith, n, e) in
     let lt : c.from.result < length i.callers.items = let m = c.requires.there.seat in omega (arith, number, m, many) in
     let at = c.vanish_at.ensures ∙ ap (option_map with_nobody_there) (c.index_mut-place.ensures.value ∙ get_or-any i.callers.items c.from.result _ None lt) in
+    let went = sure _ c.go_on_at.result _ _ who at c.go_on_at.ensures.asks c.go_on_at.ensures.ok in
     let r = vanished k h s c.args.connection c.from.result i.directory c.go_on_at.new.place c.vanish_at.new.place true c.args.out.now.items c.go_on_at.new.out.items st1
-    number refl lt who read at c.in-Ok.ensures.ok in
+    number refl lt who read at went in
     record { after = r.0; printed = r.1; plays = subst (λ (n : ℕ). VanishPlay k true s n r.0 r.1) e r.2; stands = r.3; out = r.4 }
