@@ -18,8 +18,6 @@ mod print;
 mod ranges;
 mod reading;
 mod set;
-#[cfg(test)]
-mod tests;
 mod view;
 mod words;
 

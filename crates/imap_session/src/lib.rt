@@ -16,8 +16,6 @@ mod show;
 mod standing;
 mod store;
 mod tag;
-#[cfg(test)]
-mod tests;
 mod turn;
 
 pub use laws::{changes_are_shown_in_place, done_shows_in_place};

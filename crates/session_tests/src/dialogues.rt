@@ -1,12 +1,10 @@
 //! Dialogues with a small store. What is expected are the texts of RFC 9051's forms that specs/Commands.antt settles.
 
-mod shelf;
-
-use crate::{
+use crate::shelf::Shelf;
+use change_ring::{Change, Flags};
+use imap_session::{
     After, Folder, Selected, Session, SessionFault, changes_are_shown_in_place, done_shows_in_place,
 };
-use change_ring::{Change, Flags};
-use shelf::Shelf;
 use std::alloc::{AllocError, Global};
 
 const NONE: Flags = Flags {

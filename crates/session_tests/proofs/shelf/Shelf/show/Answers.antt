@@ -1,7 +1,7 @@
 use Rattle.std.proofs.Common.{◌≡◌, ◌++◌, [], ◌∷◌, true, refl, append-nil, arith}
 use Rattle.change_ring.specs.Log.{shown}
 use Rattle.cursor_set.specs.Lines.{line}
-use Rattle.imap_session.proofs.tests.shelf.Shelf.show.Goals as goal
+use Rattle.session_tests.proofs.shelf.Shelf.show.Goals as goal
 
 pub returns-clause-event : goal.returns-clause-event
 returns-clause-event c =

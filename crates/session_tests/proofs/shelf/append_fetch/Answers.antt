@@ -1,6 +1,6 @@
 use Rattle.std.proofs.Common.{◌≡◌, ℕ, codes, decimal, List, ◌++◌, refl, ap, ◌∙◌, append_assoc}
 use Rattle.cursor_set.specs.Lines.{flag_words, spaced}
-use Rattle.imap_session.proofs.tests.shelf.append_fetch.Goals as goal
+use Rattle.session_tests.proofs.shelf.append_fetch.Goals as goal
 
 joined : (before mid after a b c d e f g : List ℕ) → mid ≡ before ++ (a ++ b ++ c) → after ≡ mid ++ (d ++ e ++ f ++ g) → after ≡ before ++ (a ++ b ++ c ++ d ++ e ++ f ++ g)
 joined before mid after a b c d e f g h k = k ∙ (ap (λ t. t ++ (d ++ e ++ f ++ g)) h ∙ simp append_assoc)

@@ -8,10 +8,10 @@ ghost use Rattle.change_ring.specs.Log.{shown};
 ghost use Rattle.cursor_set.specs.Lines.{fetch_line, line, place, spaced, flag_words};
 ghost use Rattle.imap_session.specs.Store.{Feeds, ViewAfter};
 
-use crate::store::Store;
 use change_ring::{Change, FlagOp, Flags};
 use cursor_set::{FLAGS_ROOM, put_flags};
 use delivery_token::Text;
+use imap_session::Store;
 use itoa::Buffer;
 use mailbox::{MailFault, Opening, Row, Status};
 use std::alloc::{AllocError, Global};
@@ -83,6 +83,12 @@ fn unseen_in(letters: &[Letter]) -> usize {
 
 fn deleted_in(letters: &[Letter]) -> usize {
     letters.iter().filter(|letter| letter.flags.deleted).count()
+}
+
+fn add_letter(letters: &mut Vec<Letter>, letter: Letter) -> Result<(), AllocError> {
+    letters.reserve(1)?;
+    let _ = letters.push(letter);
+    Ok(())
 }
 
 // Appends the names of the flags that are set.
@@ -195,8 +201,7 @@ impl Shelf {
         requires { self.old.next < 1000 }
     {
         let uid = self.next;
-        self.letters.reserve(1)?;
-        let _ = self.letters.push(Letter { uid, flags, text });
+        add_letter(&mut self.letters, Letter { uid, flags, text })?;
         self.next += 1;
         self.log(Change::Add(uid));
         Ok(())

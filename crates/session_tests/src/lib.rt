@@ -1,0 +1,13 @@
+//! Tests of IMAP's lines and sessions, as a server above them would call them. What is proved of them stands in their own crates.
+#![tactic(auto)]
+
+#[cfg(test)]
+mod answers;
+#[cfg(test)]
+mod dialogues;
+#[cfg(test)]
+mod lines;
+#[cfg(test)]
+mod sets;
+#[cfg(test)]
+mod shelf;
