@@ -1,4 +1,4 @@
-//! Dialogues with a small store. What is expected are the texts of RFC 9051's forms that specs/Commands.antt settles.
+//! Dialogues with a small store. What is expected are the texts of RFC 9051's forms that specs/Commands.antt of `imap_session` settles.
 
 use crate::shelf::Shelf;
 use change_ring::{Change, Flags};
