@@ -3,8 +3,6 @@
 #![tactic(auto)]
 
 mod replay;
-#[cfg(test)]
-mod tests;
 
 ghost use Rattle.std.specs.Prelude.{List, ℕ};
 ghost use Rattle.callers.specs.Caller.{Setup};

@@ -111,25 +111,3 @@ impl Config {
         })
     }
 }
-
-#[cfg(test)]
-mod tests {
-    use super::*;
-
-    #[test]
-    fn what_stands_where_nothing_is_given(rt: HostRuntime) -> Result<(), AllocError> {
-        let config = Config::new(rt.alloc(), &[b"alice".as_slice()])?;
-        assert_eq!(rt; config.host.as_slice(), b"mx.example.org".as_slice());
-        assert_eq!(rt; config.domain.as_slice(), b"example.org".as_slice());
-        assert_eq!(rt; config.mailboxes.len(), 1);
-        assert_eq!(rt; config.max_message, 1_048_576);
-        Ok(())
-    }
-
-    #[test]
-    fn faults_have_names(rt: HostRuntime) -> Result<(), AllocError> {
-        let text = format!(in rt.alloc(); "{} {}", ConfigFault::TooMany, ConfigFault::Ring)?;
-        assert_eq!(rt; text.as_str(), "TooMany Ring");
-        Ok(())
-    }
-}

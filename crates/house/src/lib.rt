@@ -10,8 +10,6 @@ mod make;
 mod sessions;
 mod settle;
 mod tail;
-#[cfg(test)]
-mod tests;
 
 pub use config::{Config, ConfigFault};
 pub use event::{Event, HouseFault};
