@@ -13,3 +13,5 @@ mod sessions;
 mod settings;
 #[cfg(test)]
 mod steps;
+#[cfg(test)]
+mod windows;
