@@ -10,8 +10,6 @@ mod local_part;
 mod names;
 mod reading;
 mod recipients;
-#[cfg(test)]
-mod tests;
 mod word;
 
 pub use command::{CommandFault, ForwardPath, LmtpCommand, Mailbox, ReversePath, Verb};

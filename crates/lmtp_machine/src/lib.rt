@@ -8,8 +8,6 @@ mod laws;
 mod machine;
 mod message;
 mod reply;
-#[cfg(test)]
-mod tests;
 
 pub use connection::{Fed, Limits, Submission, What};
 pub use laws::{any_pieces, lines_are_heard_in_time, messages_are_numbered};

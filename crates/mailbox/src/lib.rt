@@ -7,8 +7,6 @@ mod laws;
 mod logging;
 mod mailbox;
 mod removal;
-#[cfg(test)]
-mod tests;
 
 pub use clients::{MailFault, Opening, Row};
 pub use laws::every_mailbox_keeps;

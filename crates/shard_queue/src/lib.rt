@@ -7,11 +7,7 @@ mod ends;
 mod lane;
 mod laws;
 mod queue;
-#[cfg(test)]
-mod queue_tests;
 mod reply;
-#[cfg(test)]
-mod reply_tests;
 mod shared;
 
 pub use ends::ReplyChannel;

@@ -1,0 +1,324 @@
+//! A copy's way from its seat to a mailbox and back, and what the sessions of that mailbox are told, as tables: each line is a call
+//! with what it is to answer.
+
+ghost use Rattle.std.specs.Prelude.{◌<◌};
+
+use change_ring::{FlagOp, Flags};
+use delivery_core::{DeliveryCore, Fault, Settings};
+use delivery_token::{CopyKey, Noted, Refusal, Text, Verdict};
+use mailbox::{Limits, MailFault, Opening, Status};
+use std::alloc::{AllocError, Global};
+
+const SMALL: Limits = Limits {
+    messages: 8,
+    ring: 1,
+    ring_max: 0,
+};
+
+const NO_GROWTH: Settings = Settings {
+    seats: 1,
+    shards: 1,
+    mailboxes: 2,
+    depth: 2,
+    uidvalidity: 7,
+    first_uid: 1,
+    limits: SMALL,
+    sessions: 2,
+};
+
+const GROWTH: Settings = Settings {
+    limits: Limits {
+        ring_max: 4,
+        ..SMALL
+    },
+    ..NO_GROWTH
+};
+
+const TWO_SEATS: Settings = Settings {
+    seats: 2,
+    limits: Limits { ring: 16, ..SMALL },
+    ..NO_GROWTH
+};
+
+const NONE: Flags = Flags {
+    answered: false,
+    flagged: false,
+    deleted: false,
+    seen: false,
+    draft: false,
+};
+
+const SEEN: Flags = Flags { seen: true, ..NONE };
+
+const DELETED: Flags = Flags {
+    deleted: true,
+    ..NONE
+};
+
+const KEY: CopyKey = CopyKey {
+    seat: 0,
+    serial: 0,
+    message: 0,
+    recipient: 0,
+};
+
+// A call, and what it is to answer.
+enum Act {
+    // The copy of "hi" for this recipient goes to this mailbox's lane.
+    Put(u8, u8, Result<Option<Refusal>, Fault>),
+    // The shard of this number does so.
+    Take(u8, Result<(), Fault>),
+    Deliver(u8, Result<(), Fault>),
+    Answer(u8, Result<(), Fault>),
+    // The seat of this number does so; it ends in this lane.
+    Hear(u8, Result<Noted, Fault>),
+    End(u8, u8, Result<(), Fault>),
+    // Such a copy goes the whole way.
+    Arrives(u8, u8),
+    Accepted(u8, Option<&'static [(CopyKey, u32)]>),
+    // Where the window begins, and the lengths of its two parts.
+    Tail(u8, Option<(u64, usize, usize)>),
+    Count(u8, Option<Status>),
+    // The session of this number does so, in the mailbox of the second.
+    Enter(u8, u8, Result<Opening, MailFault>),
+    // Whatever it is told there.
+    Enters(u8, u8),
+    View(u8, &'static [u32]),
+    IsUpToDate(u8, bool),
+    Feed(u8, Result<usize, MailFault>),
+    // Whether \Seen is set: the flags, and whether they became others.
+    Read(u8, u32, bool, Result<Option<(Flags, bool)>, MailFault>),
+    Store(u8, u32, FlagOp, Result<Option<Flags>, MailFault>),
+    Expunge(u8, &'static [u32], Result<usize, MailFault>),
+    // Messages with \Deleted go where this is so.
+    Leave(u8, bool, Result<usize, MailFault>),
+    // The lines since the last such act.
+    Lines(&'static [u8]),
+}
+
+fn puts(
+    alloc: Global,
+    core: &mut DeliveryCore,
+    recipient: u8,
+    mailbox: u8,
+    wanted: Result<Option<Refusal>, Fault>,
+) -> Result<bool, AllocError> {
+    let text = Text::new(Vec::from_slice(alloc, b"hi\r\n")?);
+    let key = CopyKey { recipient, ..KEY };
+    Ok(core.may_put(key, mailbox) && core.put(key, mailbox, &text) == wanted)
+}
+
+// Whether a copy goes the whole way to a mailbox.
+fn arrives(
+    alloc: Global,
+    core: &mut DeliveryCore,
+    recipient: u8,
+    mailbox: u8,
+) -> Result<bool, AllocError> {
+    let put = puts(alloc, core, recipient, mailbox, Ok(None))?;
+    let taken = core.take(0).is_ok();
+    let delivered = core.deliver(0).is_ok();
+    let answered = core.answer(0).is_ok();
+    Ok(put && taken && delivered && answered && core.hear(0).is_ok())
+}
+
+// Where the window begins, and the lengths of its two parts.
+fn tail(core: &DeliveryCore, mailbox: u8) -> Option<(u64, usize, usize)> {
+    let (base, older, newer) = core.tail(mailbox)?;
+    Some((base, older.len(), newer.len()))
+}
+
+// Whether a mailbox accepted these, or isn't there where none are named.
+fn has_accepted(core: &DeliveryCore, mailbox: u8, wanted: Option<&[(CopyKey, u32)]>) -> bool {
+    match (core.accepted(mailbox), wanted) {
+        (Some(accepted), Some(copies)) => accepted == copies,
+        (None, None) => true,
+        _ => false,
+    }
+}
+
+// Whether a call of a lane or of a mailbox answers as it should.
+fn moves(alloc: Global, core: &mut DeliveryCore, act: &Act) -> Result<bool, AllocError> {
+    match act {
+        Act::Put(recipient, mailbox, wanted) => puts(alloc, core, *recipient, *mailbox, *wanted),
+        Act::Take(shard, wanted) => Ok(core.take(*shard) == *wanted),
+        Act::Deliver(shard, wanted) => Ok(core.deliver(*shard) == *wanted),
+        Act::Answer(shard, wanted) => Ok(core.answer(*shard) == *wanted),
+        Act::Hear(seat, wanted) => Ok(core.hear(*seat) == *wanted),
+        Act::End(seat, shard, wanted) => Ok(core.end(*seat, *shard) == *wanted),
+        Act::Arrives(recipient, mailbox) => arrives(alloc, core, *recipient, *mailbox),
+        Act::Accepted(mailbox, wanted) => Ok(has_accepted(core, *mailbox, *wanted)),
+        Act::Tail(mailbox, wanted) => Ok(tail(core, *mailbox) == *wanted),
+        Act::Count(mailbox, wanted) => Ok(core.status(*mailbox) == *wanted),
+        _ => Ok(false),
+    }
+}
+
+fn reads(
+    core: &mut DeliveryCore,
+    session: u8,
+    uid: u32,
+    mark_seen: bool,
+) -> Result<Option<(Flags, bool)>, MailFault> {
+    let Some(row) = core.read(session, uid, mark_seen)? else {
+        return Ok(None);
+    };
+    // Another message is told as a fault that no act wants.
+    if row.uid != uid || row.text.as_slice() != b"hi\r\n".as_slice() {
+        return Err(MailFault::NoMemory);
+    }
+    Ok(Some((row.flags, row.newly_seen)))
+}
+
+fn lines_are(out: &mut Vec<u8>, wanted: &[u8]) -> bool {
+    let same = &out[..] == wanted;
+    out.clear();
+    same
+}
+
+// Whether an act answers as it should.
+fn step(
+    alloc: Global,
+    core: &mut DeliveryCore,
+    out: &mut Vec<u8>,
+    act: &Act,
+) -> Result<bool, AllocError> {
+    match act {
+        Act::Enter(session, mailbox, wanted) => Ok(core.enter(*session, *mailbox) == *wanted),
+        Act::Enters(session, mailbox) => Ok(core.enter(*session, *mailbox).is_ok()),
+        Act::View(session, uids) => Ok(core.view(*session) == Ok(*uids)),
+        Act::IsUpToDate(session, wanted) => Ok(core.is_up_to_date(*session) == *wanted),
+        Act::Feed(session, wanted) => Ok(core.feed(*session, 64, out) == *wanted),
+        Act::Read(session, uid, mark, wanted) => Ok(reads(core, *session, *uid, *mark) == *wanted),
+        Act::Store(session, uid, op, wanted) => Ok(core.store(*session, *uid, *op) == *wanted),
+        Act::Expunge(session, set, wanted) => {
+            Ok(core.expunge(*session, Some(*set), out) == *wanted)
+        }
+        Act::Leave(session, remove, wanted) => Ok(core.leave(*session, *remove) == *wanted),
+        Act::Lines(wanted) => Ok(lines_are(out, wanted)),
+        _ => moves(alloc, core, act),
+    }
+}
+
+// The place of the first act that answers otherwise, where there is one.
+fn play(alloc: Global, settings: Settings, acts: &[Act]) -> Result<Option<usize>, AllocError>
+    requires { 0 < settings.limits.ring }
+{
+    let mut core = DeliveryCore::new(alloc, settings)?;
+    let mut out = Vec::new(alloc);
+    for k in 0..acts.len() {
+        if !step(alloc, &mut core, &mut out, &acts[k])? {
+            return Ok(Some(k));
+        }
+    }
+    Ok(None)
+}
+
+const ONE_COPY: &[Act] = &[
+    Act::Put(0, 1, Ok(None)),
+    Act::Hear(0, Err(Fault::Nothing)),
+    Act::Deliver(0, Err(Fault::Nothing)),
+    Act::Take(0, Ok(())),
+    Act::Deliver(0, Ok(())),
+    Act::Answer(0, Ok(())),
+    Act::Hear(
+        0,
+        Ok(Noted {
+            key: KEY,
+            mailbox: 1,
+            verdict: Verdict::Stored { uid: 1 },
+        }),
+    ),
+    Act::Accepted(1, Some(&[(KEY, 1)])),
+    Act::Accepted(2, None),
+    Act::Tail(1, Some((0, 1, 0))),
+];
+
+#[test]
+fn one_copy_is_delivered(rt: HostRuntime) -> Result<(), AllocError> {
+    assert_eq!(rt; play(rt.alloc(), TWO_SEATS, ONE_COPY)?, None);
+    Ok(())
+}
+
+const ENDED: &[Act] = &[
+    Act::Take(0, Err(Fault::Nothing)),
+    Act::Take(1, Err(Fault::Nobody)),
+    Act::End(0, 0, Ok(())),
+    Act::End(0, 0, Err(Fault::Nothing)),
+    Act::Put(0, 1, Err(Fault::Nothing)),
+    Act::Take(0, Ok(())),
+];
+
+#[test]
+fn a_seat_that_ended_puts_nothing_more(rt: HostRuntime) -> Result<(), AllocError> {
+    assert_eq!(rt; play(rt.alloc(), TWO_SEATS, ENDED)?, None);
+    Ok(())
+}
+
+const ONE_SESSION: &[Act] = &[
+    Act::Enter(
+        0,
+        1,
+        Ok(Opening {
+            count: 0,
+            uidnext: 1,
+            uidvalidity: 7,
+        }),
+    ),
+    Act::Arrives(0, 1),
+    Act::View(0, &[]),
+    Act::IsUpToDate(0, false),
+    Act::Feed(0, Ok(1)),
+    Act::IsUpToDate(0, true),
+    Act::View(0, &[1]),
+    Act::Read(0, 1, true, Ok(Some((SEEN, true)))),
+    Act::Count(
+        1,
+        Some(Status {
+            messages: 1,
+            uidnext: 2,
+            uidvalidity: 7,
+            unseen: 0,
+            deleted: 0,
+            size: 4,
+        }),
+    ),
+    Act::Count(2, None),
+    Act::Store(0, 1, FlagOp::Set(DELETED), Ok(Some(DELETED))),
+    Act::Expunge(0, &[1], Ok(1)),
+    Act::Feed(0, Ok(1)),
+    Act::Lines(
+        b"* 1 EXISTS\r\n* 1 FETCH (UID 1 FLAGS (\\Seen))\r\n* 1 FETCH (UID 1 FLAGS (\\Deleted))\r\n* 1 EXPUNGE\r\n",
+    ),
+    Act::Leave(0, true, Ok(0)),
+    Act::Leave(0, true, Err(MailFault::Stranger)),
+];
+
+#[test]
+fn a_session_is_in_its_mailbox(rt: HostRuntime) -> Result<(), AllocError> {
+    assert_eq!(rt; play(rt.alloc(), GROWTH, ONE_SESSION)?, None);
+    Ok(())
+}
+
+const TWO_SESSIONS: &[Act] = &[
+    Act::Enters(0, 0),
+    Act::Enters(1, 0),
+    Act::Enter(1, 1, Err(MailFault::Stranger)),
+    Act::Enter(2, 0, Err(MailFault::Stranger)),
+    Act::Arrives(0, 0),
+    Act::Feed(0, Ok(1)),
+    Act::Arrives(1, 0),
+    Act::Feed(0, Ok(1)),
+    Act::Feed(1, Err(MailFault::Lapped)),
+    Act::Read(1, 1, false, Err(MailFault::Lapped)),
+    Act::Lines(b"* 1 EXISTS\r\n* 2 EXISTS\r\n"),
+    Act::View(0, &[1, 2]),
+    Act::Leave(1, false, Ok(0)),
+    Act::Enters(1, 1),
+];
+
+#[test]
+fn one_of_two_sessions_falls_behind(rt: HostRuntime) -> Result<(), AllocError> {
+    assert_eq!(rt; play(rt.alloc(), NO_GROWTH, TWO_SESSIONS)?, None);
+    Ok(())
+}

@@ -1,0 +1,530 @@
+//! What a mailbox does with a few copies and clients, as tables: each line is a call with what it is
+//! to answer. One function makes the calls, since a test with many of them takes long to prove.
+
+ghost use Rattle.std.specs.Prelude.{◌<◌};
+
+use change_ring::{Change, FlagOp, Flags};
+use cursor_set::{CursorSeat, FeedFault, Stranger};
+use delivery_token::{CopyKey, Job, Refusal, Text};
+use mailbox::{Limits, MailFault, Mailbox, Opening, Status, every_mailbox_keeps};
+use std::alloc::{AllocError, Global};
+
+const NONE: Flags = Flags {
+    answered: false,
+    flagged: false,
+    deleted: false,
+    seen: false,
+    draft: false,
+};
+
+const DELETED: Flags = Flags {
+    deleted: true,
+    ..NONE
+};
+
+const SEEN: Flags = Flags { seen: true, ..NONE };
+
+const BOTH: Flags = Flags {
+    deleted: true,
+    ..SEEN
+};
+
+const SMALL: Limits = Limits {
+    messages: 8,
+    ring: 16,
+    ring_max: 0,
+};
+
+const GROWING: Limits = Limits {
+    ring_max: 32,
+    ..SMALL
+};
+
+// A call, and what it is to answer.
+enum Act {
+    // A copy for a recipient: the mailbox's number, the UID and the place.
+    Deliver(u8, &'static [u8], Result<(u8, u32, usize), Refusal>),
+    Count(Status),
+    Accepted(&'static [(CopyKey, u32)]),
+    // Where the window begins, and its changes in one run.
+    Window(u64, &'static [Change]),
+    // Where the window begins, and how many changes it has.
+    Kept(u64, usize),
+    // The UIDs that the client counts.
+    View(&'static [u32]),
+    // The client is a stranger, who counts none.
+    NoView,
+    // Whether \Seen is set: the flags, and whether they became others.
+    Read(u32, bool, Result<Option<(Flags, bool)>, MailFault>),
+    Store(u32, FlagOp, Result<Option<Flags>, MailFault>),
+    // The same for so many UIDs, the multiples of the first number.
+    StoreEach(u32, u32, FlagOp, Flags),
+    Feed(Result<usize, FeedFault>),
+    Expunge(Option<&'static [u32]>, Result<usize, MailFault>),
+    // The lines since the last such act.
+    Lines(&'static [u8]),
+}
+
+const KEY: CopyKey = CopyKey {
+    seat: 2,
+    serial: 5,
+    message: 0,
+    recipient: 0,
+};
+
+fn job(alloc: Global, recipient: u8, bytes: &[u8]) -> Result<Job, AllocError> {
+    Ok(Job {
+        key: CopyKey { recipient, ..KEY },
+        mailbox: 3,
+        text: Text::new(Vec::from_slice(alloc, bytes)?),
+    })
+}
+
+// Whether a copy is delivered as it should be.
+fn delivers(
+    alloc: Global,
+    mailbox: &mut Mailbox,
+    recipient: u8,
+    bytes: &[u8],
+    wanted: Result<(u8, u32, usize), Refusal>,
+) -> Result<bool, AllocError> {
+    let copy = job(alloc, recipient, bytes)?;
+    match mailbox.deliver(&copy) {
+        Ok(r) => Ok(r.key() == copy.key && wanted == Ok((r.mailbox(), r.uid(), r.place()))),
+        Err(refusal) => Ok(wanted == Err(refusal)),
+    }
+}
+
+fn has_accepted(mailbox: &Mailbox, copies: &[(CopyKey, u32)]) -> bool {
+    mailbox.accepted() == copies
+}
+
+fn has_window(mailbox: &Mailbox, wanted: u64, changes: &[Change]) -> bool {
+    let (base, older, newer) = mailbox.tail();
+    base == wanted && older == changes && newer.is_empty()
+}
+
+// Where the window begins, and how many changes it has.
+fn kept(mailbox: &Mailbox) -> (u64, usize) {
+    let (base, older, newer) = mailbox.tail();
+    (base, older.len().saturating_add(newer.len()))
+}
+
+fn counts(mailbox: &Mailbox, seat: &CursorSeat, uids: &[u32]) -> bool {
+    match mailbox.view(seat) {
+        Ok(view) => view == uids,
+        Err(_stranger) => false,
+    }
+}
+
+fn reads(
+    mailbox: &mut Mailbox,
+    seat: &CursorSeat,
+    uid: u32,
+    mark_seen: bool,
+) -> Result<Option<(Flags, bool)>, MailFault> {
+    let Some(row) = mailbox.read(seat, uid, mark_seen)? else {
+        return Ok(None);
+    };
+    // Another message is told as a fault that no act wants.
+    if row.uid != uid || row.text.as_slice() != b"hi\r\n".as_slice() {
+        return Err(MailFault::NoMemory);
+    }
+    Ok(Some((row.flags, row.newly_seen)))
+}
+
+fn stores_each(
+    mailbox: &mut Mailbox,
+    seat: &CursorSeat,
+    every: u32,
+    count: u32,
+    op: FlagOp,
+    wanted: Flags,
+) -> bool {
+    for k in 1..=count {
+        if mailbox.store(seat, every.saturating_mul(k), op) != Ok(Some(wanted)) {
+            return false;
+        }
+    }
+    true
+}
+
+// Whether a call that is no client's answers as it should.
+fn tells(alloc: Global, mailbox: &mut Mailbox, act: &Act) -> Result<bool, AllocError> {
+    match act {
+        Act::Deliver(recipient, bytes, wanted) => {
+            delivers(alloc, mailbox, *recipient, bytes, *wanted)
+        }
+        Act::Count(status) => Ok(mailbox.status() == *status),
+        Act::Accepted(copies) => Ok(has_accepted(mailbox, copies)),
+        Act::Window(base, changes) => Ok(has_window(mailbox, *base, changes)),
+        Act::Kept(base, count) => Ok(kept(mailbox) == (*base, *count)),
+        _ => Ok(false),
+    }
+}
+
+fn lines_are(out: &mut Vec<u8>, wanted: &[u8]) -> bool {
+    let same = &out[..] == wanted;
+    out.clear();
+    same
+}
+
+// Whether an act answers as it should.
+fn step(
+    alloc: Global,
+    mailbox: &mut Mailbox,
+    seat: &mut CursorSeat,
+    out: &mut Vec<u8>,
+    act: &Act,
+) -> Result<bool, AllocError> {
+    match act {
+        Act::View(uids) => Ok(counts(mailbox, seat, uids)),
+        Act::NoView => Ok(mailbox.view(seat) == Err(Stranger)),
+        Act::Read(uid, mark, wanted) => Ok(reads(mailbox, seat, *uid, *mark) == *wanted),
+        Act::Store(uid, op, wanted) => Ok(mailbox.store(seat, *uid, *op) == *wanted),
+        Act::StoreEach(every, count, op, wanted) => {
+            Ok(stores_each(mailbox, seat, *every, *count, *op, *wanted))
+        }
+        Act::Feed(wanted) => Ok(mailbox.feed(seat, 64, out) == *wanted),
+        Act::Expunge(set, wanted) => Ok(mailbox.expunge(seat, *set, out) == *wanted),
+        Act::Lines(wanted) => Ok(lines_are(out, wanted)),
+        _ => tells(alloc, mailbox, act),
+    }
+}
+
+// The place of the first act that answers otherwise, where there is one.
+fn play(
+    alloc: Global,
+    mailbox: &mut Mailbox,
+    seat: &mut CursorSeat,
+    acts: &[Act],
+) -> Result<Option<usize>, AllocError> {
+    let mut out = Vec::new(alloc);
+    for k in 0..acts.len() {
+        if !step(alloc, mailbox, seat, &mut out, &acts[k])? {
+            return Ok(Some(k));
+        }
+    }
+    every_mailbox_keeps(mailbox);
+    Ok(None)
+}
+
+// So many messages more.
+fn fill(alloc: Global, mailbox: &mut Mailbox, messages: u32) -> Result<(), AllocError> {
+    let copy = job(alloc, 0, b"hi\r\n")?;
+    for _message in 0..messages {
+        if mailbox.deliver(&copy).is_err() {
+            return Err(AllocError);
+        }
+    }
+    Ok(())
+}
+
+// A mailbox with so many messages, whose UIDs begin at 1.
+fn filled(alloc: Global, number: u8, limits: Limits, messages: u32) -> Result<Mailbox, AllocError>
+    requires { 0 < limits.ring }
+{
+    let mut mailbox = Mailbox::new(alloc, number, 7, 1, limits)?;
+    fill(alloc, &mut mailbox, messages)?;
+    Ok(mailbox)
+}
+
+// A client's seat, where one can be had.
+fn seated(mailbox: &mut Mailbox) -> Result<(CursorSeat, Opening), AllocError> {
+    if !mailbox.can_open() {
+        return Err(AllocError);
+    }
+    let Ok(opened) = mailbox.open_cursor() else {
+        return Err(AllocError);
+    };
+    Ok(opened)
+}
+
+// How many messages go where a client leaves.
+fn leaves(mailbox: &mut Mailbox, seat: CursorSeat, remove: bool) -> Result<usize, MailFault> {
+    match mailbox.close_cursor(seat, remove) {
+        Ok(gone) => Ok(gone),
+        Err((_seat, fault)) => Err(fault),
+    }
+}
+
+// What a client sees that opens its cursor, and what then happens until it leaves.
+struct Case {
+    name: &'static str,
+    limits: Limits,
+    first_uid: u32,
+    messages: u32,
+    opening: Opening,
+    acts: &'static [Act],
+    // Whether messages with \Deleted go as it leaves.
+    remove: bool,
+    // How many go then, and what the window has.
+    left: (usize, (u64, usize)),
+}
+
+const CASES: &[Case] = &[
+    Case {
+        name: "two copies fill a mailbox",
+        limits: Limits {
+            messages: 2,
+            ring: 4,
+            ring_max: 0,
+        },
+        first_uid: 10,
+        messages: 0,
+        opening: Opening {
+            count: 0,
+            uidnext: 10,
+            uidvalidity: 77,
+        },
+        acts: TWO_COPIES,
+        remove: false,
+        left: (0, (0, 2)),
+    },
+    Case {
+        name: "a mailbox without UIDs refuses first for that",
+        limits: Limits {
+            messages: 0,
+            ring: 1,
+            ring_max: 0,
+        },
+        first_uid: u32::MAX,
+        messages: 0,
+        opening: Opening {
+            count: 0,
+            uidnext: u32::MAX,
+            uidvalidity: 1,
+        },
+        acts: &[Act::Deliver(0, b"hi\r\n", Err(Refusal::UidSpent))],
+        remove: false,
+        left: (0, (0, 0)),
+    },
+    Case {
+        name: "a client reads and sets flags",
+        limits: SMALL,
+        first_uid: 1,
+        messages: 2,
+        opening: Opening {
+            count: 2,
+            uidnext: 3,
+            uidvalidity: 7,
+        },
+        acts: FLAGS,
+        remove: false,
+        left: (0, (0, 4)),
+    },
+    Case {
+        name: "an expunge shows what was pending and not its own",
+        limits: SMALL,
+        first_uid: 1,
+        messages: 3,
+        opening: Opening {
+            count: 3,
+            uidnext: 4,
+            uidvalidity: 7,
+        },
+        acts: EXPUNGES,
+        remove: true,
+        left: (0, (0, 9)),
+    },
+    Case {
+        name: "half of a large mailbox goes",
+        limits: Limits {
+            messages: 32_768,
+            ring: 65_536,
+            ring_max: 0,
+        },
+        first_uid: 1,
+        messages: 32_768,
+        opening: Opening {
+            count: 32_768,
+            uidnext: 32_769,
+            uidvalidity: 7,
+        },
+        acts: HALF_GOES,
+        remove: false,
+        left: (0, (1, 65_536)),
+    },
+    Case {
+        name: "a client that leaves keeps nothing of what goes with it",
+        limits: GROWING,
+        first_uid: 1,
+        messages: 8,
+        opening: Opening {
+            count: 8,
+            uidnext: 9,
+            uidvalidity: 7,
+        },
+        acts: LEAVES,
+        remove: true,
+        left: (8, (16, 16)),
+    },
+];
+
+const LEAVES: &[Act] = &[
+    Act::StoreEach(1, 8, FlagOp::Set(DELETED), DELETED),
+    Act::StoreEach(1, 8, FlagOp::Insert(SEEN), BOTH),
+    Act::Kept(8, 16),
+];
+
+const TWO_COPIES: &[Act] = &[
+    Act::Deliver(0, b"one\r\n", Ok((3, 10, 0))),
+    Act::Deliver(1, b"three\r\n", Ok((3, 11, 1))),
+    Act::Deliver(1, b"three\r\n", Err(Refusal::MailboxFull)),
+    Act::Count(Status {
+        messages: 2,
+        uidnext: 12,
+        uidvalidity: 77,
+        unseen: 2,
+        deleted: 0,
+        size: 12,
+    }),
+    Act::Accepted(&[
+        (KEY, 10),
+        (
+            CopyKey {
+                recipient: 1,
+                ..KEY
+            },
+            11,
+        ),
+    ]),
+    Act::Window(0, &[Change::Add(10), Change::Add(11)]),
+];
+
+const FLAGS: &[Act] = &[
+    Act::View(&[1, 2]),
+    Act::Read(2, true, Ok(Some((SEEN, true)))),
+    Act::Read(2, true, Ok(Some((SEEN, false)))),
+    Act::Read(3, false, Ok(None)),
+    Act::Store(1, FlagOp::Insert(DELETED), Ok(Some(DELETED))),
+    // Flags that stay as they are aren't logged.
+    Act::Store(1, FlagOp::Set(DELETED), Ok(Some(DELETED))),
+    Act::Store(9, FlagOp::Set(NONE), Ok(None)),
+    Act::Feed(Ok(2)),
+    Act::Lines(b"* 2 FETCH (UID 2 FLAGS (\\Seen))\r\n* 1 FETCH (UID 1 FLAGS (\\Deleted))\r\n"),
+];
+
+const EXPUNGES: &[Act] = &[
+    Act::StoreEach(1, 3, FlagOp::Insert(DELETED), DELETED),
+    Act::Expunge(Some(&[2, 5]), Ok(1)),
+    Act::Lines(
+        b"* 1 FETCH (UID 1 FLAGS (\\Deleted))\r\n* 2 FETCH (UID 2 FLAGS (\\Deleted))\r\n* 3 FETCH (UID 3 FLAGS (\\Deleted))\r\n",
+    ),
+    // A set in another order, with a UID twice.
+    Act::Expunge(Some(&[3, 1, 3]), Ok(2)),
+    Act::Lines(b"* 2 EXPUNGE\r\n"),
+    Act::Feed(Ok(2)),
+    Act::Lines(b"* 1 EXPUNGE\r\n* 1 EXPUNGE\r\n"),
+    Act::View(&[]),
+];
+
+const HALF_GOES: &[Act] = &[
+    Act::StoreEach(2, 16_384, FlagOp::Insert(DELETED), DELETED),
+    Act::Expunge(None, Ok(16_384)),
+    Act::Read(32_767, false, Ok(Some((NONE, false)))),
+    Act::Read(32_768, false, Ok(None)),
+    Act::Deliver(0, b"hi\r\n", Ok((3, 32_769, 32_768))),
+    Act::Count(Status {
+        messages: 16_385,
+        uidnext: 32_770,
+        uidvalidity: 7,
+        unseen: 16_385,
+        deleted: 0,
+        size: 65_540,
+    }),
+];
+
+// Whether all is answered as a case tells.
+fn plays(alloc: Global, case: &Case) -> Result<bool, AllocError> {
+    if case.limits.ring == 0 {
+        return Ok(false);
+    }
+    let (uidvalidity, first_uid) = (case.opening.uidvalidity, case.first_uid);
+    let mut mailbox = Mailbox::new(alloc, 3, uidvalidity, first_uid, case.limits)?;
+    fill(alloc, &mut mailbox, case.messages)?;
+    let (mut seat, opening) = seated(&mut mailbox)?;
+    let at = play(alloc, &mut mailbox, &mut seat, case.acts)?;
+    let gone = leaves(&mut mailbox, seat, case.remove);
+    let (count, window) = case.left;
+    let left = gone == Ok(count) && kept(&mailbox) == window;
+    Ok(opening == case.opening && at.is_none() && left)
+}
+
+#[test]
+fn each_call_answers_as_its_table_tells(rt: HostRuntime) -> Result<(), AllocError> {
+    for case in CASES {
+        assert!(rt; plays(rt.alloc(), case)?, "{}", case.name);
+    }
+    Ok(())
+}
+
+const STRANGER: &[Act] = &[
+    Act::NoView,
+    Act::Feed(Err(FeedFault::Stranger)),
+    Act::Read(1, true, Err(MailFault::Stranger)),
+    Act::Store(1, FlagOp::Set(DELETED), Err(MailFault::Stranger)),
+    Act::Expunge(None, Err(MailFault::Stranger)),
+    Act::Lines(b""),
+];
+
+// A seat of another mailbox is refused by one of this number, which keeps all that it had: the seat
+// as it was given back.
+fn refused_by(alloc: Global, number: u8, own: CursorSeat) -> Result<CursorSeat, AllocError> {
+    let mut mailbox = filled(alloc, number, SMALL, 1)?;
+    let mut seat = own;
+    let before = mailbox.status();
+    let at = play(alloc, &mut mailbox, &mut seat, STRANGER)?;
+    let Err((back, fault)) = mailbox.close_cursor(seat, true) else {
+        return Err(AllocError);
+    };
+    let same = mailbox.status() == before && kept(&mailbox) == (0, 1);
+    if at.is_none() && fault == MailFault::Stranger && same {
+        Ok(back)
+    } else {
+        Err(AllocError)
+    }
+}
+
+#[test]
+fn a_seat_of_another_mailbox_is_a_stranger(rt: HostRuntime) -> Result<(), AllocError> {
+    let mut own = filled(rt.alloc(), 0, SMALL, 1)?;
+    let (seat, _opening) = seated(&mut own)?;
+    let back = refused_by(rt.alloc(), 1, seat)?;
+    assert_eq!(rt; leaves(&mut own, back, true), Ok(0));
+    Ok(())
+}
+
+const GROWS: &[Act] = &[
+    Act::StoreEach(1, 8, FlagOp::Insert(SEEN), SEEN),
+    Act::StoreEach(1, 8, FlagOp::Remove(SEEN), NONE),
+    Act::StoreEach(1, 8, FlagOp::Insert(SEEN), SEEN),
+    Act::StoreEach(1, 8, FlagOp::Remove(SEEN), NONE),
+    // 40 changes, of which both are to be shown the last 32.
+    Act::Kept(8, 32),
+    Act::Feed(Ok(32)),
+    Act::Store(1, FlagOp::Set(SEEN), Ok(Some(SEEN))),
+    Act::Kept(9, 32),
+];
+
+const LAPPED: &[Act] = &[
+    Act::Read(1, false, Err(MailFault::Lapped)),
+    Act::Store(1, FlagOp::Set(NONE), Err(MailFault::Lapped)),
+];
+
+// Whether two clients are told what their tables say, of whom the second is shown nothing.
+fn falls_behind(alloc: Global) -> Result<bool, AllocError> {
+    let mut mailbox = filled(alloc, 0, GROWING, 8)?;
+    let (mut seat, _opening) = seated(&mut mailbox)?;
+    let (mut behind, _opening) = seated(&mut mailbox)?;
+    let ahead = play(alloc, &mut mailbox, &mut seat, GROWS)?;
+    let lapped = play(alloc, &mut mailbox, &mut behind, LAPPED)?;
+    let gone = leaves(&mut mailbox, behind, true) == Ok(0);
+    Ok(ahead.is_none() && lapped.is_none() && gone && leaves(&mut mailbox, seat, false) == Ok(0))
+}
+
+#[test]
+fn a_window_grows_for_a_client_that_falls_behind(rt: HostRuntime) -> Result<(), AllocError> {
+    assert!(rt; falls_behind(rt.alloc())?);
+    Ok(())
+}

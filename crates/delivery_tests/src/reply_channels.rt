@@ -1,0 +1,310 @@
+//! A reply channel by its worked case, and shared by eight threads.
+
+ghost use Rattle.std.specs.Prelude.{◌≡◌, ◌+◌, ◌≤◌, [], All, vec_len, vec_capacity};
+ghost use Rattle.std.specs.Mem.{manually_drop_value};
+ghost use Rattle.shard_queue.specs.Reply.{IsSender, IsSenderEnded, IsReceiver};
+
+use crate::parcels::{ITEMS, are_all, is_next, packed};
+use shard_queue::{Entry, Full, ReceiverSeat, ReplyChannel, ReplyNotAll, SenderEnded, SenderSeat};
+use std::alloc::Global;
+use std::mem::ManuallyDrop;
+use std::process::Abort;
+use std::sync::Wait;
+use std::test::Fail;
+use std::thread;
+
+// Puts the numbers from 0, each where there is room.
+fn send_all(rt: &impl Wait, channel: &ReplyChannel<u32>, seat: &mut SenderSeat<u32>)
+    requires { IsSender channel.now seat.old }
+    ensures { IsSender channel.now seat.new }
+{
+    for item in 0..ITEMS {
+        let _ = channel.send_as(rt, seat, item);
+    }
+}
+
+// Ends the seat, as soon as there is room.
+fn end(rt: &impl Wait, channel: &ReplyChannel<u32>, mut seat: SenderSeat<u32>) -> SenderEnded<u32>
+    requires { IsSender channel.now seat }
+    ensures { IsSenderEnded channel.now result }
+{
+    for _ in rt.forever() {
+        match channel.end_as(rt, seat) {
+            Ok(ended) => return ended,
+            Err(back) => seat = back,
+        }
+        thread::yield_now();
+    }
+    unreachable!()
+}
+
+fn work(
+    rt: &impl Wait,
+    channel: &ReplyChannel<u32>,
+    parcel: ManuallyDrop<SenderSeat<u32>>,
+) -> ManuallyDrop<SenderEnded<u32>>
+    requires { IsSender channel.now (manually_drop_value parcel) }
+    ensures { IsSenderEnded channel.now (manually_drop_value result) }
+{
+    let mut seat = ManuallyDrop::into_inner(parcel);
+    send_all(rt, channel, &mut seat);
+    packed(end(rt, channel, seat))
+}
+
+fn pack_all(
+    channel: &ReplyChannel<u32>,
+    mut seats: Vec<SenderSeat<u32>>,
+    mut parcels: Vec<ManuallyDrop<SenderSeat<u32>>>,
+) -> Vec<ManuallyDrop<SenderSeat<u32>>>
+    requires seats { All (IsSender channel.now) seats.items }
+    requires room { (vec_len seats ≤ vec_capacity parcels) × (parcels.items ≡ []) }
+    ensures seats { All (λ s. IsSender channel.now (manually_drop_value s)) result.items }
+    ensures len { vec_len result ≡ vec_len seats }
+{
+    while let Some(seat) = seats.pop() {
+        parcels.push_reserved(packed(seat));
+    }
+    seats.destroy_empty();
+    parcels
+}
+
+fn unpack_all(
+    channel: &ReplyChannel<u32>,
+    mut parcels: Vec<ManuallyDrop<SenderEnded<u32>>>,
+    mut ended: Vec<SenderEnded<u32>>,
+) -> Vec<SenderEnded<u32>>
+    requires parcels { All (λ e. IsSenderEnded channel.now (manually_drop_value e)) parcels.items }
+    requires room { (vec_len parcels ≤ vec_capacity ended) × (ended.items ≡ []) }
+    ensures { All (IsSenderEnded channel.now) result.items }
+{
+    while let Some(parcel) = parcels.pop() {
+        ended.push_reserved(ManuallyDrop::into_inner(parcel));
+    }
+    ended
+}
+
+// Takes so many entries, and says whether each producer's items came in order, each before its end.
+fn receive_all(
+    rt: &impl Wait,
+    channel: &ReplyChannel<u32>,
+    seat: &mut ReceiverSeat<u32>,
+    next: &mut [u32],
+    entries: u32,
+) -> bool
+    requires { IsReceiver channel.now seat.old }
+    ensures { IsReceiver channel.now seat.new }
+{
+    let mut in_order = true;
+    for _ in 0..entries {
+        let is_right = match channel.recv_as(rt, seat) {
+            Entry::Item(p, item) => is_next(next, p, item),
+            Entry::End(p) => is_next(next, p, ITEMS),
+        };
+        in_order = in_order && is_right;
+    }
+    in_order
+}
+
+// The last of the seats.
+fn last_seat(
+    rt: &impl Abort,
+    channel: &ReplyChannel<u32>,
+    seats: &mut Vec<SenderSeat<u32>>,
+) -> SenderSeat<u32>
+    requires { All (IsSender channel.now) seats.old.items }
+    ensures seat { IsSender channel.now result }
+    ensures others { All (IsSender channel.now) seats.new.items }
+    ensures len { vec_len seats.old ≡ vec_len seats.new + 1 }
+    ensures capacity { vec_capacity seats.new ≡ vec_capacity seats.old }
+{
+    seats.pop().expect(rt, "a seat")
+}
+
+// The item, where it had no room.
+fn sent(
+    rt: &impl Wait,
+    channel: &ReplyChannel<u32>,
+    seat: &mut SenderSeat<u32>,
+    item: u32,
+) -> Option<u32>
+    requires { IsSender channel.now seat.old }
+    ensures { IsSender channel.now seat.new }
+{
+    match channel.send_as(rt, seat, item) {
+        Ok(()) => None,
+        Err(Full(back)) => Some(back),
+    }
+}
+
+// Whose entry is received, and its item, which an end has not.
+fn received(
+    rt: &impl Wait,
+    channel: &ReplyChannel<u32>,
+    seat: &mut ReceiverSeat<u32>,
+) -> (u8, Option<u32>)
+    requires { IsReceiver channel.now seat.old }
+    ensures { IsReceiver channel.now seat.new }
+{
+    match channel.recv_as(rt, seat) {
+        Entry::Item(p, item) => (p, Some(item)),
+        Entry::End(p) => (p, None),
+    }
+}
+
+// The seat, whose end has no room.
+fn handed_back<R: Wait + Abort>(
+    rt: &R,
+    channel: &ReplyChannel<u32>,
+    seat: SenderSeat<u32>,
+) -> SenderSeat<u32>
+    requires { IsSender channel.now seat }
+    ensures { IsSender channel.now result }
+{
+    match channel.end_as(rt, seat) {
+        Err(seat) => seat,
+        Ok(ended) => {
+            packed(ended);
+            panic!(rt; "there was room")
+        }
+    }
+}
+
+// What is left of the seat, whose end has room.
+fn at_end<R: Wait + Abort>(
+    rt: &R,
+    channel: &ReplyChannel<u32>,
+    seat: SenderSeat<u32>,
+) -> SenderEnded<u32>
+    requires { IsSender channel.now seat }
+    ensures { IsSenderEnded channel.now result }
+{
+    match channel.end_as(rt, seat) {
+        Ok(ended) => ended,
+        Err(seat) => {
+            packed(seat);
+            panic!(rt; "there was no room")
+        }
+    }
+}
+
+// All that was given to a channel that can't be closed yet.
+fn not_yet(
+    rt: &impl Abort,
+    channel: ReplyChannel<u32>,
+    ended: Vec<SenderEnded<u32>>,
+    seat: ReceiverSeat<u32>,
+) -> ReplyNotAll<u32>
+    requires seat { IsReceiver channel seat }
+    requires ended { All (IsSenderEnded channel) ended.items }
+    ensures { (result.channel ≡ channel) × (result.ended ≡ ended) × (result.seat ≡ seat) }
+{
+    match channel.close(ended, seat) {
+        Err(all) => all,
+        Ok(_) => panic!(rt; "it was closed"),
+    }
+}
+
+// Whether the channel could be closed.
+fn closes(
+    alloc: Global,
+    channel: ReplyChannel<u32>,
+    ended: Vec<SenderEnded<u32>>,
+    seat: ReceiverSeat<u32>,
+) -> bool
+    requires seat { IsReceiver channel seat }
+    requires ended { All (IsSenderEnded channel) ended.items }
+{
+    match channel.close(ended, seat) {
+        Ok(_) => true,
+        Err(
+            ReplyNotAll {
+                channel,
+                ended,
+                seat,
+            },
+        ) => {
+            channel.abandon(Vec::new(alloc), ended, seat);
+            false
+        }
+    }
+}
+
+#[test]
+fn a_full_channel_hands_back(rt: HostRuntime) {
+    let alloc = rt.alloc();
+    let mut ended = Vec::with_capacity(alloc, 1).expect(&rt, "memory");
+    let (channel, mut seats, mut receiver) = ReplyChannel::<u32>::new(alloc, 2, 2).expect(
+        &rt, "memory",
+    );
+    let mut second = last_seat(&rt, &channel, &mut seats);
+    let mut first = last_seat(&rt, &channel, &mut seats);
+    let numbers = [first.number(), second.number()];
+    let one = sent(&rt, &channel, &mut first, 7);
+    let two = sent(&rt, &channel, &mut second, 8);
+    let three = sent(&rt, &channel, &mut first, 9);
+    let first = handed_back(&rt, &channel, first);
+    let back = first.number();
+    let one_received = received(&rt, &channel, &mut receiver);
+    let first = at_end(&rt, &channel, first);
+    let over = first.number();
+    let two_received = received(&rt, &channel, &mut receiver);
+    let end_received = received(&rt, &channel, &mut receiver);
+    ended.push_reserved(first);
+    seats.push_reserved(second);
+    channel.abandon(seats, ended, receiver);
+    assert_eq!(rt; (numbers, back, over), ([0, 1], 0, 0));
+    assert_eq!(rt; [one, two, three], [None, None, Some(9)]);
+    assert_eq!(rt;
+        [one_received, two_received, end_received],
+        [(0, Some(7)), (1, Some(8)), (0, None)]
+    );
+}
+
+#[test]
+fn a_channel_is_closed_after_all_ends(rt: HostRuntime) {
+    let alloc = rt.alloc();
+    let mut ended = Vec::with_capacity(alloc, 2).expect(&rt, "memory");
+    let (channel, mut seats, mut receiver) = ReplyChannel::<u32>::new(alloc, 2, 2).expect(
+        &rt, "memory",
+    );
+    let second = last_seat(&rt, &channel, &mut seats);
+    let first = last_seat(&rt, &channel, &mut seats);
+    seats.destroy_empty();
+    ended.push_reserved(at_end(&rt, &channel, first));
+    let first_end = received(&rt, &channel, &mut receiver);
+    let ReplyNotAll {
+        channel,
+        mut ended,
+        seat,
+    } = not_yet(&rt, channel, ended, receiver);
+    ended.push_reserved(at_end(&rt, &channel, second));
+    let ReplyNotAll {
+        channel,
+        ended,
+        mut seat,
+    } = not_yet(&rt, channel, ended, seat);
+    let second_end = received(&rt, &channel, &mut seat);
+    let closed = closes(alloc, channel, ended, seat);
+    assert_eq!(rt; (first_end, second_end), ((0, None), (1, None)));
+    assert!(rt; closed);
+}
+
+#[test]
+fn eight_threads_share_a_channel(rt: HostRuntime) -> Result<(), Fail> {
+    let alloc = rt.alloc();
+    let parcels = Vec::with_capacity(alloc, 8)?;
+    let room = Vec::with_capacity(alloc, 8).expect(&rt, "memory");
+    let (channel, seats, mut seat) = ReplyChannel::<u32>::new(alloc, 1024, 8).expect(&rt, "memory");
+    let parcels = pack_all(&channel, seats, parcels);
+    let parcels = thread::map_vec(&rt, parcels, &|parcel| work(&rt, &channel, parcel)).expect(
+        &rt, "memory",
+    );
+    let ended = unpack_all(&channel, parcels, room);
+    let mut next = [0; 8];
+    let in_order = receive_all(&rt, &channel, &mut seat, &mut next, 408);
+    let closed = closes(alloc, channel, ended, seat);
+    assert!(rt; in_order, "in order");
+    assert!(rt; are_all(&next), "all of them");
+    assert!(rt; closed);
+    Ok(())
+}

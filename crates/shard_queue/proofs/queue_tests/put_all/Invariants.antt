@@ -1,5 +1,0 @@
-use Rattle.shard_queue.specs.Seats.{IsProducer}
-use Rattle.shard_queue.proofs.queue_tests.put_all.Given as goal
-
-abbrev pub invariant-loop-item : goal.invariant-loop-item
-invariant-loop-item g l = IsProducer l.queue l.seat

@@ -1,5 +1,0 @@
-use Rattle.shard_queue.specs.Seats.{IsConsumer}
-use Rattle.shard_queue.proofs.queue_tests.take_all.Given as goal
-
-abbrev pub invariant-loop : goal.invariant-loop
-invariant-loop g l = IsConsumer l.queue l.seat
