@@ -155,38 +155,3 @@ impl House {
         Ok(())
     }
 }
-
-#[cfg(test)]
-mod tests {
-    use super::*;
-
-    #[test]
-    fn each_change_is_printed(rt: HostRuntime) -> Result<(), AllocError> {
-        let none = Flags {
-            answered: false,
-            flagged: false,
-            deleted: false,
-            seen: false,
-            draft: false,
-        };
-        let some = Flags {
-            answered: false,
-            flagged: true,
-            deleted: false,
-            seen: true,
-            draft: false,
-        };
-        let mut out = Vec::new(rt.alloc());
-        print_tail(
-            b"alice",
-            7,
-            &[Change::Add(1), Change::Flags(1, some)],
-            &[Change::Flags(2, none), Change::Gone(1)],
-            &mut out,
-        )?;
-        let wanted =
-            b"T alice add 1\nT alice flags 1 (\\Flagged \\Seen)\nT alice flags 2 ()\nT alice gone 1\nT alice total 11\n";
-        assert_eq!(rt; out.as_slice(), wanted.as_slice());
-        Ok(())
-    }
-}
