@@ -1,4 +1,4 @@
-use Rattle.std.proofs.Common.{◌≡◌, ℕ, codes, decimal, List, ◌++◌, refl, ap, ◌∙◌, append_assoc}
+use Rattle.std.proofs.Common.{◌≡◌, ℕ, codes, decimal, List, ◌++◌, ap, ◌∙◌, append_assoc}
 use Rattle.cursor_set.specs.Lines.{flag_words, spaced}
 use Rattle.session_tests.proofs.shelf.append_fetch.Goals as goal
 

@@ -1,5 +1,4 @@
-use Rattle.std.proofs.Common.{◌≡◌, ◌++◌, [], ◌∷◌, true, refl, append-nil, arith}
-use Rattle.change_ring.specs.Log.{shown}
+use Rattle.std.proofs.Common.{◌≡◌, ◌++◌, [], ◌∷◌, refl, append-nil, arith}
 use Rattle.cursor_set.specs.Lines.{line}
 use Rattle.session_tests.proofs.shelf.Shelf.show.Goals as goal
 
