@@ -32,10 +32,12 @@ pub fn house_of(alloc: Global, room: usize, ring: usize) -> Result<House, Config
     requires least { 16 ≤ ring }
     requires most { ring ≤ 256 }
 {
-    let mut config = Config::new(alloc, &[b"alice".as_slice()])?;
-    config.depth = 128;
-    config.ring = ring;
-    config.messages = room;
+    let config = Config {
+        depth: 128,
+        ring,
+        messages: room,
+        ..Config::new(alloc, &[b"alice".as_slice()])?
+    };
     House::new(alloc, &config)
 }
 
