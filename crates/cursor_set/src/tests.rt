@@ -1,14 +1,16 @@
-//! What the clients of a few cursors are shown. Helpers give what is compared, and the tests compare
-//! it.
+//! What the clients of a few cursors are shown, as a table: each line is some changes with what a client is told of them. What may be
+//! shown is looked at as the tests run, since it takes long to prove of each list.
 
-ghost use Rattle.std.specs.Prelude.{◌≡◌, ◌<◌, ◌≤◌, length, map, vec_len, All, Contains, Some, IfOk, IsTrue};
+ghost use Rattle.std.specs.Prelude.{◌≡◌, ◌==◌, ◌<◌, ◌≤◌, [], ◌∷◌, ◌++◌, length, Some, None, IfOk, IsTrue, OnOk};
+ghost use Rattle.std.specs.List.{position};
 ghost use Rattle.std.specs.List.Sorted.{IsStrictlyIncreasing};
 ghost use Rattle.change_ring.specs.declared.change.Change.TheVariants.{Gone};
+ghost use Rattle.change_ring.specs.Log.{FitsView, Names, added, shown, without};
 ghost use Rattle.change_ring.specs.Window.{total, changes_from};
 ghost use Rattle.cursor_set.specs.Cursors.{Open, held};
 ghost use Rattle.cursor_set.specs.Legal.{IsLegalOn};
 
-use crate::set::{CursorSeat, CursorSet, FeedFault, Stranger};
+use crate::set::{CursorSeat, CursorSet, FeedFault};
 use change_ring::{Change, ChangeRing, Flags};
 use std::alloc::{AllocError, Global};
 use std::fmt::Write;
@@ -21,13 +23,116 @@ const NONE: Flags = Flags {
     draft: false,
 };
 
-const SEEN: Flags = Flags {
-    answered: false,
-    flagged: false,
-    deleted: false,
-    seen: true,
-    draft: false,
+const SEEN: Flags = Flags { seen: true, ..NONE };
+
+const DELETED: Flags = Flags {
+    deleted: true,
+    ..NONE
 };
+
+const ALL: Flags = Flags {
+    answered: true,
+    flagged: true,
+    deleted: true,
+    seen: true,
+    draft: true,
+};
+
+// Whether UIDs rise.
+fn rise(uids: &[u32]) -> bool
+    ensures { IsTrue result → IsStrictlyIncreasing uids.now }
+{
+    for i in 1..uids.len() {
+        if uids[i] <= uids[i - 1] {
+            return false;
+        }
+    }
+    true
+}
+
+// Notes the UID of a message that is added.
+fn note(all: &mut Vec<u32>, change: Change) -> Result<(), AllocError>
+    ensures { OnOk result (all.new.items ≡ all.old.items ++ added (change ∷ [])) }
+{
+    let Change::Add(uid) = change else {
+        return Ok(());
+    };
+    let Ok(()) = all.push(uid) else {
+        return Err(AllocError);
+    };
+    Ok(())
+}
+
+// These UIDs, and then those of the messages that are added.
+fn all_uids(alloc: Global, uids: &[u32], changes: &[Change]) -> Result<Vec<u32>, AllocError>
+    ensures { IfOk result (λ all. all.items ≡ uids.now ++ added changes.now) }
+{
+    let mut all = Vec::from_slice(alloc, uids)?;
+    for change in changes {
+        let Ok(()) = note(&mut all, *change) else {
+            return Err(AllocError);
+        };
+    }
+    Ok(all)
+}
+
+// Where a message stands, if it is there.
+fn place_of(view: &[u32], uid: u32) -> Option<usize>
+    ensures { result ≡ position (λ other. other == uid) view.now }
+{
+    view.iter().position(|other| *other == uid)
+}
+
+// Whether a message is there, which is then counted no more.
+fn drops(view: &mut Vec<u32>, uid: u32) -> bool
+    ensures { IsTrue result → Names view.old.items (Gone uid) × (view.new.items ≡ without uid view.old.items) }
+{
+    let Some(place) = place_of(view.as_slice(), uid) else {
+        return false;
+    };
+    view.remove(place);
+    true
+}
+
+// Whether a change is of a message that is there, if it isn't added. The client counts as it says.
+fn shows(view: &mut Vec<u32>, change: Change) -> Result<bool, AllocError>
+    ensures { IfOk result (λ may. IsTrue may → Names view.old.items change × (view.new.items ≡ shown view.old.items change)) }
+{
+    match change {
+        Change::Add(uid) => {
+            let Ok(()) = view.push(uid) else {
+                return Err(AllocError);
+            };
+            Ok(true)
+        }
+        Change::Gone(uid) => Ok(drops(view, uid)),
+        Change::Flags(uid, _flags) => Ok(view.contains(&uid)),
+    }
+}
+
+// Whether each change is of a message that is there.
+fn fits(alloc: Global, uids: &[u32], changes: &[Change]) -> Result<bool, AllocError>
+    ensures { IfOk result (λ may. IsTrue may → FitsView uids.now changes.now) }
+{
+    let mut view = Vec::from_slice(alloc, uids)?;
+    for change in changes {
+        if !shows(&mut view, *change)? {
+            return Ok(false);
+        }
+    }
+    Ok(true)
+}
+
+// Whether these changes may be shown to a client that counts these UIDs.
+fn may_be_shown(alloc: Global, uids: &[u32], changes: &[Change]) -> Result<bool, AllocError>
+    ensures { IfOk result (λ may. IsTrue may → IsLegalOn uids.now changes.now) }
+{
+    let all = all_uids(alloc, uids, changes)?;
+    if !rise(all.as_slice()) {
+        return Ok(false);
+    }
+    fits(alloc, uids, changes)
+}
 
 // A ring of these changes alone.
 fn ring_of(alloc: Global, room: usize, changes: &[Change]) -> Result<ChangeRing, AllocError>
@@ -108,108 +213,147 @@ fn fed(
     })
 }
 
-// What a client that counts these UIDs is shown of these changes.
-fn shown(
-    alloc: Global,
-    uids: &[u32],
-    changes: &[Change],
-    limit: usize,
-) -> Result<Vec<u8>, AllocError>
-    requires few { length changes.now ≤ 16 }
-    requires legal { IsLegalOn uids.now changes.now }
-{
-    Ok(fed(alloc, 16, uids, changes, &[limit])?.text)
+// Changes in a ring with room for so many, the UIDs that a client counts before, and what it is told by feeds of at most so many
+// changes each: how many each of them shows, the lines, and the UIDs that it counts then.
+#[derive(Clone, Copy)]
+struct Case<'a> {
+    room: usize,
+    uids: &'a [u32],
+    changes: &'a [Change],
+    limits: &'a [usize],
+    counts: &'a [usize],
+    text: &'a [u8],
+    view: &'a [u32],
 }
 
-#[test]
-fn added_messages_are_counted(rt: HostRuntime) -> Result<(), AllocError> {
-    let text = shown(rt.alloc(), &[], &[Change::Add(1), Change::Add(2)], 10)?;
-    assert_eq!(rt; &text[..], b"* 1 EXISTS\r\n* 2 EXISTS\r\n".as_slice());
-    Ok(())
-}
-
-#[test]
-fn flags_name_the_place_and_the_uid(rt: HostRuntime) -> Result<(), AllocError> {
-    let deleted = Flags {
-        deleted: true,
-        ..NONE
-    };
-    let text = shown(rt.alloc(), &[1, 2, 3], &[Change::Flags(1, deleted)], 10)?;
-    assert_eq!(rt;
-        &text[..],
-        b"* 1 FETCH (UID 1 FLAGS (\\Deleted))\r\n".as_slice()
-    );
-    Ok(())
-}
-
-#[test]
-fn flags_stand_in_one_order(rt: HostRuntime) -> Result<(), AllocError> {
-    let all = Flags {
-        answered: true,
-        flagged: true,
-        deleted: true,
-        seen: true,
-        draft: true,
-    };
-    let text = shown(
-        rt.alloc(),
-        &[7],
-        &[Change::Flags(7, all), Change::Flags(7, NONE)],
-        10,
-    )?;
-    assert_eq!(rt;
-        &text[..],
-        b"* 1 FETCH (UID 7 FLAGS (\\Answered \\Flagged \\Deleted \\Seen \\Draft))\r\n* 1 FETCH (UID 7 FLAGS ())\r\n".as_slice()
-    );
-    Ok(())
-}
-
-#[test]
-fn each_removal_is_counted_after_the_one_before(rt: HostRuntime) -> Result<(), AllocError> {
-    let gone = [Change::Gone(1), Change::Gone(2)];
-    let text = shown(rt.alloc(), &[1, 2, 3], &gone, 10)?;
-    assert_eq!(rt; &text[..], b"* 1 EXPUNGE\r\n* 1 EXPUNGE\r\n".as_slice());
-    let text = shown(rt.alloc(), &[1, 2, 3], &gone, 1)?;
-    assert_eq!(rt; &text[..], b"* 1 EXPUNGE\r\n".as_slice());
-    Ok(())
-}
-
-// A feed where the next change may have been overwritten, if it was.
-fn feed_lapped(
-    set: &mut CursorSet,
-    ring: &ChangeRing,
-    seat: &mut CursorSeat,
-    out: &mut Vec<u8>,
-) -> Option<Result<usize, FeedFault>> {
-    if ring.base() <= seat.at() {
-        return None;
+// Whether a client is told what a case says.
+fn goes(alloc: Global, case: Case<'_>) -> Result<bool, AllocError> {
+    if case.room == 0 || case.changes.len() > case.room {
+        return Ok(false);
     }
-    Some(set.feed(ring, seat, 64, out))
-}
-
-#[test]
-fn an_overwritten_change_laps(rt: HostRuntime) -> Result<(), AllocError> {
-    let mut ring = ChangeRing::new(rt.alloc(), 16, 16)?;
-    let mut set = CursorSet::new(rt.alloc(), 3);
-    let Ok(mut seat) = set.enter(&[], 0) else {
-        return Err(AllocError);
-    };
-    for uid in 1..18 {
-        let _ = ring.push(Change::Add(uid), 0);
+    if !may_be_shown(alloc, case.uids, case.changes)? {
+        return Ok(false);
     }
-    let mut out = Vec::new(rt.alloc());
-    assert_eq!(rt; out.extend_from_slice(b"before"), Ok(()));
-    let fed = feed_lapped(&mut set, &ring, &mut seat, &mut out);
-    assert_eq!(rt; fed, Some(Err(FeedFault::Lapped)));
-    assert_eq!(rt; &out[..], b"before".as_slice());
-    assert_eq!(rt; seat.at(), 0);
-    assert_eq!(rt; set.view(&seat).ok(), Some(&[][..]));
-    Ok(())
+    let told = fed(alloc, case.room, case.uids, case.changes, case.limits)?;
+    Ok(
+        &told.counts[..] == case.counts
+            && &told.text[..] == case.text
+            && &told.view[..] == case.view,
+    )
 }
 
-#[test]
-fn a_full_ring_is_shown_whole(rt: HostRuntime) -> Result<(), AllocError> {
-    let added = [
+const FIVE: Case<'static> = Case {
+    room: 16,
+    uids: &[],
+    changes: &[
+        Change::Add(4),
+        Change::Add(9),
+        Change::Gone(4),
+        Change::Flags(9, SEEN),
+        Change::Gone(9),
+    ],
+    limits: &[3],
+    counts: &[3],
+    text: b"* 1 EXISTS\r\n* 2 EXISTS\r\n* 1 EXPUNGE\r\n",
+    view: &[9],
+};
+
+const TWO_GONE: Case<'static> = Case {
+    room: 16,
+    uids: &[1, 2, 3],
+    changes: &[Change::Gone(1), Change::Gone(2)],
+    limits: &[10],
+    counts: &[2],
+    text: b"* 1 EXPUNGE\r\n* 1 EXPUNGE\r\n",
+    view: &[3],
+};
+
+const CASES: &[(&str, Case<'static>)] = &[
+    (
+        "added messages are counted",
+        Case {
+            room: 16,
+            uids: &[],
+            changes: &[Change::Add(1), Change::Add(2)],
+            limits: &[10],
+            counts: &[2],
+            text: b"* 1 EXISTS\r\n* 2 EXISTS\r\n",
+            view: &[1, 2],
+        },
+    ),
+    (
+        "flags name the place and the UID",
+        Case {
+            room: 16,
+            uids: &[1, 2, 3],
+            changes: &[Change::Flags(1, DELETED)],
+            limits: &[10],
+            counts: &[1],
+            text: b"* 1 FETCH (UID 1 FLAGS (\\Deleted))\r\n",
+            view: &[1, 2, 3],
+        },
+    ),
+    (
+        "flags stand in one order",
+        Case {
+            room: 16,
+            uids: &[7],
+            changes: &[Change::Flags(7, ALL), Change::Flags(7, NONE)],
+            limits: &[10],
+            counts: &[2],
+            text: b"* 1 FETCH (UID 7 FLAGS (\\Answered \\Flagged \\Deleted \\Seen \\Draft))\r\n* 1 FETCH (UID 7 FLAGS ())\r\n",
+            view: &[7],
+        },
+    ),
+    ("each removal is counted after the one before", TWO_GONE),
+    (
+        "the first of two removals alone",
+        Case {
+            limits: &[1],
+            counts: &[1],
+            text: b"* 1 EXPUNGE\r\n",
+            view: &[2, 3],
+            ..TWO_GONE
+        },
+    ),
+    ("a full ring is shown whole", FULL),
+    ("a feed ends where it may show no more", FIVE),
+    (
+        "a feed goes on where the one before ended",
+        Case {
+            limits: &[3, 64, 64],
+            counts: &[3, 2, 0],
+            text: b"* 1 EXISTS\r\n* 2 EXISTS\r\n* 1 EXPUNGE\r\n* 1 FETCH (UID 9 FLAGS (\\Seen))\r\n* 1 EXPUNGE\r\n",
+            view: &[],
+            ..FIVE
+        },
+    ),
+    (
+        "removals in any order among others",
+        Case {
+            room: 16,
+            uids: &[1, 2, 3, 4, 5],
+            changes: &[
+                Change::Gone(2),
+                Change::Gone(4),
+                Change::Flags(5, NONE),
+                Change::Gone(1),
+                Change::Add(9),
+                Change::Flags(3, NONE),
+                Change::Gone(9),
+            ],
+            limits: &[64],
+            counts: &[7],
+            text: b"* 2 EXPUNGE\r\n* 3 EXPUNGE\r\n* 3 FETCH (UID 5 FLAGS ())\r\n* 1 EXPUNGE\r\n* 3 EXISTS\r\n* 1 FETCH (UID 3 FLAGS ())\r\n* 3 EXPUNGE\r\n",
+            view: &[3, 5],
+        },
+    ),
+];
+
+const FULL: Case<'static> = Case {
+    room: 16,
+    uids: &[],
+    changes: &[
         Change::Add(1),
         Change::Add(2),
         Change::Add(3),
@@ -226,88 +370,35 @@ fn a_full_ring_is_shown_whole(rt: HostRuntime) -> Result<(), AllocError> {
         Change::Add(14),
         Change::Add(15),
         Change::Add(16),
-    ];
-    let all = fed(rt.alloc(), 16, &[], &added, &[64])?;
-    assert_eq!(rt; &all.counts[..], &[16][..]);
-    assert_eq!(rt; all.view.len(), 16);
-    Ok(())
-}
+    ],
+    limits: &[64],
+    counts: &[16],
+    text: b"* 1 EXISTS\r\n* 2 EXISTS\r\n* 3 EXISTS\r\n* 4 EXISTS\r\n* 5 EXISTS\r\n* 6 EXISTS\r\n* 7 EXISTS\r\n* 8 EXISTS\r\n* 9 EXISTS\r\n* 10 EXISTS\r\n* 11 EXISTS\r\n* 12 EXISTS\r\n* 13 EXISTS\r\n* 14 EXISTS\r\n* 15 EXISTS\r\n* 16 EXISTS\r\n",
+    view: &[1, 2, 3, 4, 5, 6, 7, 8, 9, 10, 11, 12, 13, 14, 15, 16],
+};
 
 #[test]
-fn a_feed_goes_on_where_the_one_before_ended(rt: HostRuntime) -> Result<(), AllocError> {
-    let changes = [
-        Change::Add(4),
-        Change::Add(9),
-        Change::Gone(4),
-        Change::Flags(9, SEEN),
-        Change::Gone(9),
-    ];
-    let first = fed(rt.alloc(), 16, &[], &changes, &[3])?;
-    assert_eq!(rt; &first.counts[..], &[3][..]);
-    assert_eq!(rt;
-        &first.text[..],
-        b"* 1 EXISTS\r\n* 2 EXISTS\r\n* 1 EXPUNGE\r\n".as_slice()
-    );
-    assert_eq!(rt; &first.view[..], &[9][..]);
-    let all = fed(rt.alloc(), 16, &[], &changes, &[3, 64, 64])?;
-    assert_eq!(rt; &all.counts[..], &[3, 2, 0][..]);
-    assert_eq!(rt;
-        &all.text[..],
-        b"* 1 EXISTS\r\n* 2 EXISTS\r\n* 1 EXPUNGE\r\n* 1 FETCH (UID 9 FLAGS (\\Seen))\r\n* 1 EXPUNGE\r\n".as_slice()
-    );
-    assert!(rt; all.view.is_empty());
+fn each_client_is_told_what_its_case_says(rt: HostRuntime) -> Result<(), AllocError> {
+    for (name, case) in CASES {
+        assert!(rt; goes(rt.alloc(), *case)?, "{}", *name);
+    }
     Ok(())
 }
 
-#[test]
-fn removals_in_any_order_among_others(rt: HostRuntime) -> Result<(), AllocError> {
-    let changes = [
-        Change::Gone(2),
-        Change::Gone(4),
-        Change::Flags(5, NONE),
-        Change::Gone(1),
-        Change::Add(9),
-        Change::Flags(3, NONE),
-        Change::Gone(9),
-    ];
-    let all = fed(rt.alloc(), 16, &[1, 2, 3, 4, 5], &changes, &[64])?;
-    assert_eq!(rt;
-        &all.text[..],
-        b"* 2 EXPUNGE\r\n* 3 EXPUNGE\r\n* 3 FETCH (UID 5 FLAGS ())\r\n* 1 EXPUNGE\r\n* 3 EXISTS\r\n* 1 FETCH (UID 3 FLAGS ())\r\n* 3 EXPUNGE\r\n".as_slice()
-    );
-    assert_eq!(rt; &all.view[..], &[3, 5][..]);
-    Ok(())
-}
-
-// Whether UIDs rise.
-fn rise(uids: &[u32]) -> bool
-    ensures { IsTrue result → IsStrictlyIncreasing uids.now }
-{
-    for i in 1..uids.len() {
-        if uids[i] <= uids[i - 1] {
-            return false;
-        }
+// So many numbers, each by `step` above the one before.
+fn numbers(alloc: Global, first: u32, step: u32, count: u32) -> Result<Vec<u32>, AllocError> {
+    let mut numbers = Vec::new(alloc);
+    for k in 0..count {
+        let number = first.saturating_add(step.saturating_mul(k));
+        let Ok(()) = numbers.push(number) else {
+            return Err(AllocError);
+        };
     }
-    true
-}
-
-// Whether a client counts all of these.
-fn counts_all(view: &[u32], uids: &[u32]) -> bool
-    ensures { IsTrue result → All (Contains view.now) uids.now }
-{
-    for uid in uids {
-        if !view.contains(uid) {
-            return false;
-        }
-    }
-    true
+    Ok(numbers)
 }
 
 // The removals of these.
-fn removals(alloc: Global, uids: &[u32]) -> Result<Vec<Change>, AllocError>
-    ensures items { IfOk result (λ changes. changes.items ≡ map Gone uids.now) }
-    ensures len { IfOk result (λ changes. vec_len changes ≡ length uids.now) }
-{
+fn removals(alloc: Global, uids: &[u32]) -> Result<Vec<Change>, AllocError> {
     let mut changes = Vec::new(alloc);
     for uid in uids {
         let Ok(()) = changes.push(Change::Gone(*uid)) else {
@@ -317,116 +408,185 @@ fn removals(alloc: Global, uids: &[u32]) -> Result<Vec<Change>, AllocError>
     Ok(changes)
 }
 
-// What a client is shown where these are removed in one run, if it counts them all.
-fn shown_run(alloc: Global, view: &[u32], uids: &[u32]) -> Result<Option<Outcome>, AllocError> {
-    if !rise(view) || !rise(uids) || !counts_all(view, uids) {
-        return Ok(None);
+// A line for the removal at each of these places.
+fn expunges(alloc: Global, places: &[u32]) -> Result<String, AllocError> {
+    let mut lines = String::new(alloc);
+    for place in places {
+        let Ok(()) = write!(lines, "* {} EXPUNGE\r\n", *place) else {
+            return Err(AllocError);
+        };
     }
-    if uids.len() > 1000 {
-        return Ok(None);
-    }
-    let changes = removals(alloc, uids)?;
-    Ok(Some(fed(alloc, 1000, view, &changes, &[1000])?))
+    Ok(lines)
+}
+
+// Whether a client that counts a thousand UIDs is told that every second of them is removed. The UID 2(k + 1) has the place 2(k + 1),
+// less the k that were removed before it.
+fn half_goes(alloc: Global) -> Result<bool, AllocError> {
+    let uids = numbers(alloc, 1, 1, 1000)?;
+    let changes = removals(alloc, &numbers(alloc, 2, 2, 500)?)?;
+    let lines = expunges(alloc, &numbers(alloc, 2, 1, 500)?)?;
+    let kept = numbers(alloc, 1, 2, 500)?;
+    let case = Case {
+        room: 1000,
+        uids: &uids,
+        changes: &changes,
+        limits: &[1000],
+        counts: &[500],
+        text: lines.as_bytes(),
+        view: &kept,
+    };
+    goes(alloc, case)
 }
 
 #[test]
 fn every_second_of_a_thousand_is_removed(rt: HostRuntime) -> Result<(), AllocError> {
-    let (mut view, mut gone, mut kept) = (
-        Vec::new(rt.alloc()),
-        Vec::new(rt.alloc()),
-        Vec::new(rt.alloc()),
-    );
-    let mut lines = String::new(rt.alloc());
-    // The UID 2(k + 1) has the place 2(k + 1), less the k that were removed before it.
-    for k in 0..500_u32 {
-        assert!(rt; view.push(2 * k + 1).is_ok() && view.push(2 * k + 2).is_ok());
-        assert!(rt; kept.push(2 * k + 1).is_ok() && gone.push(2 * k + 2).is_ok());
-        assert!(rt; write!(lines, "* {} EXPUNGE\r\n", k + 2).is_ok());
-    }
-    let shown = shown_run(rt.alloc(), &view, &gone)?;
-    let Some(shown) = shown else {
-        return Err(AllocError);
-    };
-    assert_eq!(rt; &shown.counts[..], &[500][..]);
-    assert_eq!(rt; &shown.text[..], lines.as_bytes());
-    assert_eq!(rt; &shown.view[..], &kept[..]);
+    assert!(rt; half_goes(rt.alloc())?);
     Ok(())
 }
 
-// A feed where the seat is a stranger.
-fn feed_stranger(
+// A feed where the next change may have been overwritten, if it was.
+fn feed_lapped(
     set: &mut CursorSet,
     ring: &ChangeRing,
     seat: &mut CursorSeat,
     out: &mut Vec<u8>,
 ) -> Option<Result<usize, FeedFault>> {
-    if set.view(seat) != Err(Stranger) {
+    if ring.base() <= seat.at() {
         return None;
     }
-    Some(set.feed(ring, seat, 10, out))
+    Some(set.feed(ring, seat, 64, out))
+}
+
+// A ring of which more were added than it has room for.
+fn overwritten(alloc: Global) -> Result<ChangeRing, AllocError> {
+    let mut ring = ChangeRing::new(alloc, 16, 16)?;
+    for uid in 1..18 {
+        let _ = ring.push(Change::Add(uid), 0);
+    }
+    Ok(ring)
+}
+
+fn counts(set: &CursorSet, seat: &CursorSeat, uids: &[u32]) -> bool {
+    match set.view(seat) {
+        Ok(view) => view == uids,
+        Err(_stranger) => false,
+    }
+}
+
+#[test]
+fn an_overwritten_change_laps(rt: HostRuntime) -> Result<(), AllocError> {
+    let ring = overwritten(rt.alloc())?;
+    let mut set = CursorSet::new(rt.alloc(), 3);
+    let mut out = Vec::from_slice(rt.alloc(), b"before")?;
+    let Ok(mut seat) = set.enter(&[], 0) else {
+        return Err(AllocError);
+    };
+    let fed = feed_lapped(&mut set, &ring, &mut seat, &mut out);
+    let counted = counts(&set, &seat, &[]);
+    assert!(rt; fed == Some(Err(FeedFault::Lapped)));
+    assert!(rt; &out[..] == b"before".as_slice());
+    assert!(rt; seat.at() == 0 && counted);
+    Ok(())
+}
+
+// A set of this number with a cursor that stands at 0, and its seat.
+fn entered(alloc: Global, number: u8, uids: &[u32]) -> Result<(CursorSet, CursorSeat), AllocError> {
+    let mut set = CursorSet::new(alloc, number);
+    let Ok(seat) = set.enter(uids, 0) else {
+        return Err(AllocError);
+    };
+    Ok((set, seat))
+}
+
+fn is_stranger(set: &CursorSet, seat: &CursorSeat) -> bool
+    ensures { IsTrue result → held set.now seat.now ≡ None }
+{
+    set.view(seat).is_err()
+}
+
+// Whether a feed says that the seat is a stranger, and shows it nothing.
+fn feeds_none(
+    set: &mut CursorSet,
+    ring: &ChangeRing,
+    seat: &mut CursorSeat,
+    out: &mut Vec<u8>,
+) -> bool {
+    if !is_stranger(set, seat) {
+        return false;
+    }
+    let fed = set.feed(ring, seat, 10, out);
+    fed == Err(FeedFault::Stranger) && out.is_empty() && is_stranger(set, seat)
+}
+
+// A seat that a set refuses as a stranger's, as it was given back.
+fn refused_by(
+    alloc: Global,
+    set: &mut CursorSet,
+    stranger: CursorSeat,
+) -> Result<CursorSeat, AllocError> {
+    let ring = ring_of(alloc, 16, &[Change::Add(5)])?;
+    let mut seat = stranger;
+    let mut out = Vec::new(alloc);
+    if !feeds_none(set, &ring, &mut seat, &mut out) {
+        return Err(AllocError);
+    }
+    let Err(back) = set.close(seat) else {
+        return Err(AllocError);
+    };
+    Ok(back)
 }
 
 #[test]
 fn a_seat_of_another_set_is_a_stranger(rt: HostRuntime) -> Result<(), AllocError> {
-    let ring = ring_of(rt.alloc(), 16, &[Change::Add(5)])?;
-    let mut set = CursorSet::new(rt.alloc(), 3);
-    let mut other = CursorSet::new(rt.alloc(), 4);
-    let (Ok(seat), Ok(mut stranger)) = (set.enter(&[2, 4], 0), other.enter(&[], 0)) else {
+    let (mut set, seat) = entered(rt.alloc(), 3, &[2, 4])?;
+    let (_other, stranger) = entered(rt.alloc(), 4, &[])?;
+    let _back = refused_by(rt.alloc(), &mut set, stranger)?;
+    let counted = counts(&set, &seat, &[2, 4]);
+    assert!(rt; counted && set.close(seat).is_ok());
+    Ok(())
+}
+
+// A seat of a set's second cursor, which counts one UID; its first is closed.
+fn entered_later(alloc: Global) -> Result<(CursorSet, CursorSeat), AllocError> {
+    let (mut set, closed) = entered(alloc, 0, &[])?;
+    if set.close(closed).is_err() || !set.can_open() {
+        return Err(AllocError);
+    }
+    let Ok(seat) = set.enter(&[3], 0) else {
         return Err(AllocError);
     };
-    let mut out = Vec::new(rt.alloc());
-    let fed = feed_stranger(&mut set, &ring, &mut stranger, &mut out);
-    assert_eq!(rt; fed, Some(Err(FeedFault::Stranger)));
-    assert!(rt; out.is_empty());
-    assert_eq!(rt; set.view(&stranger), Err(Stranger));
-    assert!(rt; set.close(stranger).is_err());
-    assert_eq!(rt; set.view(&seat).ok(), Some(&[2, 4][..]));
-    assert!(rt; set.close(seat).is_ok());
-    Ok(())
+    Ok((set, seat))
 }
 
 #[test]
 fn a_later_seat_of_a_set_with_the_same_number_is_a_stranger(
     rt: HostRuntime,
 ) -> Result<(), AllocError> {
-    let ring = ring_of(rt.alloc(), 16, &[Change::Add(5)])?;
-    let mut older = CursorSet::new(rt.alloc(), 0);
-    let mut other = CursorSet::new(rt.alloc(), 0);
-    let (Ok(closed), Ok(seat)) = (older.enter(&[], 0), other.enter(&[2, 4], 0)) else {
-        return Err(AllocError);
-    };
-    assert!(rt; older.close(closed).is_ok());
-    assert!(rt; older.can_open());
-    let Ok(mut second) = older.enter(&[3], 0) else {
-        return Err(AllocError);
-    };
-    let mut out = Vec::new(rt.alloc());
-    assert_eq!(rt; other.view(&second), Err(Stranger));
-    let fed = feed_stranger(&mut other, &ring, &mut second, &mut out);
-    assert_eq!(rt; fed, Some(Err(FeedFault::Stranger)));
-    assert!(rt; out.is_empty());
-    let Err(second) = other.close(second) else {
-        return Err(AllocError);
-    };
-    assert_eq!(rt; other.view(&seat).ok(), Some(&[2, 4][..]));
-    assert_eq!(rt; older.view(&second).ok(), Some(&[3][..]));
-    assert!(rt; older.close(second).is_ok());
-    assert!(rt; other.close(seat).is_ok());
+    let (mut older, second) = entered_later(rt.alloc())?;
+    let (mut other, seat) = entered(rt.alloc(), 0, &[2, 4])?;
+    let second = refused_by(rt.alloc(), &mut other, second)?;
+    let counted = counts(&other, &seat, &[2, 4]) && counts(&older, &second, &[3]);
+    let closed = older.close(second).is_ok() && other.close(seat).is_ok();
+    assert!(rt; counted && closed);
     Ok(())
 }
 
-#[test]
-fn the_least_cursor_is_found(rt: HostRuntime) -> Result<(), AllocError> {
-    let mut set = CursorSet::new(rt.alloc(), 3);
-    assert!(rt; set.can_open());
-    assert_eq!(rt; set.least(0), None);
-    for at in [7, 3, 5] {
+// Cursors that stand at these.
+fn standing(alloc: Global, places: &[u64]) -> CursorSet {
+    let mut set = CursorSet::new(alloc, 3);
+    for at in places {
         if set.can_open() {
-            let _ = set.enter(&[], at);
+            let _ = set.enter(&[], *at);
         }
     }
-    assert_eq!(rt; set.least(0), Some(3));
-    assert_eq!(rt; set.least(4), Some(5));
-    assert_eq!(rt; set.least(8), None);
-    Ok(())
+    set
+}
+
+#[test]
+fn the_least_cursor_is_found(rt: HostRuntime) {
+    let fresh = standing(rt.alloc(), &[]);
+    assert!(rt; fresh.can_open() && fresh.least(0).is_none());
+    let set = standing(rt.alloc(), &[7, 3, 5]);
+    let least = [set.least(0), set.least(4), set.least(8)];
+    assert!(rt; least == [Some(3), Some(5), None]);
 }

@@ -1,0 +1,16 @@
+use Rattle.std.proofs.Common.{◌≡◌, ◌==◌, ℕ, Some, ◌∙◌}
+use Rattle.std.specs.List.{position}
+use Rattle.std.proofs.lemmas.Bool.{eqb-true}
+use Rattle.std.proofs.lemmas.List.Quantifiers.{position-Some}
+use Rattle.cursor_set.proofs.FitLaws.{removed_first}
+use Rattle.cursor_set.proofs.tests.drops.Goals as goal
+
+pub returns : goal.returns
+returns c = λ _.
+    let view = c.args.view.now.items in
+    let uid = c.args.uid in
+    let place = c.in-Some.place in
+    let found : position (λ (other : ℕ). other == uid) view ≡ Some place = cc in
+    let first = position-Some (λ (other : ℕ). other == uid) view place 0 found in
+    let there = position-Some (λ (other : ℕ). other == uid) view place uid found in
+    ((place, there.0, eqb-true _ uid there.1), c.remove.ensures.items ∙ removed_first uid view place first.0 first.1 first.2)
