@@ -5,6 +5,5 @@ pub mod LegalLaws
 pub mod Numbers
 pub mod OpenedLemmas
 pub mod Places
-pub mod FitLaws
 pub mod ShowLaws
 pub mod WindowParts

@@ -8,5 +8,3 @@ pub use set::{CursorSeat, CursorSet, FeedFault, NoMemory, Stranger};
 mod gap;
 mod lines;
 mod set;
-#[cfg(test)]
-mod tests;

@@ -1,6 +1,6 @@
 use Rattle.std.proofs.Common.{drop}
 use Rattle.change_ring.specs.Log.{FitsView}
-use Rattle.cursor_set.proofs.tests.fits.Given as goal
+use Rattle.delivery_tests.proofs.cursors.fits.Given as goal
 
 -- all fits if what is left does
 abbrev pub invariant-loop-change : goal.invariant-loop-change

@@ -10,8 +10,8 @@ ghost use Rattle.change_ring.specs.Window.{total, changes_from};
 ghost use Rattle.cursor_set.specs.Cursors.{Open, held};
 ghost use Rattle.cursor_set.specs.Legal.{IsLegalOn};
 
-use crate::set::{CursorSeat, CursorSet, FeedFault};
 use change_ring::{Change, ChangeRing, Flags};
+use cursor_set::{CursorSeat, CursorSet, FeedFault};
 use std::alloc::{AllocError, Global};
 use std::fmt::Write;
 

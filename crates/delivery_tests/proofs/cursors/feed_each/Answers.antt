@@ -2,7 +2,7 @@ use Rattle.std.proofs.Common.{◌-◌, ◌≤◌, sym, subst, arith}
 use Rattle.change_ring.specs.Window.{total}
 use Rattle.cursor_set.specs.Cursors.{Seat}
 use Rattle.cursor_set.proofs.KnownLaws.{IsKnownTo, known_after}
-use Rattle.cursor_set.proofs.tests.feed_each.Goals as goal
+use Rattle.delivery_tests.proofs.cursors.feed_each.Goals as goal
 
 pub loop-limit-init : goal.loop-limit-init
 loop-limit-init c = record { known = λ o e _. c.requires.known o e }

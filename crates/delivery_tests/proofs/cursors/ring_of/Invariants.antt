@@ -1,5 +1,5 @@
 use Rattle.std.proofs.Common.{◌≡◌, ◌++◌, drop}
-use Rattle.cursor_set.proofs.tests.ring_of.Given as goal
+use Rattle.delivery_tests.proofs.cursors.ring_of.Given as goal
 
 -- what was pushed, and what is left
 abbrev pub invariant-loop-change : goal.invariant-loop-change

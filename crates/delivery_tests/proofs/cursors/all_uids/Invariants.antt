@@ -1,6 +1,6 @@
 use Rattle.std.proofs.Common.{◌≡◌, ◌++◌, drop}
 use Rattle.change_ring.specs.Log.{added}
-use Rattle.cursor_set.proofs.tests.all_uids.Given as goal
+use Rattle.delivery_tests.proofs.cursors.all_uids.Given as goal
 
 -- what was noted, and what is left
 abbrev pub invariant-loop-change : goal.invariant-loop-change

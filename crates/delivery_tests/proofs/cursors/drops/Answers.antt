@@ -2,8 +2,8 @@ use Rattle.std.proofs.Common.{◌≡◌, ◌==◌, ℕ, Some, ◌∙◌}
 use Rattle.std.specs.List.{position}
 use Rattle.std.proofs.lemmas.Bool.{eqb-true}
 use Rattle.std.proofs.lemmas.List.Quantifiers.{position-Some}
-use Rattle.cursor_set.proofs.FitLaws.{removed_first}
-use Rattle.cursor_set.proofs.tests.drops.Goals as goal
+use Rattle.delivery_tests.proofs.FitLaws.{removed_first}
+use Rattle.delivery_tests.proofs.cursors.drops.Goals as goal
 
 pub returns : goal.returns
 returns c = λ _.

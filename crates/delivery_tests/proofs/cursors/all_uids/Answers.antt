@@ -1,6 +1,6 @@
 use Rattle.std.proofs.lemmas.List.{drop_more}
-use Rattle.cursor_set.proofs.FitLaws.{added_after}
-use Rattle.cursor_set.proofs.tests.all_uids.Goals as goal
+use Rattle.delivery_tests.proofs.FitLaws.{added_after}
+use Rattle.delivery_tests.proofs.cursors.all_uids.Goals as goal
 
 pub loop-change-preserved : goal.loop-change-preserved
 loop-change-preserved c =
