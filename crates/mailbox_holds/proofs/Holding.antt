@@ -1,0 +1,211 @@
+-- Each call of a mailbox, as an event of the one that was found under a lock.
+use Rattle.std.proofs.Common.{◌≡◌, ℕ, ◌+◌, ◌-◌, ◌<◌, ◌≤◌, List, [], ◌++◌, length, length-take, length-drop, append-nil, refl, sym, ap, ap₂, ◌∙◌, arith, subst, Result, Ok, Err, Option, Some, None}
+use Rattle.std.specs.Prelude.{◌↔◌, drop, option_map, min, IfOk, IfSome, OnErr, OnOk}
+use Rattle.change_ring.specs.declared.change.Change.{Change}
+use Rattle.change_ring.specs.Log.{view_at}
+use Rattle.change_ring.specs.Logged.{removals}
+use Rattle.change_ring.specs.Window.{Window, changes_from, total}
+use Rattle.cursor_set.specs.Cursors.{Cursors, Open, Seat, Updates, after_showing, held, next_changes}
+use Rattle.cursor_set.specs.Lines.{lines}
+use Rattle.cursor_set.specs.declared.set.FeedFault.{FeedFault}
+use Rattle.cursor_set.specs.declared.set.FeedFault.TheVariants as lapse
+use Rattle.mailbox.specs.declared.clients.MailFault.{MailFault}
+use Rattle.mailbox.specs.declared.clients.MailFault.TheVariants.{Stranger, Lapped, Spent, NoMemory}
+use Rattle.mailbox.specs.Events.{IsCurrent, IsLapped, IsStranger, IsTooMany, KeepsLog, Logs, Moves, in_set}
+use Rattle.mailbox.specs.Mail.{Mail, Message, SameMailbox, remaining, rows}
+use Rattle.mailbox.specs.Stands.{IsKept, Stands, next_of}
+use Rattle.mailbox_holds.specs.Holds.{DoesExpunge, DoesFeed, IsEvent, IsRefused, IsSeated, Refuses, answer_of}
+use Rattle.mailbox_holds.proofs.Seating.{current, seated, seated_on, seats_on}
+
+-- ---- answers
+
+ok_err : {A B : Type 0} {x : A} {f : B} → Ok x ≡ Err f → ⊥
+ok_err e = cc
+
+-- the facts on refusals that each call tells
+pub record Tells {A : Type 0} (r : Result A MailFault) (m : Mail) (seat : Seat) (changes : List Change) (wants : Type 0) : Type 0 where
+  pub stranger : (r ≡ Err Stranger) ↔ IsStranger m seat
+  pub lapsed : (r ≡ Err Lapped) ↔ IsLapped m seat
+  pub spent : (r ≡ Err Spent) ↔ (IsCurrent m seat × IsTooMany m changes)
+  pub memory : r ≡ Err NoMemory → wants
+
+known : {A : Type 0} (r : Result A MailFault) (m : Mail) (seat : Seat) (changes : List Change) (wants : Type 0) (x : A) → Tells r m seat changes wants → r ≡ Ok x → IsStranger m seat → ⊥
+known r m seat changes wants x t e h = ok_err (sym e ∙ t.stranger.1 h)
+
+near : {A : Type 0} (r : Result A MailFault) (m : Mail) (seat : Seat) (changes : List Change) (wants : Type 0) (x : A) → Tells r m seat changes wants → r ≡ Ok x → IsLapped m seat → ⊥
+near r m seat changes wants x t e h = ok_err (sym e ∙ t.lapsed.1 h)
+
+taken : {A : Type 0} (r : Result A MailFault) (m : Mail) (seat : Seat) (changes : List Change) (wants : Type 0) (x : A) → Tells r m seat changes wants → r ≡ Ok x → IsCurrent m seat
+taken r m seat changes wants x t e = current m seat (known r m seat changes wants x t e) (near r m seat changes wants x t e)
+
+fits : {A : Type 0} (r : Result A MailFault) (m : Mail) (seat : Seat) (changes : List Change) (wants : Type 0) (x : A) → Tells r m seat changes wants → r ≡ Ok x → IsTooMany m changes → ⊥
+fits r m seat changes wants x t e h = ok_err (sym e ∙ t.spent.1 (taken r m seat changes wants x t e, h))
+
+no_memory_stranger : {A : Type 0} {r : Result A MailFault} → r ≡ Err NoMemory → r ≡ Err Stranger → ⊥
+no_memory_stranger e f = let g = sym e ∙ f in cc
+
+no_memory_lapped : {A : Type 0} {r : Result A MailFault} → r ≡ Err NoMemory → r ≡ Err Lapped → ⊥
+no_memory_lapped e f = let g = sym e ∙ f in cc
+
+no_memory_spent : {A : Type 0} {r : Result A MailFault} → r ≡ Err NoMemory → r ≡ Err Spent → ⊥
+no_memory_spent e f = let g = sym e ∙ f in cc
+
+why : {A : Type 0} (r : Result A MailFault) (m : Mail) (seat : Seat) (changes : List Change) (wants : Type 0) (fault : MailFault) → Tells r m seat changes wants → r ≡ Err fault → Refuses fault m seat (IsTooMany m changes) wants
+why r m seat changes wants Stranger t e = t.stranger.0 e
+why r m seat changes wants Lapped t e = t.lapsed.0 e
+why r m seat changes wants Spent t e = t.spent.0 e
+why r m seat changes wants NoMemory t e =
+    let here : IsCurrent m seat = current m seat (λ h. no_memory_stranger e (t.stranger.1 h)) (λ h. no_memory_lapped e (t.lapsed.1 h)) in
+    (here, (λ h. no_memory_spent e (t.spent.1 (here, h))), t.memory e)
+
+refused : {A : Type 0} (r : Result A MailFault) (m n : Mail) (seat : Seat) (changes : List Change) (wants : Type 0) (fault : MailFault) → IsKept m → Tells r m seat changes wants → r ≡ Err fault → n ≡ m
+    → IsRefused m seat (IsTooMany m changes) wants fault n
+refused r m n seat changes wants fault kept t e still = record { kept = kept; same = still; why = why r m seat changes wants fault t e }
+
+-- ---- what is the same
+
+same_mailbox : (m n : Mail) → n.number ≡ m.number → n.uidvalidity ≡ m.uidvalidity → n.first_uid ≡ m.first_uid → n.limit ≡ m.limit → SameMailbox m n
+same_mailbox m n a b c d = record { number = a; uidvalidity = b; first_uid = c; limit = d }
+
+-- messages, window and cursors may have changed, and the log went on
+event : (m n : Mail) (changes : List Change) → IsKept m → IsKept n → Logs m n changes → n ≡ record m { messages = n.messages; window = n.window; cursors = n.cursors } → IsEvent m n changes
+event m n changes before after logs rest = record {
+  found_kept = before;
+  left_kept = after;
+  logs = logs;
+  same = same_mailbox m n (ap (λ (z : Mail). z.number) rest) (ap (λ (z : Mail). z.uidvalidity) rest) (ap (λ (z : Mail). z.first_uid) rest) (ap (λ (z : Mail). z.limit) rest);
+  accepted = ap (λ (z : Mail). z.accepted) rest;
+}
+
+-- the messages and the window alone changed
+with_cursors : (m n : Mail) → n ≡ record m { messages = n.messages; window = n.window } → n ≡ record m { messages = n.messages; window = n.window; cursors = n.cursors }
+with_cursors m n rest = rest ∙ ap (λ (s : Cursors). let z : Mail = record m { messages = n.messages; window = n.window; cursors = s } in z) (sym (ap (λ (z : Mail). z.cursors) rest))
+
+-- the cursors alone changed
+only_cursors : (m n : Mail) → n ≡ record m { cursors = n.cursors } → n ≡ record m { messages = n.messages; window = n.window; cursors = n.cursors }
+only_cursors m n rest = rest ∙ ap₂ (λ (ms : List Message) (w : Window). let z : Mail = record m { messages = ms; window = w; cursors = n.cursors } in z) (sym (ap (λ (z : Mail). z.messages) rest)) (sym (ap (λ (z : Mail). z.window) rest))
+
+logs_nothing : (m n : Mail) → KeepsLog m n → Logs m n []
+logs_nothing m n keeps log s = subst (Stands n) (sym (append-nil log)) (keeps log s)
+
+-- ---- the calls
+
+same_open : {a b : Open} → Some a ≡ Some b → a ≡ b
+same_open e = cc
+
+on_some : (P : Open → Type 0) (x : Option Open) (o : Open) → x ≡ Some o → IfSome x P → P o
+on_some P (Some y) o e h = subst P (same_open e) h
+on_some P None o e h = cc
+
+back_stranger : (r : Result ℕ FeedFault) → answer_of r ≡ Err Stranger → r ≡ Err lapse.Stranger
+back_stranger (Ok n) e = cc
+back_stranger (Err lapse.Stranger) e = refl
+back_stranger (Err lapse.Lapped) e = cc
+back_stranger (Err lapse.NoMemory) e = cc
+
+-- as many were shown as the call answers
+fed_length : (w : Window) (at n limit : ℕ) → w.base ≤ at → n ≡ min limit (total w - at) → length (next_changes w at n) ≡ n
+fed_length w at n limit low count = omega (arith, length-take n (changes_from at w), length-drop (at - w.base) w.changes, count, low)
+
+pub feeds : (m n : Mail) (seat next : Seat) (limit : ℕ) (before after : List ℕ) (r : Result ℕ FeedFault) → IsKept m → IsKept n → (r ≡ Err lapse.Stranger) ↔ IsStranger m seat → (r ≡ Err lapse.Lapped) ↔ IsLapped m seat
+    → (r ≡ Err lapse.NoMemory → 0 < min limit (total m.window - seat.at)) → OnErr r ((n ≡ m) × (next ≡ seat) × (after ≡ before)) → IfOk r (λ k. k ≡ min limit (total m.window - seat.at)) → IfOk r (λ k. next ≡ record seat { at = seat.at + k })
+    → KeepsLog m n → n ≡ record m { cursors = n.cursors }
+    → IfOk r (λ k. Updates m.cursors n.cursors seat.slot (option_map (after_showing (next_changes m.window seat.at k)) (held m.cursors seat)))
+    → IfOk r (λ k. IfSome (held m.cursors seat) (λ o. after ≡ before ++ lines o.view (next_changes m.window seat.at k)))
+    → n.cursors.next ≡ m.cursors.next
+    → IfOk r (λ k. (log : List Change) → Stands m log → after ≡ before ++ lines (view_at log seat.at) (next_of log seat.at k))
+    → DoesFeed m seat limit before after (answer_of r) n next
+feeds m n seat next limit before after (Ok k) kept left strange lapses memory err count is keeps rest moved wrote serials shown = record {
+  view = at.0;
+  changes = changes;
+  does = record {
+    event = event m n [] kept left (logs_nothing m n keeps) (only_cursors m n rest);
+    seated = at.1;
+    current = low;
+    count = long ∙ count;
+    shown = ap (λ (j : ℕ). next_changes m.window seat.at j) (sym long);
+    goes_on = on;
+    counts = seated_on m n seat next at.0 changes left at.1 moved on;
+    seats = seats_on m n seat next at.0 changes at.1 moved on;
+    serials = serials;
+    rest = rest;
+  };
+  counted = long;
+  wrote = on_some (λ (o : Open). after ≡ before ++ lines o.view changes) (held m.cursors seat) _ at.1.cursor wrote;
+  of_log = shown;
+}
+  where
+    known : IsStranger m seat → ⊥
+    known h = ok_err (strange.1 h)
+
+    close : IsLapped m seat → ⊥
+    close h = ok_err (lapses.1 h)
+
+    low : m.window.base ≤ seat.at
+    low = (current m seat known close).1
+
+    at : (view : List ℕ) × IsSeated m seat view
+    at = seated m seat kept known
+
+    changes : List Change
+    changes = next_changes m.window seat.at k
+
+    long : length changes ≡ k
+    long = fed_length m.window seat.at k limit low count
+
+    on : next ≡ record seat { at = seat.at + length changes }
+    on = is ∙ ap (λ (j : ℕ). let z : Seat = record { number = seat.number; slot = seat.slot; serial = seat.serial; at = seat.at + j } in z) (sym long)
+feeds m n seat next limit before after (Err lapse.Stranger) kept left strange lapses memory err count is keeps rest moved wrote serials shown = record { refused = record { kept = kept; same = err.0; why = strange.0 refl }; still = err.1; wrote = err.2 }
+feeds m n seat next limit before after (Err lapse.Lapped) kept left strange lapses memory err count is keeps rest moved wrote serials shown = record { refused = record { kept = kept; same = err.0; why = lapses.0 refl }; still = err.1; wrote = err.2 }
+feeds m n seat next limit before after (Err lapse.NoMemory) kept left strange lapses memory err count is keeps rest moved wrote serials shown = record {
+  refused = record { kept = kept; same = err.0; why = (current m seat (λ h. let e = strange.1 h in cc) (λ h. let e = lapses.1 h in cc), (λ h. h), memory refl) };
+  still = err.1;
+  wrote = err.2;
+}
+
+pub expunges : (m n : Mail) (seat next : Seat) (uids : Option (List ℕ)) (before after : List ℕ) (r : Result ℕ MailFault) → IsKept m → IsKept n → Tells r m seat (removals (in_set uids) (rows m)) (seat.at < total m.window)
+    → OnErr r ((n ≡ m) × (next ≡ seat) × (after ≡ before)) → OnOk r (next ≡ record seat { at = total m.window })
+    → OnOk r (Updates m.cursors n.cursors seat.slot (option_map (after_showing (changes_from seat.at m.window)) (held m.cursors seat)))
+    → OnOk r (Logs m n (removals (in_set uids) (rows m))) → OnOk r (Moves n.cursors m.window n.window (removals (in_set uids) (rows m)))
+    → OnOk r (n.messages ≡ remaining (in_set uids) m.messages) → OnOk r (n ≡ record m { messages = n.messages; window = n.window; cursors = n.cursors })
+    → IfOk r (λ k. k ≡ length (removals (in_set uids) (rows m))) → OnOk r (IfSome (held m.cursors seat) (λ o. after ≡ before ++ lines o.view (changes_from seat.at m.window)))
+    → n.cursors.next ≡ m.cursors.next → OnOk r ((log : List Change) → Stands m log → after ≡ before ++ lines (view_at log seat.at) (drop seat.at log))
+    → DoesExpunge m seat uids before after r n next
+expunges m n seat next uids before after (Ok k) kept left t err is moved logs moves messages rest count wrote serials shown = record {
+  view = at.0;
+  changes = changes_from seat.at m.window;
+  does = record {
+    event = event m n _ kept left logs rest;
+    seated = at.1;
+    current = low;
+    room = fits (Ok k) m seat _ _ k t refl;
+    shown = refl;
+    goes_on = is;
+    counts = seated_on m n seat next at.0 (changes_from seat.at m.window) left at.1 moved on;
+    seats = seats_on m n seat next at.0 (changes_from seat.at m.window) at.1 moved on;
+    serials = serials;
+    window = moves;
+    messages = messages;
+    rest = rest;
+    went = count;
+  };
+  wrote = on_some (λ (o : Open). after ≡ before ++ lines o.view (changes_from seat.at m.window)) (held m.cursors seat) _ at.1.cursor wrote;
+  of_log = shown;
+}
+  where
+    low : m.window.base ≤ seat.at
+    low = (taken (Ok k) m seat _ _ k t refl).1
+
+    at : (view : List ℕ) × IsSeated m seat view
+    at = seated m seat kept (known (Ok k) m seat _ _ k t refl)
+
+    whole : total m.window ≡ seat.at + length (changes_from seat.at m.window)
+    whole = omega (arith, length-drop (seat.at - m.window.base) m.window.changes, low, at.1.within)
+
+    on : next ≡ record seat { at = seat.at + length (changes_from seat.at m.window) }
+    on = is ∙ ap (λ (j : ℕ). let z : Seat = record { number = seat.number; slot = seat.slot; serial = seat.serial; at = j } in z) whole
+expunges m n seat next uids before after (Err fault) kept left t err is moved logs moves messages rest count wrote serials shown = record {
+  refused = refused (Err fault) m n seat _ _ fault kept t refl err.0;
+  still = err.1;
+  wrote = err.2;
+}

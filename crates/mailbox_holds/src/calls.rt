@@ -1,0 +1,190 @@
+//! The calls, on a mailbox that is held: each makes one call of the mailbox, and asks before and
+//! behind it for what every mailbox keeps.
+
+ghost use Rattle.std.specs.Prelude.{◌≡◌, ◌≢◌, ◌≤◌, IfErr, IfOk};
+ghost use Rattle.std.specs.Option.{option_copied};
+ghost use Rattle.std.specs.Vec.{vec_capacity};
+ghost use Rattle.mailbox_holds.specs.Holds.{Counts, DoesAlter, DoesDeliver, DoesEnter, DoesExpunge, DoesFeed, DoesLeave, DoesLook, DoesRead, answer_of};
+
+use change_ring::{FlagOp, Flags};
+use cursor_set::{CursorSeat, FeedFault, NoMemory};
+use delivery_token::{Job, Refusal};
+use mailbox::{MailFault, Mailbox, Opening, Receipt, Row, Status, every_mailbox_keeps};
+use std::alloc::Global;
+
+/// Delivers a copy: one change, which adds its message under the next UID (RFC 9051, 2.3.1.1). This
+/// copy alone is added to those that were accepted, and no client's cursor changes: clients are
+/// shown the message later.
+///
+/// Refused, in this order, as UidSpent where the next UID would be 4,294,967,295 or the log has
+/// 2^62 changes, as MailboxFull where as many messages are there as may be, and as NoMemory where
+/// memory is refused; never as Full. The mailbox is then unchanged.
+pub fn deliver(mailbox: &mut Mailbox, job: &Job) -> Result<Receipt, Refusal>
+    ensures { DoesDeliver mailbox.old job.now result mailbox.new }
+{
+    every_mailbox_keeps(mailbox);
+    let delivered = mailbox.deliver(job);
+    every_mailbox_keeps(mailbox);
+    delivered
+}
+
+/// Opens a seat for a client at the end of the log, and answers it with what the mailbox has (RFC
+/// 9051, 6.3.2): the client counts the messages that are there.
+///
+/// Spent where no serial is left for a seat, else NoMemory where memory is refused; the mailbox is
+/// then unchanged.
+pub fn enter(mailbox: &mut Mailbox) -> Result<(CursorSeat, Opening), MailFault>
+    ensures { DoesEnter mailbox.old result mailbox.new }
+{
+    every_mailbox_keeps(mailbox);
+    if !mailbox.can_open() {
+        return Err(MailFault::Spent);
+    }
+    match mailbox.open_cursor() {
+        Ok(entered) => {
+            every_mailbox_keeps(mailbox);
+            Ok(entered)
+        }
+        Err(NoMemory) => Err(MailFault::NoMemory),
+    }
+}
+
+/// A copy of the UIDs that a client counts, in their order; it is no event.
+///
+/// Stranger where the seat has no cursor here, else NoMemory where memory is refused.
+pub fn view(alloc: Global, mailbox: &Mailbox, seat: &CursorSeat) -> Result<Vec<u32>, MailFault>
+    ensures { DoesLook mailbox.now seat.now result }
+{
+    every_mailbox_keeps(mailbox);
+    let Ok(view) = mailbox.view(seat) else {
+        return Err(MailFault::Stranger);
+    };
+    let Ok(copied) = Vec::from_slice(alloc, view) else {
+        return Err(MailFault::NoMemory);
+    };
+    Ok(copied)
+}
+
+/// What STATUS tells of the mailbox (RFC 9051, 6.3.11); it is no event, and takes no memory.
+pub fn count(mailbox: &Mailbox) -> Status
+    ensures { Counts mailbox.now result }
+{
+    every_mailbox_keeps(mailbox);
+    mailbox.status()
+}
+
+/// Reads the message of a UID, with a copy of its text; where `mark_seen`, it has \Seen from now on
+/// (RFC 9051, 6.4.5). None where no message has the UID.
+///
+/// Stranger where the seat has no cursor here; else Lapped where the change that the client is to
+/// be shown next was overwritten; else Spent where the log has no room for the \Seen that is to be
+/// logged; else NoMemory where the copy is refused. The mailbox is then unchanged.
+pub fn read(
+    mailbox: &mut Mailbox,
+    seat: &CursorSeat,
+    uid: u32,
+    mark_seen: bool,
+) -> Result<Option<Row>, MailFault>
+    ensures { DoesRead mailbox.old seat.now uid mark_seen result mailbox.new }
+{
+    every_mailbox_keeps(mailbox);
+    let row = mailbox.read(seat, uid, mark_seen);
+    every_mailbox_keeps(mailbox);
+    row
+}
+
+/// Changes the flags of the message of a UID (RFC 9051, 6.4.6), and answers them as they are then.
+/// None where no message has the UID.
+///
+/// Stranger where the seat has no cursor here; else Lapped where the change that the client is to
+/// be shown next was overwritten; else Spent where the log has no room for the change of flags. The
+/// mailbox is then unchanged. It takes no memory.
+pub fn alter(
+    mailbox: &mut Mailbox,
+    seat: &CursorSeat,
+    uid: u32,
+    op: FlagOp,
+) -> Result<Option<Flags>, MailFault>
+    ensures { DoesAlter mailbox.old seat.now uid op result mailbox.new }
+{
+    every_mailbox_keeps(mailbox);
+    let flags = mailbox.store(seat, uid, op);
+    every_mailbox_keeps(mailbox);
+    flags
+}
+
+// A feed's answer, with its fault as one of all calls.
+fn answer_of(fed: Result<usize, FeedFault>) -> Result<usize, MailFault>
+    ensures { result ≡ answer_of fed }
+{
+    match fed {
+        Ok(count) => Ok(count),
+        Err(FeedFault::Stranger) => Err(MailFault::Stranger),
+        Err(FeedFault::Lapped) => Err(MailFault::Lapped),
+        Err(FeedFault::NoMemory) => Err(MailFault::NoMemory),
+    }
+}
+
+/// Shows a client its next changes, at most `limit`: a line for each behind `out` (RFC 9051, 7.4
+/// and 7.5), and answers how many. Nothing is logged, and the seat goes on by as many.
+///
+/// Stranger where the seat has no cursor here; else Lapped where the next change was overwritten;
+/// else NoMemory where memory is refused, which is wanted only where there is something to show;
+/// never Spent. The mailbox, the seat and `out` are then unchanged.
+pub fn feed(
+    mailbox: &mut Mailbox,
+    seat: &mut CursorSeat,
+    limit: usize,
+    out: &mut Vec<u8>,
+) -> Result<usize, MailFault>
+    ensures event { DoesFeed mailbox.old seat.old limit out.old.items out.new.items result mailbox.new seat.new }
+    ensures few { IfOk result (λ n. n ≤ limit) }
+    ensures faults { IfErr result (λ f. f ≢ MailFault.Spent) }
+    ensures room { vec_capacity out.old ≤ vec_capacity out.new }
+{
+    every_mailbox_keeps(mailbox);
+    let fed = mailbox.feed(seat, limit, out);
+    every_mailbox_keeps(mailbox);
+    answer_of(fed)
+}
+
+/// Shows a client all that is pending, as `feed` does, then removes the messages that have
+/// \Deleted, of these UIDs where some are named (RFC 9051, 6.4.3 and 6.4.9), and answers how many
+/// went. The client is shown later that these are gone.
+///
+/// Stranger where the seat has no cursor here; else Lapped where the next change was overwritten;
+/// else Spent where the log has no room for the removals; else NoMemory where memory is refused,
+/// which is wanted only where something is pending. The mailbox, the seat and `out` are then
+/// unchanged.
+pub fn expunge(
+    mailbox: &mut Mailbox,
+    seat: &mut CursorSeat,
+    uids: Option<&[u32]>,
+    out: &mut Vec<u8>,
+) -> Result<usize, MailFault>
+    ensures event { DoesExpunge mailbox.old seat.old (option_copied uids.entry) out.old.items out.new.items result mailbox.new seat.new }
+    ensures room { vec_capacity out.old ≤ vec_capacity out.new }
+{
+    every_mailbox_keeps(mailbox);
+    let gone = mailbox.expunge(seat, uids, out);
+    every_mailbox_keeps(mailbox);
+    gone
+}
+
+/// Closes a client's seat; where `remove`, every message that has \Deleted goes with it (RFC 9051,
+/// 6.4.1 and 6.4.2). Answers how many went. The client may have fallen behind.
+///
+/// Stranger where the seat has no cursor here, else Spent where the log has no room for the
+/// removals; the seat is then handed back, and the mailbox unchanged. It takes no memory.
+pub fn leave(
+    mailbox: &mut Mailbox,
+    seat: CursorSeat,
+    remove: bool,
+) -> Result<usize, (CursorSeat, MailFault)>
+    ensures { DoesLeave mailbox.old seat remove result mailbox.new }
+{
+    every_mailbox_keeps(mailbox);
+    let gone = mailbox.close_cursor(seat, remove);
+    every_mailbox_keeps(mailbox);
+    gone
+}
