@@ -1,0 +1,242 @@
+//! What the calls on a mailbox that is held do, as tables: each line is a call with what it is to
+//! answer. One function owns the mailbox and its client's seat, and lends them to the others.
+
+use change_ring::{FlagOp, Flags};
+use cursor_set::CursorSeat;
+use delivery_token::{CopyKey, Job, Refusal, Text};
+use mailbox::{Limits, MailFault, Mailbox, Opening, Status};
+use mailbox_holds::{alter, count, deliver, enter, expunge, feed, leave, read, view};
+use std::alloc::{AllocError, Global};
+
+const NONE: Flags = Flags {
+    answered: false,
+    flagged: false,
+    deleted: false,
+    seen: false,
+    draft: false,
+};
+
+const DELETED: Flags = Flags {
+    deleted: true,
+    ..NONE
+};
+
+const SEEN: Flags = Flags { seen: true, ..NONE };
+
+const LIMITS: Limits = Limits {
+    messages: 2,
+    ring: 16,
+    ring_max: 0,
+};
+
+const KEY: CopyKey = CopyKey {
+    seat: 2,
+    serial: 5,
+    message: 0,
+    recipient: 0,
+};
+
+// A call, and what it is to answer.
+enum Act {
+    // A copy for a recipient: the UID and the place.
+    Deliver(u8, Result<(u32, usize), Refusal>),
+    Count(Status),
+    // The UIDs that the client counts.
+    View(Result<&'static [u32], MailFault>),
+    // Whether \Seen is set: the flags, and whether they became others.
+    Read(u32, bool, Result<Option<(Flags, bool)>, MailFault>),
+    Alter(u32, FlagOp, Result<Option<Flags>, MailFault>),
+    // How many at most, and how many were shown.
+    Feed(usize, Result<usize, MailFault>),
+    Expunge(Option<&'static [u32]>, Result<usize, MailFault>),
+    // The lines since the last such act.
+    Lines(&'static [u8]),
+}
+
+// Whether a copy is delivered as it should be.
+fn delivers(
+    alloc: Global,
+    mailbox: &mut Mailbox,
+    recipient: u8,
+    wanted: Result<(u32, usize), Refusal>,
+) -> Result<bool, AllocError> {
+    let copy = Job {
+        key: CopyKey { recipient, ..KEY },
+        mailbox: 3,
+        text: Text::new(Vec::from_slice(alloc, b"hi\r\n")?),
+    };
+    match deliver(mailbox, &copy) {
+        Ok(r) => Ok(r.key() == copy.key && r.mailbox() == 3 && wanted == Ok((r.uid(), r.place()))),
+        Err(refusal) => Ok(wanted == Err(refusal)),
+    }
+}
+
+fn same_uids(counted: &[u32], wanted: &[u32]) -> bool {
+    counted == wanted
+}
+
+// Whether the client counts these UIDs.
+fn counts(
+    alloc: Global,
+    mailbox: &Mailbox,
+    seat: &CursorSeat,
+    wanted: Result<&[u32], MailFault>,
+) -> bool {
+    match view(alloc, mailbox, seat) {
+        Ok(counted) => match wanted {
+            Ok(uids) => same_uids(&counted, uids),
+            Err(_fault) => false,
+        },
+        Err(fault) => wanted.err() == Some(fault),
+    }
+}
+
+// What a read answers of flags; another text is told as a fault that no act wants.
+fn reads(
+    mailbox: &mut Mailbox,
+    seat: &CursorSeat,
+    uid: u32,
+    mark_seen: bool,
+) -> Result<Option<(Flags, bool)>, MailFault> {
+    let Some(row) = read(mailbox, seat, uid, mark_seen)? else {
+        return Ok(None);
+    };
+    if row.uid != uid || row.text.as_slice() != b"hi\r\n".as_slice() {
+        return Err(MailFault::NoMemory);
+    }
+    Ok(Some((row.flags, row.newly_seen)))
+}
+
+fn lines_are(out: &mut Vec<u8>, wanted: &[u8]) -> bool {
+    let same = &out[..] == wanted;
+    out.clear();
+    same
+}
+
+// Whether an act answers as it should.
+fn step(
+    alloc: Global,
+    mailbox: &mut Mailbox,
+    seat: &mut CursorSeat,
+    out: &mut Vec<u8>,
+    act: &Act,
+) -> Result<bool, AllocError> {
+    match act {
+        Act::Deliver(recipient, wanted) => delivers(alloc, mailbox, *recipient, *wanted),
+        Act::Count(status) => Ok(count(mailbox) == *status),
+        Act::View(wanted) => Ok(counts(alloc, mailbox, seat, *wanted)),
+        Act::Read(uid, mark, wanted) => Ok(reads(mailbox, seat, *uid, *mark) == *wanted),
+        Act::Alter(uid, op, wanted) => Ok(alter(mailbox, seat, *uid, *op) == *wanted),
+        Act::Feed(limit, wanted) => Ok(feed(mailbox, seat, *limit, out) == *wanted),
+        Act::Expunge(set, wanted) => Ok(expunge(mailbox, seat, *set, out) == *wanted),
+        Act::Lines(wanted) => Ok(lines_are(out, wanted)),
+    }
+}
+
+// The place of the first act that answers otherwise, where there is one.
+fn play(
+    alloc: Global,
+    mailbox: &mut Mailbox,
+    seat: &mut CursorSeat,
+    acts: &[Act],
+) -> Result<Option<usize>, AllocError> {
+    let mut out = Vec::new(alloc);
+    for k in 0..acts.len() {
+        if !step(alloc, mailbox, seat, &mut out, &acts[k])? {
+            return Ok(Some(k));
+        }
+    }
+    Ok(None)
+}
+
+// A client's seat, where one can be had and the mailbox is told as it should be.
+fn seated(mailbox: &mut Mailbox, wanted: Opening) -> Result<CursorSeat, AllocError> {
+    match enter(mailbox) {
+        Ok((seat, opening)) if opening == wanted => Ok(seat),
+        _ => Err(AllocError),
+    }
+}
+
+// How many messages go where a client leaves.
+fn leaves(mailbox: &mut Mailbox, seat: CursorSeat, remove: bool) -> Result<usize, MailFault> {
+    match leave(mailbox, seat, remove) {
+        Ok(gone) => Ok(gone),
+        Err((_seat, fault)) => Err(fault),
+    }
+}
+
+const EMPTY: Opening = Opening {
+    count: 0,
+    uidnext: 1,
+    uidvalidity: 7,
+};
+
+const ACTS: &[Act] = &[
+    Act::Deliver(0, Ok((1, 0))),
+    Act::Deliver(1, Ok((2, 1))),
+    Act::Deliver(2, Err(Refusal::MailboxFull)),
+    Act::View(Ok(&[])),
+    Act::Feed(1, Ok(1)),
+    Act::Lines(b"* 1 EXISTS\r\n"),
+    Act::View(Ok(&[1])),
+    Act::Read(1, true, Ok(Some((SEEN, true)))),
+    Act::Read(9, true, Ok(None)),
+    Act::Alter(2, FlagOp::Insert(DELETED), Ok(Some(DELETED))),
+    Act::Count(Status {
+        messages: 2,
+        uidnext: 3,
+        uidvalidity: 7,
+        unseen: 1,
+        deleted: 1,
+        size: 8,
+    }),
+    Act::Expunge(Some(&[2]), Ok(1)),
+    Act::Lines(
+        b"* 2 EXISTS\r\n* 1 FETCH (UID 1 FLAGS (\\Seen))\r\n* 2 FETCH (UID 2 FLAGS (\\Deleted))\r\n",
+    ),
+    Act::View(Ok(&[1, 2])),
+    Act::Feed(64, Ok(1)),
+    Act::Lines(b"* 2 EXPUNGE\r\n"),
+    Act::Deliver(2, Ok((3, 2))),
+    Act::Alter(1, FlagOp::Set(DELETED), Ok(Some(DELETED))),
+];
+
+// Whether each call answers as the table tells, and one message goes as the client leaves.
+fn plays(alloc: Global) -> Result<bool, AllocError> {
+    let mut mailbox = Mailbox::new(alloc, 3, 7, 1, LIMITS)?;
+    let mut seat = seated(&mut mailbox, EMPTY)?;
+    let at = play(alloc, &mut mailbox, &mut seat, ACTS)?;
+    Ok(at.is_none() && leaves(&mut mailbox, seat, true) == Ok(1))
+}
+
+#[test]
+fn each_call_on_a_held_mailbox_answers_as_its_table_tells(
+    rt: HostRuntime,
+) -> Result<(), AllocError> {
+    assert!(rt; plays(rt.alloc())?);
+    Ok(())
+}
+
+const STRANGER: &[Act] = &[
+    Act::View(Err(MailFault::Stranger)),
+    Act::Read(1, true, Err(MailFault::Stranger)),
+    Act::Alter(1, FlagOp::Set(DELETED), Err(MailFault::Stranger)),
+    Act::Feed(64, Err(MailFault::Stranger)),
+    Act::Expunge(None, Err(MailFault::Stranger)),
+    Act::Lines(b""),
+];
+
+// Whether a mailbox of another number refuses each call of a client's seat.
+fn refuses(alloc: Global) -> Result<bool, AllocError> {
+    let mut own = Mailbox::new(alloc, 3, 7, 1, LIMITS)?;
+    let mut other = Mailbox::new(alloc, 4, 7, 1, LIMITS)?;
+    let mut seat = seated(&mut own, EMPTY)?;
+    let at = play(alloc, &mut other, &mut seat, STRANGER)?;
+    Ok(at.is_none() && leaves(&mut other, seat, true) == Err(MailFault::Stranger))
+}
+
+#[test]
+fn a_held_mailbox_refuses_the_seat_of_another(rt: HostRuntime) -> Result<(), AllocError> {
+    assert!(rt; refuses(rt.alloc())?);
+    Ok(())
+}
