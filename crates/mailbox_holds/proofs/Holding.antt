@@ -1,4 +1,4 @@
--- Each call of a mailbox, as an event of the one that was found under a lock.
+-- A feed and an expunge, each as an event of the mailbox that was found.
 use Rattle.std.proofs.Common.{◌≡◌, ℕ, ◌+◌, ◌-◌, ◌<◌, ◌≤◌, List, [], ◌++◌, length, length-take, length-drop, append-nil, refl, sym, ap, ap₂, ◌∙◌, arith, subst, Result, Ok, Err, Option, Some, None}
 use Rattle.std.specs.Prelude.{◌↔◌, drop, option_map, min, IfOk, IfSome, OnErr, OnOk}
 use Rattle.change_ring.specs.declared.change.Change.{Change}

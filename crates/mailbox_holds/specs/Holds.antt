@@ -1,4 +1,4 @@
--- What a call does to the mailbox that it finds under a lock, and to a client's seat: what a client does is one event of the mailbox, and so is
+-- What a call does to the mailbox that it finds, as under a lock, and to a client's seat: what a client does is one event of the mailbox, and so is
 -- the delivery of a copy.
 use Rattle.std.specs.Prelude.{◌≡◌, ℕ, ◌+◌, ◌-◌, ◌^◌, ◌<◌, ◌≤◌, Vec, Bool, true, false, List, [], ◌∷◌, ◌++◌, length, drop, min, Option, Some, None, IsSome, Result, Ok, Err, option_map, if◌then◌else◌}
 use Rattle.change_ring.specs.declared.change.Change.{Change}
@@ -37,7 +37,7 @@ pub record IsEvent (found left : Mail) (changes : List Change) : Type 0 where
   pub same : SameMailbox found left
   pub accepted : left.accepted ≡ found.accepted
 
--- The same, where one copy was delivered: the log went on by its message, and exactly this copy was accepted more, under the next UID.
+-- The same, where one copy was delivered: the log went on by its message, and this copy alone was added to those that were accepted, under the next UID.
 pub record IsDelivery (found left : Mail) (key : CopyKey) : Type 0 where
   pub found_kept : IsKept found
   pub left_kept : IsKept left
