@@ -3,15 +3,7 @@
 #![tactic(auto)]
 
 mod arguments;
-#[cfg(test)]
-mod cases;
 mod failure;
-#[cfg(test)]
-mod idling;
-#[cfg(test)]
-mod rows;
-#[cfg(test)]
-mod sessions;
 #[cfg(test)]
 mod tests;
 

@@ -8,22 +8,17 @@ use std::alloc::Global;
 
 // What a run comes to: its exit status, what it wrote, and what it said of faults.
 #[derive(Drop)]
-pub(crate) struct Ended {
-    pub(crate) status: u8,
-    pub(crate) output: Vec<u8>,
-    pub(crate) faults: Vec<u8>,
+struct Ended {
+    status: u8,
+    output: Vec<u8>,
+    faults: Vec<u8>,
 }
 
 // The program on these words, the first of which is its name, and no input.
 fn run_of(alloc: Global, words: &[&str]) -> Ended {
-    run_on(alloc, words, b"")
-}
-
-// The same with an input.
-pub(crate) fn run_on(alloc: Global, words: &[&str], bytes: &[u8]) -> Ended {
     let mut output = Vec::new(alloc);
     let mut faults = Vec::new(alloc);
-    let mut input = bytes;
+    let mut input = b"".as_slice();
     let status = command(
         alloc,
         words,
