@@ -34,6 +34,7 @@ pub record IsDefault (c : Config) (words : List (List ℕ)) : Type 0 where
   pub max_message : c.max_message ≡ 1048576
   pub uidvalidity : c.uidvalidity ≡ 1
   pub first_uid : c.first_uid ≡ 1
+  pub sessions : c.sessions ≡ 2
 
 -- ---- the ranges of the numbers
 
@@ -51,6 +52,7 @@ pub record IsInRange (c : Config) : Type 0 where
   pub max_message : IsFrom 1 16777216 c.max_message
   pub uidvalidity : IsFrom 1 4294967295 c.uidvalidity
   pub first_uid : IsFrom 1 4294967294 c.first_uid
+  pub sessions : IsFrom 1 4 c.sessions
 
 -- ---- what may be wrong
 

@@ -34,6 +34,8 @@ pub struct Config {
     pub uidvalidity: u32,
     /// The UID of a mailbox's first message, 1 to 4294967294.
     pub first_uid: u32,
+    /// So many sessions of one user may run as threads, 1 to 4. A house that is played step by step doesn't look at it.
+    pub sessions: u8,
 }
 
 /// What is wrong with the settings. The first that holds is the fault; want of memory comes where memory was refused.
@@ -108,6 +110,7 @@ impl Config {
             max_message: 1_048_576,
             uidvalidity: 1,
             first_uid: 1,
+            sessions: 2,
         })
     }
 }

@@ -14,3 +14,4 @@ mod tail;
 pub use config::{Config, ConfigFault};
 pub use event::{Event, HouseFault};
 pub use house::House;
+pub use make::directory_of;

@@ -1,4 +1,5 @@
-//! The making of a house from its settings: its parts, each as large as the settings say. What it does then is told in `house`.
+//! The making of a house from its settings: its directory, and its parts, each as large as the settings say. What it does then is
+//! told in `house`.
 
 ghost use Rattle.std.specs.Prelude.{◌≡◌, ◌≢◌, ◌<◌, ◌≤◌, ◌⊎◌, ℕ, List, [], ◌∷◌, length, map, max, IfOk, IfErr, IfSome, IsOk, IsOkUnless, Ok, Err, None, replicate};
 ghost use Rattle.delivery_core.specs.New.{IsNewBox};
@@ -39,7 +40,7 @@ fn borrowed_words(alloc: Global, words: &[Vec<u8>]) -> Result<Vec<&[u8]>, AllocE
 }
 
 // The directory of the mailboxes, where all names are right.
-fn directory_of(alloc: Global, config: &Config) -> Result<Directory, ConfigFault>
+fn named_directory(alloc: Global, config: &Config) -> Result<Directory, ConfigFault>
     requires { 0 < config.now.shards }
     ensures homes { IfOk result (λ d. words_read (config.now.host.items ∷ config.now.domain.items ∷ []) (words_of config.now) ≡ Ok d.homes) }
     ensures domains { IfOk result (λ d. d.domains ≡ config.now.domain.items ∷ []) }
@@ -70,6 +71,24 @@ fn is_ring_wrong(config: &Config) -> bool
     ensures { result ≡ is_ring_wrong config.now }
 {
     config.ring < 2 * config.messages || (config.ring_max != 0 && config.ring_max < config.ring)
+}
+
+/// The directory that a house of these settings goes by.
+///
+/// Errors: those of `House::new`, in the same order.
+pub fn directory_of(alloc: Global, config: &Config) -> Result<Directory, ConfigFault>
+    requires { IsInRange config.now }
+    ensures directory { IfOk result (λ d. d ≡ (setup_of config.now).directory) }
+    ensures host { IfOk result (λ d. length config.now.host.items < 256) }
+    ensures fault { IfSome (config_fault config.now) (λ fault. (result ≡ Err fault) ⊎ (result ≡ Err ConfigFault.NoMemory)) }
+    // Where nothing is wrong.
+    ensures made { config_fault config.now ≡ None → IsOkUnless result ConfigFault.NoMemory }
+{
+    let directory = named_directory(alloc, config)?;
+    if is_ring_wrong(config) {
+        return Err(ConfigFault::Ring);
+    }
+    Ok(directory)
 }
 
 // At each seat nobody.
@@ -112,9 +131,6 @@ impl House {
         ensures made { config_fault config.now ≡ None → IsOkUnless result ConfigFault.NoMemory }
     {
         let directory = directory_of(alloc, config)?;
-        if is_ring_wrong(config) {
-            return Err(ConfigFault::Ring);
-        }
         let settings = Settings {
             seats: SEATS,
             shards: config.shards,

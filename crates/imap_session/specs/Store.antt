@@ -20,7 +20,7 @@ abbrev pub answer : {A : Type 0} → (A → Answer) → Result A MailFault → A
 answer make (Ok x) = make x
 answer make (Err fault) = Refused fault
 
--- The view after an answer, of which nothing else is known between two calls than this.
+-- The view after an answer. A store whose mailbox nobody else can touch knows this between two calls; one that takes a lock for each call doesn't.
 abbrev pub ViewAfter : List ℕ → Answer → List ℕ → Type 0
 ViewAfter view (Fed met changes) new = (met ≡ view) × (new ≡ replay view changes)
 ViewAfter view (Expunged met changes gone) new = (met ≡ view) × (new ≡ replay view changes)
@@ -29,18 +29,18 @@ ViewAfter view (Entered opening) new = Unit {0}
 ViewAfter view (Left gone) new = Unit {0}
 ViewAfter view answer new = new ≡ view
 
--- What a Feed did: it showed changes, as many as it answers, within the limit, and wrote their lines. `step` is the store's own before
--- and after it.
-abbrev pub Feeds : (Answer → Type 0) → ℕ → List ℕ → List ℕ → List ℕ → Result ℕ MailFault → Type 0
-Feeds step limit view before after (Ok n) =
-    (changes : List Change) × step (Fed view changes) × (length changes ≡ n) × (n ≤ limit) × (after ≡ before ++ lines view changes)
-Feeds step limit view before after (Err fault) = step (Refused fault) × (after ≡ before)
+-- What a Feed did: it met a view, showed changes, as many as it answers, within the limit, and wrote their lines. `step` is the store's own
+-- before and after it.
+abbrev pub Feeds : (Answer → Type 0) → ℕ → List ℕ → List ℕ → Result ℕ MailFault → Type 0
+Feeds step limit before after (Ok n) =
+    (view : List ℕ) × (changes : List Change) × step (Fed view changes) × (length changes ≡ n) × (n ≤ limit) × (after ≡ before ++ lines view changes)
+Feeds step limit before after (Err fault) = step (Refused fault) × (after ≡ before)
 
--- What an Expunge did: it showed changes, and removed as many messages as it answers.
-abbrev pub Expunges : (Answer → Type 0) → List ℕ → List ℕ → List ℕ → Result ℕ MailFault → Type 0
-Expunges step view before after (Ok n) =
-    (changes : List Change) × step (Expunged view changes n) × (after ≡ before ++ lines view changes)
-Expunges step view before after (Err fault) = step (Refused fault) × (after ≡ before)
+-- What an Expunge did: it met a view, showed changes, and removed as many messages as it answers.
+abbrev pub Expunges : (Answer → Type 0) → List ℕ → List ℕ → Result ℕ MailFault → Type 0
+Expunges step before after (Ok n) =
+    (view : List ℕ) × (changes : List Change) × step (Expunged view changes n) × (after ≡ before ++ lines view changes)
+Expunges step before after (Err fault) = step (Refused fault) × (after ≡ before)
 
 -- ---- runs of the store
 

@@ -32,7 +32,7 @@ pub(crate) fn show<S: Store>(
     requires room { vec_len out.old + keep ≤ vec_capacity out.old }
     ensures done { (x : Exchange) → Does S.step (Feed limit x) (λ n. x) store.old store.new out.old.items out.new.items result }
     // It is one call of the store.
-    ensures event { Feeds (λ a. S.step store.old (Feed limit) a store.new) limit (S.shown store.old) out.old.items out.new.items result }
+    ensures event { Feeds (λ a. S.step store.old (Feed limit) a store.new) limit out.old.items out.new.items result }
     ensures faults { IfErr result (λ f. f ≢ MailFault.Spent) }
     ensures room { vec_len out.new + keep ≤ vec_capacity out.new }
 {

@@ -1,11 +1,11 @@
 //! What a session asks of the mailboxes of its user: a call for each event of a mailbox, and the view.
 //! Locks, rings and cursors are the store's matter.
 
-ghost use Rattle.std.specs.Prelude.{◌≡◌, ◌≢◌, ◌≤◌, List, ℕ, IfErr, ◌⊎◌};
+ghost use Rattle.std.specs.Prelude.{◌≡◌, ◌≢◌, ◌≤◌, IfErr, ◌⊎◌};
 ghost use Rattle.std.specs.Option.{option_copied};
 ghost use Rattle.std.specs.Vec.{vec_capacity};
 ghost use Rattle.imap_session.specs.Exchange.{Call, Enter, Look, Read, Count, Alter, Expunge, Feed, Leave, Answer, Entered, Looked, Found, Counted, Altered, Left};
-ghost use Rattle.imap_session.specs.Store.{answer, ViewAfter, Feeds, Expunges};
+ghost use Rattle.imap_session.specs.Store.{answer, Feeds, Expunges};
 
 use change_ring::{FlagOp, Flags};
 use mailbox::{MailFault, Opening, Row, Status};
@@ -16,9 +16,6 @@ use std::alloc::Global;
 ///
 /// Each may be refused with any `MailFault`, but for those that its clauses rule out; `out` is then as it was.
 pub trait Store {
-    // The UIDs that the session was shown, in the mailbox that it entered.
-    ghost shown: { Self → List ℕ };
-
     // What a call may do: the store before it, the call, its answer and the store after it. A copy of the view leaves the store as it is.
     ghost step: { Self → Call → Answer → Self → Type 0 };
 
@@ -47,19 +44,16 @@ pub trait Store {
     /// Shows all that is pending, then removes the messages that have \Deleted, of these UIDs where some are
     /// named. Answers how many went.
     fn expunge(&mut self, uids: Option<&[u32]>, out: &mut Vec<u8>) -> Result<usize, MailFault>
-        ensures event { Expunges (λ a. step self.old (Expunge (option_copied uids.entry)) a self.new) (shown self.old) out.old.items out.new.items result }
+        ensures event { Expunges (λ a. step self.old (Expunge (option_copied uids.entry)) a self.new) out.old.items out.new.items result }
         ensures room { vec_capacity out.old ≤ vec_capacity out.new };
 
     /// Shows the changes that are pending, so many of them at most. Answers how many it showed.
     fn feed(&mut self, limit: usize, out: &mut Vec<u8>) -> Result<usize, MailFault>
-        ensures event { Feeds (λ a. step self.old (Feed limit) a self.new) limit (shown self.old) out.old.items out.new.items result }
+        ensures event { Feeds (λ a. step self.old (Feed limit) a self.new) limit out.old.items out.new.items result }
         ensures room { vec_capacity out.old ≤ vec_capacity out.new }
         ensures faults { IfErr result (λ f. f ≢ MailFault.Spent) };
 
     /// Leaves the mailbox, with its messages that have \Deleted removed or not. Answers how many went.
     fn leave(&mut self, remove: bool) -> Result<usize, MailFault>
         ensures { step self.old (Leave remove) (answer Left result) self.new };
-
-    // Between two calls only the view is known.
-    ghost views: { (old new : Self) (call : Call) (answered : Answer) → step old call answered new → ViewAfter (shown old) answered (shown new) };
 }

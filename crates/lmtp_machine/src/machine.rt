@@ -135,6 +135,7 @@ impl LmtpMachine {
         ensures moves { IfOk result (λ fed. Moves fed.used fed.what piece.now) }
         ensures awaits { IfOk result (λ fed. Awaits fed.what self.new.pending) }
         ensures most { OnOk result (All (λ s. length s.keys ≤ 100) self.new.pending) }
+        ensures paired { OnOk result (All (λ s. length s.mailboxes ≡ length s.keys) self.new.pending) }
         ensures ok { IfOk result (λ fed. (c : Conversation) → StandsFor self.old c → Follows (StandsFor self.new) self.old.setting self.old.host directory.now c piece.now fed out.old.items out.new.items self.new.pending) }
         ensures same { OnOk result ((self.new.setting ≡ self.old.setting) × (self.new.host ≡ self.old.host)) }
         ensures err { OnErr result ((self.new ≡ self.old) × (out.new.items ≡ out.old.items)) }
@@ -226,6 +227,7 @@ impl LmtpMachine {
         ensures moves { IfOk result (λ fed. Moves fed.used fed.what piece.now) }
         ensures awaits { IfOk result (λ fed. Awaits fed.what self.new.pending) }
         ensures most { OnOk result (All (λ s. length s.keys ≤ 100) self.new.pending) }
+        ensures paired { OnOk result (All (λ s. length s.mailboxes ≡ length s.keys) self.new.pending) }
         ensures ok { IfOk result (λ fed. (c : Conversation) → StandsFor self.old c → Follows (StandsFor self.new) self.old.setting self.old.host directory.now c piece.now fed out.old.items out.new.items self.new.pending) }
         ensures same { OnOk result ((self.new.setting ≡ self.old.setting) × (self.new.host ≡ self.old.host)) }
         ensures err { OnErr result ((self.new ≡ self.old) × (out.new.items ≡ out.old.items)) }
@@ -259,6 +261,7 @@ impl LmtpMachine {
         ensures moves { IfOk result (λ fed. Moves fed.used fed.what piece.now) }
         ensures awaits { IfOk result (λ fed. Awaits fed.what self.new.pending) }
         ensures most { OnOk result (All (λ s. length s.keys ≤ 100) self.new.pending) }
+        ensures paired { OnOk result (All (λ s. length s.mailboxes ≡ length s.keys) self.new.pending) }
         ensures ok { IfOk result (λ fed. (c : Conversation) → StandsFor self.old c → Follows (StandsFor self.new) self.old.setting self.old.host directory.now c piece.now fed out.old.items out.new.items self.new.pending) }
         ensures same { OnOk result ((self.new.setting ≡ self.old.setting) × (self.new.host ≡ self.old.host)) }
         ensures err { OnErr result ((self.new ≡ self.old) × (out.new.items ≡ out.old.items)) }
@@ -290,6 +293,7 @@ impl LmtpMachine {
         requires room { vec_len out.old + length self.old.commands.recipients * 40 ≤ vec_capacity out.old }
         ensures awaits { Awaits result self.new.pending }
         ensures most { All (λ s. length s.keys ≤ 100) self.new.pending }
+        ensures paired { All (λ s. length s.mailboxes ≡ length s.keys) self.new.pending }
         ensures same { (self.new.setting ≡ self.old.setting) × (self.new.host ≡ self.old.host) }
         ensures does { (lines : List (List ℕ)) → (outcome ≡ Outcome.Ok → ended.collected.bytes ≡ plain lines) → (final : Outcome) × Becomes outcome final
             × Does self.old (on_outcome self.old.setting self.old.commands.submitted self.old.commands.sender self.old.commands.recipients lines final) self.new result out.old.items out.new.items }

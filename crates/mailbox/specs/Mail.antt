@@ -57,6 +57,10 @@ rows m = map row_of m.messages
 abbrev pub uids_of : List Message → List ℕ
 uids_of messages = map (λ (m : Message). m.uid) messages
 
+-- UID and text of each message
+abbrev pub texts_of : List Message → List (ℕ × List ℕ)
+texts_of messages = map (λ (m : Message). (m.uid, m.text)) messages
+
 -- the UIDs that were given out
 abbrev pub accepted_uids : Mail → List ℕ
 accepted_uids m = map (λ (a : CopyKey × ℕ). a.1) m.accepted

@@ -5,7 +5,8 @@ ghost use Rattle.std.specs.Prelude.{◌≡◌, ◌+◌, ◌<◌, ◌↔◌, [], 
 ghost use Rattle.change_ring.specs.Log.{no_flags};
 ghost use Rattle.mailbox.specs.Counts.{unseen_count, deleted_count, bytes_in_all};
 ghost use Rattle.mailbox.specs.Events.{Logs, Moves};
-ghost use Rattle.mailbox.specs.Mail.{SameMailbox, next_uid, is_spent, is_full};
+ghost use Rattle.mailbox.specs.Mail.{SameMailbox, next_uid, is_spent, is_full, texts_of};
+ghost use Rattle.std.specs.List.Sorted.{IsStrictlyIncreasing};
 ghost use Rattle.mailbox.specs.Seen.{message_of};
 ghost use Rattle.mailbox.specs.Stands.{Stands};
 
@@ -246,6 +247,15 @@ impl Mailbox {
         &self.accepted
     }
 
+    /// The UID and the text of each message that is there, by rising UIDs. An error where memory is
+    /// refused.
+    pub fn texts(&self, alloc: Global) -> Result<Vec<(u32, Text)>, AllocError>
+        ensures all { IfOk result (λ texts. texts.items ≡ texts_of self.now.messages) }
+        ensures rising { IfOk result (λ texts. IsStrictlyIncreasing (map (λ t. t.0) texts.items)) }
+    {
+        texts_of(alloc, &self.messages)
+    }
+
     /// The last changes: the number of the first of them, and the changes from that number to the
     /// end of the log, in two slices that follow one another.
     pub fn tail(&self) -> (u64, &[Change], &[Change])
@@ -280,4 +290,14 @@ fn bytes_of(messages: &[Message]) -> u128
         bytes += message.text.as_slice().len() as u128;
     }
     bytes
+}
+
+fn texts_of(alloc: Global, messages: &[Message]) -> Result<Vec<(u32, Text)>, AllocError>
+    ensures { IfOk result (λ texts. texts.items ≡ texts_of (map message_of messages.now)) }
+{
+    let mut texts = Vec::with_capacity(alloc, messages.len())?;
+    for message in messages {
+        texts.push_reserved((message.uid, message.text.copy()?));
+    }
+    Ok(texts)
 }

@@ -343,8 +343,9 @@ pub feeds : (old new : Held) (n limit : ℕ) (before after : List ℕ) (result :
     → IfOk result (λ count. (count ≤ limit) × (length (take count (pending_for old n)) ≡ count))
     → IfOk result (λ count. (count ≡ min limit (behind old n)) × (behind new n + count ≡ behind old n))
     → SameDelivery old new → SameCounts old new → OnErr result ((new ≡ old) × (after ≡ before))
-    → store.Feeds (λ a. Serves (serving old n) (Feed limit) a (serving new n)) limit (view_of old n) before after result
+    → store.Feeds (λ a. Serves (serving old n) (Feed limit) a (serving new n)) limit before after result
 feeds old new n limit before after (Ok count) strange event done sees counted less rest counts refused = (
+  view_of old n,
   take count (pending_for old n),
   record { same = refl; meets = fed; rest = rest; counts = counts; view = (refl, sees.view); behind = (some, counted.1 ∙ less.0, ap (λ (i : ℕ). behind new n + i) counted.1 ∙ less.1) },
   counted.1,
@@ -387,8 +388,9 @@ pub expunges : (old new : Held) (n : ℕ) (uids : Option (List ℕ)) (before aft
     → OnOk result ((k : Config) → Makes k old n (λ b s. pending b s) (λ b. removals (in_set uids) (rows_of b.log)) new)
     → OnOk result (Sees old new n (pending_for old n) before after)
     → SameDelivery old new → SameCounts old new → OnErr result ((new ≡ old) × (after ≡ before))
-    → store.Expunges (λ a. Serves (serving old n) (Expunge uids) a (serving new n)) (view_of old n) before after result
+    → store.Expunges (λ a. Serves (serving old n) (Expunge uids) a (serving new n)) before after result
 expunges old new n uids before after (Ok gone) strange event done sees rest counts refused = (
+  view_of old n,
   pending_for old n,
   record { same = refl; meets = expunged; rest = rest; counts = counts; view = (refl, sees.view); behind = tt },
   sees.text,

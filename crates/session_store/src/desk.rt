@@ -1,6 +1,5 @@
 //! The delivery core, as the store of the session that it serves now.
 
-ghost use Rattle.delivery_core.specs.Held.{view_of};
 ghost use Rattle.session_store.specs.Desk.{Serves};
 
 use change_ring::{FlagOp, Flags};
@@ -21,8 +20,6 @@ pub struct Desk {
 /// Each call is the core's own of this session. Stranger where the session has entered no mailbox, and for
 /// `enter` and `status` where there is none of this number; nothing is changed by a call that is refused.
 impl Store for Desk {
-    ghost shown = { λ desk. view_of desk.core desk.session };
-
     ghost step = { λ old call answered new. Serves old call answered new };
 
     fn enter(&mut self, mailbox: u8) -> Result<Opening, MailFault> {
@@ -66,6 +63,4 @@ impl Store for Desk {
     fn leave(&mut self, remove: bool) -> Result<usize, MailFault> {
         self.core.leave(self.session, remove)
     }
-
-    ghost views = { λ old new call answered served. served.view };
 }

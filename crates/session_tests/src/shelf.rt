@@ -235,7 +235,7 @@ impl Shelf {
 
     // Shows what is pending.
     fn show(&mut self, out: &mut Vec<u8>) -> Result<usize, MailFault>
-        ensures event { Feeds (λ a. ViewAfter self.old.view.items a self.new.view.items) 1 self.old.view.items out.old.items out.new.items result }
+        ensures event { Feeds (λ a. ViewAfter self.old.view.items a self.new.view.items) 1 out.old.items out.new.items result }
         ensures room { vec_capacity out.old ≤ vec_capacity out.new }
         ensures faults { IfErr result (λ f. f ≡ MailFault.NoMemory) }
     {
@@ -257,8 +257,6 @@ impl Shelf {
 }
 
 impl Store for Shelf {
-    ghost shown = { λ s. s.view.items };
-
     ghost step = { λ old call answered new. ViewAfter old.view.items answered new.view.items };
 
     fn enter(&mut self, _mailbox: u8) -> Result<Opening, MailFault> {
@@ -367,6 +365,4 @@ impl Store for Shelf {
         self.letters.remove(place);
         Ok(1)
     }
-
-    ghost views = { λ old new call answered h. h };
 }

@@ -13,8 +13,6 @@ use std::alloc::Global;
 pub struct Nowhere;
 
 impl Store for Nowhere {
-    ghost shown = { λ s. [] };
-
     ghost step = { λ old call answered new. ViewAfter [] answered [] };
 
     fn enter(&mut self, _mailbox: u8) -> Result<Opening, MailFault> {
@@ -48,6 +46,4 @@ impl Store for Nowhere {
     fn leave(&mut self, _remove: bool) -> Result<usize, MailFault> {
         Err(MailFault::Stranger)
     }
-
-    ghost views = { λ old new call answered h. h };
 }

@@ -17,6 +17,6 @@ returns-in-Ok-clause-done g c x tag now =
     let ok : is_ok c.resize.result ≡ true = search rules in
     let full : c.resize.new.self.items ≡ c.args.out.now.items ++ replicate c.args.keep 0 =
     filled _ _ _ _ _ c.args.keep c.args.out.now.ok.0 c.len-start.ensures ok c.resize.ensures.items in
-    reaches_feed g.S.Store.step tag now c.args.limit x (g.S.Store.shown c.args.store.now) c.in-Ok.ensures.event.0 _ _ _ _ c.in-Ok.ensures.event.1
-    (rw (c.cut_out.ensures.items, c.in-Ok.ensures.event.4)
+    reaches_feed g.S.Store.step tag now c.args.limit x c.in-Ok.ensures.event.0 c.in-Ok.ensures.event.1 _ _ _ _ c.in-Ok.ensures.event.2
+    (rw (c.cut_out.ensures.items, c.in-Ok.ensures.event.5)
     (without_filling _ _ _ _ c.args.keep (c.len-start.ensures ∙ c.args.out.now.ok.0) full))

@@ -1,8 +1,9 @@
 use Rattle.std.proofs.Common.{◌≡◌, ℕ, ◌∷◌, [], length, map, replicate, ap, ◌∙◌, refl}
 use Rattle.std.proofs.lemmas.List.{length-map}
+use Rattle.envelope.specs.Directory.{Directory}
 use Rattle.envelope.specs.Names.{home_of}
 use Rattle.house.specs.Settings.{setup_of, words_of}
-use Rattle.house.proofs.NewHouse.{new_house, read_homes, directory_is}
+use Rattle.house.proofs.NewHouse.{new_house}
 use Rattle.house.proofs.house.House.new.Goals as goal
 
 pub returns-clause-stands : goal.returns-clause-stands
@@ -10,12 +11,12 @@ returns-clause-stands c =
     let config = c.args.config.now in
     let made = c.in_ok-directory.ensures in
     let homes : c.in_ok-directory.directory.homes ≡ map home_of (words_of config) =
-    read_homes (config.host.items ∷ config.domain.items ∷ []) (words_of config) c.in_ok-directory.directory.homes made.homes in
+    ap (λ (d : Directory). d.homes) made.directory in
     let counted : length c.in_ok-directory.directory.homes ≡ length (words_of config) = ap length homes ∙ length-map (words_of config) home_of in
     let many : length (words_of config) ≡ c.mailboxes.result = cc (c.mailboxes.ensures.value, counted) in
     new_house config _
     (c.in_ok-new.ensures.stands (setup_of config).config
     (record { seats = refl; shards = refl; mailboxes = many; depth = refl; messages = refl; ring = refl; ring_max = refl; first_uid = refl; uidvalidity = refl; sessions = refl }))
     c.in_ok-new.ensures.next c.in_ok-empty_places.ensures (c.in_ok-vec.ensures.items_if_clones_equal (λ y e. e) ∙ ap (λ (n : ℕ). replicate n 0) c.from.ensures) c.in_ok-free_places.ensures
-    (c.directory.view_is ∙ directory_is config c.in_ok-directory.directory made.domains homes made.shards)
+    (c.directory.view_is ∙ made.directory)
     (c.in_ok-from_slice.ensures.items ∙ c.deref.ensures.value) refl c.requires.shards.0

@@ -17,9 +17,8 @@ returns-in-Ok-clause-turned g c =
     let there : c.args.self.now.selected ≡ Some c.in-Some.field-0 = ap (λ (s : Standing). s.selected) (sym c.self.view_is) ∙ c.in-Some.is in
     let idles : is_idling c.args.self.now ≡ true = sym c.is_idling.ensures ∙ c.if-not-is_idling.false in
     let e = c.in-Ok.ensures.event in
-    let shown = g.S.Store.shown c.args.store.now in
-    turns_shown g.S.Store.step c.args.self.now c.in-Some.field-0 c.args.store.now c.show.new.store shown e.0 c.in-Ok.count c.args.out.now.items c.show.new.out.items there idles e.1 e.2
-    (e.4 ∙ ap (λ (t : List ℕ). t ++ lines (g.S.Store.shown c.args.store.now) e.0) c.reserve.ensures.items)
+    turns_shown g.S.Store.step c.args.self.now c.in-Some.field-0 c.args.store.now c.show.new.store e.0 e.1 c.in-Ok.count c.args.out.now.items c.show.new.out.items there idles e.2 e.3
+    (e.5 ∙ ap (λ (t : List ℕ). t ++ lines e.0 e.1) c.reserve.ensures.items)
 
 pub returns-in-Err-Stranger-clause-turned : goal.returns-in-Err-Stranger-clause-turned
 returns-in-Err-Stranger-clause-turned g c =

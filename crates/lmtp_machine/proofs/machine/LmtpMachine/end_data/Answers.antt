@@ -36,6 +36,15 @@ returns-in-Ok-build-clause-most c =
     let few = c.in-Ok-build.ensures.few in
     All-cons (λ (s : Submission). length s.keys ≤ 100) (submission_of c.in-Ok-build.submission) [] (omega (arith, e, few)) (All-nil (λ (s : Submission). length s.keys ≤ 100))
 
+pub returns-in-Ok-build-clause-paired : goal.returns-in-Ok-build-clause-paired
+returns-in-Ok-build-clause-paired c =
+    let mailboxes : length (submission_of c.in-Ok-build.submission).mailboxes ≡ length c.args.self.now.commands.recipients =
+    ap (λ (x : Submission). length x.mailboxes) c.in-Ok-build.ensures.made in
+    let keys : length (submission_of c.in-Ok-build.submission).keys ≡ length c.args.self.now.commands.recipients =
+    ap (λ (x : Submission). length x.keys) c.in-Ok-build.ensures.made
+    ∙ keys_length c.args.self.now.setting c.args.self.now.commands.submitted 0 c.args.self.now.commands.recipients in
+    All-cons (λ (s : Submission). length s.mailboxes ≡ length s.keys) (submission_of c.in-Ok-build.submission) [] (mailboxes ∙ sym keys) (All-nil (λ (s : Submission). length s.mailboxes ≡ length s.keys))
+
 pub returns-in-Ok-build-clause-does : goal.returns-in-Ok-build-clause-does
 returns-in-Ok-build-clause-does c lines k =
     let m : Machine = c.args.self.now in
