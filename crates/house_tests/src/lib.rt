@@ -1,4 +1,4 @@
-//! Tests of a house and of its promise, as a program above them would call them. What is proved of them stands in their own crates.
+//! Tests of a house, of its promise and of scripts, as a program above them would call them. What is proved of them stands in their own crates.
 #![tactic(auto)]
 
 #[cfg(test)]
@@ -7,6 +7,8 @@ mod connections;
 mod idling;
 #[cfg(test)]
 mod replays;
+#[cfg(test)]
+mod scripts;
 #[cfg(test)]
 mod sessions;
 #[cfg(test)]

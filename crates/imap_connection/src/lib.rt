@@ -3,7 +3,5 @@
 #![tactic(auto)]
 
 mod connection;
-#[cfg(test)]
-mod tests;
 
 pub use connection::{ImapConnection, Progress};

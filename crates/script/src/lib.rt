@@ -4,8 +4,6 @@
 
 mod line;
 mod run;
-#[cfg(test)]
-mod tests;
 
 pub use line::ScriptLine;
 pub use run::{RunFault, drive};

@@ -1,13 +1,19 @@
-//! Tests of IMAP's lines and sessions, as a server above them would call them. What is proved of them stands in their own crates.
+//! Tests of IMAP's lines, sessions, connections and visitors, as a server above them would call them. What is proved of them stands in their own crates.
 #![tactic(auto)]
 
 #[cfg(test)]
 mod answers;
 #[cfg(test)]
+mod connections;
+#[cfg(test)]
 mod dialogues;
 #[cfg(test)]
 mod lines;
 #[cfg(test)]
+mod nowhere;
+#[cfg(test)]
 mod sets;
 #[cfg(test)]
 mod shelf;
+#[cfg(test)]
+mod visits;

@@ -3,8 +3,6 @@
 #![tactic(auto)]
 
 mod folders;
-#[cfg(test)]
-mod tests;
 mod visitor;
 
 pub use folders::{folders_of, has_user};

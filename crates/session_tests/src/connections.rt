@@ -1,10 +1,8 @@
-//! Bytes in pieces, and lines of the greatest length. What lines are answered is the session's matter.
+//! Tests of a connection: bytes in pieces, and lines of the greatest length. What lines are answered is the session's matter.
 
-mod nowhere;
-
-use crate::{ImapConnection, Progress};
+use crate::nowhere::Nowhere;
+use imap_connection::{ImapConnection, Progress};
 use imap_session::{After, Folder};
-use nowhere::Nowhere;
 use std::alloc::{AllocError, Global};
 
 // The connection of a user with one mailbox.

@@ -1,11 +1,11 @@
-//! What a visitor says, and how it is printed. What is answered to its lines is the session's matter.
+//! Tests of visitors: what one says, how it is printed, and which mailboxes its user has. What is answered to its lines is the
+//! session's matter.
 
-mod nowhere;
-
-use crate::Visitor;
+use crate::nowhere::Nowhere;
+use envelope::{Directory, DirectoryFault};
 use imap_session::Folder;
-use nowhere::Nowhere;
 use std::alloc::{AllocError, Global};
+use visitors::{Visitor, folders_of, has_user};
 
 // A visitor with one mailbox.
 fn visitor(alloc: Global) -> Result<Visitor, AllocError> {
@@ -53,5 +53,54 @@ fn a_visitor_idles(rt: HostRuntime) -> Result<(), AllocError> {
         out.as_slice(),
         b"I2 * PREAUTH IMAP4rev2 server ready\nI2 + idling\nI2 a1 OK IDLE completed\n".as_slice()
     );
+    Ok(())
+}
+
+// Two users, one of whom has a folder.
+fn two_users(alloc: Global) -> Result<Directory, DirectoryFault> {
+    Directory::new(
+        alloc,
+        &[b"example.org".as_slice()],
+        &[
+            b"alice".as_slice(),
+            b"alice/Work".as_slice(),
+            b"bob".as_slice(),
+        ],
+        2,
+    )
+}
+
+#[test]
+fn users_are_known_by_their_own_names(rt: HostRuntime) -> Result<(), DirectoryFault> {
+    let directory = two_users(rt.alloc())?;
+    for user in [b"alice".as_slice(), b"bob".as_slice()] {
+        assert!(rt; has_user(&directory, user));
+    }
+    let others = [
+        b"".as_slice(),
+        b"Alice".as_slice(),
+        b"alice/Work".as_slice(),
+        b"Work".as_slice(),
+        b"bobby".as_slice(),
+    ];
+    for other in others {
+        assert!(rt; !has_user(&directory, other));
+    }
+    Ok(())
+}
+
+#[test]
+fn a_user_has_folders(rt: HostRuntime) -> Result<(), DirectoryFault> {
+    let directory = two_users(rt.alloc())?;
+    let folders = folders_of(rt.alloc(), &directory, b"alice")?;
+    assert_eq!(rt; folders.len(), 2);
+    if let [inbox, work] = folders.as_slice() {
+        assert_eq!(rt; inbox.name(), b"INBOX".as_slice());
+        assert_eq!(rt; inbox.mailbox(), 0);
+        assert_eq!(rt; work.name(), b"Work".as_slice());
+        assert_eq!(rt; work.mailbox(), 1);
+    }
+    let folders = folders_of(rt.alloc(), &directory, b"Alice")?;
+    assert_eq!(rt; folders.len(), 0);
     Ok(())
 }

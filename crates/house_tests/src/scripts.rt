@@ -1,10 +1,11 @@
-//! A run whose reader or writer fails in the middle of a script: what is answered, and what was written by then.
+//! Tests of a script that is played in a house: one whose reader or writer fails in its middle, what is answered then, and what was
+//! written by then.
 
 ghost use Rattle.std.specs.Prelude.{◌≡◌, Some, false};
 
-use crate::{RunFault, drive};
 use house::{Config, House};
 use line_io::Sink;
+use script::{RunFault, drive};
 use std::alloc::{AllocError, Global};
 use std::io::{BufRead, Error, ErrorKind, Read};
 
