@@ -79,6 +79,7 @@ fn is_ring_wrong(config: &Config) -> bool
 pub fn directory_of(alloc: Global, config: &Config) -> Result<Directory, ConfigFault>
     requires { IsInRange config.now }
     ensures directory { IfOk result (λ d. d ≡ (setup_of config.now).directory) }
+    ensures right { IfOk result (λ d. config_fault config.now ≡ None) }
     ensures host { IfOk result (λ d. length config.now.host.items < 256) }
     ensures fault { IfSome (config_fault config.now) (λ fault. (result ≡ Err fault) ⊎ (result ≡ Err ConfigFault.NoMemory)) }
     // Where nothing is wrong.

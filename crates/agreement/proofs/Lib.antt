@@ -1,0 +1,4 @@
+pub mod RiseLaws
+pub mod WalkLaws
+pub mod MetLaws
+pub mod OrderLaws

@@ -1,0 +1,6 @@
+use Rattle.std.proofs.Common.{◌≡◌, drop}
+use Rattle.agreement.specs.Walk.{copy_with}
+use Rattle.agreement.proofs.there.copy_with.Given as goal
+
+abbrev pub invariant-loop-place : goal.invariant-loop-place
+invariant-loop-place l = copy_with l.mailbox l.key (drop l.place l.copies) ≡ copy_with l.mailbox l.key l.copies

@@ -1,0 +1,6 @@
+use Rattle.imap_connection.specs.Dialogue.{Dialogue, StandsFor}
+use Rattle.session_thread.specs.Life.{Turns, moment}
+use Rattle.session_thread.proofs.life.wait_for.Given as goal
+
+abbrev pub invariant-loop-turn : goal.invariant-loop-turn
+invariant-loop-turn g l = (d : Dialogue) → StandsFor l.fn.connection d → (now : Dialogue) × StandsFor l.connection now × Turns l.count (moment d l.fn.desk l.fn.out.items) l._turn (moment now l.desk l.out.items)

@@ -1,0 +1,222 @@
+//! The store of a session of the running house: mailboxes behind locks. Which lock a call takes, and
+//! whose bells ring behind it, stands here; what is done to the mailbox that is found doesn't.
+
+ghost use Rattle.std.specs.Prelude.{◌≡◌, None, length};
+ghost use Rattle.session_thread.specs.Locks.{Holds, shown_in};
+
+use crate::bells::ring;
+use crate::locked;
+use change_ring::{FlagOp, Flags};
+use crossbeam_utils::sync::Unparker;
+use cursor_set::CursorSeat;
+use imap_session::Store;
+use mailbox::{MailFault, Mailbox, Opening, Row, Status};
+use pace::{Actor, Gate, Pace};
+use std::alloc::Global;
+use std::marker::Model;
+use std::sync::{Mutex, Wait};
+
+// Whether a read logged that the message was seen.
+fn has_marked(row: &Result<Option<Row>, MailFault>) -> bool {
+    match row {
+        Ok(Some(row)) => row.newly_seen,
+        _ => false,
+    }
+}
+
+// Whether an expunge logged that messages went.
+fn has_removed(gone: &Result<usize, MailFault>) -> bool {
+    match gone {
+        Ok(count) => *count > 0,
+        Err(_) => false,
+    }
+}
+
+// The mailbox that a session entered, the number of the log's next change when it did, and its seat
+// there.
+#[derive(Drop)]
+struct Entry {
+    mailbox: u8,
+    start: u64,
+    seat: CursorSeat,
+}
+
+/// The mailboxes of the house as one session gets at them: each call takes the lock of one mailbox,
+/// makes one event of it, or copies the view, and lets go. Between two calls nothing is known of a
+/// mailbox, but the session's seat.
+///
+/// The session asks its gate to pass before each hold that is an event, also one that is refused under
+/// the lock; a copy of the view is none, and a call that takes no lock doesn't ask. Behind a hold that
+/// logged a change the bells of the user's sessions are rung.
+#[derive(Drop)]
+pub struct LockedDesk<'a, R: Wait, G: Gate> {
+    rt: &'a R,
+    pace: Pace<'a, G>,
+    mailboxes: &'a [Mutex<Mailbox>],
+    // Those of its user's sessions.
+    bells: &'a [Unparker],
+    entered: Option<Entry>,
+}
+
+impl<'a, R: Wait, G: Gate> Model for LockedDesk<'a, R, G> {
+    ghost use Rattle.std.specs.Prelude.{◌<◌, length, IfSome};
+    ghost use Rattle.session_thread.specs.Locks.{Place};
+
+    ghost Value = { Place };
+
+    ghost view = { λ d. record { mailboxes = length d.mailboxes.now; entered = d.entered } };
+
+    ghost invariant = { λ d. IfSome d.entered (λ here. here.mailbox < length d.mailboxes.now) };
+}
+
+impl<'a, R: Wait, G: Gate> LockedDesk<'a, R, G> {
+    /// The desk of the session of this number among all sessions of the house, from 0, which has
+    /// entered no mailbox. `mailboxes` are all of the house, by their numbers from 0, and `bells` are
+    /// those of its user's sessions.
+    pub fn new(
+        rt: &'a R,
+        gate: &'a G,
+        session: u8,
+        mailboxes: &'a [Mutex<Mailbox>],
+        bells: &'a [Unparker],
+    ) -> LockedDesk<'a, R, G>
+        ensures { result ≡ record { mailboxes = length mailboxes.now; entered = None } }
+    {
+        LockedDesk {
+            rt,
+            pace: Pace::new(gate, Actor::Session(session)),
+            mailboxes,
+            bells,
+            entered: None,
+        }
+    }
+
+    /// How many changes the session was shown since it entered its mailbox; 0 in none.
+    pub fn shown(&self) -> u64
+        ensures { result ≡ shown_in self.now.entered }
+    {
+        match &self.entered {
+            None => 0,
+            Some(here) => here.seat.at().saturating_sub(here.start),
+        }
+    }
+}
+
+impl<'a, R: Wait, G: Gate> Store for LockedDesk<'a, R, G> {
+    ghost step = { λ old call answered new. Holds old call answered new };
+
+    fn enter(&mut self, mailbox: u8) -> Result<Opening, MailFault> {
+        if self.entered.is_some() {
+            return Err(MailFault::Stranger);
+        }
+        if usize::from(mailbox) >= self.mailboxes.len() {
+            return Err(MailFault::Stranger);
+        }
+        self.pace.pass();
+        let lock = &self.mailboxes[usize::from(mailbox)];
+        let (seat, opening) = match locked::enter(self.rt, lock) {
+            Ok(entered) => entered,
+            Err(fault) => return Err(fault),
+        };
+        self.entered = Some(Entry {
+            mailbox,
+            start: seat.at(),
+            seat,
+        });
+        Ok(opening)
+    }
+
+    fn view(&self, alloc: Global) -> Result<Vec<u32>, MailFault> {
+        let Some(here) = &self.entered else {
+            return Err(MailFault::Stranger);
+        };
+        let lock = &self.mailboxes[usize::from(here.mailbox)];
+        locked::view(self.rt, alloc, lock, &here.seat)
+    }
+
+    fn read(&mut self, uid: u32, mark_seen: bool) -> Result<Option<Row>, MailFault> {
+        let mailboxes = self.mailboxes;
+        let Some(here) = &self.entered else {
+            return Err(MailFault::Stranger);
+        };
+        self.pace.pass();
+        let lock = &mailboxes[usize::from(here.mailbox)];
+        let row = locked::read(self.rt, lock, &here.seat, uid, mark_seen);
+        if has_marked(&row) {
+            ring(self.bells);
+        }
+        row
+    }
+
+    fn status(&mut self, mailbox: u8) -> Result<Status, MailFault> {
+        if usize::from(mailbox) >= self.mailboxes.len() {
+            return Err(MailFault::Stranger);
+        }
+        self.pace.pass();
+        let lock = &self.mailboxes[usize::from(mailbox)];
+        Ok(locked::count(self.rt, lock))
+    }
+
+    fn store(&mut self, uid: u32, op: FlagOp) -> Result<Option<Flags>, MailFault> {
+        let mailboxes = self.mailboxes;
+        let Some(here) = &self.entered else {
+            return Err(MailFault::Stranger);
+        };
+        self.pace.pass();
+        let lock = &mailboxes[usize::from(here.mailbox)];
+        let flags = locked::alter(self.rt, lock, &here.seat, uid, op);
+        // Also where the flags were so before: the mailbox doesn't tell, and a ring too many costs
+        // a turn.
+        ring(self.bells);
+        flags
+    }
+
+    fn expunge(&mut self, uids: Option<&[u32]>, out: &mut Vec<u8>) -> Result<usize, MailFault> {
+        let Some(mut here) = self.entered.take() else {
+            return Err(MailFault::Stranger);
+        };
+        self.pace.pass();
+        let lock = &self.mailboxes[usize::from(here.mailbox)];
+        let gone = locked::expunge(self.rt, lock, &mut here.seat, uids, out);
+        self.entered = Some(here);
+        if has_removed(&gone) {
+            ring(self.bells);
+        }
+        gone
+    }
+
+    fn feed(&mut self, limit: usize, out: &mut Vec<u8>) -> Result<usize, MailFault> {
+        let Some(mut here) = self.entered.take() else {
+            return Err(MailFault::Stranger);
+        };
+        self.pace.pass();
+        let lock = &self.mailboxes[usize::from(here.mailbox)];
+        let fed = locked::feed(self.rt, lock, &mut here.seat, limit, out);
+        self.entered = Some(here);
+        fed
+    }
+
+    fn leave(&mut self, remove: bool) -> Result<usize, MailFault> {
+        let Some(here) = self.entered.take() else {
+            return Err(MailFault::Stranger);
+        };
+        self.pace.pass();
+        let lock = &self.mailboxes[usize::from(here.mailbox)];
+        match locked::leave(self.rt, lock, here.seat, remove) {
+            Ok(gone) => {
+                if gone > 0 {
+                    ring(self.bells);
+                }
+                Ok(gone)
+            }
+            Err((seat, fault)) => {
+                self.entered = Some(Entry {
+                    mailbox: here.mailbox,
+                    start: here.start,
+                    seat,
+                });
+                Err(fault)
+            }
+        }
+    }
+}

@@ -1,0 +1,17 @@
+//! A session of the running house: its thread's life, over mailboxes behind locks, which consumers and
+//! other sessions share. What a call does to a mailbox that is held stands in `mailbox_holds`, what a
+//! client is answered in `imap_session`; who starts the threads stands above.
+#![tactic(auto)]
+
+mod bells;
+mod desk;
+mod laws;
+mod life;
+mod locked;
+#[cfg(test)]
+mod tests;
+
+pub use bells::ring;
+pub use desk::LockedDesk;
+pub use laws::pieces_abut;
+pub use life::{Step, live};

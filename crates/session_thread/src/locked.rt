@@ -1,0 +1,114 @@
+//! One hold of a mailbox's lock for each call: the lock is taken, one thing is done to the mailbox that
+//! is found, and the lock is let go. Which lock, and for whose seat, is told above.
+
+ghost use Rattle.std.specs.Prelude.{◌≡◌, ◌≢◌, ◌≤◌, ◌⊎◌, IfErr, IfOk};
+ghost use Rattle.std.specs.Option.{option_copied};
+ghost use Rattle.std.specs.Vec.{vec_capacity};
+ghost use Rattle.mailbox.specs.Mail.{Mail};
+ghost use Rattle.mailbox_holds.specs.Holds.{Counts, DoesAlter, DoesEnter, DoesExpunge, DoesFeed, DoesLeave, DoesLook, DoesRead};
+ghost use Rattle.session_thread.specs.Locks.{UnderLock};
+
+use change_ring::{FlagOp, Flags};
+use cursor_set::CursorSeat;
+use mailbox::{MailFault, Mailbox, Opening, Row, Status};
+use mailbox_holds as holds;
+use std::alloc::Global;
+use std::sync::{Mutex, Wait};
+
+pub(crate) fn enter<R: Wait>(
+    rt: &R,
+    lock: &Mutex<Mailbox>,
+) -> Result<(CursorSeat, Opening), MailFault>
+    ensures { UnderLock (λ found left. DoesEnter found result left) }
+{
+    let mut held = lock.lock(rt);
+    holds::enter(&mut held)
+}
+
+pub(crate) fn view<R: Wait>(
+    rt: &R,
+    alloc: Global,
+    lock: &Mutex<Mailbox>,
+    seat: &CursorSeat,
+) -> Result<Vec<u32>, MailFault>
+    ensures looks { (found : Mail) × DoesLook found seat.now result }
+    ensures faults { IfErr result (λ f. (f ≡ MailFault.Stranger) ⊎ (f ≡ MailFault.NoMemory)) }
+{
+    let held = lock.lock(rt);
+    holds::view(alloc, &held, seat)
+}
+
+pub(crate) fn read<R: Wait>(
+    rt: &R,
+    lock: &Mutex<Mailbox>,
+    seat: &CursorSeat,
+    uid: u32,
+    mark_seen: bool,
+) -> Result<Option<Row>, MailFault>
+    ensures { UnderLock (λ found left. DoesRead found seat.now uid mark_seen result left) }
+{
+    let mut held = lock.lock(rt);
+    holds::read(&mut held, seat, uid, mark_seen)
+}
+
+pub(crate) fn count<R: Wait>(rt: &R, lock: &Mutex<Mailbox>) -> Status
+    ensures { (found : Mail) × Counts found result }
+{
+    let held = lock.lock(rt);
+    holds::count(&held)
+}
+
+pub(crate) fn alter<R: Wait>(
+    rt: &R,
+    lock: &Mutex<Mailbox>,
+    seat: &CursorSeat,
+    uid: u32,
+    op: FlagOp,
+) -> Result<Option<Flags>, MailFault>
+    ensures { UnderLock (λ found left. DoesAlter found seat.now uid op result left) }
+{
+    let mut held = lock.lock(rt);
+    holds::alter(&mut held, seat, uid, op)
+}
+
+pub(crate) fn expunge<R: Wait>(
+    rt: &R,
+    lock: &Mutex<Mailbox>,
+    seat: &mut CursorSeat,
+    uids: Option<&[u32]>,
+    out: &mut Vec<u8>,
+) -> Result<usize, MailFault>
+    ensures event { UnderLock (λ found left. DoesExpunge found seat.old (option_copied uids.entry) out.old.items out.new.items result left seat.new) }
+    ensures room { vec_capacity out.old ≤ vec_capacity out.new }
+{
+    let mut held = lock.lock(rt);
+    holds::expunge(&mut held, seat, uids, out)
+}
+
+pub(crate) fn feed<R: Wait>(
+    rt: &R,
+    lock: &Mutex<Mailbox>,
+    seat: &mut CursorSeat,
+    limit: usize,
+    out: &mut Vec<u8>,
+) -> Result<usize, MailFault>
+    ensures event { UnderLock (λ found left. DoesFeed found seat.old limit out.old.items out.new.items result left seat.new) }
+    ensures few { IfOk result (λ n. n ≤ limit) }
+    ensures faults { IfErr result (λ f. f ≢ MailFault.Spent) }
+    ensures room { vec_capacity out.old ≤ vec_capacity out.new }
+{
+    let mut held = lock.lock(rt);
+    holds::feed(&mut held, seat, limit, out)
+}
+
+pub(crate) fn leave<R: Wait>(
+    rt: &R,
+    lock: &Mutex<Mailbox>,
+    seat: CursorSeat,
+    remove: bool,
+) -> Result<usize, (CursorSeat, MailFault)>
+    ensures { UnderLock (λ found left. DoesLeave found seat remove result left) }
+{
+    let mut held = lock.lock(rt);
+    holds::leave(&mut held, seat, remove)
+}

@@ -1,0 +1,404 @@
+//! Sessions that read what another thread delivers, their gate and their bells. What they are shown is
+//! written in RFC 9051, 6.3.2, 6.4.5 and 7.4.
+
+use crate::bells::ring;
+use crate::desk::LockedDesk;
+use crate::life::{Step, live};
+use change_ring::{FlagOp, Flags};
+use crossbeam_utils::sync::{Parker, Unparker};
+use delivery_token::{CopyKey, Job, Text};
+use imap_session::{Folder, Store};
+use mailbox::{Limits, MailFault, Mailbox};
+use pace::{Actor, Gate};
+use std::alloc::{AllocError, Global};
+use std::sync::atomic::{AtomicBool, AtomicU64, Ordering};
+use std::sync::{Mutex, Wait};
+use std::thread::{self, Threads, join};
+
+const SMALL: Limits = Limits {
+    messages: 8,
+    ring: 16,
+    ring_max: 0,
+};
+
+// So many turns a thread waits for another at most.
+const PATIENCE: u64 = 10_000_000;
+
+// Lets the actor `first` pass. A session is held until a copy was delivered, a consumer until the session has selected: it then asks to pass
+// for the second time.
+#[derive(Drop)]
+struct Order {
+    first: Actor,
+    delivered: AtomicBool,
+    selected: AtomicBool,
+}
+
+impl Order {
+    fn new(first: Actor) -> Order {
+        Order {
+            first,
+            delivered: AtomicBool::new(false),
+            selected: AtomicBool::new(false),
+        }
+    }
+}
+
+// Waits until the mark is set.
+fn wait_until(mark: &AtomicBool) {
+    for _ in 0..PATIENCE {
+        if mark.load(Ordering::SeqCst) {
+            return;
+        }
+        thread::yield_now();
+    }
+}
+
+impl Gate for Order {
+    fn pass(&self, who: Actor, number: u64) {
+        if who == Actor::Session(0) && number == 1 {
+            self.selected.store(true, Ordering::SeqCst);
+        }
+        if who == self.first {
+            return;
+        }
+        match who {
+            Actor::Session(_) => wait_until(&self.delivered),
+            Actor::Consumer(_) => wait_until(&self.selected),
+            Actor::Worker(_) => {}
+        }
+    }
+}
+
+fn one_mailbox(alloc: Global) -> Result<Vec<Mutex<Mailbox>>, AllocError> {
+    let mailbox = Mailbox::new(alloc, 0, 7, 1, SMALL)?;
+    let mut mailboxes = Vec::new(alloc);
+    mailboxes.push(Mutex::new(mailbox))?;
+    Ok(mailboxes)
+}
+
+fn folders(alloc: Global) -> Result<Vec<Folder>, AllocError> {
+    let name = Vec::from_slice(alloc, b"INBOX")?;
+    let mut folders = Vec::new(alloc);
+    folders.push(Folder::new(name, 0))?;
+    Ok(folders)
+}
+
+fn saying(alloc: Global, steps: &mut Vec<Step>, bytes: &[u8]) -> Result<(), AllocError> {
+    steps.push(Step::Say(Vec::from_slice(alloc, bytes)?))?;
+    Ok(())
+}
+
+fn copy(alloc: Global) -> Result<Job, AllocError> {
+    Ok(Job {
+        key: CopyKey {
+            seat: 0,
+            serial: 0,
+            message: 0,
+            recipient: 0,
+        },
+        mailbox: 0,
+        text: Text::new(Vec::from_slice(alloc, b"Return-Path: <s@a.example>\r\nhi\r\n")?),
+    })
+}
+
+// What a consumer does with a copy: one event of the mailbox under its lock, and then the bells of its user.
+fn deliver<R: Wait>(
+    rt: &R,
+    mailboxes: &[Mutex<Mailbox>],
+    order: &Order,
+    bells: &[Unparker],
+    job: &Job,
+) -> bool {
+    order.pass(Actor::Consumer(0), 0);
+    let Some(mailbox) = mailboxes.first() else {
+        return false;
+    };
+    let is_stored = mailbox.lock(rt).deliver(job).is_ok();
+    order.delivered.store(true, Ordering::SeqCst);
+    ring(bells);
+    is_stored
+}
+
+fn session<R: Wait>(
+    rt: &R,
+    alloc: Global,
+    mailboxes: &[Mutex<Mailbox>],
+    order: &Order,
+    bells: &[Unparker],
+    steps: &[Step],
+) -> Option<Vec<u8>> {
+    let Ok(folders) = folders(alloc) else {
+        return None;
+    };
+    let mut said = Vec::new(alloc);
+    let mut desk = LockedDesk::new(rt, order, 0, mailboxes, bells);
+    match live(alloc, &mut desk, folders, steps, PATIENCE, &mut said) {
+        Ok(()) => Some(said),
+        Err(_) => None,
+    }
+}
+
+fn run_both<R: Threads + Wait + Sync>(
+    rt: &R,
+    alloc: Global,
+    order: &Order,
+    steps: &[Step],
+) -> Result<Vec<u8>, AllocError> {
+    let mailboxes = one_mailbox(alloc)?;
+    let job = copy(alloc)?;
+    let bell = Parker::new(alloc)?;
+    let mut bells = Vec::new(alloc);
+    bells.push(bell.unparker().clone()?)?;
+    let (is_stored, said) = join(
+        rt,
+        || deliver(rt, &mailboxes, order, &bells, &job),
+        || session(rt, alloc, &mailboxes, order, &bells, steps),
+    );
+    match said {
+        Some(said) if is_stored => Ok(said),
+        _ => Err(AllocError),
+    }
+}
+
+#[test]
+fn threads_text(rt: HostRuntime) -> Result<(), AllocError> {
+    let alloc = rt.alloc();
+    let order = Order::new(Actor::Consumer(0));
+    let mut steps = Vec::new(alloc);
+    saying(alloc, &mut steps, b"a1 SELECT INBOX\r\n")?;
+    saying(alloc, &mut steps, b"a2 FETCH 1 BODY.PEEK[]\r\n")?;
+    let said = run_both(&rt, alloc, &order, &steps)?;
+    let wanted =
+        b"* PREAUTH IMAP4rev2 server ready\r\n* FLAGS (\\Answered \\Flagged \\Deleted \\Seen \\Draft)\r\n* 1 EXISTS\r\n* OK [UIDVALIDITY 7] UIDs valid\r\n* OK [UIDNEXT 2] Predicted next UID\r\n* OK [PERMANENTFLAGS (\\Answered \\Flagged \\Deleted \\Seen \\Draft)] Flags kept\r\n* LIST () \"/\" INBOX\r\na1 OK [READ-WRITE] SELECT completed\r\n* 1 FETCH (BODY[] {32}\r\nReturn-Path: <s@a.example>\r\nhi\r\n)\r\na2 OK FETCH completed\r\n";
+    assert_eq!(rt; said.as_slice(), wanted.as_slice());
+    Ok(())
+}
+
+#[test]
+fn an_idling_session_awaits_a_message(rt: HostRuntime) -> Result<(), AllocError> {
+    let alloc = rt.alloc();
+    let order = Order::new(Actor::Session(0));
+    let mut steps = Vec::new(alloc);
+    steps.push(Step::Await(1))?;
+    saying(alloc, &mut steps, b"a1 EXAMINE INBOX\r\na2 IDLE\r\n")?;
+    steps.push(Step::Await(1))?;
+    saying(alloc, &mut steps, b"DONE\r\na3 LOGOUT\r\na4 NOOP\r\n")?;
+    steps.push(Step::Await(2))?;
+    saying(alloc, &mut steps, b"a5 NOOP\r\n")?;
+    let said = run_both(&rt, alloc, &order, &steps)?;
+    let wanted =
+        b"* PREAUTH IMAP4rev2 server ready\r\n* FLAGS (\\Answered \\Flagged \\Deleted \\Seen \\Draft)\r\n* 0 EXISTS\r\n* OK [UIDVALIDITY 7] UIDs valid\r\n* OK [UIDNEXT 1] Predicted next UID\r\n* OK [PERMANENTFLAGS ()] Flags kept\r\n* LIST () \"/\" INBOX\r\na1 OK [READ-ONLY] EXAMINE completed\r\n+ idling\r\n* 1 EXISTS\r\na2 OK IDLE completed\r\n* BYE Logging out\r\na3 OK LOGOUT completed\r\n";
+    assert_eq!(rt; said.as_slice(), wanted.as_slice());
+    Ok(())
+}
+
+// A session that sleeps until its bell rings, and is then shown what is new.
+fn sleep_and_look<R: Wait>(
+    rt: &R,
+    alloc: Global,
+    mailboxes: &[Mutex<Mailbox>],
+    order: &Order,
+    bells: &[Unparker],
+    bell: Parker,
+) -> Option<Vec<u8>> {
+    let mut said = Vec::new(alloc);
+    let mut desk = LockedDesk::new(rt, order, 0, mailboxes, bells);
+    if desk.enter(0).is_err() || desk.feed(64, &mut said).is_err() {
+        return None;
+    }
+    bell.park(rt);
+    let fed = desk.feed(64, &mut said);
+    if fed.is_err() || desk.shown() != 1 {
+        return None;
+    }
+    Some(said)
+}
+
+fn ring_once<R: Threads + Wait + Sync>(rt: &R, alloc: Global) -> Result<Vec<u8>, AllocError> {
+    let order = Order::new(Actor::Session(0));
+    let mailboxes = one_mailbox(alloc)?;
+    let job = copy(alloc)?;
+    let bell = Parker::new(alloc)?;
+    let mut bells = Vec::new(alloc);
+    bells.push(bell.unparker().clone()?)?;
+    let (boxes, held, rung) = (mailboxes.as_slice(), &order, bells.as_slice());
+    let (said, is_stored) = join(
+        rt,
+        move || sleep_and_look(rt, alloc, boxes, held, rung, bell),
+        || deliver(rt, boxes, held, rung, &job),
+    );
+    match said {
+        Some(said) if is_stored => Ok(said),
+        _ => Err(AllocError),
+    }
+}
+
+#[test]
+fn a_bell_wakes_a_session(rt: HostRuntime) -> Result<(), AllocError> {
+    let said = ring_once(&rt, rt.alloc())?;
+    assert_eq!(rt; said.as_slice(), b"* 1 EXISTS\r\n".as_slice());
+    Ok(())
+}
+
+// A gate that counts how often it was asked.
+#[derive(Drop)]
+struct Tally {
+    asked: AtomicU64,
+}
+
+impl Tally {
+    fn new() -> Tally {
+        Tally {
+            asked: AtomicU64::new(0),
+        }
+    }
+
+    fn asked(&self) -> u64 {
+        self.asked.load(Ordering::SeqCst)
+    }
+}
+
+impl Gate for Tally {
+    fn pass(&self, _who: Actor, _number: u64) {
+        self.asked.fetch_add(1, Ordering::SeqCst);
+    }
+}
+
+const FLAGGED: Flags = Flags {
+    answered: false,
+    flagged: true,
+    deleted: false,
+    seen: false,
+    draft: false,
+};
+
+const DELETED: Flags = Flags {
+    answered: false,
+    flagged: false,
+    deleted: true,
+    seen: false,
+    draft: false,
+};
+
+// One mailbox with one message.
+fn with_a_message<R: Wait>(rt: &R, alloc: Global) -> Result<Vec<Mutex<Mailbox>>, AllocError> {
+    let mailboxes = one_mailbox(alloc)?;
+    let job = copy(alloc)?;
+    match mailboxes.first() {
+        Some(lock) if lock.lock(rt).deliver(&job).is_ok() => Ok(mailboxes),
+        _ => Err(AllocError),
+    }
+}
+
+// Each call of a session that is in no mailbox, or of one that isn't there: all are refused.
+fn calls_outside<R: Wait>(
+    desk: &mut LockedDesk<'_, R, Tally>,
+    alloc: Global,
+    out: &mut Vec<u8>,
+) -> bool {
+    desk.enter(1).is_err()
+        && desk.view(alloc).is_err()
+        && desk.read(1, false).is_err()
+        && desk.status(1).is_err()
+        && desk.store(1, FlagOp::Insert(FLAGGED)).is_err()
+        && desk.expunge(None, out).is_err()
+        && desk.feed(64, out).is_err()
+        && desk.leave(true).is_err()
+}
+
+// Each call of a session that enters a mailbox and leaves it: a view, and seven events.
+fn calls_inside<R: Wait>(
+    desk: &mut LockedDesk<'_, R, Tally>,
+    alloc: Global,
+    out: &mut Vec<u8>,
+) -> bool {
+    desk.enter(0).is_ok()
+        && desk.view(alloc).is_ok()
+        && desk.read(1, false).is_ok()
+        && desk.status(0).is_ok()
+        && desk.store(1, FlagOp::Insert(FLAGGED)).is_ok()
+        && desk.expunge(None, out).is_ok()
+        && desk.feed(64, out).is_ok()
+        && desk.leave(false).is_ok()
+}
+
+// A session that logs more changes than the window has, and is shown each itself.
+fn change_much<R: Wait>(desk: &mut LockedDesk<'_, R, Tally>, out: &mut Vec<u8>) -> bool {
+    for _ in 0..9 {
+        let set = desk.store(1, FlagOp::Insert(FLAGGED));
+        let unset = desk.store(1, FlagOp::Remove(FLAGGED));
+        if set.is_err() || unset.is_err() || desk.feed(64, out).is_err() {
+            return false;
+        }
+    }
+    true
+}
+
+// How often a session asked to pass that lapsed: as it entered, and as it was refused.
+fn passes_of_one_that_lapsed<R: Wait>(
+    rt: &R,
+    alloc: Global,
+    mailboxes: &[Mutex<Mailbox>],
+) -> Option<u64> {
+    let (others, tally) = (Tally::new(), Tally::new());
+    let mut out = Vec::new(alloc);
+    let mut other = LockedDesk::new(rt, &others, 0, mailboxes, &[]);
+    let mut desk = LockedDesk::new(rt, &tally, 1, mailboxes, &[]);
+    if desk.enter(0).is_err() || other.enter(0).is_err() || !change_much(&mut other, &mut out) {
+        return None;
+    }
+    match desk.read(1, false) {
+        Err(MailFault::Lapped) => Some(tally.asked()),
+        _ => None,
+    }
+}
+
+#[test]
+fn each_event_asks_to_pass(rt: HostRuntime) -> Result<(), AllocError> {
+    let alloc = rt.alloc();
+    let mailboxes = with_a_message(&rt, alloc)?;
+    let tally = Tally::new();
+    let mut out = Vec::new(alloc);
+    let mut desk = LockedDesk::new(&rt, &tally, 0, &mailboxes, &[]);
+    assert!(rt; calls_outside(&mut desk, alloc, &mut out));
+    assert_eq!(rt; tally.asked(), 0);
+    assert!(rt; calls_inside(&mut desk, alloc, &mut out));
+    assert_eq!(rt; tally.asked(), 7);
+    assert_eq!(rt; passes_of_one_that_lapsed(&rt, alloc, &mailboxes), Some(2));
+    Ok(())
+}
+
+// The bell is rung behind each call that logged a change: else the test sleeps for good.
+fn wakes_each_time<R: Wait>(
+    rt: &R,
+    alloc: Global,
+    mailboxes: &[Mutex<Mailbox>],
+    bells: &[Unparker],
+    bell: &Parker,
+) -> bool {
+    let tally = Tally::new();
+    let mut out = Vec::new(alloc);
+    let mut desk = LockedDesk::new(rt, &tally, 0, mailboxes, bells);
+    if desk.enter(0).is_err() || desk.read(1, true).is_err() {
+        return false;
+    }
+    bell.park(rt);
+    if desk.store(1, FlagOp::Insert(DELETED)).is_err() {
+        return false;
+    }
+    bell.park(rt);
+    let gone = desk.expunge(None, &mut out);
+    bell.park(rt);
+    gone == Ok(1)
+}
+
+#[test]
+fn a_change_rings_the_users_bells(rt: HostRuntime) -> Result<(), AllocError> {
+    let alloc = rt.alloc();
+    let mailboxes = with_a_message(&rt, alloc)?;
+    let bell = Parker::new(alloc)?;
+    let mut bells = Vec::new(alloc);
+    bells.push(bell.unparker().clone()?)?;
+    assert!(rt; wakes_each_time(&rt, alloc, &mailboxes, &bells, &bell));
+    Ok(())
+}
