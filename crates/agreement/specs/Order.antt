@@ -1,5 +1,5 @@
--- When the lists of one mailbox, and of all, stand in the order of a house that did its work. Where they do, the comparison finds each message that
--- agrees: it answers false of no lists that agree.
+-- When the lists of one mailbox, and of all, stand in the order of a house that did its work. Where they do, the comparison finds each
+-- message's copy: it answers false of no lists that agree.
 use Rattle.std.specs.Prelude.{◌≡◌, ◌⊎◌, ◌<◌, ℕ, List, [], ◌∷◌, length, map, slice_index_or, Contains}
 use Rattle.std.specs.List.Sorted.{IsStrictlyIncreasing}
 use Rattle.delivery_token.specs.declared.CopyKey.{CopyKey}

@@ -4,6 +4,7 @@ use crate::{Actor, Gate, Pace};
 use std::sync::atomic::{AtomicU64, Ordering};
 
 // Keeps how often it was asked, and by whom and with what number it was asked last.
+#[derive(Drop)]
 struct Ledger {
     asked: AtomicU64,
     last: AtomicU64,
@@ -21,19 +22,19 @@ impl Gate for Ledger {
 }
 
 #[test]
-fn each_pass_is_asked_for_once() {
+fn each_pass_is_asked_for_once(rt: HostRuntime) {
     let ledger = Ledger {
         asked: AtomicU64::new(0),
         last: AtomicU64::new(9),
         worker: AtomicU64::new(9),
     };
     let mut pace = Pace::new(&ledger, Actor::Worker(3));
-    assert!(ledger.asked.load(Ordering::SeqCst) == 0);
+    assert_eq!(rt; ledger.asked.load(Ordering::SeqCst), 0);
     pace.pass();
-    assert!(ledger.last.load(Ordering::SeqCst) == 0);
+    assert_eq!(rt; ledger.last.load(Ordering::SeqCst), 0);
     pace.pass();
     pace.pass();
-    assert!(ledger.asked.load(Ordering::SeqCst) == 3);
-    assert!(ledger.last.load(Ordering::SeqCst) == 2);
-    assert!(ledger.worker.load(Ordering::SeqCst) == 3);
+    assert_eq!(rt; ledger.asked.load(Ordering::SeqCst), 3);
+    assert_eq!(rt; ledger.last.load(Ordering::SeqCst), 2);
+    assert_eq!(rt; ledger.worker.load(Ordering::SeqCst), 3);
 }

@@ -1,13 +1,11 @@
 -- A session's seat, hold by hold.
-use Rattle.std.proofs.Common.{◌≡◌, ℕ, ◌+◌, ◌-◌, ◌<◌, ◌≤◌, Bool, true, false, ◌&&◌, List, [], ◌∷◌, length, length-drop, arith, refl, sym, ap, ◌∙◌, subst, Option, Some, None}
+use Rattle.std.proofs.Common.{◌≡◌, ℕ, ◌+◌, ◌-◌, Bool, true, false, ◌&&◌, List, [], ◌∷◌, length, length-drop, arith, refl, sym, ap, ◌∙◌, subst, Option, Some}
 use Rattle.std.specs.List.{list_all}
 use Rattle.change_ring.specs.declared.change.Change.{Change}
-use Rattle.change_ring.specs.Window.{changes_from, total}
 use Rattle.cursor_set.specs.Cursors.{Seat}
 use Rattle.mailbox.specs.Mail.{Mail}
-use Rattle.mailbox_holds.specs.Holds.{Expunges, Feeds}
+use Rattle.mailbox_holds.specs.Holds.{Expunges}
 use Rattle.imap_session.specs.Exchange.{Call, Answer, Enter, Look, Read, Count, Alter, Expunge, Feed, Leave, Entered, Looked, Found, Counted, Altered, Expunged, Fed, Left, Refused, Starved, Event}
-use Rattle.imap_session.specs.Store.{Met}
 use Rattle.session_thread.specs.declared.desk.Entry.{Entry}
 use Rattle.session_thread.specs.Locks.{Holds, In, Place, seated_at}
 use Rattle.session_thread.specs.Abut.{Abut, BeginsAt, Joins, shown_by, shown_by_all, stays}

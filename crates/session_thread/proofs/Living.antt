@@ -1,25 +1,21 @@
 -- A session's steps.
-use Rattle.std.proofs.Common.{◌≡◌, ◌≢◌, ℕ, suc, ◌+◌, ◌<◌, ◌≤◌, ◌⊎◌, inl, inr, Bool, true, false, List, [], ◌∷◌, ◌++◌, length, take, drop, get_or, arith, refl, sym, ap, ap₂, ◌∙◌, subst, ◌&&◌, not, is_some, Option, Some, None}
+use Rattle.std.proofs.Common.{◌≡◌, ℕ, suc, ◌+◌, ◌<◌, ◌⊎◌, inl, inr, Bool, true, false, List, [], ◌∷◌, ◌++◌, length, take, drop, get_or, arith, refl, sym, ap, ap₂, ◌∙◌, subst, ◌&&◌, not, is_some, None}
 use Rattle.std.specs.Global.{Global}
-use Rattle.std.specs.Prelude.{IfSome, OnErr, OnOk, Result, Ok, Err, Vec, if◌then◌else◌}
+use Rattle.std.specs.Prelude.{OnErr, OnOk, Result, Ok, Err, Vec}
 use Rattle.imap_session.specs.Commands.{greeting, most_changes}
 use Rattle.std.proofs.Math.Seq.{split_at}
 use Rattle.std.proofs.lemmas.List.{take_more}
-use Rattle.imap_session.specs.declared.standing.After.{After}
-use Rattle.imap_session.specs.declared.standing.After.TheVariants as afters
-use Rattle.imap_session.specs.declared.standing.After.TheVariants.{Bye}
 use Rattle.imap_session.specs.declared.standing.SessionFault.{SessionFault}
 use Rattle.imap_session.specs.declared.standing.SessionFault.TheVariants as faults
 use Rattle.imap_session.specs.declared.standing.SessionFault.TheVariants.{Ended}
-use Rattle.imap_session.specs.Exchange.{Feed, Folder, Refused, Standing, is_idling, may_send, waits_for}
+use Rattle.imap_session.specs.Exchange.{Feed, Folder, Refused, Standing, is_idling}
 use Rattle.mailbox.specs.declared.clients.MailFault.TheVariants.{NoMemory}
-use Rattle.imap_connection.specs.declared.connection.Progress.{Progress}
 use Rattle.imap_connection.specs.Dialogue as dialogue
-use Rattle.imap_connection.specs.Dialogue.{Dialogue, Link, StandsFor, Took, tag_len}
+use Rattle.imap_connection.specs.Dialogue.{Dialogue, Link, StandsFor}
 use Rattle.session_thread.specs.declared.life.Step.{Step}
 use Rattle.session_thread.specs.declared.life.Step.TheVariants.{Say, Await}
 use Rattle.session_thread.specs.Locks.{Holds, Place, shown_in}
-use Rattle.session_thread.specs.Life.{Begins, Departs, HasTurn, IsOver, IsShort, Lives, LivesInPart, Moment, Says, SaysFirst, Steps, Turns, another, goes_on, greeted_at, moment}
+use Rattle.session_thread.specs.Life.{Begins, Departs, HasTurn, IsOver, IsShort, Lives, LivesInPart, Moment, SaysFirst, Steps, Turns, another, goes_on, greeted_at, moment}
 
 -- ---- results
 
@@ -31,51 +27,7 @@ on_err : {A E : Type 0} (r : Result A E) (P Q : Type 0) → (P → Q) → OnErr 
 on_err (Ok x) P Q f h = h
 on_err (Err e) P Q f h = f h
 
--- ---- bytes
-
-bye_ended : (ended : Bool) (idling : Option (List ℕ)) → Bye ≡ (if ended then Bye else waits_for idling) → ended ≡ true
-bye_ended true idling e = refl
-bye_ended false None e = cc
-bye_ended false (Some tag) e = cc
-
-taken : (P : Type 0) (now : Standing) (x : Option After) → (x ≡ None → ⊥) → IfSome x (λ after. after ≢ Bye → P) → IfSome x (λ after. after ≡ may_send now) → P ⊎ (now.ended ≡ true)
-taken P now None some all sends = absurd (some refl)
-taken P now (Some Bye) some all sends = inr (bye_ended now.ended now.idling sends)
-taken P now (Some afters.Go) some all sends = inl (all (λ e. cc))
-taken P now (Some afters.Idle) some all sends = inl (all (λ e. cc))
-
-pub says : (d : Dialogue) (bytes : List ℕ) (old new : Place) (before after : List ℕ) (p : Progress) (link : Link) → (p.after ≡ None → ⊥) → p.used ≤ length bytes → IfSome p.after (λ a. a ≢ Bye → p.used ≡ length bytes)
-    → IfSome p.after (λ a. a ≡ may_send link.session) → Took Holds d bytes old new before after p link → (next : Dialogue) × StandsFor link next × Says bytes (moment d old before) (moment next new after)
-says d bytes old new before after p link some few all sends t = (
-  t.next,
-  t.stands,
-  record {
-    used = p.used;
-    first = record { within = few; said = t.said; how = t.how; answered = t.answered; wrote = t.wrote };
-    all = subst (λ (s : Standing). (p.used ≡ length bytes) ⊎ (s.ended ≡ true)) t.stands.session (taken (p.used ≡ length bytes) link.session p.after some all sends);
-  },
-)
-
--- no room for what ends a line's answer
-short_of : (room : ℕ) (d : Dialogue) (place : Place) (text : List ℕ) (link : Link) → StandsFor link d → room < length text + (8272 + tag_len link.session.idling) → IsShort room (moment d place text)
-short_of room d place text link stands less = inl (subst (λ (s : Standing). room < length text + (8272 + tag_len s.idling)) stands.session less)
-
--- memory was refused before a line was answered
-pub says_first : (d : Dialogue) (bytes : List ℕ) (old new : Place) (before after : List ℕ) (p : Progress) (room : ℕ) (link : Link) → p.used ≤ length bytes → room < length after + (8272 + tag_len link.session.idling)
-    → Took Holds d bytes old new before after p link
-    → (next : Dialogue) × StandsFor link next × ((used : ℕ) × SaysFirst bytes used (moment d old before) (moment next new after)) × IsShort room (moment next new after)
-says_first d bytes old new before after p room link few less t = (
-  t.next,
-  t.stands,
-  (p.used, record { within = few; said = t.said; how = t.how; answered = t.answered; wrote = t.wrote }),
-  short_of room t.next new after link t.stands less,
-)
-
 -- ---- turns
-
-pub has_turn : (d : Dialogue) (old new : Place) (before after : List ℕ) (n : ℕ) (link : Link) → dialogue.Turns Holds d old new before after n link
-    → (next : Dialogue) × StandsFor link next × HasTurn (moment d old before) (moment next new after)
-has_turn d old new before after n link t = (record { standing = t.next; begun = d.begun }, t.stands, record { count = n; turned = t.turned; begun = refl })
 
 one_more : (k : ℕ) → suc k ≡ k + 1
 one_more k = omega arith
@@ -83,16 +35,17 @@ one_more k = omega arith
 true_false : {b : Bool} → b ≡ true → b ≡ false → ⊥
 true_false e f = let g = sym e ∙ f in cc
 
+-- there is something to wait for
+pub not_over : (count : ℕ) (d : Dialogue) (place : Place) (text : List ℕ) (was : Link) → StandsFor was d → shown_in place.entered < count → is_idling was.session ≡ true → IsOver count (moment d place text) → ⊥
+not_over count d place text was stands few idles (inl enough) = absurd (omega (arith, few, enough))
+not_over count d place text was stands few idles (inr awake) = true_false (subst (λ (s : Standing). is_idling s ≡ true) stands.session idles) awake
+
 -- a turn more
 pub turned_on : (count k : ℕ) (first : Moment) (d next : Dialogue) (old new : Place) (before after : List ℕ) (was : Link) → StandsFor was d → shown_in old.entered < count → is_idling was.session ≡ true
     → Turns count first k (moment d old before) → HasTurn (moment d old before) (moment next new after) → Turns count first (k + 1) (moment next new after)
 turned_on count k first d next old new before after was stands few idles had t =
     subst (λ (j : ℕ). Turns count first j (moment next new after)) (one_more k)
-    (another k (moment d old before) (moment next new after) had (still (subst (λ (s : Standing). is_idling s ≡ true) stands.session idles)) t)
-  where
-    still : is_idling d.standing ≡ true → IsOver count (moment d old before) → ⊥
-    still e (inl enough) = absurd (omega (arith, few, enough))
-    still e (inr awake) = true_false e awake
+    (another k (moment d old before) (moment next new after) had (not_over count d old before was stands few idles) t)
 
 awake : (tag ended : Bool) → (tag && not ended) ≡ true → ended ≡ true → ⊥
 awake true true e f = cc
@@ -134,7 +87,7 @@ said_first r turns room step v bytes old new before after was link goes is items
     (λ f d stands. let t = f d stands in going turns room step (Say v) d t.0 old new before after was link goes is stands t.1 (t.2.0, subst (λ (b : List ℕ). SaysFirst b t.2.0 (moment d old before) (moment t.0 new after)) items t.2.1) t.3) h
 
 pub awaited_first : {A E : Type 0} (r : Result A E) (turns room : ℕ) (step : Step) (count : ℕ) (old new : Place) (before after : List ℕ) (was link : Link) → was.session.ended ≡ false → step ≡ Await count
-    → OnErr r ((d : Dialogue) → StandsFor was d → (next : Dialogue) × StandsFor link next × ((had : ℕ) × (had < turns) × Turns count (moment d old before) had (moment next new after)) × IsShort room (moment next new after))
+    → OnErr r ((d : Dialogue) → StandsFor was d → (next : Dialogue) × StandsFor link next × ((had : ℕ) × (had < turns) × Turns count (moment d old before) had (moment next new after) × (IsOver count (moment next new after) → ⊥)) × IsShort room (moment next new after))
     → OnErr r ((d : Dialogue) → StandsFor was d → (next : Dialogue) × StandsFor link next × (d.standing.ended ≡ false) × Begins turns step (moment d old before) (moment next new after) × IsShort room (moment next new after))
 awaited_first r turns room step count old new before after was link goes is h = on_err r _ _
     (λ f d stands. let t = f d stands in going turns room step (Await count) d t.0 old new before after was link goes is stands t.1 t.2 t.3) h

@@ -1,5 +1,5 @@
 -- What a session was shown under a lock, as a call of its store.
-use Rattle.std.proofs.Common.{◌≡◌, ℕ, ◌≤◌, Bool, true, false, List, [], ◌++◌, length, take, drop, refl, sym, ap, ◌∙◌, Result, Ok, Err, Option, Some, None, is_some}
+use Rattle.std.proofs.Common.{◌≡◌, ℕ, ◌≤◌, Bool, false, List, length, take, drop, refl, sym, ap, ◌∙◌, Result, Ok, Err, Option, Some, None, is_some}
 use Rattle.std.specs.Prelude.{IfOk}
 use Rattle.change_ring.specs.declared.change.Change.{Change}
 use Rattle.change_ring.specs.declared.change.Flags.{Flags}

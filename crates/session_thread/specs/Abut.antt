@@ -4,7 +4,7 @@ use Rattle.std.specs.List.{list_all}
 use Rattle.change_ring.specs.Window.{changes_from, total}
 use Rattle.cursor_set.specs.Cursors.{next_changes}
 use Rattle.mailbox.specs.Mail.{Mail}
-use Rattle.imap_session.specs.Exchange.{Answer, Entered, Looked, Found, Counted, Altered, Expunged, Fed, Left, Refused, Starved, Event}
+use Rattle.imap_session.specs.Exchange.{Answer, Entered, Expunged, Fed, Left, Event}
 use Rattle.imap_session.specs.Store.{Met}
 use Rattle.session_thread.specs.declared.desk.Entry.{Entry}
 use Rattle.session_thread.specs.Locks.{Holds, In, Place}

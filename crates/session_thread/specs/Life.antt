@@ -2,7 +2,7 @@
 use Rattle.std.specs.Prelude.{◌≡◌, ℕ, suc, ◌+◌, ◌<◌, ◌≤◌, ◌⊎◌, true, false, List, [], ◌∷◌, ◌++◌, length, take, None}
 use Rattle.mailbox.specs.declared.clients.MailFault.TheVariants.{NoMemory}
 use Rattle.imap_session.specs.declared.standing.After.{After}
-use Rattle.imap_session.specs.Exchange.{Answer, Feed, Folder, Leave, Refused, Standing, is_idling}
+use Rattle.imap_session.specs.Exchange.{Answer, Feed, Folder, Leave, Refused, is_idling}
 use Rattle.imap_session.specs.Commands.{most_changes}
 use Rattle.imap_session.specs.Store.{IdleTurns}
 use Rattle.imap_connection.specs.Dialogue.{Answered, Dialogue, tag_len}
@@ -88,10 +88,10 @@ pub data Lives (turns : ℕ) (first : Moment) : List Step → Moment → Type 0 
 abbrev pub IsShort : ℕ → Moment → Type 0
 IsShort room now = (room < length now.text + (8272 + tag_len now.dialogue.standing.idling)) ⊎ Holds now.place (Feed most_changes) (Refused NoMemory) now.place
 
--- A step was begun: of its bytes some were taken, or some of its turns were had.
+-- A step was begun: of its bytes some were taken, or some of its turns were had, and there was still something to wait for.
 abbrev pub Begins : ℕ → Step → Moment → Moment → Type 0
 Begins turns (Say bytes) before after = (used : ℕ) × SaysFirst bytes.items used before after
-Begins turns (Await count) before after = (had : ℕ) × (had < turns) × Turns count before had after
+Begins turns (Await count) before after = (had : ℕ) × (had < turns) × Turns count before had after × (IsOver count after → ⊥)
 
 -- The first of these steps were made, and the next was begun, in which memory was refused.
 pub record LivesInPart (turns room : ℕ) (first : Moment) (steps : List Step) (last : Moment) : Type 0 where

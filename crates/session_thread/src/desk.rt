@@ -24,6 +24,14 @@ fn has_marked(row: &Result<Option<Row>, MailFault>) -> bool {
     }
 }
 
+// Whether a store found its message, and so may have logged its flags.
+fn has_stored(flags: &Result<Option<Flags>, MailFault>) -> bool {
+    match flags {
+        Ok(flags) => flags.is_some(),
+        Err(_) => false,
+    }
+}
+
 // Whether an expunge logged that messages went.
 fn has_removed(gone: &Result<usize, MailFault>) -> bool {
     match gone {
@@ -167,7 +175,9 @@ impl<'a, R: Wait, G: Gate> Store for LockedDesk<'a, R, G> {
         let flags = locked::alter(self.rt, lock, &here.seat, uid, op);
         // Also where the flags were so before: the mailbox doesn't tell, and a ring too many costs
         // a turn.
-        ring(self.bells);
+        if has_stored(&flags) {
+            ring(self.bells);
+        }
         flags
     }
 

@@ -6,7 +6,7 @@ ghost use Rattle.std.specs.Vec.{vec_capacity};
 ghost use Rattle.imap_session.specs.Commands.{greeting};
 ghost use Rattle.imap_session.specs.Exchange.{is_idling};
 ghost use Rattle.imap_connection.specs.Dialogue.{Dialogue, StandsFor};
-ghost use Rattle.session_thread.specs.Life.{Awaits, Begins, Departs, HasTurn, IsShort, Lives, LivesInPart, Moment, Says, SaysFirst, Steps, Turns, greeted_at, moment};
+ghost use Rattle.session_thread.specs.Life.{Awaits, Begins, Departs, HasTurn, IsOver, IsShort, Lives, LivesInPart, Moment, Says, SaysFirst, Steps, Turns, greeted_at, moment};
 
 use crate::desk::LockedDesk;
 use imap_connection::ImapConnection;
@@ -84,7 +84,8 @@ fn wait_for<R: Wait, G: Gate>(
     ensures ok { OnOk result ((d : Dialogue) → StandsFor connection.old d → (next : Dialogue) × StandsFor connection.new next
         × Awaits turns count (moment d desk.old out.old.items) (moment next desk.new out.new.items)) }
     ensures err { OnErr result ((d : Dialogue) → StandsFor connection.old d → (next : Dialogue) × StandsFor connection.new next
-        × ((had : ℕ) × (had < turns) × Turns count (moment d desk.old out.old.items) had (moment next desk.new out.new.items))
+        × ((had : ℕ) × (had < turns) × Turns count (moment d desk.old out.old.items) had (moment next desk.new out.new.items)
+        × (IsOver count (moment next desk.new out.new.items) → ⊥))
         × IsShort (vec_capacity out.new) (moment next desk.new out.new.items)) }
 {
     for _turn in 0..turns {

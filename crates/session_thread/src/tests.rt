@@ -69,10 +69,10 @@ impl Gate for Order {
     }
 }
 
-fn one_mailbox(alloc: Global) -> Result<Vec<Mutex<Mailbox>>, AllocError> {
-    let mailbox = Mailbox::new(alloc, 0, 7, 1, SMALL)?;
+fn two_mailboxes(alloc: Global) -> Result<Vec<Mutex<Mailbox>>, AllocError> {
     let mut mailboxes = Vec::new(alloc);
-    mailboxes.push(Mutex::new(mailbox))?;
+    mailboxes.push(Mutex::new(Mailbox::new(alloc, 0, 7, 1, SMALL)?))?;
+    mailboxes.push(Mutex::new(Mailbox::new(alloc, 1, 8, 1, SMALL)?))?;
     Ok(mailboxes)
 }
 
@@ -144,7 +144,7 @@ fn run_both<R: Threads + Wait + Sync>(
     order: &Order,
     steps: &[Step],
 ) -> Result<Vec<u8>, AllocError> {
-    let mailboxes = one_mailbox(alloc)?;
+    let mailboxes = two_mailboxes(alloc)?;
     let job = copy(alloc)?;
     let bell = Parker::new(alloc)?;
     let mut bells = Vec::new(alloc);
@@ -168,8 +168,19 @@ fn threads_text(rt: HostRuntime) -> Result<(), AllocError> {
     saying(alloc, &mut steps, b"a1 SELECT INBOX\r\n")?;
     saying(alloc, &mut steps, b"a2 FETCH 1 BODY.PEEK[]\r\n")?;
     let said = run_both(&rt, alloc, &order, &steps)?;
-    let wanted =
-        b"* PREAUTH IMAP4rev2 server ready\r\n* FLAGS (\\Answered \\Flagged \\Deleted \\Seen \\Draft)\r\n* 1 EXISTS\r\n* OK [UIDVALIDITY 7] UIDs valid\r\n* OK [UIDNEXT 2] Predicted next UID\r\n* OK [PERMANENTFLAGS (\\Answered \\Flagged \\Deleted \\Seen \\Draft)] Flags kept\r\n* LIST () \"/\" INBOX\r\na1 OK [READ-WRITE] SELECT completed\r\n* 1 FETCH (BODY[] {32}\r\nReturn-Path: <s@a.example>\r\nhi\r\n)\r\na2 OK FETCH completed\r\n";
+    let wanted = b"* PREAUTH IMAP4rev2 server ready\r\n\
+          * FLAGS (\\Answered \\Flagged \\Deleted \\Seen \\Draft)\r\n\
+          * 1 EXISTS\r\n\
+          * OK [UIDVALIDITY 7] UIDs valid\r\n\
+          * OK [UIDNEXT 2] Predicted next UID\r\n\
+          * OK [PERMANENTFLAGS (\\Answered \\Flagged \\Deleted \\Seen \\Draft)] Flags kept\r\n\
+          * LIST () \"/\" INBOX\r\n\
+          a1 OK [READ-WRITE] SELECT completed\r\n\
+          * 1 FETCH (BODY[] {32}\r\n\
+          Return-Path: <s@a.example>\r\n\
+          hi\r\n\
+          )\r\n\
+          a2 OK FETCH completed\r\n";
     assert_eq!(rt; said.as_slice(), wanted.as_slice());
     Ok(())
 }
@@ -186,8 +197,19 @@ fn an_idling_session_awaits_a_message(rt: HostRuntime) -> Result<(), AllocError>
     steps.push(Step::Await(2))?;
     saying(alloc, &mut steps, b"a5 NOOP\r\n")?;
     let said = run_both(&rt, alloc, &order, &steps)?;
-    let wanted =
-        b"* PREAUTH IMAP4rev2 server ready\r\n* FLAGS (\\Answered \\Flagged \\Deleted \\Seen \\Draft)\r\n* 0 EXISTS\r\n* OK [UIDVALIDITY 7] UIDs valid\r\n* OK [UIDNEXT 1] Predicted next UID\r\n* OK [PERMANENTFLAGS ()] Flags kept\r\n* LIST () \"/\" INBOX\r\na1 OK [READ-ONLY] EXAMINE completed\r\n+ idling\r\n* 1 EXISTS\r\na2 OK IDLE completed\r\n* BYE Logging out\r\na3 OK LOGOUT completed\r\n";
+    let wanted = b"* PREAUTH IMAP4rev2 server ready\r\n\
+          * FLAGS (\\Answered \\Flagged \\Deleted \\Seen \\Draft)\r\n\
+          * 0 EXISTS\r\n\
+          * OK [UIDVALIDITY 7] UIDs valid\r\n\
+          * OK [UIDNEXT 1] Predicted next UID\r\n\
+          * OK [PERMANENTFLAGS ()] Flags kept\r\n\
+          * LIST () \"/\" INBOX\r\n\
+          a1 OK [READ-ONLY] EXAMINE completed\r\n\
+          + idling\r\n\
+          * 1 EXISTS\r\n\
+          a2 OK IDLE completed\r\n\
+          * BYE Logging out\r\n\
+          a3 OK LOGOUT completed\r\n";
     assert_eq!(rt; said.as_slice(), wanted.as_slice());
     Ok(())
 }
@@ -216,7 +238,7 @@ fn sleep_and_look<R: Wait>(
 
 fn ring_once<R: Threads + Wait + Sync>(rt: &R, alloc: Global) -> Result<Vec<u8>, AllocError> {
     let order = Order::new(Actor::Session(0));
-    let mailboxes = one_mailbox(alloc)?;
+    let mailboxes = two_mailboxes(alloc)?;
     let job = copy(alloc)?;
     let bell = Parker::new(alloc)?;
     let mut bells = Vec::new(alloc);
@@ -280,9 +302,9 @@ const DELETED: Flags = Flags {
     draft: false,
 };
 
-// One mailbox with one message.
+// Two mailboxes, the first with one message.
 fn with_a_message<R: Wait>(rt: &R, alloc: Global) -> Result<Vec<Mutex<Mailbox>>, AllocError> {
-    let mailboxes = one_mailbox(alloc)?;
+    let mailboxes = two_mailboxes(alloc)?;
     let job = copy(alloc)?;
     match mailboxes.first() {
         Some(lock) if lock.lock(rt).deliver(&job).is_ok() => Ok(mailboxes),
@@ -296,10 +318,10 @@ fn calls_outside<R: Wait>(
     alloc: Global,
     out: &mut Vec<u8>,
 ) -> bool {
-    desk.enter(1).is_err()
+    desk.enter(2).is_err()
         && desk.view(alloc).is_err()
         && desk.read(1, false).is_err()
-        && desk.status(1).is_err()
+        && desk.status(2).is_err()
         && desk.store(1, FlagOp::Insert(FLAGGED)).is_err()
         && desk.expunge(None, out).is_err()
         && desk.feed(64, out).is_err()
@@ -320,6 +342,19 @@ fn calls_inside<R: Wait>(
         && desk.expunge(None, out).is_ok()
         && desk.feed(64, out).is_ok()
         && desk.leave(false).is_ok()
+}
+
+// How many messages two mailboxes tell, and with which UIDVALIDITY.
+fn counted<R: Wait>(desk: &mut LockedDesk<'_, R, Tally>) -> Option<(usize, u32, usize, u32)> {
+    let (Ok(first), Ok(second)) = (desk.status(0), desk.status(1)) else {
+        return None;
+    };
+    Some((
+        first.messages,
+        first.uidvalidity,
+        second.messages,
+        second.uidvalidity,
+    ))
 }
 
 // A session that logs more changes than the window has, and is shown each itself.
@@ -365,6 +400,22 @@ fn each_event_asks_to_pass(rt: HostRuntime) -> Result<(), AllocError> {
     assert!(rt; calls_inside(&mut desk, alloc, &mut out));
     assert_eq!(rt; tally.asked(), 7);
     assert_eq!(rt; passes_of_one_that_lapsed(&rt, alloc, &mailboxes), Some(2));
+    Ok(())
+}
+
+// Nothing but this says that the lock at a number is the one that is taken.
+#[test]
+fn each_call_takes_the_lock_of_its_mailbox(rt: HostRuntime) -> Result<(), AllocError> {
+    let alloc = rt.alloc();
+    let mailboxes = with_a_message(&rt, alloc)?;
+    let tally = Tally::new();
+    let mut desk = LockedDesk::new(&rt, &tally, 0, &mailboxes, &[]);
+    assert_eq!(rt; counted(&mut desk), Some((1, 7, 0, 8)));
+    assert_eq!(rt; desk.enter(1).map(|opening| opening.uidvalidity), Ok(8));
+    assert_eq!(rt; desk.store(1, FlagOp::Insert(FLAGGED)), Ok(None));
+    assert_eq!(rt; desk.leave(false), Ok(0));
+    assert_eq!(rt; desk.enter(0).map(|opening| opening.uidvalidity), Ok(7));
+    assert_eq!(rt; desk.store(1, FlagOp::Insert(FLAGGED)), Ok(Some(FLAGGED)));
     Ok(())
 }
 

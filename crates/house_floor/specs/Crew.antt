@@ -1,0 +1,66 @@
+-- What is dealt to the threads of a house.
+use Rattle.std.specs.Prelude.{◌≡◌, ◌≢◌, ◌<◌, ◌≤◌, ℕ, suc, List, [], ◌∷◌, All, Some, None, length, slice_get, vec_len, vec_capacity}
+use Rattle.delivery_token.specs.declared.Job.{Job}
+use Rattle.delivery_token.specs.declared.log.Noted.{Noted}
+use Rattle.shard_queue.specs.declared.queue.ShardQueue.{ShardQueue}
+use Rattle.shard_queue.specs.declared.ends.ReplyChannel.{ReplyChannel}
+use Rattle.shard_queue.specs.Reply.{IsReceiver, sent_on}
+use Rattle.shard_queue.specs.Seats.{IsConsumer, sent, got}
+use Rattle.lane_work.specs.Seats.{AreSeats, AreSenders}
+use Rattle.house_floor.specs.Users.{user_numbered}
+use Rattle.house_floor.specs.declared.floor.Floor.{Floor}
+use Rattle.house_floor.specs.declared.floor.Visit.{Visit}
+use Rattle.house_floor.specs.declared.floor.Post.{Post}
+use Rattle.house_floor.specs.declared.floor.Stand.{Stand}
+use Rattle.house_floor.specs.declared.floor.Crew.{Crew}
+
+-- each has the property of its place, where the first is at n
+abbrev pub AllAt : {A : Type 0} → (ℕ → A → Type 0) → ℕ → List A → Type 0
+AllAt P n [] = Unit {0}
+AllAt P n (x ∷ xs) = P n x × AllAt P (suc n) xs
+
+-- the house that they work in is one: a shard for each lane, and a channel for each worker
+pub record IsHouse (floor : Floor) (workers : ℕ) : Type 0 where
+  pub shards : floor.office.directory.shards ≡ length floor.office.lanes.items
+  pub host : length floor.office.host.items < 256
+  pub few_lanes : length floor.office.lanes.items < 256
+  pub channels : length floor.depot.channels.items ≡ workers
+  pub few_workers : workers < 256
+
+-- each session's user is one of the directory, and each mailbox has a list of bells; there are no more sessions than an actor's number tells apart
+pub record AreVisits (floor : Floor) (visits : List Visit) : Type 0 where
+  pub few : length visits ≤ 256
+  pub named : All (λ v. user_numbered v.user floor.office.directory.homes ≢ None) visits
+  pub bells : length floor.office.directory.homes ≤ length floor.depot.sessions.items
+
+-- ---- what is dealt
+
+-- the post of worker n: it has put nothing, and hears its own channel
+pub record IsPost (floor : Floor) (n : ℕ) (post : Post) : Type 0 where
+  pub number : post.desk.number ≡ n
+  pub seats : AreSeats floor.office.lanes.items n post.desk.seats.items
+  pub fresh : All (λ s. sent s ≡ []) post.desk.seats.items
+  pub receiver : (channel : ReplyChannel Noted) → slice_get floor.depot.channels.items n ≡ Some channel → IsReceiver channel post.desk.receiver
+  pub empty : post.room.items ≡ []
+  pub room : length floor.office.lanes.items ≤ vec_capacity post.room
+
+-- the stand of consumer n: it has taken nothing and sent nothing, and takes from its own lane
+pub record IsStand (floor : Floor) (n : ℕ) (stand : Stand) : Type 0 where
+  pub shard : stand.stall.shard ≡ n
+  pub seat : (lane : ShardQueue Job) → slice_get floor.office.lanes.items n ≡ Some lane → IsConsumer lane stand.stall.seat
+  pub fresh : got stand.stall.seat ≡ []
+  pub senders : AreSenders floor.depot.channels.items n stand.stall.senders.items
+  pub unsent : All (λ s. sent_on s ≡ []) stand.stall.senders.items
+  pub empty : stand.room.items ≡ []
+  pub room : length floor.depot.channels.items ≤ vec_capacity stand.room
+
+-- a stand for each lane, a post for each worker, and room for what comes of them and of the sessions
+pub record IsCrew (floor : Floor) (workers : ℕ) (visits : List Visit) (crew : Crew) : Type 0 where
+  pub stands : AllAt (IsStand floor) 0 crew.stands.items
+  pub each_lane : vec_len crew.stands ≡ length floor.office.lanes.items
+  pub posts : AllAt (IsPost floor) 0 crew.posts.items
+  pub each_worker : vec_len crew.posts ≡ workers
+  pub consumed : (crew.consumed.items ≡ []) × (length floor.office.lanes.items ≤ vec_capacity crew.consumed)
+  pub worked : (crew.worked.items ≡ []) × (workers ≤ vec_capacity crew.worked)
+  pub idle : (crew.idle.items ≡ []) × (workers ≤ vec_capacity crew.idle)
+  pub said : (crew.said.items ≡ []) × (length visits ≤ vec_capacity crew.said)

@@ -1,0 +1,52 @@
+//! What the threads share, and what is dealt to each of them. How it is made stands in `opening`.
+
+use delivery_token::{Job, Noted};
+use lane_work::{Consumed, Depot, Desk, Office, Stall, Worked};
+use session_thread::Step;
+use shard_queue::{Ended, SenderEnded};
+use std::alloc::{AllocError, Global};
+
+/// What all threads share. It owns what it holds: a closure that captures a reference to a struct with
+/// borrows in it loses what is proved of its result.
+pub struct Floor {
+    /// What the workers share.
+    pub office: Office,
+    /// What the consumers share.
+    pub depot: Depot,
+    /// So many turns a session has at most where it awaits changes.
+    pub turns: u64,
+    pub alloc: Global,
+}
+
+/// One session: the number of its user among the users of the directory, from 0, and what its client
+/// does.
+#[derive(Drop)]
+pub struct Visit {
+    pub user: u8,
+    pub steps: Vec<Step>,
+}
+
+/// A worker's desk, and room for what is left of its seats.
+pub struct Post {
+    pub desk: Desk,
+    pub room: Vec<Ended<Job>>,
+}
+
+/// A consumer's stall, and room for what is left of its senders.
+pub struct Stand {
+    pub stall: Stall,
+    pub room: Vec<SenderEnded<Noted>>,
+}
+
+/// A stand for each shard and a post for each worker, and empty lists with room for what comes of
+/// them: nothing grows once a thread runs.
+pub struct Crew {
+    pub stands: Vec<Stand>,
+    pub posts: Vec<Post>,
+    pub consumed: Vec<Consumed>,
+    pub worked: Vec<Worked>,
+    /// For posts that are never handed to a thread.
+    pub idle: Vec<Post>,
+    /// What each session said, or that it wanted memory.
+    pub said: Vec<Result<Vec<u8>, AllocError>>,
+}

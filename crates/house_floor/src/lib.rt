@@ -1,0 +1,10 @@
+//! What the threads of a running house find when they begin: the floor that all of them share, what is
+//! dealt to each, and room for what they will leave. All of it is made here, before the first thread;
+//! no thread is started here, and nothing is closed.
+#![tactic(auto)]
+
+mod floor;
+mod users;
+
+pub use floor::{Crew, Floor, Post, Stand, Visit};
+pub use users::inbox_numbered;

@@ -1,0 +1,11 @@
+use Rattle.std.proofs.Common.{◌≡◌, ◌≤◌, ◌+◌, vec_len, vec_capacity}
+use Rattle.std.specs.Vec.Iter.{into_iter_items, into_iter_len}
+use Rattle.house_floor.specs.Crew.{AllAt}
+use Rattle.house_threads.specs.Crew.{IsHired, IsWorkOf}
+use Rattle.house_threads.proofs.workers.join_workers.Given as goal
+
+abbrev pub invariant-loop-one : goal.invariant-loop-one
+invariant-loop-one g l =
+    AllAt (IsHired l.floor l.plans) (vec_len l.worked) (into_iter_items l.one-iterator)
+    × (into_iter_len l.one-iterator + vec_len l.worked ≡ vec_len l.fn.hired) × (vec_len l.fn.hired ≤ vec_capacity l.worked)
+    × AllAt (IsWorkOf l.floor l.plans) 0 l.worked.items

@@ -1,0 +1,120 @@
+//! Actors for whom no thread could be made: what of theirs other threads wait for is ended. Nothing is
+//! started here, and no life is led.
+
+ghost use Rattle.std.specs.Prelude.{◌≡◌, ◌≤◌, [], ℕ, List, length, map, vec_len, vec_capacity};
+ghost use Rattle.delivery_token.specs.declared.Job.{Job};
+ghost use Rattle.delivery_token.specs.declared.log.Noted.{Noted};
+ghost use Rattle.shard_queue.specs.declared.ends.ReplyChannel.{ReplyChannel};
+ghost use Rattle.shard_queue.specs.declared.queue.ShardQueue.{ShardQueue};
+ghost use Rattle.shard_queue.specs.Reply.{IsReceiver, sent_on};
+ghost use Rattle.shard_queue.specs.Seats.{IsConsumer, got};
+ghost use Rattle.lane_work.specs.Consuming.{IsConsumed};
+ghost use Rattle.lane_work.specs.Seats.{AreSeats, AreSenders};
+ghost use Rattle.lane_work.specs.Working.{IsWorked};
+
+use delivery_token::WorkerLog;
+use house_floor::{Post, Stand};
+use lane_work::{
+    Consumed, Depot, Desk, Fate, Office, Stall, Worked, end_all, end_one, end_senders, ring,
+};
+use pace::{Gate, Pace};
+use std::alloc::Global;
+use std::sync::Wait;
+
+/// A worker that has no thread: it ends its seat on each lane, and hears nothing. To wait for the ends
+/// of its channel would be to wait for ever: they come when each worker's seats have ended, and this
+/// thread ends those of the workers behind it.
+pub(crate) fn stand_down<R: Wait, G: Gate>(
+    rt: &R,
+    alloc: Global,
+    pace: &mut Pace<'_, G>,
+    office: &Office,
+    post: Post,
+) -> Worked
+    requires seats { AreSeats office.now.lanes.items post.desk.number post.desk.seats.items }
+    requires room { (post.room.items ≡ []) × (length office.now.lanes.items ≤ vec_capacity post.room) }
+    ensures { (channel : ReplyChannel Noted) (connections : List (List ℕ)) → IsReceiver channel post.desk.receiver → IsWorked office.now channel post.desk.number connections result }
+{
+    let Post { desk, room } = post;
+    let Desk {
+        number,
+        seats,
+        receiver,
+        ends: _,
+    } = desk;
+    let log = WorkerLog::new(alloc, number);
+    let ended = end_all(rt, pace, office, number, seats, room);
+    Worked {
+        ended,
+        receiver,
+        replies: Vec::new(alloc),
+        log,
+        fate: Fate::NotBegun,
+    }
+}
+
+/// A consumer that has no thread: it takes nothing, and ends its sender on each channel.
+pub(crate) fn step_aside<R: Wait, G: Gate>(
+    rt: &R,
+    alloc: Global,
+    pace: &mut Pace<'_, G>,
+    depot: &Depot,
+    stand: Stand,
+) -> Consumed
+    requires senders { AreSenders depot.now.channels.items stand.stall.shard stand.stall.senders.items }
+    requires room { (stand.room.items ≡ []) × (length depot.now.channels.items ≤ vec_capacity stand.room) }
+    requires fresh { got stand.stall.seat ≡ [] }
+    ensures { (lane : ShardQueue Job) → IsConsumer lane stand.stall.seat → IsConsumed lane depot.now stand.stall.shard (map sent_on stand.stall.senders.items) result }
+{
+    let Stand { stall, room } = stand;
+    let Stall {
+        shard,
+        seat,
+        senders,
+        bell: _,
+    } = stall;
+    let senders = end_senders(rt, pace, &depot.channels, shard, senders, room);
+    Consumed {
+        seat,
+        senders,
+        copies: Vec::new(alloc),
+        kept: false,
+        torn: false,
+    }
+}
+
+/// A worker that isn't to begin: it ends its seats on the first lanes, whose consumers run, and keeps
+/// the others.
+pub(crate) fn end_first<R: Wait, G: Gate>(
+    rt: &R,
+    pace: &mut Pace<'_, G>,
+    office: &Office,
+    post: Post,
+    manned: usize,
+) -> Post
+    requires seats { AreSeats office.now.lanes.items post.desk.number post.desk.seats.items }
+    requires room { (post.room.items ≡ []) × (length office.now.lanes.items ≤ vec_capacity post.room) }
+    requires manned { manned ≤ length office.now.lanes.items }
+{
+    let Post { desk, mut room } = post;
+    let Desk {
+        number,
+        mut seats,
+        receiver,
+        ends,
+    } = desk;
+    for lane in 0..manned {
+        let seat = seats.remove(0);
+        room.push_reserved(end_one(rt, pace, &office.lanes[lane], seat));
+        ring(&office.bells, lane);
+    }
+    Post {
+        desk: Desk {
+            number,
+            seats,
+            receiver,
+            ends,
+        },
+        room,
+    }
+}

@@ -1,0 +1,166 @@
+//! The consumers' threads: started in order, and joined. What a consumer does stands in `lane_work`.
+
+ghost use Rattle.std.specs.Prelude.{ℕ, ◌≡◌, ◌≤◌, ◌<◌, ◌+◌, [], length, vec_len, vec_capacity};
+ghost use Rattle.std.specs.Mem.{manually_drop_value};
+ghost use Rattle.house_floor.specs.Crew.{AllAt, IsStand};
+ghost use Rattle.house_threads.specs.Crew.{IsKept, IsServiceOf};
+
+use crate::aside::step_aside;
+use crate::parcels::{Manned, mark, packed};
+use house_floor::{Floor, Stand};
+use lane_work::{Consumed, consume};
+use pace::{Actor, Gate, Pace};
+use std::mem::ManuallyDrop;
+use std::sync::Wait;
+use std::sync::atomic::Ordering;
+use std::thread;
+use std::thread::{Promise, Threads};
+
+/// What the thread of this shard's consumer is to return: what a consumer's life there leaves.
+#[derive(Clone, Copy)]
+pub struct Serves<'a> {
+    pub floor: &'a Floor,
+    pub shard: u8,
+}
+
+impl<'a> Promise<ManuallyDrop<Consumed>> for Serves<'a> {
+    ghost use Rattle.std.specs.Mem.{manually_drop_value};
+    ghost use Rattle.house_threads.specs.Crew.{IsServiceOf};
+
+    ghost kept_by = { λ p r. IsServiceOf p.floor.now p.shard (manually_drop_value r) };
+}
+
+/// A consumer's thread, or what came of its consumer where there is none.
+#[derive(Drop)]
+pub(crate) enum Kept<'a> {
+    There(thread::PromisedHandle<ManuallyDrop<Consumed>, Serves<'a>>),
+    Here(ManuallyDrop<Consumed>),
+}
+
+// A consumer's life, in a thread of its own; where no thread is to be had it steps aside.
+fn consume_there<R: Wait, G: Gate>(
+    rt: &R,
+    floor: &Floor,
+    gate: &G,
+    shard: u8,
+    stand: ManuallyDrop<Stand>,
+    manned: &Manned,
+) -> ManuallyDrop<Consumed>
+    requires shard { shard < length floor.now.office.lanes.items }
+    requires stand { IsStand floor.now shard (manually_drop_value stand) }
+    ensures { IsServiceOf floor.now shard (manually_drop_value result) }
+{
+    let place = usize::from(shard);
+    let stand = ManuallyDrop::into_inner(stand);
+    let mut pace = Pace::new(gate, Actor::Consumer(shard));
+    if manned.shards.load(Ordering::SeqCst) <= u64::from(shard) {
+        let aside = step_aside(rt, floor.alloc, &mut pace, &floor.depot, stand);
+        return packed(aside);
+    }
+    let Stand { stall, room } = stand;
+    packed(consume(
+        rt,
+        &mut pace,
+        &floor.depot,
+        &floor.office.lanes[place],
+        stall,
+        room,
+        Vec::new(floor.alloc),
+        floor.depot.channels.len(),
+    ))
+}
+
+// Starts a consumer's thread. Where none can be made, no consumer from here on begins, and its senders
+// are ended here.
+fn start_consumer<'s, E, R: Threads + Wait + Sync, G: Gate + Sync>(
+    scope: &thread::Scope<'s, E>,
+    rt: &'s R,
+    floor: &'s Floor,
+    gate: &'s G,
+    shard: u8,
+    stand: Stand,
+    manned: &'s Manned,
+) -> Kept<'s>
+    requires shard { shard < length floor.now.office.lanes.items }
+    requires stand { IsStand floor.now shard stand }
+    ensures { IsKept floor.now shard result }
+{
+    let parcel = packed(stand);
+    match scope.spawn_with(Serves { floor, shard }, move || {
+        consume_there(rt, floor, gate, shard, parcel, manned)
+    }) {
+        Ok(child) => Kept::There(child),
+        Err(refused) => {
+            mark(&manned.shards, shard);
+            Kept::Here((refused.value)())
+        }
+    }
+}
+
+// The first that has no thread, after one more was tried.
+fn first_without(first: usize, place: usize, is_there: bool) -> usize
+    ensures { result ≤ first }
+{
+    if !is_there && place < first {
+        place
+    } else {
+        first
+    }
+}
+
+/// Starts a thread for each consumer, in their order, and says how many have one before the first that
+/// has none.
+pub(crate) fn start_consumers<'s, E, R: Threads + Wait + Sync, G: Gate + Sync>(
+    scope: &thread::Scope<'s, E>,
+    rt: &'s R,
+    floor: &'s Floor,
+    gate: &'s G,
+    mut stands: Vec<Stand>,
+    mut kept: Vec<Kept<'s>>,
+    manned: &'s Manned,
+) -> (Vec<Kept<'s>>, usize)
+    requires few { length floor.now.office.lanes.items < 256 }
+    requires stands { AllAt (IsStand floor.now) 0 stands.items × (vec_len stands ≡ length floor.now.office.lanes.items) }
+    requires room { (kept.items ≡ []) × (length floor.now.office.lanes.items ≤ vec_capacity kept) }
+    ensures kept { AllAt (IsKept floor.now) 0 result.0.items }
+    ensures count { vec_len result.0 ≡ length floor.now.office.lanes.items }
+    ensures first { result.1 ≤ length floor.now.office.lanes.items }
+{
+    let mut first = floor.office.lanes.len();
+    for place in 0..floor.office.lanes.len() {
+        let stand = stands.remove(0);
+        let one = start_consumer(scope, rt, floor, gate, place as u8, stand, manned);
+        let is_there = matches!(one, Kept::There(_));
+        first = first_without(first, place, is_there);
+        kept.push_reserved(one);
+    }
+    stands.destroy_empty();
+    (kept, first)
+}
+
+fn join_consumer<R: Threads>(rt: &R, floor: &Floor, kept: Kept<'_>) -> Consumed
+    ensures { (n : ℕ) → IsKept floor.now n kept.entry → IsServiceOf floor.now n result }
+{
+    match kept {
+        Kept::There(child) => ManuallyDrop::into_inner(child.join(rt)),
+        Kept::Here(consumed) => ManuallyDrop::into_inner(consumed),
+    }
+}
+
+/// Waits for each consumer's end.
+pub(crate) fn join_consumers<R: Threads>(
+    rt: &R,
+    floor: &Floor,
+    kept: Vec<Kept<'_>>,
+    mut consumed: Vec<Consumed>,
+) -> Vec<Consumed>
+    requires kept { AllAt (IsKept floor.now) 0 kept.items }
+    requires room { (consumed.items ≡ []) × (vec_len kept ≤ vec_capacity consumed) }
+    ensures consumed { AllAt (IsServiceOf floor.now) 0 result.items }
+    ensures count { vec_len result ≡ vec_len kept.entry }
+{
+    for one in kept {
+        consumed.push_reserved(join_consumer(rt, floor, one));
+    }
+    consumed
+}

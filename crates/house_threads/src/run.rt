@@ -1,0 +1,215 @@
+//! The scope of all threads: consumers first, then workers, then sessions; each is joined. What is to
+//! be run, and what is compared afterwards, stands above.
+
+ghost use Rattle.std.specs.Prelude.{◌≡◌, ◌≤◌, ◌<◌, ◌+◌, [], IfOk, length, vec_len, vec_capacity};
+ghost use Rattle.std.specs.Mem.{manually_drop_value};
+ghost use Rattle.std.specs.Thread.{IsSync};
+ghost use Rattle.house_floor.specs.Crew.{AllAt, AreVisits, IsCrew, IsHouse, IsPost};
+ghost use Rattle.house_threads.specs.Crew.{IsServiceOf, IsVisitOf, IsWorkOf, LeavesAll};
+
+use crate::aside::end_first;
+use crate::consumers::{Kept, join_consumers, start_consumers};
+use crate::parcels::{Manned, packed};
+use crate::sessions::{Guest, join_sessions, start_sessions};
+use crate::workers::{Hired, join_workers, start_workers};
+use house_floor::{Crew, Floor, Post, Stand, Visit};
+use lane_work::{Consumed, Worked};
+use pace::{Actor, Gate, Pace};
+use std::alloc::{AllocError, Global};
+use std::mem::ManuallyDrop;
+use std::sync::Wait;
+use std::sync::atomic::AtomicU64;
+use std::thread;
+use std::thread::Threads;
+
+/// How the threads were started.
+#[derive(Clone, Copy, Debug, PartialEq, Eq)]
+pub enum Started {
+    /// Each has had its thread.
+    All,
+    /// A thread could not be made.
+    Spawn,
+    /// There was no memory to note the threads in: none was started.
+    NoMemory,
+}
+
+/// What the threads left, and what was never handed to one: consumers' stands, and workers' posts,
+/// which may have ended their seats on some lanes.
+pub struct Ran {
+    pub worked: Vec<Worked>,
+    pub consumed: Vec<Consumed>,
+    pub said: Vec<Result<Vec<u8>, AllocError>>,
+    pub stands: Vec<Stand>,
+    pub posts: Vec<Post>,
+    pub started: Started,
+}
+
+// No worker is to begin: ends their seats on the lanes whose consumers run.
+fn end_posts<R: Wait, G: Gate>(
+    rt: &R,
+    floor: &Floor,
+    gate: &G,
+    mut posts: Vec<Post>,
+    mut idle: Vec<Post>,
+    manned: usize,
+) -> Vec<Post>
+    requires posts { AllAt (IsPost floor.now) 0 posts.items }
+    requires room { (idle.items ≡ []) × (vec_len posts ≤ vec_capacity idle) }
+    requires manned { manned ≤ length floor.now.office.lanes.items }
+{
+    for done in 0..posts.len() {
+        let post = posts.remove(0);
+        let mut pace = Pace::new(gate, Actor::Worker(post.desk.number));
+        idle.push_reserved(end_first(rt, &mut pace, &floor.office, post, manned));
+    }
+    posts.destroy_empty();
+    idle
+}
+
+// Room for the handles of all threads, so that none is lost for want of it once a thread runs.
+struct Handles<'a> {
+    kept: Vec<Kept<'a>>,
+    hired: Vec<Hired<'a>>,
+    guests: Vec<Guest<'a>>,
+}
+
+fn handles_for<'a>(
+    alloc: Global,
+    consumers: usize,
+    workers: usize,
+    sessions: usize,
+) -> Result<Handles<'a>, AllocError>
+    ensures kept { IfOk result (λ h. (h.kept.items ≡ []) × (consumers ≤ vec_capacity h.kept)) }
+    ensures hired { IfOk result (λ h. (h.hired.items ≡ []) × (workers ≤ vec_capacity h.hired)) }
+    ensures guests { IfOk result (λ h. (h.guests.items ≡ []) × (sessions ≤ vec_capacity h.guests)) }
+{
+    Ok(Handles {
+        kept: Vec::with_capacity(alloc, consumers)?,
+        hired: Vec::with_capacity(alloc, workers)?,
+        guests: Vec::with_capacity(alloc, sessions)?,
+    })
+}
+
+// All that is done in the scope. Where a consumer has no thread no worker begins, and the workers' seats
+// are ended on the lanes whose consumers run.
+fn in_scope<'s, E, R: Threads + Wait + Sync, G: Gate + Sync>(
+    scope: &thread::Scope<'s, E>,
+    rt: &'s R,
+    floor: &'s Floor,
+    gate: &'s G,
+    plans: &'s [Vec<Vec<u8>>],
+    visits: &'s [Visit],
+    crew: ManuallyDrop<Crew>,
+    manned: &'s Manned,
+) -> Ran
+    requires house { IsHouse floor.now (length plans.now) }
+    requires visits { AreVisits floor.now visits.now }
+    requires crew { IsCrew floor.now (length plans.now) visits.now (manually_drop_value crew) }
+    ensures consumed { AllAt (IsServiceOf floor.now) 0 result.consumed.items }
+    ensures worked { AllAt (IsWorkOf floor.now plans.now) 0 result.worked.items }
+    ensures said { AllAt (IsVisitOf floor.now visits.now) 0 result.said.items }
+    ensures all { result.started ≡ Started.All → LeavesAll floor.now plans.now visits.now result }
+{
+    let alloc = floor.alloc;
+    let shards = floor.office.lanes.len();
+    let Crew {
+        stands,
+        posts,
+        consumed,
+        worked,
+        idle,
+        said,
+    } = ManuallyDrop::into_inner(crew);
+    let Ok(handles) = handles_for(alloc, shards, plans.len(), visits.len()) else {
+        idle.destroy_empty();
+        let started = Started::NoMemory;
+        return Ran {
+            worked,
+            consumed,
+            said,
+            stands,
+            posts,
+            started,
+        };
+    };
+    let Handles {
+        kept,
+        hired,
+        guests,
+    } = handles;
+    let (kept, first) = start_consumers(scope, rt, floor, gate, stands, kept, manned);
+    let stands = Vec::new(alloc);
+    if first < shards {
+        let posts = end_posts(rt, floor, gate, posts, idle, first);
+        let consumed = join_consumers(rt, floor, kept, consumed);
+        let started = Started::Spawn;
+        return Ran {
+            worked,
+            consumed,
+            said,
+            stands,
+            posts,
+            started,
+        };
+    }
+    let (hired, all_work) = start_workers(scope, rt, floor, gate, plans, posts, hired, manned);
+    let (guests, all_visit) = start_sessions(scope, rt, floor, gate, visits, guests);
+    let said = join_sessions(rt, floor, visits, guests, said);
+    let worked = join_workers(rt, floor, plans, hired, worked);
+    let consumed = join_consumers(rt, floor, kept, consumed);
+    let started = if all_work && all_visit {
+        Started::All
+    } else {
+        Started::Spawn
+    };
+    Ran {
+        worked,
+        consumed,
+        said,
+        stands,
+        posts: idle,
+        started,
+    }
+}
+
+/// Runs each consumer, each worker and each session in a thread of its own, consumers first and
+/// sessions last, and joins them all. What the i-th of a kind left is what its life promises, of its own
+/// lane, of its own channel and connections, of its own user and steps.
+///
+/// Where a thread can't be made `started` is `Spawn`: no worker begins behind a consumer that has none,
+/// none behind a worker that has none, and what is left is to be abandoned. `NoMemory` comes before
+/// anything is started.
+pub fn run_threads<R: Threads + Wait + Sync, G: Gate + Sync>(
+    rt: &R,
+    floor: &Floor,
+    gate: &G,
+    plans: &[Vec<Vec<u8>>],
+    visits: &[Visit],
+    crew: Crew,
+) -> Ran
+    requires house { IsHouse floor.now (length plans.now) }
+    requires visits { AreVisits floor.now visits.now }
+    requires crew { IsCrew floor.now (length plans.now) visits.now crew }
+    ensures consumed { AllAt (IsServiceOf floor.now) 0 result.consumed.items }
+    ensures worked { AllAt (IsWorkOf floor.now plans.now) 0 result.worked.items }
+    ensures said { AllAt (IsVisitOf floor.now visits.now) 0 result.said.items }
+    ensures all { result.started ≡ Started.All → LeavesAll floor.now plans.now visits.now result }
+{
+    let manned = Manned {
+        shards: AtomicU64::new(u64::MAX),
+        workers: AtomicU64::new(u64::MAX),
+    };
+    let marks = &manned;
+    let crew = packed(crew);
+    thread::scope(
+        thread::scope_env(),
+        rt,
+        |scope| -> Ran
+            requires { IsSync R.row × IsSync G.row × IsHouse floor.now (length plans.now) × AreVisits floor.now visits.now × IsCrew floor.now (length plans.now) visits.now (manually_drop_value crew) }
+            ensures consumed { AllAt (IsServiceOf floor.entry.now) 0 result.consumed.items }
+            ensures worked { AllAt (IsWorkOf floor.entry.now plans.entry.now) 0 result.worked.items }
+            ensures said { AllAt (IsVisitOf floor.entry.now visits.entry.now) 0 result.said.items }
+            ensures all { result.started ≡ Started.All → LeavesAll floor.entry.now plans.entry.now visits.entry.now result }
+        { in_scope(scope, rt, floor, gate, plans, visits, crew, marks) },
+    )
+}

@@ -1,0 +1,5 @@
+pub mod StepLaws
+pub mod RowLaws
+pub mod CloseLaws
+pub mod SenderRowLaws
+pub mod ChannelCloseLaws

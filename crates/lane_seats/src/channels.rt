@@ -1,0 +1,225 @@
+//! The reply channels of a house: made with their seats, dealt to the consumers, and, after all have
+//! ended, collected and closed. What is sent on a channel does not belong here.
+
+ghost use Rattle.std.specs.Prelude.{◌≡◌, ◌<◌, ◌≤◌, ◌+◌, ℕ, suc, [], length, map, All, IfOk, MatchOption, vec_len, vec_capacity};
+ghost use Rattle.shard_queue.specs.Reply.{sent_on, received, room_of, senders_of};
+ghost use Rattle.lane_work.specs.Seats.{AreSenders};
+ghost use Rattle.lane_seats.specs.SenderRows.{SenderRows, AreSenderHands, AreReceivers, SenderEndedRows, AreSendersIn, KeepSenders};
+ghost use Rattle.lane_seats.specs.SenderRows.{AllSendersIn, AllStaySendersEnded, StaySendersEnded};
+ghost use Rattle.lane_seats.specs.ChannelClosings.{AreChannelsClosed, AreChannelsTorn};
+ghost use Rattle.lane_seats.specs.Rooms.{AreRooms};
+
+use crate::rooms::spend_lists;
+use delivery_token::Noted;
+use shard_queue::{ReceiverSeat, ReplyChannel, ReplyClosed, ReplyNotAll, SenderEnded, SenderSeat};
+use std::alloc::{AllocError, Global};
+
+/// The reply channels of a house, with all their seats.
+pub struct Channels {
+    /// The channel of each worker.
+    pub channels: Vec<ReplyChannel<Noted>>,
+    /// For each channel the seats of its senders, in the order of their numbers.
+    pub seats: Vec<Vec<SenderSeat<Noted>>>,
+    /// For each channel its receiver's seat.
+    pub receivers: Vec<ReceiverSeat<Noted>>,
+}
+
+// No channels, with room for so many.
+fn no_channels(alloc: Global, count: usize) -> Result<Channels, AllocError>
+    ensures { IfOk result (λ r. (r.channels.items ≡ []) × (r.seats.items ≡ []) × (r.receivers.items ≡ [])
+        × (count ≤ vec_capacity r.channels) × (count ≤ vec_capacity r.seats) × (count ≤ vec_capacity r.receivers)) }
+{
+    let channels = Vec::with_capacity(alloc, count)?;
+    let seats = match Vec::with_capacity(alloc, count) {
+        Ok(seats) => seats,
+        Err(e) => {
+            channels.destroy_empty();
+            return Err(e);
+        }
+    };
+    let receivers = match Vec::with_capacity(alloc, count) {
+        Ok(receivers) => receivers,
+        Err(e) => {
+            channels.destroy_empty();
+            seats.destroy_empty();
+            return Err(e);
+        }
+    };
+    Ok(Channels {
+        channels,
+        seats,
+        receivers,
+    })
+}
+
+/// An empty channel for each of `workers` workers, with room for `depth` entries, and the seats of
+/// `senders` senders, 0 to 255 each. An error where memory is refused; nothing is left then.
+pub fn make_channels(
+    alloc: Global,
+    workers: u8,
+    depth: usize,
+    senders: u8,
+) -> Result<Channels, AllocError>
+    requires { 0 < depth }
+    ensures count { IfOk result (λ r. vec_len r.channels ≡ workers) }
+    ensures channels { IfOk result (λ r. All (λ q. (room_of q ≡ depth) × (senders_of q ≡ senders)) r.channels.items) }
+    ensures seats { IfOk result (λ r. SenderRows r.channels.items 0 (map (λ v. v.items) r.seats.items)) }
+    ensures receivers { IfOk result (λ r. AreReceivers r.channels.items r.receivers.items
+        × All (λ s. received s ≡ []) r.receivers.items) }
+{
+    let mut channels = no_channels(alloc, usize::from(workers))?;
+    for _ in 0..workers {
+        match ReplyChannel::new(alloc, depth, senders) {
+            Ok((channel, seats, receiver)) => {
+                channels.channels.push_reserved(channel);
+                channels.seats.push_reserved(seats);
+                channels.receivers.push_reserved(receiver);
+            }
+            Err(e) => {
+                abandon_channels(alloc, channels);
+                return Err(e);
+            }
+        }
+    }
+    Ok(channels)
+}
+
+/// Spends channels that are not to be used, with the seats that are there. It takes no memory.
+pub fn abandon_channels(alloc: Global, channels: Channels)
+    requires { (vec_len channels.seats ≡ vec_len channels.channels) × (vec_len channels.receivers ≡ vec_len channels.channels) }
+{
+    let Channels {
+        mut channels,
+        mut seats,
+        mut receivers,
+    } = channels;
+    for _ in 0..channels.len() {
+        let channel = channels.remove(0);
+        channel.abandon(seats.remove(0), Vec::new(alloc), receivers.remove(0));
+    }
+    channels.destroy_empty();
+    seats.destroy_empty();
+    receivers.destroy_empty();
+}
+
+/// Sender `number` takes its seat on each channel, the first that is left there, into `hand`, which is
+/// empty and has room for all.
+pub fn deal_senders(
+    channels: &[ReplyChannel<Noted>],
+    seats: &mut Vec<Vec<SenderSeat<Noted>>>,
+    number: u8,
+    mut hand: Vec<SenderSeat<Noted>>,
+) -> Vec<SenderSeat<Noted>>
+    requires left { SenderRows channels.now number (map (λ v. v.items) seats.old.items) }
+    requires more { All (λ q. number < senders_of q) channels.now }
+    requires room { (hand.items ≡ []) × (length channels.now ≤ vec_capacity hand) }
+    ensures hand { AreSenders channels.now number result.items × All (λ s. sent_on s ≡ []) result.items }
+    ensures left { SenderRows channels.now (suc number) (map (λ v. v.items) seats.new.items) }
+{
+    for channel in 0..channels.len() {
+        hand.push_reserved(seats[channel].remove(0));
+    }
+    hand
+}
+
+/// Each of the senders takes its seat on each channel, after which none is left: the i-th hand is that
+/// of sender i. `rooms` has an empty list for each, with room for all channels, and `hands`, which is
+/// empty, has room for all hands.
+pub fn deal_all_senders(
+    channels: &[ReplyChannel<Noted>],
+    mut seats: Vec<Vec<SenderSeat<Noted>>>,
+    senders: u8,
+    mut rooms: Vec<Vec<SenderSeat<Noted>>>,
+    mut hands: Vec<Vec<SenderSeat<Noted>>>,
+) -> Vec<Vec<SenderSeat<Noted>>>
+    requires left { SenderRows channels.now 0 (map (λ v. v.items) seats.items) }
+    requires senders { All (λ q. senders_of q ≡ senders) channels.now }
+    requires rooms { AreRooms senders (length channels.now) rooms }
+    requires hands { (hands.items ≡ []) × (senders ≤ vec_capacity hands) }
+    ensures count { vec_len result ≡ senders }
+    ensures hands { AreSenderHands channels.now 0 (map (λ v. v.items) result.items) }
+{
+    for number in 0..senders {
+        let room = rooms.remove(0);
+        hands.push_reserved(deal_senders(channels, &mut seats, number, room));
+    }
+    rooms.destroy_empty();
+    spend_lists(seats);
+    hands
+}
+
+/// What is left of one sender's seats, one on each channel, goes to the lists by channel, each of
+/// which has room for one more. What stood in the lists stays there.
+pub fn collect_senders(lists: &mut Vec<Vec<SenderEnded<Noted>>>, mut ended: Vec<SenderEnded<Noted>>)
+    requires each { vec_len ended ≡ vec_len lists.old }
+    requires room { All (λ v. vec_len v < vec_capacity v) lists.old.items }
+    ensures here { AreSendersIn ended.items (map (λ v. v.items) lists.new.items) }
+    ensures still { KeepSenders (map (λ v. v.items) lists.old.items) (map (λ v. v.items) lists.new.items) }
+    ensures channels { StaySendersEnded ended.items (map (λ v. v.items) lists.old.items)
+        (map (λ v. v.items) lists.new.items) }
+    ensures room { (n : ℕ) → All (λ v. vec_len v + suc n ≤ vec_capacity v) lists.old.items
+        → All (λ v. vec_len v + n ≤ vec_capacity v) lists.new.items }
+{
+    for channel in 0..lists.len() {
+        lists[channel].push_reserved(ended.remove(0));
+    }
+    ended.destroy_empty();
+}
+
+/// What is left of all senders' seats goes to the lists by channel, each of which has room for all.
+/// Each hand has one sender's, one on each channel. What stood in the lists stays there.
+pub fn collect_all_senders(
+    lists: &mut Vec<Vec<SenderEnded<Noted>>>,
+    mut hands: Vec<Vec<SenderEnded<Noted>>>,
+)
+    requires each { All (λ v. vec_len v ≡ vec_len lists.old) hands.items }
+    requires room { All (λ v. vec_len v + vec_len hands ≤ vec_capacity v) lists.old.items }
+    ensures here { AllSendersIn (map (λ v. v.items) hands.items) (map (λ v. v.items) lists.new.items) }
+    ensures still { KeepSenders (map (λ v. v.items) lists.old.items) (map (λ v. v.items) lists.new.items) }
+    ensures channels { AllStaySendersEnded (map (λ v. v.items) hands.items) (map (λ v. v.items) lists.old.items)
+        (map (λ v. v.items) lists.new.items) }
+{
+    for _ in 0..hands.len() {
+        collect_senders(lists, hands.remove(0));
+    }
+    hands.destroy_empty();
+}
+
+/// Closes each channel with the ended seats of its senders and with its receiver's. None just where
+/// some channel is torn: one of its senders' ended seats is missing, or that one's end wasn't
+/// received. It spends all that it was given then too. `closed`, which is empty, has room for all.
+pub fn close_channels(
+    alloc: Global,
+    mut channels: Vec<ReplyChannel<Noted>>,
+    mut ended: Vec<Vec<SenderEnded<Noted>>>,
+    mut receivers: Vec<ReceiverSeat<Noted>>,
+    mut closed: Vec<ReplyClosed<Noted>>,
+) -> Option<Vec<ReplyClosed<Noted>>>
+    requires ended { SenderEndedRows channels.items (map (λ v. v.items) ended.items) }
+    requires receivers { AreReceivers channels.items receivers.items }
+    requires room { (closed.items ≡ []) × (vec_len channels ≤ vec_capacity closed) }
+    ensures { MatchOption result (AreChannelsTorn channels.items (map (λ v. v.items) ended.items) receivers.items)
+        (λ cs. AreChannelsClosed channels.items (map (λ v. v.items) ended.items) receivers.items cs.items) }
+{
+    let mut torn = false;
+    for _ in 0..channels.len() {
+        let channel = channels.remove(0);
+        match channel.close(ended.remove(0), receivers.remove(0)) {
+            Ok(one) => closed.push_reserved(one),
+            Err(
+                ReplyNotAll {
+                    channel,
+                    ended,
+                    seat,
+                },
+            ) => {
+                torn = true;
+                channel.abandon(Vec::new(alloc), ended, seat);
+            }
+        }
+    }
+    channels.destroy_empty();
+    ended.destroy_empty();
+    receivers.destroy_empty();
+    if torn { None } else { Some(closed) }
+}

@@ -1,0 +1,24 @@
+//! The pieces around the threads of a running house: its lanes and reply channels are made, their
+//! seats are dealt to the workers and consumers, and what is left of the seats is collected and
+//! closed. Nothing is known here of threads, connections or mailboxes.
+#![tactic(auto)]
+
+mod channels;
+mod lanes;
+mod laws;
+mod rooms;
+#[cfg(test)]
+mod tests;
+
+pub use channels::{
+    Channels, abandon_channels, close_channels, collect_all_senders, collect_senders,
+    deal_all_senders, deal_senders, make_channels,
+};
+pub use lanes::{
+    Lanes, abandon_lanes, close_lanes, collect, collect_all, deal, deal_all, make_lanes,
+};
+pub use laws::{closed_channels_tell, closed_lanes_tell};
+pub use rooms::{
+    Hands, Rooms, SeatRooms, make_hands, make_lists, make_rooms, make_seat_rooms, spend_hands,
+    spend_lists, spend_rooms, spend_seat_rooms,
+};

@@ -1,0 +1,164 @@
+//! Empty lists with room, of values that can't be let go: all that is needed to deal the seats of a
+//! house's lanes and channels, and to collect them. They are made before the first seat is, so that
+//! behind the dealing nothing can be refused. What goes into them stands in the modules beside this.
+
+ghost use Rattle.std.specs.Prelude.{◌≡◌, ◌≤◌, [], All, IfOk, vec_len, vec_capacity};
+ghost use Rattle.lane_seats.specs.Rooms.{AreEmptyHands, AreEmptySeatRooms, AreHandRooms, AreRooms, AreSeatRooms};
+
+use delivery_token::{Job, Noted};
+use shard_queue::{Ended, ProducerSeat, SenderEnded, SenderSeat};
+use std::alloc::{AllocError, Global};
+
+/// `count` empty lists, each with room for `each` elements. An error where memory is refused; nothing
+/// is left then.
+pub fn make_lists<T>(alloc: Global, count: usize, each: usize) -> Result<Vec<Vec<T>>, AllocError>
+    ensures { IfOk result (λ lists. AreRooms count each lists) }
+{
+    let mut lists = Vec::with_capacity(alloc, count)?;
+    for _ in 0..count {
+        match Vec::with_capacity(alloc, each) {
+            Ok(list) => lists.push_reserved(list),
+            Err(e) => {
+                spend_lists(lists);
+                return Err(e);
+            }
+        }
+    }
+    Ok(lists)
+}
+
+/// Spends lists that are empty.
+pub fn spend_lists<T>(mut lists: Vec<Vec<T>>)
+    requires { All (λ v. v.items ≡ []) lists.items }
+{
+    while let Some(list) = lists.pop() {
+        list.destroy_empty();
+    }
+    lists.destroy_empty();
+}
+
+/// Room for what several actors hold, a list for each.
+pub struct Hands<T> {
+    /// For each actor an empty list, with room for one element at each place.
+    pub each: Vec<Vec<T>>,
+    /// No list yet, with room for one of each actor.
+    pub all: Vec<Vec<T>>,
+}
+
+/// Room for `actors` lists, and as many empty lists with room for `places` elements. An error where
+/// memory is refused; nothing is left then.
+pub fn make_hands<T>(alloc: Global, actors: usize, places: usize) -> Result<Hands<T>, AllocError>
+    ensures { IfOk result (λ hands. AreHandRooms actors places hands) }
+{
+    let each = make_lists(alloc, actors, places)?;
+    match Vec::with_capacity(alloc, actors) {
+        Ok(all) => Ok(Hands { each, all }),
+        Err(e) => {
+            spend_lists(each);
+            Err(e)
+        }
+    }
+}
+
+/// Spends room that is not to be used.
+pub fn spend_hands<T>(hands: Hands<T>)
+    requires { AreEmptyHands hands }
+{
+    let Hands { each, all } = hands;
+    spend_lists(each);
+    all.destroy_empty();
+}
+
+/// Room for the seats of actors that have one at each of several places, as workers on lanes and
+/// consumers on channels, and for what is left of the seats after their ends.
+pub struct SeatRooms<S, E> {
+    /// For each actor's seats.
+    pub seats: Hands<S>,
+    /// For what is left of each actor's seats.
+    pub ended: Hands<E>,
+    /// For each place an empty list, with room for what is left of all actors' seats there.
+    pub lists: Vec<Vec<E>>,
+}
+
+/// Room for the seats of `actors` actors at `places` places. An error where memory is refused;
+/// nothing is left then.
+pub fn make_seat_rooms<S, E>(
+    alloc: Global,
+    actors: usize,
+    places: usize,
+) -> Result<SeatRooms<S, E>, AllocError>
+    ensures { IfOk result (λ rooms. AreSeatRooms actors places rooms) }
+{
+    let seats = make_hands(alloc, actors, places)?;
+    let ended = match make_hands(alloc, actors, places) {
+        Ok(ended) => ended,
+        Err(e) => {
+            spend_hands(seats);
+            return Err(e);
+        }
+    };
+    match make_lists(alloc, places, actors) {
+        Ok(lists) => Ok(SeatRooms {
+            seats,
+            ended,
+            lists,
+        }),
+        Err(e) => {
+            spend_hands(seats);
+            spend_hands(ended);
+            Err(e)
+        }
+    }
+}
+
+/// Spends room that is not to be used.
+pub fn spend_seat_rooms<S, E>(rooms: SeatRooms<S, E>)
+    requires { AreEmptySeatRooms rooms }
+{
+    let SeatRooms {
+        seats,
+        ended,
+        lists,
+    } = rooms;
+    spend_hands(seats);
+    spend_hands(ended);
+    spend_lists(lists);
+}
+
+/// Room for all seats of a house.
+pub struct Rooms {
+    /// For the workers' seats on the lanes.
+    pub workers: SeatRooms<ProducerSeat<Job>, Ended<Job>>,
+    /// For the consumers' seats on the workers' reply channels.
+    pub consumers: SeatRooms<SenderSeat<Noted>, SenderEnded<Noted>>,
+}
+
+/// Room for all seats of a house with so many workers, who have a reply channel each, and so many
+/// shards, which have a lane and a consumer each. An error where memory is refused; nothing is left
+/// then.
+pub fn make_rooms(alloc: Global, workers: u8, shards: u8) -> Result<Rooms, AllocError>
+    ensures workers { IfOk result (λ rooms. AreSeatRooms workers shards rooms.workers) }
+    ensures consumers { IfOk result (λ rooms. AreSeatRooms shards workers rooms.consumers) }
+{
+    let (workers, shards) = (usize::from(workers), usize::from(shards));
+    let on_lanes = make_seat_rooms(alloc, workers, shards)?;
+    match make_seat_rooms(alloc, shards, workers) {
+        Ok(on_channels) => Ok(Rooms {
+            workers: on_lanes,
+            consumers: on_channels,
+        }),
+        Err(e) => {
+            spend_seat_rooms(on_lanes);
+            Err(e)
+        }
+    }
+}
+
+/// Spends room that is not to be used.
+pub fn spend_rooms(rooms: Rooms)
+    requires { AreEmptySeatRooms rooms.workers × AreEmptySeatRooms rooms.consumers }
+{
+    let Rooms { workers, consumers } = rooms;
+    spend_seat_rooms(workers);
+    spend_seat_rooms(consumers);
+}

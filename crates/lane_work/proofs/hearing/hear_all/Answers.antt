@@ -1,0 +1,84 @@
+use Rattle.std.proofs.Common.{rules, ◌≡◌, ◌++◌, ◌∷◌, [], ◌∙◌, ap, refl, arith, length, length-append}
+use Rattle.lmtp_machine.specs.Calls.{submission_of}
+use Rattle.shard_queue.specs.declared.lane.Entry.TheVariants.{Item, End}
+use Rattle.shard_queue.specs.Reply.{received}
+use Rattle.lane_work.specs.Copies.{copies_of}
+use Rattle.lane_work.specs.Ends.{ends_in}
+use Rattle.lane_work.proofs.SeatLaws.{ends_next}
+use Rattle.lane_work.proofs.SlotLaws.{fills_same, fills_on, heard_next, heard_still, none_unknown, start_on, start_same, were_heard_same}
+use Rattle.lane_work.proofs.hearing.hear_all.Goals as goal
+
+pub loop-init : goal.loop-init
+loop-init g c = (
+  c.requires,
+  (refl, refl),
+  omega arith,
+  fills_same c.args.slots.now.items,
+  start_same (received c.args.desk.now.receiver),
+  refl,
+  were_heard_same (received c.args.desk.now.receiver) (copies_of (submission_of c.args.message.now)) c.args.slots.now.items,
+)
+
+pub returns-then-not-note_in-clause-fills : goal.returns-then-not-note_in-clause-fills
+returns-then-not-note_in-clause-fills g c = fills_on c.args.slots.now.items c.loop.slots.items c.note_in.new.slots.items c.loop.invariant.3 c.note_in.ensures.fills
+
+pub returns-then-not-note_in-clause-ends : goal.returns-then-not-note_in-clause-ends
+returns-then-not-note_in-clause-ends g c =
+    let old = received c.loop.desk.receiver in
+    let grew : received c.recv_as.new.seat ≡ old ++ c.recv_as.result ∷ [] = search rules in
+    let e = ap ends_in grew ∙ ends_next old c.recv_as.result in
+    omega (arith, e, c.loop.invariant.2)
+
+pub returns-then-not-note_in-clause-grew : goal.returns-then-not-note_in-clause-grew
+returns-then-not-note_in-clause-grew g c =
+    let old = received c.loop.desk.receiver in
+    let grew : received c.recv_as.new.seat ≡ old ++ c.recv_as.result ∷ [] = search rules in
+    start_on (received c.args.desk.now.receiver) old (received c.recv_as.new.seat) c.loop.invariant.4 (c.recv_as.result ∷ [], grew)
+
+pub returns-then-not-note_in-clause-heard : goal.returns-then-not-note_in-clause-heard
+returns-then-not-note_in-clause-heard g c =
+    let old = received c.loop.desk.receiver in
+    let grew : received c.recv_as.new.seat ≡ old ++ c.recv_as.result ∷ [] = search rules in
+    heard_still old (received c.recv_as.new.seat) (copies_of (submission_of c.args.message.now)) c.args.slots.now.items c.loop.slots.items c.note_in.new.slots.items (c.recv_as.result ∷ [], grew)
+    (search rules) c.loop.invariant.6
+
+pub returns-in-End-clause-ends : goal.returns-in-End-clause-ends
+returns-in-End-clause-ends g c =
+    let old = received c.loop.desk.receiver in
+    let grew : received c.recv_as.new.seat ≡ old ++ End c.in-End.field-0 ∷ [] = search rules in
+    let e = ap ends_in grew ∙ ends_next old (End c.in-End.field-0) in
+    search rules
+
+pub returns-in-End-clause-grew : goal.returns-in-End-clause-grew
+returns-in-End-clause-grew g c =
+    let old = received c.loop.desk.receiver in
+    let grew : received c.recv_as.new.seat ≡ old ++ c.recv_as.result ∷ [] = search rules in
+    start_on (received c.args.desk.now.receiver) old (received c.recv_as.new.seat) c.loop.invariant.4 (c.recv_as.result ∷ [], grew)
+
+pub returns-in-End-clause-heard : goal.returns-in-End-clause-heard
+returns-in-End-clause-heard g c =
+    let old = received c.loop.desk.receiver in
+    let grew : received c.recv_as.new.seat ≡ old ++ c.recv_as.result ∷ [] = search rules in
+    heard_still old (received c.recv_as.new.seat) (copies_of (submission_of c.args.message.now)) c.args.slots.now.items c.loop.slots.items c.loop.slots.items (c.recv_as.result ∷ [], grew)
+    refl c.loop.invariant.6
+
+pub loop-preserved : goal.loop-preserved
+loop-preserved g c =
+    let old = received c.loop.desk.receiver in
+    let grew : received c.recv_as.new.seat ≡ old ++ c.recv_as.result ∷ [] = search rules in
+    let came : received c.recv_as.new.seat ≡ old ++ Item c.in-Item.field-0 c.in-Item.noted ∷ [] = search rules in (
+      c.recv_as.ensures.seat,
+      c.loop.invariant.1,
+      (let e = ap ends_in grew ∙ ends_next old c.recv_as.result in omega (arith, e, c.loop.invariant.2)),
+      fills_on c.args.slots.now.items c.loop.slots.items c.note_in.new.slots.items c.loop.invariant.3 c.note_in.ensures.fills,
+      start_on (received c.args.desk.now.receiver) old (received c.recv_as.new.seat) c.loop.invariant.4 (c.recv_as.result ∷ [], grew),
+      (let n = ap length grew ∙ length-append old (c.recv_as.result ∷ []) in
+          let f = c.note_in.ensures.noted (search rules) in omega (arith, n, f.awaited, c.loop.invariant.5)),
+      heard_next old (received c.recv_as.new.seat) (copies_of (submission_of c.args.message.now)) c.args.slots.now.items c.loop.slots.items c.note_in.new.slots.items c.in-Item.field-0 c.in-Item.noted came
+          (c.note_in.ensures.noted (search rules)) c.loop.invariant.6,
+    )
+
+pub returns-then-are_known-clause-awaited : goal.returns-then-are_known-clause-awaited
+returns-then-are_known-clause-awaited g c =
+    let n = none_unknown c.loop.slots.items (search rules) in
+    omega (arith, n, c.loop.invariant.5)

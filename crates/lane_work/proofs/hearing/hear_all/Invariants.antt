@@ -1,0 +1,14 @@
+use Rattle.std.proofs.Common.{◌≡◌, ◌+◌, length}
+use Rattle.shard_queue.specs.Reply.{IsReceiver, received}
+use Rattle.shard_queue.specs.Shared.{IsStartOf}
+use Rattle.lmtp_machine.specs.Calls.{submission_of}
+use Rattle.lane_work.specs.Copies.{Fills, WereHeard, copies_of, unknown}
+use Rattle.lane_work.specs.Desk.{SameButReceiver}
+use Rattle.lane_work.specs.Ends.{CountsEnds}
+use Rattle.lane_work.proofs.hearing.hear_all.Given as goal
+
+abbrev pub invariant-loop : goal.invariant-loop
+invariant-loop g l = IsReceiver l.channel l.desk.receiver × SameButReceiver l.fn.desk l.desk × CountsEnds l.fn.desk l.desk × Fills l.fn.slots.items l.slots.items
+    × IsStartOf (received l.fn.desk.receiver) (received l.desk.receiver)
+    × (length (received l.desk.receiver) + unknown l.slots.items ≡ length (received l.fn.desk.receiver) + unknown l.fn.slots.items)
+    × WereHeard (received l.desk.receiver) (copies_of (submission_of l.message)) l.fn.slots.items l.slots.items

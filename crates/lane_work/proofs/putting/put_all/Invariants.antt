@@ -1,0 +1,17 @@
+use Rattle.std.proofs.Common.{◌≡◌, ◌≤◌, map, take, vec_len, vec_capacity}
+use Rattle.shard_queue.specs.Seats.{sent}
+use Rattle.lane_work.specs.Seats.{AreSeats}
+use Rattle.lane_work.specs.Desk.{SameButSeats}
+use Rattle.lane_work.specs.Copies.{HavePut, WereTried, copies, rooms_of}
+use Rattle.lane_work.proofs.putting.put_all.Given as goal
+
+abbrev pub invariant-loop-i : goal.invariant-loop-i
+invariant-loop-i g l =
+    AreSeats l.office.lanes.items l.fn.desk.number l.desk.seats.items
+    × SameButSeats l.fn.desk l.desk
+    × (vec_len l.slots ≡ l.i)
+    × WereTried l.office.directory (rooms_of l.office.lanes.items) l.fn.desk.number (copies (take l.i l.message.keys.items) (take l.i l.message.mailboxes.items) l.message.text) l.slots.items
+    (map sent l.fn.desk.seats.items)
+    × (vec_len l.message.keys ≤ vec_capacity l.slots)
+    × HavePut l.office.directory l.fn.desk.number (copies (take l.i l.message.keys.items) (take l.i l.message.mailboxes.items) l.message.text) l.slots.items
+    (map sent l.fn.desk.seats.items) (map sent l.desk.seats.items)

@@ -1,0 +1,53 @@
+-- What one worker's thread says: of its own seats, its own log and its own replies.
+use Rattle.std.specs.Prelude.{◌≡◌, ℕ, ◌<◌, List, [], ◌∷◌, ◌++◌, length, map, slice_index_or}
+use Rattle.delivery_token.specs.declared.Job.{Job}
+use Rattle.delivery_token.specs.declared.log.Noted.{Noted}
+use Rattle.envelope.specs.Directory.{Directory}
+use Rattle.lmtp_machine.specs.declared.reply.Reply.{Reply}
+use Rattle.lmtp_machine.specs.Dialogue.{Setting}
+use Rattle.lmtp_machine.specs.Replies.{wire}
+use Rattle.shard_queue.specs.declared.lane.Entry.{Entry}
+use Rattle.shard_queue.specs.declared.lane.Entry.TheVariants.{Item, End}
+use Rattle.lane_work.specs.Talk.{Judged, WholeTalk}
+use Rattle.lane_work.specs.Copies.{Room, WerePut, note_of, room_at, told}
+
+-- What every connection of the house is told of it, and how much room its lanes have.
+pub record Premises : Type 0 where
+  pub directory : Directory
+  pub rooms : List Room
+  pub host : List ℕ
+  pub max_message : ℕ
+
+-- the i-th connection of a worker has its seat, and i for its serial
+abbrev pub setting_at : Premises → ℕ → ℕ → Setting
+setting_at house seat serial = record { seat = seat; serial = serial; max_message = house.max_message }
+
+-- Connections one after another: these bytes came, these were the replies, and these messages were judged.
+pub data HaveTalked (house : Premises) (seat : ℕ) : List (List ℕ) → List (List ℕ) → List Judged → Type 0 where
+  none : HaveTalked house seat [] [] []
+  next : {connections : List (List ℕ)} {replies : List (List ℕ)} {judged : List Judged} (bytes : List ℕ) (said : List Reply) (more : List Judged)
+      → HaveTalked house seat connections replies judged
+      → WholeTalk (setting_at house seat (length connections)) house.directory bytes said more
+      → HaveTalked house seat (connections ++ bytes ∷ []) (replies ++ wire house.host said ∷ []) (judged ++ more)
+
+-- The log has exactly one verdict for each copy of these messages, in their order, and each lane got those copies of its mailboxes that weren't refused at once.
+pub record AreBooks (directory : Directory) (rooms : List Room) (seat : ℕ) (judged : List Judged) (notes : List Noted) (heard : List (Entry Noted)) (sent : List (List (Entry Job))) : Type 0 where
+  pub noted : notes ≡ map note_of (told judged)
+  pub lanes : (lane : ℕ) → lane < length sent → (jobs : List Job) × WerePut directory (room_at rooms lane) seat lane heard [] (told judged) jobs × (slice_index_or sent lane [] ≡ map (λ job. Item seat job) jobs)
+
+-- The account of a worker that went through its connections. `said` is what it has put on each lane, its end included.
+pub record Account (house : Premises) (seat : ℕ) (connections replies : List (List ℕ)) (notes : List Noted) (heard : List (Entry Noted)) (said : List (List (Entry Job))) : Type 0 where
+  pub judged : List Judged
+  pub talked : HaveTalked house seat connections replies judged
+  pub noted : notes ≡ map note_of (told judged)
+  pub lanes : (lane : ℕ) → lane < length said → (jobs : List Job) × WerePut house.directory (room_at house.rooms lane) seat lane heard [] (told judged) jobs × (slice_index_or said lane [] ≡ map (λ job. Item seat job) jobs ++ End seat ∷ [])
+
+-- each list has the producer's end behind it
+abbrev pub HaveEnded : ℕ → (before after : List (List (Entry Job))) → Type 0
+HaveEnded seat before after = after ≡ map (λ entries. entries ++ End seat ∷ []) before
+
+-- The same before the ends are put.
+pub record HasServed (house : Premises) (seat : ℕ) (connections replies : List (List ℕ)) (notes : List Noted) (heard : List (Entry Noted)) (sent : List (List (Entry Job))) : Type 0 where
+  pub judged : List Judged
+  pub talked : HaveTalked house seat connections replies judged
+  pub books : AreBooks house.directory house.rooms seat judged notes heard sent

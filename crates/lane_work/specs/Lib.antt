@@ -1,0 +1,11 @@
+pub mod Talk
+pub mod Copies
+pub mod Seats
+pub mod Account
+pub mod Answering
+pub mod Consuming
+pub mod Desk
+pub mod Ends
+pub mod Speaking
+pub mod Working
+pub mod Histories

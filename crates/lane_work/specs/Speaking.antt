@@ -1,0 +1,44 @@
+-- How far a worker came with one connection.
+use Rattle.std.specs.Prelude.{◌≡◌, ℕ, Bool, true, false, List, ◌++◌}
+use Rattle.delivery_token.specs.declared.Job.{Job}
+use Rattle.delivery_token.specs.declared.log.Noted.{Noted}
+use Rattle.envelope.specs.Directory.{Directory}
+use Rattle.lmtp_machine.specs.declared.connection.What.{What}
+use Rattle.lmtp_machine.specs.declared.connection.What.TheVariants.{More, Submit, Quit}
+use Rattle.lmtp_machine.specs.declared.reply.Reply.{Reply}
+use Rattle.lmtp_machine.specs.Conversation.{Conversation}
+use Rattle.lmtp_machine.specs.Dialogue.{Setting, Ended}
+use Rattle.lmtp_machine.specs.Machine.{Machine, StandsFor}
+use Rattle.lmtp_machine.specs.Replies.{wire}
+use Rattle.shard_queue.specs.declared.lane.Entry.{Entry}
+use Rattle.lane_work.specs.declared.desk.Office.{Office}
+use Rattle.lane_work.specs.Talk.{Judged, HasTaken, WholeTalk}
+use Rattle.lane_work.specs.Account.{AreBooks, Premises}
+use Rattle.lane_work.specs.Copies.{Room, rooms_of}
+
+abbrev pub premises_of : Office → Premises
+premises_of office = record { directory = office.directory; rooms = rooms_of office.lanes.items; host = office.host.items; max_message = office.max_message }
+
+abbrev pub is_quit : What → Bool
+is_quit More = false
+is_quit Submit = false
+is_quit Quit = true
+
+-- The connection has taken these bytes; its replies are in `out`, and what it submitted stands in the books, behind what was done before it.
+pub record Stands (directory : Directory) (rooms : List Room) (seat : ℕ) (done : List Judged) (bytes : List ℕ) (over : Bool) (m : Machine) (out : List ℕ) (notes : List Noted) (heard : List (Entry Noted)) (sent : List (List (Entry Job))) : Type 0 where
+  pub said : List Reply
+  pub judged : List Judged
+  pub at : Conversation
+  pub talk : HasTaken m.setting directory bytes said judged at
+  pub machine : StandsFor m at
+  pub ended : over ≡ true → at.standing.phase ≡ Ended
+  pub replies : out ≡ wire m.host said
+  pub books : AreBooks directory rooms seat (done ++ judged) notes heard sent
+
+-- The connection is over: all that its peer sent was taken, or the dialogue ended before.
+pub record Spoke (directory : Directory) (rooms : List Room) (seat : ℕ) (done : List Judged) (bytes : List ℕ) (setting : Setting) (host out : List ℕ) (notes : List Noted) (heard : List (Entry Noted)) (sent : List (List (Entry Job))) : Type 0 where
+  pub said : List Reply
+  pub judged : List Judged
+  pub talk : WholeTalk setting directory bytes said judged
+  pub replies : out ≡ wire host said
+  pub books : AreBooks directory rooms seat (done ++ judged) notes heard sent

@@ -1,0 +1,117 @@
+//! What becomes of one copy that a consumer took: it is delivered under its mailbox's lock, which is
+//! held for that alone, and its producer is told. Which copy is taken next does not belong here.
+
+ghost use Rattle.std.specs.Prelude.{◌≡◌, ◌++◌, ◌∷◌, [], length, map};
+ghost use Rattle.shard_queue.specs.declared.lane.Entry.TheVariants as entries;
+ghost use Rattle.shard_queue.specs.Reply.{IsSender, sender_number, sent_on};
+ghost use Rattle.mailbox_holds.specs.Holds.{DoesDeliver};
+ghost use Rattle.lane_work.specs.Seats.{AreSenders};
+ghost use Rattle.lane_work.specs.Answering.{IsDelivered, IsVerdict, Serves, UnderLock, is_ours, verdict_of};
+
+use crate::bells::ring_sessions;
+use crate::consumer::Depot;
+use delivery_token::{Job, Noted, Refusal, Verdict};
+use mailbox::{Mailbox, Receipt};
+use mailbox_holds::deliver;
+use pace::{Gate, Pace};
+use shard_queue::{ReplyChannel, SenderSeat};
+use std::sync::{Mutex, Wait};
+use std::thread;
+
+// A delivery's answer, as its producer is told.
+fn verdict_of(delivered: Result<Receipt, Refusal>) -> Verdict
+    ensures { result ≡ verdict_of delivered }
+{
+    match delivered {
+        Ok(receipt) => Verdict::Stored { uid: receipt.uid() },
+        Err(why) => Verdict::Refused(why),
+    }
+}
+
+// Delivers a copy to the mailbox that is held: one event.
+fn deliver_to(mailbox: &mut Mailbox, job: &Job) -> Verdict
+    ensures { IsDelivered job.now result mailbox.old mailbox.new }
+{
+    let delivered = deliver(mailbox, job);
+    verdict_of(delivered)
+}
+
+// The same, under its mailbox's lock: one hold.
+fn deliver_under<R: Wait>(rt: &R, lock: &Mutex<Mailbox>, job: &Job) -> Verdict
+    ensures { UnderLock (IsDelivered job.now result) }
+{
+    let mut held = lock.lock(rt);
+    deliver_to(&mut held, job)
+}
+
+// The verdict on a copy. One for a mailbox that isn't there is refused, as for want of memory.
+fn judge<R: Wait>(rt: &R, mailboxes: &[Mutex<Mailbox>], job: &Job) -> Verdict
+    ensures { IsVerdict (length mailboxes.now) job.now result }
+{
+    let Some(lock) = mailboxes.get(usize::from(job.mailbox)) else {
+        return Verdict::Refused(Refusal::NoMemory);
+    };
+    deliver_under(rt, lock, job)
+}
+
+// Wakes the sessions that have something to see.
+fn tell_sessions(depot: &Depot, mailbox: u8, verdict: Verdict) {
+    if let Verdict::Stored { uid: _ } = verdict {
+        ring_sessions(&depot.sessions, mailbox);
+    }
+}
+
+// Answers on a channel; where it is full, it tries again until there is room.
+fn answer<R: Wait, G: Gate>(
+    rt: &R,
+    pace: &mut Pace<'_, G>,
+    channel: &ReplyChannel<Noted>,
+    seat: &mut SenderSeat<Noted>,
+    noted: Noted,
+)
+    requires { IsSender channel.now seat.old }
+    ensures seat { IsSender channel.now seat.new × (sender_number seat.new ≡ sender_number seat.old) }
+    ensures sent { sent_on seat.new ≡ sent_on seat.old ++ entries.Item (sender_number seat.old) noted ∷ [] }
+{
+    for _ in rt.forever() {
+        pace.pass();
+        match channel.send_as(rt, seat, noted) {
+            Ok(()) => return,
+            Err(_) => thread::yield_now(),
+        }
+    }
+    unreachable!()
+}
+
+/// What becomes of one copy: it is delivered, and its producer is told. Whether it was a copy of this
+/// house: of a producer that has a channel, and for a mailbox that is there. One of a producer without
+/// a channel isn't delivered.
+pub(crate) fn serve_copy<R: Wait, G: Gate>(
+    rt: &R,
+    pace: &mut Pace<'_, G>,
+    depot: &Depot,
+    shard: u8,
+    senders: &mut Vec<SenderSeat<Noted>>,
+    producer: u8,
+    job: &Job,
+) -> bool
+    requires senders { AreSenders depot.now.channels.items shard senders.old.items }
+    ensures senders { AreSenders depot.now.channels.items shard senders.new.items }
+    ensures known { result ≡ is_ours (length depot.now.mailboxes.items) (length depot.now.channels.items) producer job.now }
+    ensures served { Serves (length depot.now.mailboxes.items) (length depot.now.channels.items) shard producer job.now (map sent_on senders.old.items) (map sent_on senders.new.items) }
+{
+    let place = usize::from(producer);
+    if place >= depot.channels.len() {
+        return false;
+    }
+    pace.pass();
+    let verdict = judge(rt, &depot.mailboxes, job);
+    tell_sessions(depot, job.mailbox, verdict);
+    let noted = Noted {
+        key: job.key,
+        mailbox: job.mailbox,
+        verdict,
+    };
+    answer(rt, pace, &depot.channels[place], &mut senders[place], noted);
+    usize::from(job.mailbox) < depot.mailboxes.len()
+}

@@ -1,0 +1,40 @@
+//! Bells wake who sleeps: a shard's consumer, and the sessions of a user. A ring is kept until it is
+//! heard, so none is lost, and one too many costs a look. Nothing is proved of them.
+
+use crossbeam_utils::sync::{Parker, Unparker};
+use std::hint;
+use std::sync::Wait;
+
+/// So often a consumer pauses before it sleeps.
+const PAUSES: u32 = 64;
+
+/// Wakes a shard's consumer. Where the shard has no bell it does nothing.
+pub fn ring(bells: &[Unparker], shard: usize) {
+    if let Some(bell) = bells.get(shard) {
+        bell.unpark();
+    }
+}
+
+/// Wakes all sessions of the user to whom a mailbox belongs. Where there is none it does nothing.
+pub(crate) fn ring_sessions(sessions: &[Vec<Unparker>], mailbox: u8) {
+    if let Some(bells) = sessions.get(usize::from(mailbox)) {
+        ring_all(bells);
+    }
+}
+
+fn ring_all(bells: &[Unparker]) {
+    for bell in bells {
+        bell.unpark();
+    }
+}
+
+/// Waits until there may be something to take, after so many pauses in vain: at first it pauses, and
+/// then it sleeps until the bell rings. Answers how many pauses there were since it slept.
+pub(crate) fn wait_for<R: Wait>(rt: &R, bell: &Parker, pauses: u32) -> u32 {
+    if pauses < PAUSES {
+        hint::spin_loop();
+        return pauses.saturating_add(1);
+    }
+    bell.park(rt);
+    0
+}

@@ -1,0 +1,171 @@
+//! A consumer's life: each copy of its lane is taken, delivered and answered, until the end of every
+//! producer came; then its own seats are ended. What becomes of one copy stands in `answering`.
+
+ghost use Rattle.std.specs.Prelude.{◌≡◌, ◌≤◌, ◌<◌, ◌+◌, ◌++◌, ◌∷◌, [], true, length, map, All, vec_len, vec_capacity};
+ghost use Rattle.std.specs.List.{list_any};
+ghost use Rattle.shard_queue.specs.Seats.{IsConsumer, got};
+ghost use Rattle.shard_queue.specs.Reply.{sent_on};
+ghost use Rattle.lane_work.specs.Seats.{AreSenders, AreSendersEnded};
+ghost use Rattle.lane_work.specs.Answering.{HaveAnswered, is_nobodys};
+ghost use Rattle.lane_work.specs.Consuming.{IsConsumed, items_of};
+ghost use Rattle.lane_work.specs.Ends.{ends_in};
+
+use crate::answering::serve_copy;
+use crate::bells::wait_for;
+use crate::ending::end_senders;
+use crossbeam_utils::sync::{Parker, Unparker};
+use delivery_token::{Job, Noted};
+use mailbox::Mailbox;
+use pace::{Gate, Pace};
+use shard_queue::{ConsumerSeat, ReplyChannel, SenderEnded, SenderSeat, ShardQueue, Taken};
+use std::sync::{Mutex, Wait};
+
+/// What all consumers share.
+pub struct Depot {
+    /// The mailboxes, by their numbers.
+    pub mailboxes: Vec<Mutex<Mailbox>>,
+    /// The workers' reply channels, by their numbers.
+    pub channels: Vec<ReplyChannel<Noted>>,
+    /// The bells of the sessions that may look at a mailbox, by its number: they are rung after a
+    /// delivery to it. Where a mailbox has none nothing is rung.
+    pub sessions: Vec<Vec<Unparker>>,
+}
+
+/// What one consumer holds.
+pub struct Stall {
+    /// The number of its shard, which is that of its senders.
+    pub shard: u8,
+    /// Its end of its lane.
+    pub seat: ConsumerSeat<Job>,
+    /// Its seat on each reply channel.
+    pub senders: Vec<SenderSeat<Noted>>,
+    /// The bell that wakes it: whoever puts on its lane, or ends there, rings it.
+    pub bell: Parker,
+}
+
+/// What a consumer leaves.
+pub struct Consumed {
+    /// Its end of its lane.
+    pub seat: ConsumerSeat<Job>,
+    /// What is left of its seat on each reply channel.
+    pub senders: Vec<SenderEnded<Noted>>,
+    /// The copies that it took, in order, up to the first that there was no memory for.
+    pub copies: Vec<Job>,
+    /// Whether these are all that it took.
+    pub kept: bool,
+    /// Whether it took one that was nobody's: of a producer without a channel, or for a mailbox that
+    /// isn't there.
+    pub torn: bool,
+}
+
+// Whether all copies were kept, and whether one was nobody's.
+#[derive(Clone, Copy)]
+struct Tally {
+    kept: bool,
+    torn: bool,
+}
+
+// Adds a copy, where all before it were kept and there is memory.
+fn keep(copies: &mut Vec<Job>, kept: bool, job: Job) -> bool
+    ensures { result ≡ true → (kept ≡ true) × (copies.new.items ≡ copies.old.items ++ job ∷ []) }
+{
+    if !kept {
+        return false;
+    }
+    match copies.push(job) {
+        Ok(()) => true,
+        Err(_) => false,
+    }
+}
+
+// Takes until the end of each of so many producers came: each copy is delivered and answered, and kept
+// as long as there is memory.
+fn serve_all<R: Wait, G: Gate>(
+    rt: &R,
+    pace: &mut Pace<'_, G>,
+    depot: &Depot,
+    lane: &ShardQueue<Job>,
+    stall: &mut Stall,
+    copies: &mut Vec<Job>,
+    producers: usize,
+) -> Tally
+    requires seat { IsConsumer lane.now stall.old.seat × (got stall.old.seat ≡ []) }
+    requires senders { AreSenders depot.now.channels.items stall.old.shard stall.old.senders.items }
+    requires none { copies.old.items ≡ [] }
+    ensures shard { stall.new.shard ≡ stall.old.shard }
+    ensures seat { IsConsumer lane.now stall.new.seat }
+    ensures senders { AreSenders depot.now.channels.items stall.old.shard stall.new.senders.items }
+    ensures answered { HaveAnswered (length depot.now.mailboxes.items) (length depot.now.channels.items) stall.old.shard (got stall.new.seat) (map sent_on stall.old.senders.items) (map sent_on stall.new.senders.items) }
+    ensures ends { producers ≤ ends_in (got stall.new.seat) }
+    ensures torn { result.torn ≡ list_any (is_nobodys (length depot.now.mailboxes.items) (length depot.now.channels.items)) (got stall.new.seat) }
+    ensures kept { result.kept ≡ true → copies.new.items ≡ items_of (got stall.new.seat) }
+{
+    let mut tally = Tally {
+        kept: true,
+        torn: false,
+    };
+    let shard = stall.shard;
+    let mut ends = 0usize;
+    let mut pauses = 0u32;
+    for _ in rt.forever() {
+        if ends >= producers {
+            return tally;
+        }
+        pace.pass();
+        match lane.take_as(rt, &mut stall.seat) {
+            Taken::Item(p, job) => {
+                pauses = 0;
+                let known = serve_copy(rt, pace, depot, shard, &mut stall.senders, p, &job);
+                tally.torn |= !known;
+                tally.kept = keep(copies, tally.kept, job);
+            }
+            Taken::End(_) => {
+                pauses = 0;
+                ends = ends.saturating_add(1);
+            }
+            Taken::Empty => pauses = wait_for(rt, &stall.bell, pauses),
+        }
+    }
+    unreachable!()
+}
+
+/// A consumer's whole life: it takes until the end of each of so many producers came, and then ends its
+/// seat on each reply channel. Each copy is delivered under its mailbox's lock, answered on its
+/// producer's channel and kept; where the list of those that are kept can't grow, it goes on without
+/// keeping.
+///
+/// `ended` has room for all channels, and `copies` is empty. It sleeps where nothing waits, so whoever
+/// puts on the lane, or ends there, has to ring its bell.
+pub fn consume<R: Wait, G: Gate>(
+    rt: &R,
+    pace: &mut Pace<'_, G>,
+    depot: &Depot,
+    lane: &ShardQueue<Job>,
+    mut stall: Stall,
+    ended: Vec<SenderEnded<Noted>>,
+    mut copies: Vec<Job>,
+    producers: usize,
+) -> Consumed
+    requires seat { IsConsumer lane.now stall.seat × (got stall.seat ≡ []) }
+    requires senders { AreSenders depot.now.channels.items stall.shard stall.senders.items }
+    requires room { (ended.items ≡ []) × (length depot.now.channels.items ≤ vec_capacity ended) }
+    requires none { copies.items ≡ [] }
+    ensures consumed { IsConsumed lane.now depot.now stall.shard (map sent_on stall.senders.items) result }
+    ensures ends { producers ≤ ends_in (got result.seat) }
+{
+    let tally = serve_all(rt, pace, depot, lane, &mut stall, &mut copies, producers);
+    let Stall {
+        shard,
+        seat,
+        senders,
+        bell: _,
+    } = stall;
+    let senders = end_senders(rt, pace, &depot.channels, shard, senders, ended);
+    Consumed {
+        seat,
+        senders,
+        copies,
+        kept: tally.kept,
+        torn: tally.torn,
+    }
+}

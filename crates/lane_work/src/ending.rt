@@ -1,0 +1,142 @@
+//! A worker's seats and a consumer's senders are ended, and a worker hears the ends of its reply
+//! channel. What stood on them before does not matter here.
+
+ghost use Rattle.std.specs.Prelude.{true, ◌≡◌, ◌≤◌, ◌+◌, ◌++◌, ◌∷◌, [], length, map, All, IfOk, IfErr, vec_len, vec_capacity};
+ghost use Rattle.shard_queue.specs.declared.lane.Entry.TheVariants as entries;
+ghost use Rattle.shard_queue.specs.Seats.{IsProducer, IsEnded, sent, said, number_of, ended_number};
+ghost use Rattle.shard_queue.specs.Reply.{IsReceiver, IsSender, IsSenderEnded, received, sender_number, sender_ended_number, sent_on, said_on};
+ghost use Rattle.shard_queue.specs.Shared.{IsStartOf};
+ghost use Rattle.lane_work.specs.Seats.{AreEnded, AreSeats, AreSenders, AreSendersEnded};
+ghost use Rattle.lane_work.specs.Account.{HaveEnded};
+ghost use Rattle.lane_work.specs.Answering.{HaveClosed};
+ghost use Rattle.lane_work.specs.Ends.{ends_in};
+
+use crate::bells::ring;
+use crate::desk::Office;
+use delivery_token::{Job, Noted};
+use pace::{Gate, Pace};
+use shard_queue::{
+    Ended, Entry, ProducerSeat, ReceiverSeat, ReplyChannel, SenderEnded, SenderSeat, ShardQueue,
+};
+use std::sync::Wait;
+use std::thread;
+
+/// Ends a producer's seat: its end goes behind all that it has put. Where the lane is full it tries
+/// again until there is room.
+pub fn end_one<R: Wait, G: Gate>(
+    rt: &R,
+    pace: &mut Pace<'_, G>,
+    lane: &ShardQueue<Job>,
+    mut seat: ProducerSeat<Job>,
+) -> Ended<Job>
+    requires { IsProducer lane.now seat }
+    ensures { IsEnded lane.now result × (ended_number result ≡ number_of seat) × (said result ≡ sent seat ++ entries.End (number_of seat) ∷ []) }
+{
+    for _ in rt.forever() {
+        pace.pass();
+        match lane.end_as(rt, seat) {
+            Ok(ended) => return ended,
+            Err(back) => seat = back,
+        }
+        thread::yield_now();
+    }
+    unreachable!()
+}
+
+/// Ends a worker's seat on each lane, from the first on, and rings the bell of each lane's consumer.
+/// `ended`, which is empty, has room for all.
+pub fn end_all<R: Wait, G: Gate>(
+    rt: &R,
+    pace: &mut Pace<'_, G>,
+    office: &Office,
+    number: u8,
+    mut seats: Vec<ProducerSeat<Job>>,
+    mut ended: Vec<Ended<Job>>,
+) -> Vec<Ended<Job>>
+    requires seats { AreSeats office.now.lanes.items number seats.items }
+    requires room { (ended.items ≡ []) × (length office.now.lanes.items ≤ vec_capacity ended) }
+    ensures ended { AreEnded office.now.lanes.items number result.items }
+    ensures said { HaveEnded number (map sent seats.items) (map said result.items) }
+{
+    for lane in 0..office.lanes.len() {
+        let seat = seats.remove(0);
+        ended.push_reserved(end_one(rt, pace, &office.lanes[lane], seat));
+        ring(&office.bells, lane);
+    }
+    seats.destroy_empty();
+    ended
+}
+
+/// Receives until so many shards' ends came. Whether nothing else came.
+pub(crate) fn hear_ends<R: Wait, G: Gate>(
+    rt: &R,
+    pace: &mut Pace<'_, G>,
+    channel: &ReplyChannel<Noted>,
+    receiver: &mut ReceiverSeat<Noted>,
+    mut heard: usize,
+    shards: usize,
+) -> bool
+    requires { IsReceiver channel.now receiver.old }
+    ensures receiver { IsReceiver channel.now receiver.new }
+    ensures grew { IsStartOf (received receiver.old) (received receiver.new) }
+    ensures quiet { result ≡ true → length (received receiver.new) + ends_in (received receiver.old) ≡ length (received receiver.old) + ends_in (received receiver.new) }
+    ensures ends { shards + ends_in (received receiver.old) ≤ heard + ends_in (received receiver.new) }
+{
+    let mut quiet = true;
+    for _ in rt.forever() {
+        if heard >= shards {
+            return quiet;
+        }
+        pace.pass();
+        match channel.recv_as(rt, receiver) {
+            Entry::Item(_, _) => quiet = false,
+            Entry::End(_) => heard = heard.saturating_add(1),
+        }
+    }
+    unreachable!()
+}
+
+/// Ends a sender's seat: its end goes behind all that it has sent. Where the channel is full it tries
+/// again until there is room.
+pub fn end_sender<R: Wait, G: Gate>(
+    rt: &R,
+    pace: &mut Pace<'_, G>,
+    channel: &ReplyChannel<Noted>,
+    mut seat: SenderSeat<Noted>,
+) -> SenderEnded<Noted>
+    requires { IsSender channel.now seat }
+    ensures { IsSenderEnded channel.now result × (sender_ended_number result ≡ sender_number seat) × (said_on result ≡ sent_on seat ++ entries.End (sender_number seat) ∷ []) }
+{
+    for _ in rt.forever() {
+        pace.pass();
+        match channel.end_as(rt, seat) {
+            Ok(ended) => return ended,
+            Err(back) => seat = back,
+        }
+        thread::yield_now();
+    }
+    unreachable!()
+}
+
+/// Ends a consumer's seat on each reply channel, from the first on. `ended`, which is empty, has room
+/// for all.
+pub fn end_senders<R: Wait, G: Gate>(
+    rt: &R,
+    pace: &mut Pace<'_, G>,
+    channels: &[ReplyChannel<Noted>],
+    shard: u8,
+    mut senders: Vec<SenderSeat<Noted>>,
+    mut ended: Vec<SenderEnded<Noted>>,
+) -> Vec<SenderEnded<Noted>>
+    requires senders { AreSenders channels.now shard senders.items }
+    requires room { (ended.items ≡ []) × (length channels.now ≤ vec_capacity ended) }
+    ensures ended { AreSendersEnded channels.now shard result.items }
+    ensures said { HaveClosed shard (map sent_on senders.items) (map said_on result.items) }
+{
+    for channel in 0..channels.len() {
+        let sender = senders.remove(0);
+        ended.push_reserved(end_sender(rt, pace, &channels[channel], sender));
+    }
+    senders.destroy_empty();
+    ended
+}

@@ -1,0 +1,106 @@
+//! The verdicts on a message are heard, until each is there. What is done with them stands in
+//! `worker`.
+
+ghost use Rattle.std.specs.Prelude.{◌≡◌, ◌≤◌, ◌<◌, ◌+◌, ℕ, ◌++◌, ◌∷◌, [], true, false, length, map, Some, None, Ok, OnOk, IfOk, slice_index_or, slice_set, vec_len};
+ghost use Rattle.std.specs.List.{list_all};
+ghost use Rattle.std.specs.Option.{is_some};
+ghost use Rattle.shard_queue.specs.Reply.{IsReceiver, received};
+ghost use Rattle.shard_queue.specs.Shared.{IsStartOf};
+ghost use Rattle.lmtp_machine.specs.Calls.{submission_of};
+ghost use Rattle.lane_work.specs.Copies.{Fills, FillsIn, WereHeard, copies_of, unknown};
+ghost use Rattle.lane_work.specs.Desk.{SameButReceiver};
+ghost use Rattle.lane_work.specs.Ends.{CountsEnds};
+
+use crate::desk::Desk;
+use crate::worker::Stop;
+use delivery_token::{Noted, Verdict};
+use lmtp_machine::Submission;
+use pace::{Gate, Pace};
+use shard_queue::{Entry, ReplyChannel};
+use std::alloc::{AllocError, Global};
+use std::sync::Wait;
+
+fn are_known(slots: &[Option<Verdict>]) -> bool
+    ensures { result ≡ list_all is_some slots.now }
+{
+    slots.iter().all(|slot| slot.is_some())
+}
+
+// Notes a verdict where it is awaited, or says that it isn't.
+fn note_in(message: &Submission, slots: &mut Vec<Option<Verdict>>, noted: &Noted) -> bool
+    ensures fills { Fills slots.old.items slots.new.items }
+    ensures noted { result ≡ true → FillsIn (copies_of (submission_of message.now)) noted.now slots.old.items slots.new.items }
+    ensures same { result ≡ false → slots.new.items ≡ slots.old.items }
+{
+    let place = usize::from(noted.key.recipient);
+    if place >= slots.len() || place >= message.keys.len() || place >= message.mailboxes.len() {
+        return false;
+    }
+    if message.keys[place] != noted.key {
+        return false;
+    }
+    if message.mailboxes[place] != noted.mailbox {
+        return false;
+    }
+    if slots[place].is_some() {
+        return false;
+    }
+    slots[place] = Some(noted.verdict);
+    true
+}
+
+/// Hears verdicts until each of the message's is known; Torn where what comes isn't awaited.
+pub(crate) fn hear_all<R: Wait, G: Gate>(
+    rt: &R,
+    pace: &mut Pace<'_, G>,
+    channel: &ReplyChannel<Noted>,
+    desk: &mut Desk,
+    message: &Submission,
+    slots: &mut Vec<Option<Verdict>>,
+) -> Result<(), Stop>
+    requires { IsReceiver channel.now desk.old.receiver }
+    ensures receiver { IsReceiver channel.now desk.new.receiver }
+    ensures same { SameButReceiver desk.old desk.new }
+    ensures ends { CountsEnds desk.old desk.new }
+    ensures fills { Fills slots.old.items slots.new.items }
+    ensures grew { IsStartOf (received desk.old.receiver) (received desk.new.receiver) }
+    ensures heard { WereHeard (received desk.new.receiver) (copies_of (submission_of message.now)) slots.old.items slots.new.items }
+    ensures awaited { OnOk result (length (received desk.new.receiver) ≡ length (received desk.old.receiver) + unknown slots.old.items) }
+    ensures known { OnOk result (list_all is_some slots.new.items ≡ true) }
+{
+    for _ in rt.forever() {
+        if are_known(slots.as_slice()) {
+            return Ok(());
+        }
+        pace.pass();
+        match channel.recv_as(rt, &mut desk.receiver) {
+            Entry::Item(_, noted) => {
+                if !note_in(message, slots, &noted) {
+                    return Err(Stop::Torn);
+                }
+            }
+            Entry::End(_) => {
+                desk.ends = desk.ends.saturating_add(1);
+                return Err(Stop::Torn);
+            }
+        }
+    }
+    unreachable!()
+}
+
+/// The verdicts, where each is known.
+pub(crate) fn verdicts_of(
+    alloc: Global,
+    slots: &[Option<Verdict>],
+) -> Result<Vec<Verdict>, AllocError>
+    requires { list_all is_some slots.now ≡ true }
+    ensures known { IfOk result (λ vs. slots.now ≡ map (λ v. Some v) vs.items) }
+    ensures len { IfOk result (λ vs. vec_len vs ≡ length slots.now) }
+{
+    let mut verdicts = Vec::with_capacity(alloc, slots.len())?;
+    for slot in slots {
+        let Some(verdict) = slot else { unreachable!() };
+        verdicts.push_reserved(*verdict);
+    }
+    Ok(verdicts)
+}

@@ -1,0 +1,21 @@
+//! What one worker and one consumer of a running house do with their seats: a worker's connections,
+//! from the greeting to the end of its seat on each lane, and a consumer's lane, from the first copy
+//! to the last end. Nothing is known here of how threads begin and are joined.
+#![tactic(auto)]
+
+mod answering;
+mod bells;
+mod consumer;
+mod desk;
+mod ending;
+mod hearing;
+mod laws;
+mod putting;
+mod worker;
+
+pub use bells::ring;
+pub use consumer::{Consumed, Depot, Stall, consume};
+pub use desk::{Desk, Office};
+pub use ending::{end_all, end_one, end_sender, end_senders};
+pub use laws::accounts_meet_histories;
+pub use worker::{Fate, Worked, work};

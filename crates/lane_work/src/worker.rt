@@ -1,0 +1,401 @@
+//! A worker's connections, from the first greeting to the end of its seat on each lane. How copies are
+//! put and verdicts are heard stands in `putting` and `hearing`.
+
+ghost use Rattle.std.specs.Prelude.{◌≡◌, ◌≢◌, ◌≤◌, ◌<◌, ◌+◌, ◌-◌, ℕ, ◌++◌, ◌∷◌, [], take, true, false, length, map, zip, All, List, Some, None, Ok, OnOk, IfOk, vec_len, vec_capacity};
+ghost use Rattle.shard_queue.specs.Seats.{sent, said};
+ghost use Rattle.shard_queue.specs.Reply.{IsReceiver, received};
+ghost use Rattle.lmtp_machine.specs.Calls.{Moves, submission_of};
+ghost use Rattle.lane_work.specs.Talk.{Judged};
+ghost use Rattle.lane_work.specs.Seats.{AreSeats};
+ghost use Rattle.lane_work.specs.Account.{AreBooks, HasServed, setting_at};
+ghost use Rattle.lane_work.specs.Ends.{CountsEnds, ends_in};
+ghost use Rattle.lane_work.specs.Working.{IsWorked};
+ghost use Rattle.lane_work.specs.Speaking.{Spoke, Stands, is_quit, premises_of};
+ghost use Rattle.lane_work.specs.Copies.{copies_of, note_of, rooms_of};
+
+use crate::desk::{Desk, Office};
+use crate::ending::{end_all, hear_ends};
+use crate::hearing::{hear_all, verdicts_of};
+use crate::putting::put_all;
+use delivery_token::{Job, Noted, Verdict, WorkerLog};
+use lmtp_machine::{Fed, Limits, LmtpMachine, Submission, What};
+use pace::{Gate, Pace};
+use shard_queue::{Ended, ReceiverSeat, ReplyChannel};
+use std::alloc::Global;
+use std::sync::Wait;
+
+// Why a worker submits no more.
+#[derive(Clone, Copy, Debug, PartialEq, Eq)]
+pub(crate) enum Stop {
+    // Memory was refused.
+    NoMemory,
+    // A verdict came that wasn't awaited, or a shard's end before its time.
+    Torn,
+}
+
+/// How a worker came to its end.
+#[derive(Clone, Copy, Debug, PartialEq, Eq)]
+pub enum Fate {
+    /// It went through all its connections.
+    Whole,
+    /// It never had a thread, and its seats were ended for it.
+    NotBegun,
+    /// Memory was refused, for more than a copy's text; it submitted nothing after that.
+    NoMemory,
+    /// A verdict came that it didn't await, or a shard ended before it had; it submitted nothing after
+    /// that.
+    Torn,
+}
+
+// Notes the verdict on each copy of a message, in the order of its recipients.
+fn note_all(log: &mut WorkerLog, message: &Submission, verdicts: &[Verdict])
+    requires mailboxes { vec_len message.now.mailboxes ≡ vec_len message.now.keys }
+    requires verdicts { length verdicts.now ≡ vec_len message.now.keys }
+    requires room { length verdicts.now ≤ log.old.spare }
+    ensures seat { log.new.seat ≡ log.old.seat }
+    ensures notes { log.new.notes ≡ log.old.notes ++ map note_of (zip (copies_of (submission_of message.now)) verdicts.now) }
+{
+    for i in 0..verdicts.len() {
+        log.note(message.keys[i], message.mailboxes[i], verdicts[i]);
+    }
+}
+
+// Puts the copies of a message, hears the verdict on each, and notes them.
+fn settle<R: Wait, G: Gate>(
+    rt: &R,
+    alloc: Global,
+    pace: &mut Pace<'_, G>,
+    office: &Office,
+    channel: &ReplyChannel<Noted>,
+    desk: &mut Desk,
+    log: &mut WorkerLog,
+    message: &Submission,
+) -> Result<Vec<Verdict>, Stop>
+    requires seats { AreSeats office.now.lanes.items desk.old.number desk.old.seats.items }
+    requires receiver { IsReceiver channel.now desk.old.receiver }
+    requires lanes { office.now.directory.shards ≡ length office.now.lanes.items }
+    requires mailboxes { vec_len message.now.mailboxes ≡ vec_len message.now.keys }
+    ensures seats { AreSeats office.now.lanes.items desk.old.number desk.new.seats.items }
+    ensures receiver { IsReceiver channel.now desk.new.receiver }
+    ensures number { desk.new.number ≡ desk.old.number }
+    ensures ends { CountsEnds desk.old desk.new }
+    ensures seat { log.new.seat ≡ log.old.seat }
+    ensures verdicts { IfOk result (λ vs. vec_len vs ≡ vec_len message.now.keys) }
+    ensures books { IfOk result (λ vs. (judged : List Judged) → AreBooks office.now.directory (rooms_of office.now.lanes.items) desk.old.number judged log.old.notes (received desk.old.receiver) (map sent desk.old.seats.items)
+        → AreBooks office.now.directory (rooms_of office.now.lanes.items) desk.old.number (judged ++ record { message = submission_of message.now; verdicts = vs.items } ∷ []) log.new.notes (received desk.new.receiver) (map sent desk.new.seats.items)) }
+{
+    let count = message.keys.len();
+    let Ok(()) = log.reserve(count) else {
+        return Err(Stop::NoMemory);
+    };
+    let Ok(mut slots) = Vec::with_capacity(alloc, count) else {
+        return Err(Stop::NoMemory);
+    };
+    put_all(rt, pace, office, desk, message, &mut slots);
+    let Ok(()) = hear_all(rt, pace, channel, desk, message, &mut slots) else {
+        return Err(Stop::Torn);
+    };
+    let Ok(verdicts) = verdicts_of(alloc, slots.as_slice()) else {
+        return Err(Stop::NoMemory);
+    };
+    note_all(log, message, verdicts.as_slice());
+    Ok(verdicts)
+}
+
+// Takes bytes from the front of a piece: one line, or one end of data. A message that is submitted by it is settled and answered.
+fn turn<R: Wait, G: Gate>(
+    rt: &R,
+    alloc: Global,
+    pace: &mut Pace<'_, G>,
+    office: &Office,
+    channel: &ReplyChannel<Noted>,
+    desk: &mut Desk,
+    log: &mut WorkerLog,
+    machine: &mut LmtpMachine,
+    piece: &[u8],
+    out: &mut Vec<u8>,
+) -> Result<Fed, Stop>
+    requires seats { AreSeats office.now.lanes.items desk.old.number desk.old.seats.items }
+    requires receiver { IsReceiver channel.now desk.old.receiver }
+    requires lanes { office.now.directory.shards ≡ length office.now.lanes.items }
+    requires quiet { machine.old.pending ≡ [] }
+    ensures seats { AreSeats office.now.lanes.items desk.old.number desk.new.seats.items }
+    ensures receiver { IsReceiver channel.now desk.new.receiver }
+    ensures number { desk.new.number ≡ desk.old.number }
+    ensures ends { CountsEnds desk.old desk.new }
+    ensures seat { log.new.seat ≡ log.old.seat }
+    ensures quiet { OnOk result (machine.new.pending ≡ []) }
+    ensures same { OnOk result ((machine.new.setting ≡ machine.old.setting) × (machine.new.host ≡ machine.old.host)) }
+    ensures used { IfOk result (λ fed. fed.used ≤ length piece.now) }
+    ensures moves { IfOk result (λ fed. Moves fed.used fed.what piece.now) }
+    ensures stands { IfOk result (λ fed. (done : List Judged) (bytes : List ℕ)
+        → Stands office.now.directory (rooms_of office.now.lanes.items) desk.old.number done bytes false machine.old out.old.items log.old.notes (received desk.old.receiver) (map sent desk.old.seats.items)
+        → Stands office.now.directory (rooms_of office.now.lanes.items) desk.old.number done (bytes ++ take fed.used piece.now) (is_quit fed.what) machine.new out.new.items log.new.notes (received desk.new.receiver) (map sent desk.new.seats.items)) }
+{
+    let Ok(fed) = machine.feed(piece, &office.directory, out) else {
+        return Err(Stop::NoMemory);
+    };
+    match fed.what {
+        What::More => return Ok(fed),
+        What::Quit => return Ok(fed),
+        What::Submit => {}
+    }
+    let verdicts = match settle(
+        rt,
+        alloc,
+        pace,
+        office,
+        channel,
+        desk,
+        log,
+        machine.submission(),
+    ) {
+        Ok(verdicts) => verdicts,
+        Err(stop) => return Err(stop),
+    };
+    let Ok(()) = machine.answer(verdicts.as_slice(), out) else {
+        return Err(Stop::NoMemory);
+    };
+    Ok(fed)
+}
+
+// Goes on turn by turn, until all bytes are taken or the connection has ended.
+fn speak<R: Wait, G: Gate>(
+    rt: &R,
+    alloc: Global,
+    pace: &mut Pace<'_, G>,
+    office: &Office,
+    channel: &ReplyChannel<Noted>,
+    desk: &mut Desk,
+    log: &mut WorkerLog,
+    machine: &mut LmtpMachine,
+    bytes: &[u8],
+    out: &mut Vec<u8>,
+) -> Result<(), Stop>
+    requires seats { AreSeats office.now.lanes.items desk.old.number desk.old.seats.items }
+    requires receiver { IsReceiver channel.now desk.old.receiver }
+    requires lanes { office.now.directory.shards ≡ length office.now.lanes.items }
+    requires quiet { machine.old.pending ≡ [] }
+    ensures seats { AreSeats office.now.lanes.items desk.old.number desk.new.seats.items }
+    ensures receiver { IsReceiver channel.now desk.new.receiver }
+    ensures number { desk.new.number ≡ desk.old.number }
+    ensures ends { CountsEnds desk.old desk.new }
+    ensures seat { log.new.seat ≡ log.old.seat }
+    ensures spoke { OnOk result ((done : List Judged)
+        → Stands office.now.directory (rooms_of office.now.lanes.items) desk.old.number done [] false machine.old out.old.items log.old.notes (received desk.old.receiver) (map sent desk.old.seats.items)
+        → Spoke office.now.directory (rooms_of office.now.lanes.items) desk.old.number done bytes.now machine.old.setting machine.old.host out.new.items log.new.notes (received desk.new.receiver) (map sent desk.new.seats.items)) }
+{
+    let mut used = 0;
+    loop {
+        let fed = match turn(
+            rt,
+            alloc,
+            pace,
+            office,
+            channel,
+            desk,
+            log,
+            machine,
+            &bytes[used..],
+            out,
+        ) {
+            Ok(fed) => fed,
+            Err(stop) => return Err(stop),
+        };
+        used += fed.used;
+        match fed.what {
+            What::Quit => return Ok(()),
+            What::Submit => {}
+            What::More => {
+                if used == bytes.len() {
+                    return Ok(());
+                }
+            }
+        }
+    }
+}
+
+// One connection: the replies to these bytes.
+fn converse<R: Wait, G: Gate>(
+    rt: &R,
+    alloc: Global,
+    pace: &mut Pace<'_, G>,
+    office: &Office,
+    channel: &ReplyChannel<Noted>,
+    desk: &mut Desk,
+    log: &mut WorkerLog,
+    serial: u64,
+    bytes: &[u8],
+) -> Result<Vec<u8>, Stop>
+    requires seats { AreSeats office.now.lanes.items desk.old.number desk.old.seats.items }
+    requires receiver { IsReceiver channel.now desk.old.receiver }
+    requires lanes { office.now.directory.shards ≡ length office.now.lanes.items }
+    requires host { length office.now.host.items < 256 }
+    ensures seats { AreSeats office.now.lanes.items desk.old.number desk.new.seats.items }
+    ensures receiver { IsReceiver channel.now desk.new.receiver }
+    ensures number { desk.new.number ≡ desk.old.number }
+    ensures ends { CountsEnds desk.old desk.new }
+    ensures seat { log.new.seat ≡ log.old.seat }
+    ensures spoke { IfOk result (λ reply. (done : List Judged)
+        → AreBooks office.now.directory (rooms_of office.now.lanes.items) desk.old.number done log.old.notes (received desk.old.receiver) (map sent desk.old.seats.items)
+        → Spoke office.now.directory (rooms_of office.now.lanes.items) desk.old.number done bytes.now (setting_at (premises_of office.now) desk.old.number serial) office.now.host.items reply.items log.new.notes (received desk.new.receiver) (map sent desk.new.seats.items)) }
+{
+    let limits = Limits {
+        host: office.host.as_slice(),
+        max_message: office.max_message,
+    };
+    let Ok(mut machine) = LmtpMachine::new(alloc, desk.number, serial, limits) else {
+        return Err(Stop::NoMemory);
+    };
+    let mut out = Vec::new(alloc);
+    let Ok(()) = machine.greet(&mut out) else {
+        return Err(Stop::NoMemory);
+    };
+    match speak(
+        rt,
+        alloc,
+        pace,
+        office,
+        channel,
+        desk,
+        log,
+        &mut machine,
+        bytes,
+        &mut out,
+    ) {
+        Ok(()) => Ok(out),
+        Err(stop) => Err(stop),
+    }
+}
+
+/// What a worker leaves.
+pub struct Worked {
+    /// What is left of its seat on each lane.
+    pub ended: Vec<Ended<Job>>,
+    /// Its end of its reply channel.
+    pub receiver: ReceiverSeat<Noted>,
+    /// The replies to each of its connections, up to the one in which it stopped.
+    pub replies: Vec<Vec<u8>>,
+    /// The verdicts on its copies.
+    pub log: WorkerLog,
+    /// How it came to its end.
+    pub fate: Fate,
+}
+
+// The connections, one after another.
+fn go_through<R: Wait, G: Gate>(
+    rt: &R,
+    alloc: Global,
+    pace: &mut Pace<'_, G>,
+    office: &Office,
+    channel: &ReplyChannel<Noted>,
+    desk: &mut Desk,
+    log: &mut WorkerLog,
+    replies: &mut Vec<Vec<u8>>,
+    connections: &[Vec<u8>],
+) -> Fate
+    requires seats { AreSeats office.now.lanes.items desk.old.number desk.old.seats.items }
+    requires receiver { IsReceiver channel.now desk.old.receiver }
+    requires lanes { office.now.directory.shards ≡ length office.now.lanes.items }
+    requires host { length office.now.host.items < 256 }
+    requires begun { (replies.old.items ≡ []) × AreBooks office.now.directory (rooms_of office.now.lanes.items) desk.old.number [] log.old.notes (received desk.old.receiver) (map sent desk.old.seats.items) }
+    ensures seats { AreSeats office.now.lanes.items desk.old.number desk.new.seats.items }
+    ensures receiver { IsReceiver channel.now desk.new.receiver }
+    ensures number { desk.new.number ≡ desk.old.number }
+    ensures ends { CountsEnds desk.old desk.new }
+    ensures seat { log.new.seat ≡ log.old.seat }
+    ensures began { result ≢ Fate.NotBegun }
+    ensures whole { result ≡ Fate.Whole → HasServed (premises_of office.now) desk.old.number (map (λ b. b.items) connections.now) (map (λ b. b.items) replies.new.items) log.new.notes (received desk.new.receiver) (map sent desk.new.seats.items) }
+{
+    for i in 0..connections.len() {
+        let reply = match converse(
+            rt,
+            alloc,
+            pace,
+            office,
+            channel,
+            desk,
+            log,
+            i as u64,
+            connections[i].as_slice(),
+        ) {
+            Ok(reply) => reply,
+            Err(Stop::NoMemory) => return Fate::NoMemory,
+            Err(Stop::Torn) => return Fate::Torn,
+        };
+        let Ok(()) = replies.push(reply) else {
+            return Fate::NoMemory;
+        };
+    }
+    Fate::Whole
+}
+
+/// A worker's whole life: its connections, one after another; then its end on each lane, from shard 0
+/// on; then it receives until each shard's end came on its reply channel.
+///
+/// Connection i has the worker's number for its seat and i for its serial; these bytes come from its
+/// peer, which then goes. The copies of a message are put in the order of its recipients, each into
+/// its shard's queue: one that finds no room is refused as Full at once, and one whose text can't be
+/// shared as NoMemory. All verdicts are awaited before the replies. A worker that stops, by `Fate`,
+/// still ends its seats and hears all ends.
+///
+/// `room`, which is empty, has room for what is left of each seat.
+pub fn work<R: Wait, G: Gate>(
+    rt: &R,
+    alloc: Global,
+    pace: &mut Pace<'_, G>,
+    office: &Office,
+    channel: &ReplyChannel<Noted>,
+    mut desk: Desk,
+    room: Vec<Ended<Job>>,
+    connections: &[Vec<u8>],
+) -> Worked
+    requires seats { AreSeats office.now.lanes.items desk.number desk.seats.items × All (λ s. sent s ≡ []) desk.seats.items }
+    requires receiver { IsReceiver channel.now desk.receiver }
+    requires lanes { office.now.directory.shards ≡ length office.now.lanes.items }
+    requires host { length office.now.host.items < 256 }
+    requires room { (room.items ≡ []) × (length office.now.lanes.items ≤ vec_capacity room) }
+    ensures began { result.fate ≢ Fate.NotBegun }
+    ensures heard { length office.now.lanes.items + ends_in (received desk.receiver) ≤ desk.ends + ends_in (received result.receiver) }
+    ensures worked { IsWorked office.now channel.now desk.number (map (λ b. b.items) connections.now) result }
+{
+    let mut log = WorkerLog::new(alloc, desk.number);
+    let mut replies = Vec::new(alloc);
+    let fate = go_through(
+        rt,
+        alloc,
+        pace,
+        office,
+        channel,
+        &mut desk,
+        &mut log,
+        &mut replies,
+        connections,
+    );
+    let Desk {
+        number,
+        seats,
+        mut receiver,
+        ends,
+    } = desk;
+    let ended = end_all(rt, pace, office, number, seats, room);
+    let quiet = hear_ends(rt, pace, channel, &mut receiver, ends, office.lanes.len());
+    Worked {
+        ended,
+        receiver,
+        replies,
+        log,
+        fate: fate_after(fate, quiet),
+    }
+}
+
+// A worker that went through all, and then heard what it didn't await, is torn.
+fn fate_after(fate: Fate, quiet: bool) -> Fate
+    ensures whole { result ≡ Fate.Whole → (fate ≡ Fate.Whole) × (quiet ≡ true) }
+    ensures began { fate ≢ Fate.NotBegun → result ≢ Fate.NotBegun }
+{
+    match fate {
+        Fate::Whole if !quiet => Fate::Torn,
+        other => other,
+    }
+}
