@@ -1,1 +1,3 @@
-pub mod UserLaws
+mod UserLaws
+mod Places
+mod DealLaws

@@ -4,7 +4,7 @@ use Rattle.delivery_token.specs.declared.Job.{Job}
 use Rattle.delivery_token.specs.declared.log.Noted.{Noted}
 use Rattle.shard_queue.specs.declared.queue.ShardQueue.{ShardQueue}
 use Rattle.shard_queue.specs.declared.ends.ReplyChannel.{ReplyChannel}
-use Rattle.shard_queue.specs.Reply.{IsReceiver, sent_on}
+use Rattle.shard_queue.specs.Reply.{IsReceiver, received, sent_on}
 use Rattle.shard_queue.specs.Seats.{IsConsumer, sent, got}
 use Rattle.lane_work.specs.Seats.{AreSeats, AreSenders}
 use Rattle.house_floor.specs.Users.{user_numbered}
@@ -35,12 +35,13 @@ pub record AreVisits (floor : Floor) (visits : List Visit) : Type 0 where
 
 -- ---- what is dealt
 
--- the post of worker n: it has put nothing, and hears its own channel
+-- the post of worker n: it has put nothing, and hears its own channel, of which it has heard nothing yet
 pub record IsPost (floor : Floor) (n : ℕ) (post : Post) : Type 0 where
   pub number : post.desk.number ≡ n
   pub seats : AreSeats floor.office.lanes.items n post.desk.seats.items
   pub fresh : All (λ s. sent s ≡ []) post.desk.seats.items
   pub receiver : (channel : ReplyChannel Noted) → slice_get floor.depot.channels.items n ≡ Some channel → IsReceiver channel post.desk.receiver
+  pub unheard : (received post.desk.receiver ≡ []) × (post.desk.ends ≡ 0)
   pub empty : post.room.items ≡ []
   pub room : length floor.office.lanes.items ≤ vec_capacity post.room
 

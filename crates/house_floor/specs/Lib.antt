@@ -1,2 +1,4 @@
 pub mod Users
 pub mod Crew
+pub mod Opening
+pub mod Making

@@ -3,8 +3,18 @@
 //! no thread is started here, and nothing is closed.
 #![tactic(auto)]
 
+mod bells;
+mod dealing;
+mod fittings;
 mod floor;
+mod joining;
+mod opening;
+mod stock;
+#[cfg(test)]
+mod tests;
 mod users;
 
 pub use floor::{Crew, Floor, Post, Stand, Visit};
+pub use opening::{Baskets, Opened, Sizes, open};
+pub use stock::{REPLY_ROOM, Spares};
 pub use users::inbox_numbered;

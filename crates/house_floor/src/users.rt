@@ -5,15 +5,12 @@ ghost use Rattle.house_floor.specs.Users.{is_inbox, user_numbered};
 
 use envelope::Directory;
 
-// Whether a mailbox is its user's INBOX.
+// Whether the mailbox is its user's INBOX.
 fn is_inbox(directory: &Directory, mailbox: u8) -> bool
     requires { mailbox < length directory.now.homes }
     ensures { IfSome (slice_get directory.now.homes mailbox) (λ home. result ≡ is_inbox home.folder) }
 {
-    match directory.folder_of(mailbox) {
-        None => true,
-        Some(_) => false,
-    }
+    directory.folder_of(mailbox).is_none()
 }
 
 /// The INBOX of the user with this number, counted from 0 in the order of the directory's mailboxes.

@@ -1,5 +1,5 @@
 -- Lists whose elements have the property of their place.
-use Rattle.std.proofs.Common.{◌≡◌, ◌<◌, ◌+◌, ◌++◌, ◌∙◌, ℕ, zero, suc, ap, sym, subst, refl, List, [], ◌∷◌, length, drop, slice_index_or, arith}
+use Rattle.std.proofs.Common.{◌≡◌, ◌<◌, ◌+◌, ◌++◌, ℕ, suc, sym, subst, List, [], ◌∷◌, length, drop, slice_index_or, arith}
 use Rattle.house_floor.specs.Crew.{AllAt}
 
 module _ {A : Type 0} (P : ℕ → A → Type 0) where

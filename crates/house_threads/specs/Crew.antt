@@ -1,5 +1,5 @@
 -- What each thread of a house leaves.
-use Rattle.std.specs.Prelude.{◌≡◌, ℕ, List, [], All, Some, None, IfOk, Result, length, map, slice_get, Vec, vec_len}
+use Rattle.std.specs.Prelude.{◌≡◌, ◌≤◌, ◌+◌, ℕ, List, [], All, Some, None, IfOk, Result, length, map, slice_get, Vec, vec_len}
 use Rattle.std.specs.Global.{Global}
 use Rattle.std.specs.Mem.{manually_drop_value}
 use Rattle.std.specs.declared.alloc.AllocError.{AllocError}
@@ -19,6 +19,8 @@ use Rattle.lane_work.specs.Consuming.{IsConsumed}
 use Rattle.house_floor.specs.Users.{user_numbered}
 use Rattle.house_floor.specs.declared.floor.Floor.{Floor}
 use Rattle.house_floor.specs.declared.floor.Visit.{Visit}
+use Rattle.house_floor.specs.declared.floor.Post.{Post}
+use Rattle.house_floor.specs.declared.floor.Stand.{Stand}
 use Rattle.house_threads.specs.declared.run.Ran.{Ran}
 use Rattle.house_threads.specs.declared.workers.Works.{Works}
 use Rattle.house_threads.specs.declared.workers.Hired.{Hired}
@@ -64,6 +66,21 @@ pub record LeavesAll (floor : Floor) (plans : Plans) (visits : List Visit) (ran 
   pub said : vec_len ran.said ≡ length visits
   pub stands : ran.stands.items ≡ []
   pub posts : ran.posts.items ≡ []
+
+-- a post that no thread has had: each seat stands there, or what is left of it
+abbrev pub IsPostLeft : ℕ → Post → Type 0
+IsPostLeft lanes post = vec_len post.desk.seats + vec_len post.room ≤ lanes
+
+-- a stand that no thread has had: none of its senders has ended
+abbrev pub IsStandLeft : ℕ → Stand → Type 0
+IsStandLeft workers stand = (vec_len stand.stall.senders ≤ workers) × (stand.room.items ≡ [])
+
+-- However the threads were started: of each worker there is what it left or its post, of each consumer what it left or its stand, and none has more seats than it was dealt.
+pub record IsSpendable (floor : Floor) (workers : ℕ) (ran : Ran) : Type 0 where
+  pub each_worker : vec_len ran.posts + vec_len ran.worked ≡ workers
+  pub each_lane : vec_len ran.stands + vec_len ran.consumed ≡ length floor.office.lanes.items
+  pub posts : All (IsPostLeft (length floor.office.lanes.items)) ran.posts.items
+  pub stands : All (IsStandLeft workers) ran.stands.items
 
 -- ---- promises
 

@@ -1,7 +1,7 @@
 //! Actors for whom no thread could be made: what of theirs other threads wait for is ended. Nothing is
 //! started here, and no life is led.
 
-ghost use Rattle.std.specs.Prelude.{◌≡◌, ◌≤◌, [], ℕ, List, length, map, vec_len, vec_capacity};
+ghost use Rattle.std.specs.Prelude.{◌≡◌, ◌≤◌, ◌+◌, [], ℕ, List, length, map, vec_len, vec_capacity};
 ghost use Rattle.delivery_token.specs.declared.Job.{Job};
 ghost use Rattle.delivery_token.specs.declared.log.Noted.{Noted};
 ghost use Rattle.shard_queue.specs.declared.ends.ReplyChannel.{ReplyChannel};
@@ -11,6 +11,7 @@ ghost use Rattle.shard_queue.specs.Seats.{IsConsumer, got};
 ghost use Rattle.lane_work.specs.Consuming.{IsConsumed};
 ghost use Rattle.lane_work.specs.Seats.{AreSeats, AreSenders};
 ghost use Rattle.lane_work.specs.Working.{IsWorked};
+ghost use Rattle.house_threads.specs.Crew.{IsPostLeft};
 
 use delivery_token::WorkerLog;
 use house_floor::{Post, Stand};
@@ -95,6 +96,7 @@ pub(crate) fn end_first<R: Wait, G: Gate>(
     requires seats { AreSeats office.now.lanes.items post.desk.number post.desk.seats.items }
     requires room { (post.room.items ≡ []) × (length office.now.lanes.items ≤ vec_capacity post.room) }
     requires manned { manned ≤ length office.now.lanes.items }
+    ensures { IsPostLeft (length office.now.lanes.items) result }
 {
     let Post { desk, mut room } = post;
     let Desk {

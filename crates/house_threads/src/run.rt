@@ -1,11 +1,11 @@
 //! The scope of all threads: consumers first, then workers, then sessions; each is joined. What is to
 //! be run, and what is compared afterwards, stands above.
 
-ghost use Rattle.std.specs.Prelude.{◌≡◌, ◌≤◌, ◌<◌, ◌+◌, [], IfOk, length, vec_len, vec_capacity};
+ghost use Rattle.std.specs.Prelude.{◌≡◌, ◌≤◌, ◌<◌, ◌+◌, [], All, IfOk, length, vec_len, vec_capacity};
 ghost use Rattle.std.specs.Mem.{manually_drop_value};
 ghost use Rattle.std.specs.Thread.{IsSync};
 ghost use Rattle.house_floor.specs.Crew.{AllAt, AreVisits, IsCrew, IsHouse, IsPost};
-ghost use Rattle.house_threads.specs.Crew.{IsServiceOf, IsVisitOf, IsWorkOf, LeavesAll};
+ghost use Rattle.house_threads.specs.Crew.{IsPostLeft, IsServiceOf, IsSpendable, IsVisitOf, IsWorkOf, LeavesAll};
 
 use crate::aside::end_first;
 use crate::consumers::{Kept, join_consumers, start_consumers};
@@ -56,6 +56,8 @@ fn end_posts<R: Wait, G: Gate>(
     requires posts { AllAt (IsPost floor.now) 0 posts.items }
     requires room { (idle.items ≡ []) × (vec_len posts ≤ vec_capacity idle) }
     requires manned { manned ≤ length floor.now.office.lanes.items }
+    ensures count { vec_len result ≡ vec_len posts }
+    ensures left { All (IsPostLeft (length floor.now.office.lanes.items)) result.items }
 {
     for done in 0..posts.len() {
         let post = posts.remove(0);
@@ -109,6 +111,7 @@ fn in_scope<'s, E, R: Threads + Wait + Sync, G: Gate + Sync>(
     ensures worked { AllAt (IsWorkOf floor.now plans.now) 0 result.worked.items }
     ensures said { AllAt (IsVisitOf floor.now visits.now) 0 result.said.items }
     ensures all { result.started ≡ Started.All → LeavesAll floor.now plans.now visits.now result }
+    ensures left { IsSpendable floor.now (length plans.now) result }
 {
     let alloc = floor.alloc;
     let shards = floor.office.lanes.len();
@@ -194,6 +197,7 @@ pub fn run_threads<R: Threads + Wait + Sync, G: Gate + Sync>(
     ensures worked { AllAt (IsWorkOf floor.now plans.now) 0 result.worked.items }
     ensures said { AllAt (IsVisitOf floor.now visits.now) 0 result.said.items }
     ensures all { result.started ≡ Started.All → LeavesAll floor.now plans.now visits.now result }
+    ensures left { IsSpendable floor.now (length plans.now) result }
 {
     let manned = Manned {
         shards: AtomicU64::new(u64::MAX),
@@ -210,6 +214,7 @@ pub fn run_threads<R: Threads + Wait + Sync, G: Gate + Sync>(
             ensures worked { AllAt (IsWorkOf floor.entry.now plans.entry.now) 0 result.worked.items }
             ensures said { AllAt (IsVisitOf floor.entry.now visits.entry.now) 0 result.said.items }
             ensures all { result.started ≡ Started.All → LeavesAll floor.entry.now plans.entry.now visits.entry.now result }
+            ensures left { IsSpendable floor.entry.now (length plans.entry.now) result }
         { in_scope(scope, rt, floor, gate, plans, visits, crew, marks) },
     )
 }

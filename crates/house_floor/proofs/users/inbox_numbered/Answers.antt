@@ -1,35 +1,31 @@
-use Rattle.std.proofs.Common.{rules, ◌≡◌, ◌<◌, ◌+◌, ◌==◌, ◌∙◌, ℕ, [], None, length, true, false, drop, slice_index_or, arith}
-use Rattle.envelope.specs.Directory.{Home}
-use Rattle.house_floor.proofs.UserLaws.{counts_on, found_here, of_that_home, passed_by, went_by}
+use Rattle.std.proofs.Common.{rules, ◌≡◌, ◌<◌, ◌+◌, ◌∙◌, suc, ap, sym, subst, true, false, Some, IfSome, length, drop, slice_get, arith}
+use Rattle.house_floor.specs.Users.{user_numbered}
+use Rattle.house_floor.proofs.UserLaws.{IsInboxAt, counted, found, passed}
 use Rattle.house_floor.proofs.users.inbox_numbered.Goals as goal
 use Rattle.house_floor.proofs.users.inbox_numbered.Goals.{then-is_inbox+else-left-eq0, else-is_inbox}
-
-abbrev nobody : Home
-nobody = record { user = []; folder = None }
 
 pub returns-then-left-eq0-clause-inbox : goal.returns-then-left-eq0-clause-inbox
 returns-then-left-eq0-clause-inbox c =
     let homes = c.args.directory.now.homes in
-    let i = c.loop-mailbox.mailbox in
-    let under : i < length homes = omega (arith, c.loop-mailbox-test.true, c.mailboxes-mailbox-end.ensures.value) in
-    let zero : c.loop-mailbox.left ≡ 0 = search rules in
-    let inbox : c.is_inbox.result ≡ true = search rules in
-    let here = c.loop-mailbox.invariant ∙ counts_on homes i c.loop-mailbox.left nobody c.is_inbox.result under c.is_inbox.ensures
-    ∙ found_here c.loop-mailbox.left (slice_index_or homes i nobody) (drop (i + 1) homes) c.is_inbox.result inbox zero in
-    (under, of_that_home homes i nobody _ under here)
+    let m = c.loop-mailbox.mailbox in
+    let under : m < length homes = search rules in
+    let is : IsInboxAt homes m true = subst (IsInboxAt homes m) c.if-is_inbox.true c.is_inbox.ensures in
+    let all = c.loop-mailbox.invariant ∙ ap (λ n. user_numbered n (drop m homes)) c.if-left-eq0.true in
+    (under, subst (λ o. IfSome (slice_get homes m) (λ home. o ≡ Some home.user)) (sym all) (found homes m under is))
 
 pub loop-mailbox-preserved : goal.loop-mailbox-preserved
 loop-mailbox-preserved c =
     let homes = c.args.directory.now.homes in
-    let i = c.loop-mailbox.mailbox in
-    let under : i < length homes = omega (arith, c.loop-mailbox-test.true, c.mailboxes-mailbox-end.ensures.value) in
-    let here = c.loop-mailbox.invariant ∙ counts_on homes i c.loop-mailbox.left nobody c.is_inbox.result under c.is_inbox.ensures in
+    let m = c.loop-mailbox.mailbox in
+    let n = c.loop-mailbox.left in
+    let under : m < length homes = search rules in
+    let next : suc m ≡ m + 1 = omega arith in
     elim c.if-is_inbox.branch [
       | then-is_inbox+else-left-eq0 w ↦
-          let some : (c.loop-mailbox.left == 0) ≡ false = search rules in
-          let inbox : c.is_inbox.result ≡ true = search rules in
-          here ∙ went_by c.loop-mailbox.left c.if-is_inbox.left (slice_index_or homes i nobody) (drop (i + 1) homes) c.is_inbox.result inbox some (search rules)
+          let is : IsInboxAt homes m true = subst (IsInboxAt homes m) w.if-is_inbox.true c.is_inbox.ensures in
+          let some : 0 < n = search rules in
+          c.loop-mailbox.invariant ∙ counted homes m n under is some ∙ ap (λ k. user_numbered k (drop (suc m) homes)) (sym w.left-is) ∙ ap (λ i. user_numbered c.if-is_inbox.left (drop i homes)) next
       | else-is_inbox w ↦
-          let other : c.is_inbox.result ≡ false = search rules in
-          here ∙ passed_by c.loop-mailbox.left c.if-is_inbox.left (slice_index_or homes i nobody) (drop (i + 1) homes) c.is_inbox.result other (search rules)
+          let is : IsInboxAt homes m false = subst (IsInboxAt homes m) w.if-is_inbox.false c.is_inbox.ensures in
+          c.loop-mailbox.invariant ∙ passed homes m n under is ∙ ap (λ k. user_numbered k (drop (suc m) homes)) (sym w.left-is) ∙ ap (λ i. user_numbered c.if-is_inbox.left (drop i homes)) next
     ]

@@ -1,4 +1,4 @@
-use Rattle.std.proofs.Common.{◌≡◌, ◌≤◌, drop}
+use Rattle.std.proofs.Common.{◌≡◌, drop}
 use Rattle.house_floor.specs.Users.{user_numbered}
 use Rattle.house_floor.proofs.users.inbox_numbered.Given as goal
 

@@ -1,4 +1,4 @@
-use Rattle.std.proofs.Common.{◌≡◌, ap, sym, subst, length, map}
+use Rattle.std.proofs.Common.{ap, sym, subst, length, map}
 use Rattle.std.specs.List.{list_any}
 use Rattle.shard_queue.specs.Reply.{said_on, sent_on}
 use Rattle.shard_queue.specs.Seats.{got}

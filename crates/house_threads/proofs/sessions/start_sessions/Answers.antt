@@ -1,4 +1,4 @@
-use Rattle.std.proofs.Common.{rules, ◌≡◌, ◌≤◌, ◌<◌, ◌+◌, ◌∙◌, length, arith}
+use Rattle.std.proofs.Common.{rules, ◌≡◌, ◌+◌, ◌∙◌, length, arith}
 use Rattle.house_threads.specs.Crew.{IsGuest}
 use Rattle.house_threads.proofs.Places.{more_at}
 use Rattle.house_threads.proofs.sessions.start_sessions.Goals as goal

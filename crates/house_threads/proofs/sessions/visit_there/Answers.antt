@@ -1,7 +1,6 @@
-use Rattle.std.proofs.Common.{rules, ◌≡◌, ◌∙◌, ◌++◌, ℕ, [], List, None, Some, length, sym, subst}
+use Rattle.std.proofs.Common.{rules, ◌≡◌, ◌∙◌, ◌++◌, ℕ, List, None, length, subst}
 use Rattle.imap_session.specs.Commands.{greeting}
 use Rattle.imap_session.specs.Exchange.{Folder}
-use Rattle.visitors.specs.Folders.{folders_of}
 use Rattle.session_thread.specs.Life.{Lives, greeted_at}
 use Rattle.session_thread.specs.Locks.{Place}
 use Rattle.session_thread.specs.declared.life.Step.{Step}

@@ -1,0 +1,11 @@
+mod ListLaws
+mod WaitLaws
+mod WovenLaws
+mod TalkLines
+mod BackLaws
+mod ToldLaws
+mod Refuted
+mod Connections
+mod FullLaws
+mod KeyLaws
+mod LogLaws

@@ -1,0 +1,6 @@
+pub mod Woven
+pub mod Conversing
+pub mod Storing
+pub mod Accounting
+pub mod Laws
+pub mod Rows

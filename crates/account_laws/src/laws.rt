@@ -1,0 +1,34 @@
+//! Laws of the definitions, as functions that do nothing: what a worker's account says of its
+//! connections and of its log.
+
+ghost use Rattle.account_laws.specs.Laws.{AccountIsOfLines, ConnectionsHaveTalked, EachIsADialogue, LinesAreATalk, LinesAreTold, HeardAreFirst, LogHasEachVerdict, PutWasSubmitted, StoredIsOnItsLane, TalkIsOfLines, TalksAreOfLines};
+
+/// A connection that was heard piece by piece is one dialogue over the whole lines of all its bytes, each
+/// line heard in its place and each message answered before the next line, and the other way round. The bytes
+/// begin with those lines, and all their whole lines are among them, or the dialogue ended before. And so is
+/// each connection of a worker, one after the other.
+pub fn connections_are_of_lines()
+    ensures lines { TalkIsOfLines }
+    ensures back { LinesAreATalk }
+    ensures first { HeardAreFirst }
+    ensures talks { TalksAreOfLines }
+    ensures talks_back { ConnectionsHaveTalked }
+    ensures each { EachIsADialogue }
+{}
+
+/// Of lines that were heard none was dropped, and nothing else happened but the answers: each stands behind
+/// the line that submitted its message, where just so many verdicts are awaited, and before the next line.
+pub fn lines_are_told()
+    ensures { LinesAreTold }
+{}
+
+/// What a worker's log has as stored was put on the lane of its mailbox's shard, and the verdict was
+/// heard; what was put on a lane is a copy of a message that was submitted; and the log has exactly one
+/// verdict for each copy of each message, in their order. All of it holds of one list of messages, those that
+/// its connections submitted.
+pub fn logs_meet_lanes()
+    ensures stored { StoredIsOnItsLane }
+    ensures put { PutWasSubmitted }
+    ensures verdicts { LogHasEachVerdict }
+    ensures account { AccountIsOfLines }
+{}

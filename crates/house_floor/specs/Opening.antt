@@ -1,0 +1,54 @@
+-- What is made before the first thread runs: the floor that all share, and room for what the threads will leave.
+use Rattle.std.specs.Prelude.{◌≡◌, ◌≤◌, ◌*◌, ℕ, [], All, length, vec_capacity}
+use Rattle.envelope.specs.Directory.{Directory}
+use Rattle.lane_seats.specs.Rooms.{AreRooms}
+use Rattle.shard_queue.specs.Reply.{room_of, senders_of}
+use Rattle.shard_queue.specs.Seats.{capacity_of, producers_of}
+use Rattle.house_floor.specs.Crew.{IsHouse}
+use Rattle.house_floor.specs.declared.floor.Floor.{Floor}
+use Rattle.house_floor.specs.declared.opening.Baskets.{Baskets}
+use Rattle.house_floor.specs.declared.opening.Sizes.{Sizes}
+use Rattle.house_floor.specs.declared.stock.Spares.{Spares}
+
+-- a reply channel has room for so many verdicts
+abbrev pub reply_room : ℕ
+reply_room = 128
+
+-- the floor is that of a house with this directory, each consumer has a bell, and each queue is as large as the sizes say
+pub record IsFloor (directory : Directory) (sizes : Sizes) (floor : Floor) : Type 0 where
+  pub house : IsHouse floor sizes.workers
+  pub is : floor.office.directory ≡ directory
+  pub host : floor.office.host.items ≡ sizes.host.now
+  pub max_message : floor.office.max_message ≡ sizes.max_message
+  pub turns : floor.turns ≡ sizes.turns
+  pub bells : length floor.office.bells.items ≡ directory.shards
+  pub mailboxes : length floor.depot.mailboxes.items ≡ length directory.homes
+  pub lanes : All (λ q. (capacity_of q ≡ sizes.depth) × (producers_of q ≡ sizes.workers)) floor.office.lanes.items
+  pub channels : All (λ c. (room_of c ≡ reply_room) × (senders_of c ≡ directory.shards)) floor.depot.channels.items
+
+-- nothing lies in these lists
+abbrev pub AreNoSpares : Spares → Type 0
+AreNoSpares s = (s.seats.items ≡ []) × (s.ended.items ≡ []) × (s.senders.items ≡ []) × (s.senders_ended.items ≡ [])
+
+-- nor in these, and each has room for so many
+pub record AreSpares (n : ℕ) (s : Spares) : Type 0 where
+  pub empty : AreNoSpares s
+  pub seats : n ≤ vec_capacity s.seats
+  pub ended : n ≤ vec_capacity s.ended
+  pub senders : n ≤ vec_capacity s.senders
+  pub senders_ended : n ≤ vec_capacity s.senders_ended
+
+-- nothing lies in the baskets, and there is room for what so many workers and consumers leave
+pub record AreBaskets (workers shards : ℕ) (b : Baskets) : Type 0 where
+  pub hands : (b.hands.items ≡ []) × (workers ≤ vec_capacity b.hands)
+  pub lists : AreRooms shards workers b.lists
+  pub sender_hands : (b.sender_hands.items ≡ []) × (shards ≤ vec_capacity b.sender_hands)
+  pub sender_lists : AreRooms workers shards b.sender_lists
+  pub consumers : (b.consumers.items ≡ []) × (shards ≤ vec_capacity b.consumers)
+  pub receivers : (b.receivers.items ≡ []) × (workers ≤ vec_capacity b.receivers)
+  pub replies : (b.replies.items ≡ []) × (workers ≤ vec_capacity b.replies)
+  pub logs : (b.logs.items ≡ []) × (workers ≤ vec_capacity b.logs)
+  pub copies : (b.copies.items ≡ []) × (shards ≤ vec_capacity b.copies)
+  pub lanes : (b.lanes.items ≡ []) × (shards ≤ vec_capacity b.lanes)
+  pub channels : (b.channels.items ≡ []) × (workers ≤ vec_capacity b.channels)
+  pub spares : AreSpares (workers * shards) b.spares

@@ -1,0 +1,163 @@
+//! What is dealt to the threads of a house: its seats, lane by lane and channel by channel, become a
+//! post for each worker and a stand for each consumer. Nothing is made here, so nothing is refused.
+
+ghost use Rattle.std.specs.Prelude.{◌≡◌, ◌≤◌, [], All, length, map, vec_len, vec_capacity};
+ghost use Rattle.house_floor.specs.Crew.{AllAt, IsPost, IsStand};
+ghost use Rattle.house_floor.specs.Making.{AreUndealt};
+ghost use Rattle.lane_seats.specs.Rooms.{AreRooms};
+ghost use Rattle.lane_seats.specs.Rows.{AreConsumers, AreHands};
+ghost use Rattle.lane_seats.specs.SenderRows.{AreReceivers, AreSenderHands};
+ghost use Rattle.shard_queue.specs.Reply.{received, senders_of};
+ghost use Rattle.shard_queue.specs.Seats.{got, producers_of};
+
+use crate::floor::{Floor, Post, Stand};
+use crossbeam_utils::sync::Parker;
+use delivery_token::{Job, Noted};
+use lane_seats::{Hands, deal_all, deal_all_senders};
+use lane_work::{Desk, Stall};
+use shard_queue::{ConsumerSeat, Ended, ProducerSeat, ReceiverSeat, SenderEnded, SenderSeat};
+
+// A post for each of so many workers, from the hands that were dealt to them, from the receivers' ends
+// of their channels, and from empty lists with room for what is left of their seats. `posts`, which is
+// empty, has room for all.
+fn set_posts(
+    floor: &Floor,
+    workers: u8,
+    mut hands: Vec<Vec<ProducerSeat<Job>>>,
+    mut receivers: Vec<ReceiverSeat<Noted>>,
+    mut rooms: Vec<Vec<Ended<Job>>>,
+    mut posts: Vec<Post>,
+) -> Vec<Post>
+    requires hands { (vec_len hands ≡ workers) × AreHands floor.now.office.lanes.items 0 (map (λ v. v.items) hands.items) }
+    requires receivers { (vec_len receivers ≡ workers) × AreReceivers floor.now.depot.channels.items receivers.items }
+    requires unheard { All (λ s. received s ≡ []) receivers.items }
+    requires rooms { AreRooms workers (length floor.now.office.lanes.items) rooms }
+    requires posts { (posts.items ≡ []) × (workers ≤ vec_capacity posts) }
+    ensures count { vec_len result ≡ workers }
+    ensures posts { AllAt (IsPost floor.now) 0 result.items }
+{
+    for number in 0..workers {
+        let desk = Desk {
+            number,
+            seats: hands.remove(0),
+            receiver: receivers.remove(0),
+            ends: 0,
+        };
+        posts.push_reserved(Post {
+            desk,
+            room: rooms.remove(0),
+        });
+    }
+    hands.destroy_empty();
+    receivers.destroy_empty();
+    rooms.destroy_empty();
+    posts
+}
+
+// A stand for each of so many consumers, from the hands that were dealt to them, from their ends of
+// their lanes and of their bells, and from empty lists with room for what is left of their seats.
+// `stands`, which is empty, has room for all.
+fn set_stands(
+    floor: &Floor,
+    shards: u8,
+    mut hands: Vec<Vec<SenderSeat<Noted>>>,
+    mut consumers: Vec<ConsumerSeat<Job>>,
+    mut parkers: Vec<Parker>,
+    mut rooms: Vec<Vec<SenderEnded<Noted>>>,
+    mut stands: Vec<Stand>,
+) -> Vec<Stand>
+    requires hands { (vec_len hands ≡ shards) × AreSenderHands floor.now.depot.channels.items 0 (map (λ v. v.items) hands.items) }
+    requires consumers { (vec_len consumers ≡ shards) × AreConsumers floor.now.office.lanes.items consumers.items }
+    requires fresh { All (λ s. got s ≡ []) consumers.items }
+    requires parkers { vec_len parkers ≡ shards }
+    requires rooms { AreRooms shards (length floor.now.depot.channels.items) rooms }
+    requires stands { (stands.items ≡ []) × (shards ≤ vec_capacity stands) }
+    ensures count { vec_len result ≡ shards }
+    ensures stands { AllAt (IsStand floor.now) 0 result.items }
+{
+    for shard in 0..shards {
+        let stall = Stall {
+            shard,
+            seat: consumers.remove(0),
+            senders: hands.remove(0),
+            bell: parkers.remove(0),
+        };
+        stands.push_reserved(Stand {
+            stall,
+            room: rooms.remove(0),
+        });
+    }
+    hands.destroy_empty();
+    consumers.destroy_empty();
+    rooms.destroy_empty();
+    stands
+}
+
+/// What is to be dealt, and the empty lists that it goes into.
+pub(crate) struct Undealt {
+    /// For each lane the workers' seats.
+    pub(crate) lane_seats: Vec<Vec<ProducerSeat<Job>>>,
+    /// For each worker its end of its reply channel.
+    pub(crate) receivers: Vec<ReceiverSeat<Noted>>,
+    /// For each reply channel the consumers' seats.
+    pub(crate) channel_seats: Vec<Vec<SenderSeat<Noted>>>,
+    /// For each consumer its end of its lane.
+    pub(crate) consumers: Vec<ConsumerSeat<Job>>,
+    /// For each consumer its own end of its bell.
+    pub(crate) parkers: Vec<Parker>,
+    /// For each worker's seats.
+    pub(crate) hands: Hands<ProducerSeat<Job>>,
+    /// For what is left of each worker's seats.
+    pub(crate) rooms: Vec<Vec<Ended<Job>>>,
+    /// For each consumer's seats.
+    pub(crate) sender_hands: Hands<SenderSeat<Noted>>,
+    /// For what is left of each consumer's seats.
+    pub(crate) sender_rooms: Vec<Vec<SenderEnded<Noted>>>,
+}
+
+/// Deals the seats of all lanes and channels, none of which has put, taken or sent anything: a stand
+/// for each of so many consumers and a post for each of so many workers, in the order of their numbers.
+/// The two lists, which are empty, have room for all.
+pub(crate) fn deal_out(
+    floor: &Floor,
+    workers: u8,
+    shards: u8,
+    undealt: Undealt,
+    stands: Vec<Stand>,
+    posts: Vec<Post>,
+) -> (Vec<Stand>, Vec<Post>)
+    requires lanes { (length floor.now.office.lanes.items ≡ shards) × All (λ q. producers_of q ≡ workers) floor.now.office.lanes.items }
+    requires channels { (length floor.now.depot.channels.items ≡ workers) × All (λ c. senders_of c ≡ shards) floor.now.depot.channels.items }
+    requires undealt { AreUndealt workers shards floor.now.office.lanes.items floor.now.depot.channels.items undealt }
+    requires room { (stands.items ≡ []) × (posts.items ≡ []) × (shards ≤ vec_capacity stands) × (workers ≤ vec_capacity posts) }
+    ensures count { (vec_len result.0 ≡ shards) × (vec_len result.1 ≡ workers) }
+    ensures stands { AllAt (IsStand floor.now) 0 result.0.items }
+    ensures posts { AllAt (IsPost floor.now) 0 result.1.items }
+{
+    let Undealt {
+        lane_seats,
+        receivers,
+        channel_seats,
+        consumers,
+        parkers,
+        hands,
+        rooms,
+        sender_hands,
+        sender_rooms,
+    } = undealt;
+    let Hands { each, all } = hands;
+    let hands = deal_all(&floor.office.lanes, lane_seats, workers, each, all);
+    let Hands { each, all } = sender_hands;
+    let sender_hands = deal_all_senders(&floor.depot.channels, channel_seats, shards, each, all);
+    let stands = set_stands(
+        floor,
+        shards,
+        sender_hands,
+        consumers,
+        parkers,
+        sender_rooms,
+        stands,
+    );
+    let posts = set_posts(floor, workers, hands, receivers, rooms, posts);
+    (stands, posts)
+}

@@ -1,0 +1,133 @@
+//! What a house is made of, as far as it may be let go again: so it is made first, and where memory is
+//! refused nothing has to be undone. What can't be let go stands in `stock`.
+
+ghost use Rattle.std.specs.Prelude.{◌≡◌, ◌<◌, ◌≤◌, [], IfOk, length, vec_len, vec_capacity};
+ghost use Rattle.house_floor.specs.Making.{AreFittings, ArePapers};
+
+use crate::bells::{Bells, hang_bells};
+use crate::floor::Visit;
+use crate::opening::Sizes;
+use crossbeam_utils::sync::{Parker, Unparker};
+use delivery_token::{Job, Noted, WorkerLog};
+use envelope::Directory;
+use mailbox::Mailbox;
+use shard_queue::{Closed, ReplyClosed};
+use std::alloc::{AllocError, Global};
+use std::sync::Mutex;
+
+/// Room for what the threads leave, of what may be let go.
+#[derive(Drop)]
+pub(crate) struct Papers {
+    /// For each worker, for each connection, what was replied.
+    pub(crate) replies: Vec<Vec<Vec<u8>>>,
+    /// For each worker, the verdicts that it heard.
+    pub(crate) logs: Vec<WorkerLog>,
+    /// For each consumer, the copies that it took.
+    pub(crate) copies: Vec<Vec<Job>>,
+    /// For each lane, what was taken of it.
+    pub(crate) lanes: Vec<Closed<Job>>,
+    /// For each reply channel, the same.
+    pub(crate) channels: Vec<ReplyClosed<Noted>>,
+}
+
+/// What the floor is made of beside the queues.
+#[derive(Drop)]
+pub(crate) struct Hall {
+    /// The house's name in replies.
+    pub(crate) host: Vec<u8>,
+    /// The mailboxes of its directory, empty.
+    pub(crate) mailboxes: Vec<Mutex<Mailbox>>,
+    /// What rings each consumer.
+    pub(crate) consumers: Vec<Unparker>,
+    /// For each mailbox, what rings the sessions of its user.
+    pub(crate) sessions: Vec<Vec<Unparker>>,
+}
+
+/// All of a house that may be let go.
+#[derive(Drop)]
+pub(crate) struct Fittings {
+    pub(crate) hall: Hall,
+    /// Each consumer's own end of its bell.
+    pub(crate) parkers: Vec<Parker>,
+    /// Each session's own end of its bell.
+    pub(crate) sleepers: Vec<Parker>,
+    /// Room for what each session will have said.
+    pub(crate) said: Vec<Result<Vec<u8>, AllocError>>,
+    pub(crate) papers: Papers,
+}
+
+// So many empty mailboxes, each behind a lock.
+fn make_mailboxes(
+    alloc: Global,
+    count: usize,
+    sizes: Sizes<'_>,
+) -> Result<Vec<Mutex<Mailbox>>, AllocError>
+    requires few { count ≤ 64 }
+    requires ring { 0 < sizes.limits.ring }
+    ensures count { IfOk result (λ v. vec_len v ≡ count) }
+{
+    let Sizes {
+        uidvalidity,
+        first_uid,
+        limits,
+        ..
+    } = sizes;
+    let mut mailboxes = Vec::with_capacity(alloc, count)?;
+    for number in 0..count {
+        let mailbox = Mailbox::new(alloc, number as u8, uidvalidity, first_uid, limits)?;
+        mailboxes.push_reserved(Mutex::new(mailbox));
+    }
+    Ok(mailboxes)
+}
+
+// Room for what so many workers and consumers leave.
+fn make_papers(alloc: Global, workers: u8, shards: u8) -> Result<Papers, AllocError>
+    ensures { IfOk result (λ p. ArePapers workers shards p) }
+{
+    let (workers, shards) = (usize::from(workers), usize::from(shards));
+    Ok(Papers {
+        replies: Vec::with_capacity(alloc, workers)?,
+        logs: Vec::with_capacity(alloc, workers)?,
+        copies: Vec::with_capacity(alloc, shards)?,
+        lanes: Vec::with_capacity(alloc, shards)?,
+        channels: Vec::with_capacity(alloc, workers)?,
+    })
+}
+
+/// All of a house that may be let go, for a house with this directory and of these sizes. An error
+/// where memory is refused.
+pub(crate) fn make_fittings(
+    alloc: Global,
+    directory: &Directory,
+    sizes: Sizes<'_>,
+    visits: &[Visit],
+) -> Result<Fittings, AllocError>
+    requires ring { 0 < sizes.limits.ring }
+    ensures fittings { IfOk result (λ f. AreFittings directory.now sizes.entry f) }
+    ensures said { IfOk result (λ f. length visits.now ≤ vec_capacity f.said) }
+    ensures sleepers { IfOk result (λ f. vec_len f.sleepers ≡ length visits.now) }
+{
+    let host = Vec::from_slice(alloc, sizes.host)?;
+    let mailboxes = make_mailboxes(alloc, directory.mailboxes(), sizes)?;
+    let Bells {
+        parkers,
+        consumers,
+        sleepers,
+        sessions,
+    } = hang_bells(alloc, directory, visits)?;
+    let said = Vec::with_capacity(alloc, visits.len())?;
+    let papers = make_papers(alloc, sizes.workers, directory.shards())?;
+    let hall = Hall {
+        host,
+        mailboxes,
+        consumers,
+        sessions,
+    };
+    Ok(Fittings {
+        hall,
+        parkers,
+        sleepers,
+        said,
+        papers,
+    })
+}

@@ -1,0 +1,252 @@
+//! A house is put together of what was made for it. Nothing is made here, so nothing is refused.
+
+ghost use Rattle.std.specs.Prelude.{◌≡◌, ◌<◌, ◌≤◌, [], List, All, length, vec_len, vec_capacity};
+ghost use Rattle.shard_queue.specs.Reply.{room_of, senders_of};
+ghost use Rattle.shard_queue.specs.Seats.{capacity_of, producers_of};
+ghost use Rattle.house_floor.specs.declared.floor.Visit.{Visit};
+ghost use Rattle.house_floor.specs.Crew.{IsCrew};
+ghost use Rattle.house_floor.specs.Making.{AreCrewLists, AreFittings, AreStock, AreUndealt, IsHall};
+ghost use Rattle.house_floor.specs.Opening.{AreBaskets, IsFloor, reply_room};
+
+use crate::dealing::{Undealt, deal_out};
+use crate::fittings::{Fittings, Hall, Papers};
+use crate::floor::{Crew, Floor};
+use crate::opening::{Baskets, Opened, Sizes};
+use crate::stock::{CrewLists, EndLists, Lists, Stock};
+use crossbeam_utils::sync::Parker;
+use delivery_token::{Job, Noted};
+use envelope::Directory;
+use lane_seats::{Channels, Hands, Lanes, Rooms, SeatRooms};
+use lane_work::{Depot, Office};
+use shard_queue::{Ended, ReplyChannel, SenderEnded, ShardQueue};
+use std::alloc::{AllocError, Global};
+
+// The floor of a house with this directory and of these sizes.
+fn lay_floor(
+    alloc: Global,
+    directory: Directory,
+    sizes: Sizes<'_>,
+    hall: Hall,
+    lanes: Vec<ShardQueue<Job>>,
+    channels: Vec<ReplyChannel<Noted>>,
+) -> Floor
+    requires host { length sizes.host.now < 256 }
+    requires hall { IsHall directory sizes hall }
+    requires lanes { (vec_len lanes ≡ directory.shards) × All (λ q. (capacity_of q ≡ sizes.depth) × (producers_of q ≡ sizes.workers)) lanes.items }
+    requires channels { (vec_len channels ≡ sizes.workers) × All (λ c. (room_of c ≡ reply_room) × (senders_of c ≡ directory.shards)) channels.items }
+    ensures floor { IsFloor directory sizes.entry result }
+    ensures sessions { length result.depot.sessions.items ≡ length directory.homes }
+    ensures lanes { result.office.lanes ≡ lanes }
+    ensures channels { result.depot.channels ≡ channels }
+{
+    let office = Office {
+        directory,
+        host: hall.host,
+        max_message: sizes.max_message,
+        lanes,
+        bells: hall.consumers,
+    };
+    let depot = Depot {
+        mailboxes: hall.mailboxes,
+        channels,
+        sessions: hall.sessions,
+    };
+    Floor {
+        office,
+        depot,
+        turns: sizes.turns,
+        alloc,
+    }
+}
+
+// What is dealt to so many workers and consumers, and room for what comes of it.
+fn man(
+    floor: &Floor,
+    workers: u8,
+    shards: u8,
+    undealt: Undealt,
+    lists: CrewLists,
+    said: Vec<Result<Vec<u8>, AllocError>>,
+) -> Crew
+    requires lanes { (length floor.now.office.lanes.items ≡ shards) × All (λ q. producers_of q ≡ workers) floor.now.office.lanes.items }
+    requires channels { (length floor.now.depot.channels.items ≡ workers) × All (λ c. senders_of c ≡ shards) floor.now.depot.channels.items }
+    requires undealt { AreUndealt workers shards floor.now.office.lanes.items floor.now.depot.channels.items undealt }
+    requires lists { AreCrewLists workers shards lists }
+    requires said { said.items ≡ [] }
+    ensures { (visits : List Visit) → length visits ≤ vec_capacity said → IsCrew floor.now workers visits result }
+{
+    let CrewLists {
+        stands,
+        posts,
+        consumed,
+        worked,
+        idle,
+    } = lists;
+    let (stands, posts) = deal_out(floor, workers, shards, undealt, stands, posts);
+    Crew {
+        stands,
+        posts,
+        consumed,
+        worked,
+        idle,
+        said,
+    }
+}
+
+// Empty lists for what is left of seats after their ends.
+struct Leavings<E> {
+    // For each actor's.
+    hands: Vec<Vec<E>>,
+    // For each place a list, for what is left there of all actors' seats.
+    lists: Vec<Vec<E>>,
+}
+
+// The rooms that are needed for the dealing, for each actor's seats and for what is left of them, and those
+// that are needed behind it.
+fn parted<S, E>(rooms: SeatRooms<S, E>) -> (Hands<S>, Vec<Vec<E>>, Leavings<E>)
+    ensures dealt { (result.0 ≡ rooms.seats) × (result.1 ≡ rooms.ended.each) }
+    ensures left { (result.2.hands ≡ rooms.ended.all) × (result.2.lists ≡ rooms.lists) }
+{
+    let SeatRooms {
+        seats,
+        ended,
+        lists,
+    } = rooms;
+    let Hands { each, all } = ended;
+    (seats, each, Leavings { hands: all, lists })
+}
+
+// The queues, what is to be dealt of their seats, and room for what is left of these.
+struct Sorted {
+    lanes: Vec<ShardQueue<Job>>,
+    channels: Vec<ReplyChannel<Noted>>,
+    undealt: Undealt,
+    of_workers: Leavings<Ended<Job>>,
+    of_consumers: Leavings<SenderEnded<Noted>>,
+}
+
+// Sorts what was made.
+fn sort_out(rooms: Rooms, lanes: Lanes, channels: Channels, parkers: Vec<Parker>) -> Sorted
+    ensures lanes { (result.lanes ≡ lanes.queues) × (result.undealt.lane_seats ≡ lanes.seats) × (result.undealt.consumers ≡ lanes.consumers) }
+    ensures channels { (result.channels ≡ channels.channels) × (result.undealt.channel_seats ≡ channels.seats)
+        × (result.undealt.receivers ≡ channels.receivers) }
+    ensures parkers { result.undealt.parkers ≡ parkers }
+    ensures rooms { (result.undealt.hands ≡ rooms.workers.seats) × (result.undealt.rooms ≡ rooms.workers.ended.each)
+        × (result.undealt.sender_hands ≡ rooms.consumers.seats) × (result.undealt.sender_rooms ≡ rooms.consumers.ended.each) }
+    ensures left { (result.of_workers.hands ≡ rooms.workers.ended.all) × (result.of_workers.lists ≡ rooms.workers.lists)
+        × (result.of_consumers.hands ≡ rooms.consumers.ended.all) × (result.of_consumers.lists ≡ rooms.consumers.lists) }
+{
+    let Rooms { workers, consumers } = rooms;
+    let (hands, rooms, of_workers) = parted(workers);
+    let (sender_hands, sender_rooms, of_consumers) = parted(consumers);
+    let Lanes {
+        queues,
+        seats: lane_seats,
+        consumers,
+    } = lanes;
+    let Channels {
+        channels,
+        seats: channel_seats,
+        receivers,
+    } = channels;
+    let undealt = Undealt {
+        lane_seats,
+        receivers,
+        channel_seats,
+        consumers,
+        parkers,
+        hands,
+        rooms,
+        sender_hands,
+        sender_rooms,
+    };
+    Sorted {
+        lanes: queues,
+        channels,
+        undealt,
+        of_workers,
+        of_consumers,
+    }
+}
+
+// Room for what the threads leave.
+fn baskets_of(
+    workers: Leavings<Ended<Job>>,
+    consumers: Leavings<SenderEnded<Noted>>,
+    ends: EndLists,
+    papers: Papers,
+) -> Baskets
+    ensures workers { (result.hands ≡ workers.hands) × (result.lists ≡ workers.lists) }
+    ensures consumers { (result.sender_hands ≡ consumers.hands) × (result.sender_lists ≡ consumers.lists) }
+    ensures ends { (result.consumers ≡ ends.consumers) × (result.receivers ≡ ends.receivers) × (result.spares ≡ ends.spares) }
+    ensures papers { (result.replies ≡ papers.replies) × (result.logs ≡ papers.logs) × (result.copies ≡ papers.copies)
+        × (result.lanes ≡ papers.lanes) × (result.channels ≡ papers.channels) }
+{
+    let Leavings { hands, lists } = workers;
+    let Leavings {
+        hands: sender_hands,
+        lists: sender_lists,
+    } = consumers;
+    let EndLists {
+        consumers,
+        receivers,
+        spares,
+    } = ends;
+    Baskets {
+        hands,
+        lists,
+        sender_hands,
+        sender_lists,
+        consumers,
+        receivers,
+        replies: papers.replies,
+        logs: papers.logs,
+        copies: papers.copies,
+        lanes: papers.lanes,
+        channels: papers.channels,
+        spares,
+    }
+}
+
+/// A house of all that was made for it. It takes no memory.
+pub(crate) fn put_together(
+    alloc: Global,
+    directory: Directory,
+    sizes: Sizes<'_>,
+    fittings: Fittings,
+    stock: Stock,
+) -> Opened
+    requires host { length sizes.host.now < 256 }
+    requires fittings { AreFittings directory sizes fittings }
+    requires stock { AreStock sizes.workers directory.shards sizes.depth stock }
+    ensures floor { IsFloor directory sizes.entry result.floor }
+    ensures sessions { length result.floor.depot.sessions.items ≡ length directory.homes }
+    ensures crew { (visits : List Visit) → length visits ≤ vec_capacity fittings.said → IsCrew result.floor sizes.entry.workers visits result.crew }
+    ensures baskets { AreBaskets sizes.entry.workers directory.shards result.baskets }
+    ensures sleepers { result.sleepers ≡ fittings.sleepers }
+{
+    let (workers, shards) = (sizes.workers, directory.shards());
+    let Stock {
+        rooms,
+        lists,
+        lanes,
+        channels,
+    } = stock;
+    let Lists { crew, ends } = lists;
+    let Sorted {
+        lanes,
+        channels,
+        undealt,
+        of_workers,
+        of_consumers,
+    } = sort_out(rooms, lanes, channels, fittings.parkers);
+    let floor = lay_floor(alloc, directory, sizes, fittings.hall, lanes, channels);
+    let crew = man(&floor, workers, shards, undealt, crew, fittings.said);
+    let baskets = baskets_of(of_workers, of_consumers, ends, fittings.papers);
+    Opened {
+        floor,
+        crew,
+        baskets,
+        sleepers: fittings.sleepers,
+    }
+}

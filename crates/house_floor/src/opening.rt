@@ -1,0 +1,104 @@
+//! What is made before the first thread runs: the mailboxes, the queues with their seats dealt, the
+//! bells, and room for all that the threads will leave, so that behind the start nothing is refused but
+//! a thread. No thread is started here.
+
+ghost use Rattle.std.specs.Prelude.{◌≡◌, ◌≢◌, ◌<◌, ◌≤◌, All, IfOk, None, length, vec_len};
+ghost use Rattle.house_floor.specs.Crew.{AreVisits, IsCrew};
+ghost use Rattle.house_floor.specs.Opening.{AreBaskets, IsFloor};
+ghost use Rattle.house_floor.specs.Users.{user_numbered};
+
+use crate::fittings::make_fittings;
+use crate::floor::{Crew, Floor, Visit};
+use crate::joining::put_together;
+use crate::stock::{Spares, make_stock};
+use crossbeam_utils::sync::Parker;
+use delivery_token::{Job, Noted, WorkerLog};
+use envelope::Directory;
+use mailbox::Limits;
+use shard_queue::{Closed, ConsumerSeat, Ended, ReceiverSeat, ReplyClosed, SenderEnded};
+use std::alloc::{AllocError, Global};
+
+/// How large the parts of a house are.
+#[derive(Clone, Copy)]
+pub struct Sizes<'a> {
+    /// The house's name in replies, of 255 bytes at most.
+    pub host: &'a [u8],
+    /// The most bytes of a message's data.
+    pub max_message: usize,
+    /// So many workers, up to 255.
+    pub workers: u8,
+    /// So many entries have room in a shard's lane, 1 at least.
+    pub depth: usize,
+    /// What each mailbox tells as its UIDVALIDITY.
+    pub uidvalidity: u32,
+    /// The UID of a mailbox's first message.
+    pub first_uid: u32,
+    /// How many messages and changes a mailbox has room for.
+    pub limits: Limits,
+    /// So many turns a session has at most where it awaits changes.
+    pub turns: u64,
+}
+
+/// Room for what the threads leave.
+pub struct Baskets {
+    /// For each worker, what is left of its seats on the lanes.
+    pub hands: Vec<Vec<Ended<Job>>>,
+    /// For each lane, the same.
+    pub lists: Vec<Vec<Ended<Job>>>,
+    /// For each consumer, what is left of its seats on the reply channels.
+    pub sender_hands: Vec<Vec<SenderEnded<Noted>>>,
+    /// For each channel, the same.
+    pub sender_lists: Vec<Vec<SenderEnded<Noted>>>,
+    /// Each lane's consumer's end.
+    pub consumers: Vec<ConsumerSeat<Job>>,
+    /// Each worker's end of its reply channel.
+    pub receivers: Vec<ReceiverSeat<Noted>>,
+    /// For each worker, for each connection, what was replied.
+    pub replies: Vec<Vec<Vec<u8>>>,
+    /// For each worker, the verdicts that it heard.
+    pub logs: Vec<WorkerLog>,
+    /// For each consumer, the copies that it took.
+    pub copies: Vec<Vec<Job>>,
+    /// For each lane, what was taken of it.
+    pub lanes: Vec<Closed<Job>>,
+    /// For each reply channel, the same.
+    pub channels: Vec<ReplyClosed<Noted>>,
+    /// For all seats, where the run comes to nothing.
+    pub spares: Spares,
+}
+
+/// A house that is ready to run.
+pub struct Opened {
+    pub floor: Floor,
+    pub crew: Crew,
+    pub baskets: Baskets,
+    /// The sessions' own ends of their bells, on which none of them waits.
+    pub sleepers: Vec<Parker>,
+}
+
+/// Makes all that a run needs, in a house with this directory and of these sizes. The bells of a
+/// mailbox are those of its user's sessions.
+///
+/// Errors: `AllocError` where memory is refused; nothing is left then.
+pub fn open(
+    alloc: Global,
+    directory: Directory,
+    sizes: Sizes<'_>,
+    visits: &[Visit],
+) -> Result<Opened, AllocError>
+    requires depth { 0 < sizes.depth }
+    requires host { length sizes.host.now < 256 }
+    requires ring { 0 < sizes.limits.ring }
+    requires shards { 0 < directory.shards }
+    requires visits { All (λ v. user_numbered v.user directory.homes ≢ None) visits.now }
+    requires few { length visits.now ≤ 256 }
+    ensures floor { IfOk result (λ o. IsFloor directory sizes.entry o.floor) }
+    ensures visits { IfOk result (λ o. AreVisits o.floor visits.now) }
+    ensures crew { IfOk result (λ o. IsCrew o.floor sizes.entry.workers visits.now o.crew) }
+    ensures baskets { IfOk result (λ o. AreBaskets sizes.entry.workers directory.shards o.baskets) }
+    ensures sleepers { IfOk result (λ o. vec_len o.sleepers ≡ length visits.now) }
+{
+    let fittings = make_fittings(alloc, &directory, sizes, visits)?;
+    let stock = make_stock(alloc, sizes.workers, directory.shards(), sizes.depth)?;
+    Ok(put_together(alloc, directory, sizes, fittings, stock))
+}

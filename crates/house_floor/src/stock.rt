@@ -1,0 +1,235 @@
+//! What a house is made of that can't be let go: its lanes and channels with all their seats, and empty
+//! lists for what is dealt of them and for what the threads leave. Where memory is refused on the way,
+//! all that was made by then is spent. What may be let go stands in `fittings`.
+
+ghost use Rattle.std.specs.Prelude.{◌≡◌, ◌<◌, ◌≤◌, [], IfOk, OnOk, vec_len, vec_capacity};
+ghost use Rattle.house_floor.specs.Making.{AreEmptyLists, AreLists, AreStock};
+ghost use Rattle.house_floor.specs.Opening.{AreNoSpares, AreSpares};
+
+use crate::floor::{Post, Stand};
+use delivery_token::{Job, Noted};
+use lane_seats::{
+    Channels, Lanes, Rooms, abandon_lanes, make_channels, make_lanes, make_rooms, spend_rooms,
+};
+use lane_work::{Consumed, Worked};
+use shard_queue::{ConsumerSeat, Ended, ProducerSeat, ReceiverSeat, SenderEnded, SenderSeat};
+use std::alloc::{AllocError, Global};
+
+/// So many verdicts have room in a worker's reply channel.
+pub const REPLY_ROOM: usize = 128;
+
+/// Empty lists for what the threads are given, and for what comes of them.
+pub(crate) struct CrewLists {
+    /// For a stand for each consumer.
+    pub(crate) stands: Vec<Stand>,
+    /// For a post for each worker.
+    pub(crate) posts: Vec<Post>,
+    /// For what each consumer leaves.
+    pub(crate) consumed: Vec<Consumed>,
+    /// For what each worker leaves.
+    pub(crate) worked: Vec<Worked>,
+    /// For posts that are never handed to a thread.
+    pub(crate) idle: Vec<Post>,
+}
+
+/// Empty lists for the ends of the queues.
+pub(crate) struct EndLists {
+    /// For each consumer's end of its lane.
+    pub(crate) consumers: Vec<ConsumerSeat<Job>>,
+    /// For each worker's end of its reply channel.
+    pub(crate) receivers: Vec<ReceiverSeat<Noted>>,
+    pub(crate) spares: Spares,
+}
+
+/// Room for all seats of a house at once, and for what is left of them: a run that comes to nothing
+/// gives them back in whatever state they are.
+pub struct Spares {
+    /// For the workers' seats on all lanes.
+    pub seats: Vec<ProducerSeat<Job>>,
+    /// For what is left of them.
+    pub ended: Vec<Ended<Job>>,
+    /// For the consumers' seats on all reply channels.
+    pub senders: Vec<SenderSeat<Noted>>,
+    /// For what is left of them.
+    pub senders_ended: Vec<SenderEnded<Noted>>,
+}
+
+impl Spares {
+    // No room. It takes no memory.
+    fn new(alloc: Global) -> Spares
+        ensures { AreNoSpares result }
+    {
+        Spares {
+            seats: Vec::new(alloc),
+            ended: Vec::new(alloc),
+            senders: Vec::new(alloc),
+            senders_ended: Vec::new(alloc),
+        }
+    }
+
+    // Makes room for so many seats of each kind.
+    fn reserve(&mut self, seats: usize) -> Result<(), AllocError>
+        requires { AreNoSpares self.old }
+        ensures empty { AreNoSpares self.new }
+        ensures room { OnOk result (AreSpares seats self.new) }
+    {
+        self.seats.reserve(seats)?;
+        self.ended.reserve(seats)?;
+        self.senders.reserve(seats)?;
+        self.senders_ended.reserve(seats)?;
+        Ok(())
+    }
+
+    /// Spends room that nothing was laid into.
+    pub fn spend(self)
+        requires { AreNoSpares self }
+    {
+        let Spares {
+            seats,
+            ended,
+            senders,
+            senders_ended,
+        } = self;
+        seats.destroy_empty();
+        ended.destroy_empty();
+        senders.destroy_empty();
+        senders_ended.destroy_empty();
+    }
+}
+
+/// All of them.
+pub(crate) struct Lists {
+    pub(crate) crew: CrewLists,
+    pub(crate) ends: EndLists,
+}
+
+impl Lists {
+    // Lists with no room. It takes no memory.
+    fn new(alloc: Global) -> Lists
+        ensures { AreEmptyLists result }
+    {
+        let crew = CrewLists {
+            stands: Vec::new(alloc),
+            posts: Vec::new(alloc),
+            consumed: Vec::new(alloc),
+            worked: Vec::new(alloc),
+            idle: Vec::new(alloc),
+        };
+        let ends = EndLists {
+            consumers: Vec::new(alloc),
+            receivers: Vec::new(alloc),
+            spares: Spares::new(alloc),
+        };
+        Lists { crew, ends }
+    }
+
+    // Makes room in each list for what so many workers or consumers have to put there.
+    fn reserve(&mut self, workers: usize, shards: usize) -> Result<(), AllocError>
+        requires empty { AreEmptyLists self.old }
+        requires few { (workers < 256) × (shards < 256) }
+        ensures empty { AreEmptyLists self.new }
+        ensures room { OnOk result (AreLists workers shards self.new) }
+    {
+        self.crew.stands.reserve(shards)?;
+        self.crew.posts.reserve(workers)?;
+        self.crew.consumed.reserve(shards)?;
+        self.crew.worked.reserve(workers)?;
+        self.crew.idle.reserve(workers)?;
+        self.ends.consumers.reserve(shards)?;
+        self.ends.receivers.reserve(workers)?;
+        self.ends.spares.reserve(workers * shards)?;
+        Ok(())
+    }
+
+    // Spends lists that are not to be used.
+    fn spend(self)
+        requires { AreEmptyLists self }
+    {
+        let Lists { crew, ends } = self;
+        let CrewLists {
+            stands,
+            posts,
+            consumed,
+            worked,
+            idle,
+        } = crew;
+        let EndLists {
+            consumers,
+            receivers,
+            spares,
+        } = ends;
+        spares.spend();
+        stands.destroy_empty();
+        posts.destroy_empty();
+        consumed.destroy_empty();
+        worked.destroy_empty();
+        idle.destroy_empty();
+        consumers.destroy_empty();
+        receivers.destroy_empty();
+    }
+}
+
+// The lists for so many workers and consumers. An error where memory is refused; nothing is left then.
+fn make_lists(alloc: Global, workers: u8, shards: u8) -> Result<Lists, AllocError>
+    ensures { IfOk result (λ lists. AreLists workers shards lists) }
+{
+    let mut lists = Lists::new(alloc);
+    match lists.reserve(usize::from(workers), usize::from(shards)) {
+        Ok(()) => Ok(lists),
+        Err(e) => {
+            lists.spend();
+            Err(e)
+        }
+    }
+}
+
+/// All of a house that can't be let go, before anything is dealt.
+pub(crate) struct Stock {
+    pub(crate) rooms: Rooms,
+    pub(crate) lists: Lists,
+    pub(crate) lanes: Lanes,
+    pub(crate) channels: Channels,
+}
+
+/// All that can't be let go of a house with so many workers and shards, whose lanes have room for
+/// `depth` entries. An error where memory is refused; nothing is left then.
+pub(crate) fn make_stock(
+    alloc: Global,
+    workers: u8,
+    shards: u8,
+    depth: usize,
+) -> Result<Stock, AllocError>
+    requires { 0 < depth }
+    ensures { IfOk result (λ stock. AreStock workers shards depth stock) }
+{
+    let rooms = make_rooms(alloc, workers, shards)?;
+    let lists = match make_lists(alloc, workers, shards) {
+        Ok(lists) => lists,
+        Err(e) => {
+            spend_rooms(rooms);
+            return Err(e);
+        }
+    };
+    let lanes = match make_lanes(alloc, shards, depth, workers) {
+        Ok(lanes) => lanes,
+        Err(e) => {
+            spend_rooms(rooms);
+            lists.spend();
+            return Err(e);
+        }
+    };
+    match make_channels(alloc, workers, REPLY_ROOM, shards) {
+        Ok(channels) => Ok(Stock {
+            rooms,
+            lists,
+            lanes,
+            channels,
+        }),
+        Err(e) => {
+            spend_rooms(rooms);
+            lists.spend();
+            abandon_lanes(alloc, lanes);
+            Err(e)
+        }
+    }
+}

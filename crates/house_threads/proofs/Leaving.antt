@@ -1,0 +1,22 @@
+-- What was never handed to a thread, as it was dealt.
+use Rattle.std.proofs.Common.{◌≡◌, ℕ, suc, List, [], ◌∷◌, All, length, ap, arith}
+use Rattle.std.proofs.lemmas.List.Elements.{All-cons, All-nil}
+use Rattle.lane_work.proofs.SeatLaws.{seats_length, senders_length}
+use Rattle.house_floor.specs.Crew.{AllAt, IsPost, IsStand}
+use Rattle.house_floor.specs.declared.floor.Floor.{Floor}
+use Rattle.house_floor.specs.declared.floor.Post.{Post}
+use Rattle.house_floor.specs.declared.floor.Stand.{Stand}
+use Rattle.house_threads.specs.Crew.{IsPostLeft, IsStandLeft}
+
+pub posts_left : (floor : Floor) (n : ℕ) (ps : List Post) → AllAt (IsPost floor) n ps → All (IsPostLeft (length floor.office.lanes.items)) ps
+posts_left floor n [] all = All-nil (IsPostLeft (length floor.office.lanes.items))
+posts_left floor n (p ∷ ps) all =
+    let seats = seats_length floor.office.lanes.items n p.desk.seats.items all.0.seats in
+    let none : length p.room.items ≡ 0 = ap length all.0.empty in
+    All-cons (IsPostLeft (length floor.office.lanes.items)) p ps (omega (arith, seats, none, p.desk.seats.ok.0, p.room.ok.0)) (posts_left floor (suc n) ps all.1)
+
+pub stands_left : (floor : Floor) (workers : ℕ) → length floor.depot.channels.items ≡ workers → (n : ℕ) (ss : List Stand) → AllAt (IsStand floor) n ss → All (IsStandLeft workers) ss
+stands_left floor workers same n [] all = All-nil (IsStandLeft workers)
+stands_left floor workers same n (s ∷ ss) all =
+    let senders = senders_length floor.depot.channels.items n s.stall.senders.items all.0.senders in
+    All-cons (IsStandLeft workers) s ss (omega (arith, senders, same, s.stall.senders.ok.0), all.0.empty) (stands_left floor workers same (suc n) ss all.1)

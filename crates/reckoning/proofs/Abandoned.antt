@@ -1,0 +1,66 @@
+-- What `open` and `run_threads` promise is what a run that came to nothing is abandoned by.
+use Rattle.std.proofs.Common.{◌≡◌, ◌≤◌, ◌<◌, ◌+◌, ◌∙◌, ℕ, suc, List, [], ◌∷◌, All, length, subst, sym, vec_len, arith}
+use Rattle.std.proofs.lemmas.List.Elements.{All-cons, All-nil}
+use Rattle.lane_seats.proofs.RowLaws as lanes
+use Rattle.lane_seats.proofs.SenderRowLaws as channels
+use Rattle.lane_work.specs.declared.consumer.Consumed.{Consumed}
+use Rattle.lane_work.specs.declared.worker.Worked.{Worked}
+use Rattle.house_floor.specs.Crew.{AllAt, IsHouse}
+use Rattle.house_floor.specs.Opening.{AreBaskets}
+use Rattle.house_floor.specs.declared.floor.Floor.{Floor}
+use Rattle.house_floor.specs.declared.opening.Baskets.{Baskets}
+use Rattle.house_threads.specs.Crew.{IsServiceOf, IsSpendable, IsWorkOf, Plans}
+use Rattle.house_threads.specs.declared.run.Ran.{Ran}
+use Rattle.reckoning.proofs.Parts.{some_at}
+
+-- a worker that had its turn has left something of each of its seats
+ended_lengths : (floor : Floor) (plans : Plans) → length floor.depot.channels.items ≡ length plans → (n : ℕ) (ws : List Worked) → AllAt (IsWorkOf floor plans) n ws → n + length ws ≤ length plans
+    → All (λ (w : Worked). vec_len w.ended ≡ length floor.office.lanes.items) ws
+ended_lengths floor plans same n [] all few = All-nil (λ (w : Worked). vec_len w.ended ≡ length floor.office.lanes.items)
+ended_lengths floor plans same n (w ∷ ws) all few =
+    let channel = some_at floor.depot.channels.items n (omega (arith, same, few)) in
+    let plan = some_at plans n (omega (arith, few)) in
+    let own = lanes.ended_hand_length floor.office.lanes.items n w.ended.items (all.0.each channel.0 plan.0 channel.1 plan.1).0 in
+    let o = w.ended.ok.0 in
+    All-cons (λ (w : Worked). vec_len w.ended ≡ length floor.office.lanes.items) w ws (omega (arith, own, o)) (ended_lengths floor plans same (suc n) ws all.1 (omega (arith, few)))
+
+-- the same of a consumer
+senders_lengths : (floor : Floor) (n : ℕ) (cs : List Consumed) → AllAt (IsServiceOf floor) n cs → n + length cs ≤ length floor.office.lanes.items
+    → All (λ (c : Consumed). vec_len c.senders ≡ length floor.depot.channels.items) cs
+senders_lengths floor n [] all few = All-nil (λ (c : Consumed). vec_len c.senders ≡ length floor.depot.channels.items)
+senders_lengths floor n (c ∷ cs) all few =
+    let lane = some_at floor.office.lanes.items n (omega (arith, few)) in
+    let own = channels.ended_hand_length floor.depot.channels.items n c.senders.items (all.0.each lane.0 lane.1).2.senders in
+    let o = c.senders.ok.0 in
+    All-cons (λ (c : Consumed). vec_len c.senders ≡ length floor.depot.channels.items) c cs (omega (arith, own, o)) (senders_lengths floor (suc n) cs all.1 (omega (arith, few)))
+
+-- The clauses of `abandon`, in their order, in a house with so many workers.
+module _ (floor : Floor) (workers : ℕ) (house : IsHouse floor workers) where
+  pub some_lanes : 0 < floor.office.directory.shards → 0 < length floor.office.lanes.items
+  some_lanes some = let e = house.shards in omega (arith, e, some)
+
+  pub some_channels : 0 < workers → 0 < length floor.depot.channels.items
+  some_channels some = let e = house.channels in omega (arith, e, some)
+
+  pub baskets_for : (shards : ℕ) (baskets : Baskets) → floor.office.directory.shards ≡ shards → AreBaskets workers shards baskets
+      → AreBaskets (length floor.depot.channels.items) (length floor.office.lanes.items) baskets
+  baskets_for shards baskets is are =
+      subst (λ n. AreBaskets n (length floor.office.lanes.items) baskets) (sym house.channels)
+      (subst (λ n. AreBaskets workers n baskets) (sym is ∙ house.shards) are)
+
+  pub left_for : (ran : Ran) → IsSpendable floor workers ran → IsSpendable floor (length floor.depot.channels.items) ran
+  left_for ran left = subst (λ n. IsSpendable floor n ran) (sym house.channels) left
+
+  pub worked_for : (plans : Plans) (ran : Ran) → length plans ≡ workers → AllAt (IsWorkOf floor plans) 0 ran.worked.items → IsSpendable floor workers ran
+      → All (λ (w : Worked). vec_len w.ended ≡ length floor.office.lanes.items) ran.worked.items
+  worked_for plans ran same all left =
+      let each = left.each_worker in
+      let o = ran.worked.ok.0 in
+      ended_lengths floor plans (house.channels ∙ sym same) 0 ran.worked.items all (omega (arith, each, o, same))
+
+  pub consumed_for : (ran : Ran) → AllAt (IsServiceOf floor) 0 ran.consumed.items → IsSpendable floor workers ran
+      → All (λ (c : Consumed). vec_len c.senders ≡ length floor.depot.channels.items) ran.consumed.items
+  consumed_for ran all left =
+      let each = left.each_lane in
+      let o = ran.consumed.ok.0 in
+      senders_lengths floor 0 ran.consumed.items all (omega (arith, each, o))

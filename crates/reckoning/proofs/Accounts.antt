@@ -1,0 +1,138 @@
+-- Each worker's account, said of what was taken of the queues.
+use Rattle.std.proofs.Common.{◌≡◌, ◌<◌, ◌+◌, ◌∙◌, ℕ, zero, suc, true, false, Bool, List, [], ◌∷◌, All, Option, None, Some, Vec, length, map, slice_get, slice_index_or, refl, sym, ap, subst, arith}
+use Rattle.std.specs.Global.{Global}
+use Rattle.std.proofs.lemmas.List.Elements.{All-cons, All-nil, All-head, All-tail}
+use Rattle.std.proofs.lemmas.Option.{get_or_from_slice_get}
+use Rattle.delivery_token.specs.declared.Job.{Job}
+use Rattle.delivery_token.specs.declared.log.Noted.{Noted}
+use Rattle.shard_queue.specs.declared.lane.Entry.{Entry}
+use Rattle.shard_queue.specs.declared.queue.Closed.{Closed}
+use Rattle.shard_queue.specs.declared.queue.ConsumerSeat.{ConsumerSeat}
+use Rattle.shard_queue.specs.declared.queue.Ended.{Ended}
+use Rattle.shard_queue.specs.declared.queue.ShardQueue.{ShardQueue}
+use Rattle.shard_queue.specs.declared.reply.ReplyClosed.{ReplyClosed}
+use Rattle.shard_queue.specs.declared.reply.SenderEnded.{SenderEnded}
+use Rattle.shard_queue.specs.Lane.{of}
+use Rattle.shard_queue.specs.Reply.{received, reply_history}
+use Rattle.shard_queue.specs.Seats.{got, history, said}
+use Rattle.lane_work.specs.Account.{Account, Premises}
+use Rattle.lane_work.specs.Consuming.{items_of}
+use Rattle.lane_work.specs.Speaking.{premises_of}
+use Rattle.lane_work.specs.declared.consumer.Consumed.{Consumed}
+use Rattle.lane_work.specs.declared.worker.Fate.{Fate}
+use Rattle.lane_work.specs.declared.worker.Fate.TheVariants as fates
+use Rattle.lane_work.specs.declared.worker.Worked.{Worked}
+use Rattle.lane_work.proofs.HistoryLaws.{account_of_history}
+use Rattle.lane_seats.specs.Rows.{AllIn, AreIn}
+use Rattle.lane_seats.proofs.CloseLaws as lanes
+use Rattle.lane_seats.proofs.ChannelCloseLaws as channels
+use Rattle.house_floor.specs.Crew.{AllAt}
+use Rattle.house_floor.specs.declared.floor.Floor.{Floor}
+use Rattle.house_threads.specs.Crew.{IsServiceOf, IsWorkOf, Plans}
+use Rattle.reckoning.specs.Closing.{AreChannelsClosedWith, AreClosedWith}
+use Rattle.reckoning.specs.Gathered.{fault_of_consumer, fault_of_fate}
+use Rattle.reckoning.proofs.Parts.{copies_of, some_at}
+
+-- ---- by their places
+
+pub at_place : {A : Type 0} (P : ℕ → A → Type 0) (n k : ℕ) (xs : List A) (x : A) → AllAt P n xs → slice_get xs k ≡ Some x → P (n + k) x
+at_place P n k [] x all is = absurd (cc)
+at_place P n zero (y ∷ xs) x all is =
+    let same : y ≡ x = cc in
+    let e : n ≡ n + 0 = omega arith in
+    subst (λ i. P i x) e (subst (P n) same all.0)
+at_place P n (suc k) (y ∷ xs) x all is =
+    let e : suc n + k ≡ n + suc k = omega arith in
+    subst (λ i. P i x) e (at_place P (suc n) k xs x all.1 is)
+
+pub in_at : {A : Type 0} (f : A → List (Ended Job)) (xs : List A) (lists : List (List (Ended Job))) (k : ℕ) (x : A) → AllIn (map f xs) lists → slice_get xs k ≡ Some x → AreIn (f x) lists
+in_at f [] lists k x all is = absurd (cc)
+in_at f (y ∷ xs) lists zero x all is =
+    let same : y ≡ x = cc in
+    subst (λ z. AreIn (f z) lists) same all.0
+in_at f (y ∷ xs) lists (suc k) x all is = in_at f xs lists k x all.1 is
+
+pub all_at : {A : Type 0} (P : A → Type 0) (xs : List A) (k : ℕ) (x : A) → All P xs → slice_get xs k ≡ Some x → P x
+all_at P [] k x all is = absurd (cc)
+all_at P (y ∷ xs) zero x all is = let same : y ≡ x = cc in subst P same (All-head P y xs all)
+all_at P (y ∷ xs) (suc k) x all is = all_at P xs k x (All-tail P y xs all) is
+
+pub mapped_at : {A B : Type 0} (f : A → B) (xs : List A) (k : ℕ) (x : A) (d : B) → slice_get xs k ≡ Some x → slice_index_or (map f xs) k d ≡ f x
+mapped_at f [] k x d is = absurd (cc)
+mapped_at f (y ∷ xs) zero x d is = let same : y ≡ x = cc in ap f same
+mapped_at f (y ∷ xs) (suc k) x d is = mapped_at f xs k x d is
+
+-- ---- faults that weren't
+
+pub whole_of : (f : Fate) → fault_of_fate f ≡ None → f ≡ fates.Whole
+whole_of fates.Whole is = refl
+whole_of fates.NotBegun is = absurd (cc)
+whole_of fates.NoMemory is = absurd (cc)
+whole_of fates.Torn is = absurd (cc)
+
+-- ---- accounts
+
+-- What each worker's connections came to, where these were its replies and its log.
+abbrev pub HasAccount : (floor : Floor) (plans : Plans) (replies : List (List (List ℕ))) (notes : List (List Noted)) (answers : List (List (Entry Noted))) (histories : List (List (Entry Job))) → ℕ → Type 0
+HasAccount floor plans replies notes answers histories p =
+    Account (premises_of floor.office) p (slice_index_or (map (λ (w : Vec (Vec ℕ Global) Global). map (λ b. b.items) w.items) plans) p []) (slice_index_or replies p []) (slice_index_or notes p [])
+    (slice_index_or answers p []) (map (of p) histories)
+
+module _ (floor : Floor) (plans : Plans) (same : length floor.depot.channels.items ≡ length plans) (ws : List Worked) (all : AllAt (IsWorkOf floor plans) 0 ws) (count : length ws ≡ length plans)
+    (fates : All (λ w. fault_of_fate w.fate ≡ None) ws) where
+  pub account_of : (seats : List (ConsumerSeat Job)) (closed : List (Closed Job)) → AreClosedWith floor.office.lanes.items (map (λ w. w.ended.items) ws) seats closed
+      → (hands : List (List (SenderEnded Noted))) (replied : List (ReplyClosed Noted)) → AreChannelsClosedWith floor.depot.channels.items hands (map (λ w. w.receiver) ws) replied
+      → (p : ℕ) → p < length plans
+      → HasAccount floor plans (map (λ (w : Worked). map (λ b. b.items) w.replies.items) ws) (map (λ (w : Worked). w.log.notes) ws) (map reply_history replied) (map history closed) p
+  account_of seats closed are hands replied heard p under =
+      let w = some_at ws p (omega (arith, under, count)) in
+      let channel = some_at floor.depot.channels.items p (omega (arith, same, under)) in
+      let plan = some_at plans p under in
+      let here = at_place (IsWorkOf floor plans) 0 p ws w.0 all w.1 in
+      let e : 0 + p ≡ p = omega arith in
+      let work : IsWorkOf floor plans p w.0 = subst (λ i. IsWorkOf floor plans i w.0) e here in
+      let worked = work.each channel.0 plan.0 channel.1 plan.1 in
+      let account = worked.3 (whole_of w.0.fate (all_at (λ (v : Worked). fault_of_fate v.fate ≡ None) ws p w.0 fates w.1)) in
+      let within = in_at (λ (v : Worked). v.ended.items) ws are.0 p w.0 are.1 w.1 in
+      let carried = account_of_history (premises_of floor.office) p (map (λ b. b.items) plan.0.items) (map (λ b. b.items) w.0.replies.items) w.0.log.notes (received w.0.receiver)
+      floor.office.lanes.items w.0.ended.items (map history closed) worked.0 (lanes.are_heard are.2 w.0.ended.items within) account in
+      let a = sym (mapped_at (λ (v : Vec (Vec ℕ Global) Global). map (λ b. b.items) v.items) plans p plan.0 [] plan.1) in
+      let b = sym (mapped_at (λ (v : Worked). map (λ b. b.items) v.replies.items) ws p w.0 [] w.1) in
+      let c = sym (mapped_at (λ (v : Worked). v.log.notes) ws p w.0 [] w.1) in
+      let d = sym (ap (λ xs. slice_index_or xs p []) (channels.histories_taken heard.2 ∙ twice ws) ∙ mapped_at (λ (v : Worked). received v.receiver) ws p w.0 [] w.1) in
+      subst (λ x. Account (premises_of floor.office) p x (slice_index_or (map (λ (v : Worked). map (λ b. b.items) v.replies.items) ws) p []) (slice_index_or (map (λ (v : Worked). v.log.notes) ws) p [])
+      (slice_index_or (map reply_history replied) p []) (map (of p) (map history closed))) a
+      (subst (λ x. Account (premises_of floor.office) p (map (λ b. b.items) plan.0.items) x (slice_index_or (map (λ (v : Worked). v.log.notes) ws) p [])
+      (slice_index_or (map reply_history replied) p []) (map (of p) (map history closed))) b
+      (subst (λ x. Account (premises_of floor.office) p (map (λ b. b.items) plan.0.items) (map (λ b. b.items) w.0.replies.items) x
+      (slice_index_or (map reply_history replied) p []) (map (of p) (map history closed))) c
+      (subst (λ x. Account (premises_of floor.office) p (map (λ b. b.items) plan.0.items) (map (λ b. b.items) w.0.replies.items) w.0.log.notes x (map (of p) (map history closed))) d carried)))
+    where
+      twice : (vs : List Worked) → map received (map (λ (v : Worked). v.receiver) vs) ≡ map (λ (v : Worked). received v.receiver) vs
+      twice [] = refl
+      twice (v ∷ vs) = ap (λ xs. received v.receiver ∷ xs) (twice vs)
+
+-- ---- copies
+
+pub kept_of : (cs : List Consumed) → All (λ c. fault_of_consumer c ≡ None) cs → All (λ c. c.kept ≡ true) cs
+kept_of [] all = All-nil (λ (c : Consumed). c.kept ≡ true)
+kept_of (c ∷ cs) all =
+    All-cons (λ (d : Consumed). d.kept ≡ true) c cs (by_cases c.kept refl) (kept_of cs (All-tail (λ (d : Consumed). fault_of_consumer d ≡ None) c cs all))
+  where
+    by_cases : (b : Bool) → c.kept ≡ b → c.kept ≡ true
+    by_cases true is = is
+    by_cases false is =
+        let none = All-head (λ (d : Consumed). fault_of_consumer d ≡ None) c cs all in
+        absurd (cc)
+
+-- what the consumers kept is what was taken
+pub copies_taken : (floor : Floor) (cs : List Consumed) (closed : List (Closed Job)) (hands : List (List (Ended Job)))
+    → AllAt (IsServiceOf floor) 0 cs → length cs ≡ length floor.office.lanes.items → All (λ c. fault_of_consumer c ≡ None) cs
+    → AreClosedWith floor.office.lanes.items hands (map (λ c. c.seat) cs) closed
+    → map (λ c. c.copies.items) cs ≡ map items_of (map history closed)
+copies_taken floor cs closed hands all count services are =
+    copies_of floor 0 cs all (omega (arith, count)) (kept_of cs services) ∙ sym (ap (λ xs. map items_of xs) (lanes.histories_taken are.2) ∙ thrice cs)
+  where
+    thrice : (ds : List Consumed) → map items_of (map got (map (λ (c : Consumed). c.seat) ds)) ≡ map (λ (c : Consumed). items_of (got c.seat)) ds
+    thrice [] = refl
+    thrice (d ∷ ds) = ap (λ xs. items_of (got d.seat) ∷ xs) (thrice ds)

@@ -1,0 +1,7 @@
+pub mod Laying
+pub mod Parts
+pub mod Hands
+pub mod Accounts
+pub mod Settled
+pub mod Spent
+pub mod Abandoned

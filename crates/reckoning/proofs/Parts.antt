@@ -1,0 +1,83 @@
+-- What the workers and consumers promise of themselves, said of their parts in lists of their own.
+use Rattle.std.proofs.Common.{◌≡◌, ◌<◌, ◌+◌, ◌∙◌, ℕ, zero, suc, true, List, [], ◌∷◌, All, Some, Vec, length, map, drop, slice_get, refl, sym, ap, subst, arith}
+use Rattle.std.specs.Global.{Global}
+use Rattle.std.proofs.lemmas.List.Elements.{All-head, All-tail}
+use Rattle.delivery_token.specs.declared.Job.{Job}
+use Rattle.delivery_token.specs.declared.log.Noted.{Noted}
+use Rattle.shard_queue.specs.declared.ends.ReplyChannel.{ReplyChannel}
+use Rattle.shard_queue.specs.declared.queue.ShardQueue.{ShardQueue}
+use Rattle.shard_queue.specs.Seats.{numbers}
+use Rattle.shard_queue.specs.Seats.{got}
+use Rattle.lane_work.specs.Consuming.{items_of}
+use Rattle.lane_work.specs.declared.consumer.Consumed.{Consumed}
+use Rattle.lane_work.specs.declared.worker.Worked.{Worked}
+use Rattle.lane_seats.specs.Rows.{AreEndedHands}
+use Rattle.lane_seats.specs.Rows as rows
+use Rattle.lane_seats.specs.SenderRows.{AreReceivers, AreSenderEndedHands}
+use Rattle.house_floor.specs.Crew.{AllAt}
+use Rattle.house_floor.specs.declared.floor.Floor.{Floor}
+use Rattle.house_threads.specs.Crew.{IsServiceOf, IsWorkOf, Plans}
+
+-- an element at each place below the end
+pub some_at : {A : Type 0} (xs : List A) (n : ℕ) → n < length xs → (x : A) × (slice_get xs n ≡ Some x)
+some_at [] n under = absurd (omega arith)
+some_at (x ∷ xs) zero under = (x, refl)
+some_at (x ∷ xs) (suc n) under = some_at xs n (omega arith)
+
+-- what is left from a place on begins with the element there
+pub from_here : {A : Type 0} (xs : List A) (n : ℕ) (x : A) → slice_get xs n ≡ Some x → drop n xs ≡ x ∷ drop (suc n) xs
+from_here [] n x is = absurd (cc)
+from_here (y ∷ xs) zero x is = cc
+from_here (y ∷ xs) (suc n) x is = from_here xs n x is
+
+-- nothing is left behind the end
+pub past_all : {A : Type 0} (xs : List A) (n : ℕ) → length xs ≡ n → drop n xs ≡ []
+past_all [] n is = let e : n ≡ 0 = omega (arith, is) in ap (λ k. drop k []) e
+past_all (x ∷ xs) zero is = absurd (cc)
+past_all (x ∷ xs) (suc n) is = past_all xs n (omega (arith, is))
+
+module _ (floor : Floor) (plans : Plans) (same : length floor.depot.channels.items ≡ length plans) where
+  pub ended_of : (n : ℕ) (ws : List Worked) → AllAt (IsWorkOf floor plans) n ws → n + length ws ≡ length plans → AreEndedHands floor.office.lanes.items n (map (λ w. w.ended.items) ws)
+  ended_of n [] all count = tt
+  ended_of n (w ∷ ws) all count =
+      let channel = some_at floor.depot.channels.items n (omega (arith, same, count)) in
+      let plan = some_at plans n (omega (arith, count)) in
+      ((all.0.each channel.0 plan.0 channel.1 plan.1).0, ended_of (suc n) ws all.1 (omega (arith, count)))
+
+  pub receivers_of : (n : ℕ) (ws : List Worked) → AllAt (IsWorkOf floor plans) n ws → n + length ws ≡ length plans → AreReceivers (drop n floor.depot.channels.items) (map (λ w. w.receiver) ws)
+  receivers_of n [] all count = subst (λ cs. AreReceivers cs []) (sym (past_all floor.depot.channels.items n (omega (arith, same, count)))) tt
+  receivers_of n (w ∷ ws) all count =
+      let channel = some_at floor.depot.channels.items n (omega (arith, same, count)) in
+      let plan = some_at plans n (omega (arith, count)) in
+      subst (λ cs. AreReceivers cs (w.receiver ∷ map (λ v. v.receiver) ws)) (sym (from_here floor.depot.channels.items n channel.0 channel.1))
+      ((all.0.each channel.0 plan.0 channel.1 plan.1).1, receivers_of (suc n) ws all.1 (omega (arith, count)))
+
+  pub seats_of : (n : ℕ) (ws : List Worked) → AllAt (IsWorkOf floor plans) n ws → n + length ws ≡ length plans → map (λ w. w.log.seat) ws ≡ numbers n (length ws)
+  seats_of n [] all count = refl
+  seats_of n (w ∷ ws) all count =
+      let channel = some_at floor.depot.channels.items n (omega (arith, same, count)) in
+      let plan = some_at plans n (omega (arith, count)) in
+      ap (λ s. s ∷ map (λ v. v.log.seat) ws) (all.0.each channel.0 plan.0 channel.1 plan.1).2 ∙ ap (λ ss. n ∷ ss) (seats_of (suc n) ws all.1 (omega (arith, count)))
+
+module _ (floor : Floor) where
+  pub consumers_of : (n : ℕ) (cs : List Consumed) → AllAt (IsServiceOf floor) n cs → n + length cs ≡ length floor.office.lanes.items → rows.AreConsumers (drop n floor.office.lanes.items) (map (λ c. c.seat) cs)
+  consumers_of n [] all count = subst (λ qs. rows.AreConsumers qs []) (sym (past_all floor.office.lanes.items n (omega (arith, count)))) tt
+  consumers_of n (c ∷ cs) all count =
+      let lane = some_at floor.office.lanes.items n (omega (arith, count)) in
+      subst (λ qs. rows.AreConsumers qs (c.seat ∷ map (λ d. d.seat) cs)) (sym (from_here floor.office.lanes.items n lane.0 lane.1))
+      ((all.0.each lane.0 lane.1).2.seat, consumers_of (suc n) cs all.1 (omega (arith, count)))
+
+  pub sender_hands_of : (n : ℕ) (cs : List Consumed) → AllAt (IsServiceOf floor) n cs → n + length cs ≡ length floor.office.lanes.items → AreSenderEndedHands floor.depot.channels.items n (map (λ c. c.senders.items) cs)
+  sender_hands_of n [] all count = tt
+  sender_hands_of n (c ∷ cs) all count =
+      let lane = some_at floor.office.lanes.items n (omega (arith, count)) in
+      ((all.0.each lane.0 lane.1).2.senders, sender_hands_of (suc n) cs all.1 (omega (arith, count)))
+
+  -- where each kept all that it took, the copies are those of what was taken
+  pub copies_of : (n : ℕ) (cs : List Consumed) → AllAt (IsServiceOf floor) n cs → n + length cs ≡ length floor.office.lanes.items → All (λ c. c.kept ≡ true) cs
+      → map (λ c. c.copies.items) cs ≡ map (λ c. items_of (got c.seat)) cs
+  copies_of n [] all count kept = refl
+  copies_of n (c ∷ cs) all count kept =
+      let lane = some_at floor.office.lanes.items n (omega (arith, count)) in
+      ap (λ xs. xs ∷ map (λ d. d.copies.items) cs) ((all.0.each lane.0 lane.1).2.kept (All-head (λ (d : Consumed). d.kept ≡ true) c cs kept))
+      ∙ ap (λ xss. items_of (got c.seat) ∷ xss) (copies_of (suc n) cs all.1 (omega (arith, count)) (All-tail (λ (d : Consumed). d.kept ≡ true) c cs kept))

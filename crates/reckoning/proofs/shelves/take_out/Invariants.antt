@@ -1,0 +1,7 @@
+use Rattle.std.proofs.Common.{◌≡◌, ◌+◌, length}
+use Rattle.reckoning.proofs.shelves.take_out.Given as goal
+
+abbrev pub invariant-loop-behind : goal.invariant-loop-behind
+invariant-loop-behind l =
+    (length l.accepted.items + length l.behind-iterator.rest.items ≡ length l.fn.mailboxes.items)
+    × (length l.texts.items + length l.behind-iterator.rest.items ≡ length l.fn.mailboxes.items)

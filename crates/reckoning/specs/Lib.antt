@@ -1,0 +1,4 @@
+pub mod Gathered
+pub mod Closing
+pub mod Settling
+pub mod Spending

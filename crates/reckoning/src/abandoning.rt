@@ -1,0 +1,316 @@
+//! A run that came to nothing is spent: all seats, whatever became of them, with their queues. No report
+//! is made of it.
+
+ghost use Rattle.std.specs.Prelude.{◌≡◌, ◌<◌, ◌≤◌, ◌+◌, [], All, length, sum_by, vec_len, vec_capacity};
+ghost use Rattle.house_floor.specs.Opening.{AreBaskets};
+ghost use Rattle.house_threads.specs.Crew.{IsSpendable};
+ghost use Rattle.reckoning.specs.Spending.{HasGrown};
+
+use crate::remains::{Remains, remains_of};
+use delivery_token::{Job, Noted};
+use house_floor::{Baskets, Floor, Post, Spares, Stand};
+use house_threads::Ran;
+use lane_seats::spend_lists;
+use lane_work::{Consumed, Desk, Stall, Worked};
+use shard_queue::{
+    ConsumerSeat, Ended, ProducerSeat, ReceiverSeat, ReplyChannel, SenderEnded, SenderSeat,
+    ShardQueue,
+};
+use std::alloc::Global;
+
+// Moves all of a list into another, which has room for it.
+fn pour<T>(mut from: Vec<T>, into: &mut Vec<T>)
+    requires { vec_len into.old + vec_len from ≤ vec_capacity into.old }
+    ensures { HasGrown (vec_len from) into.old into.new }
+{
+    while let Some(one) = from.pop() {
+        into.push_reserved(one);
+    }
+    from.destroy_empty();
+}
+
+// Takes apart a post that never had a thread.
+fn clear_post(
+    post: Post,
+    receivers: &mut Vec<ReceiverSeat<Noted>>,
+    seats: &mut Vec<ProducerSeat<Job>>,
+    ended: &mut Vec<Ended<Job>>,
+)
+    requires receivers { vec_len receivers.old < vec_capacity receivers.old }
+    requires seats { vec_len seats.old + vec_len post.desk.seats ≤ vec_capacity seats.old }
+    requires ended { vec_len ended.old + vec_len post.room ≤ vec_capacity ended.old }
+    ensures receivers { HasGrown 1 receivers.old receivers.new }
+    ensures seats { HasGrown (vec_len post.desk.seats) seats.old seats.new }
+    ensures ended { HasGrown (vec_len post.room) ended.old ended.new }
+{
+    let Post { desk, room } = post;
+    let Desk {
+        number: _,
+        seats: live,
+        receiver,
+        ends: _,
+    } = desk;
+    receivers.push_reserved(receiver);
+    pour(live, seats);
+    pour(room, ended);
+}
+
+// The same of all of them.
+fn clear_posts(
+    mut posts: Vec<Post>,
+    receivers: &mut Vec<ReceiverSeat<Noted>>,
+    seats: &mut Vec<ProducerSeat<Job>>,
+    ended: &mut Vec<Ended<Job>>,
+)
+    requires receivers { vec_len receivers.old + vec_len posts ≤ vec_capacity receivers.old }
+    requires seats { vec_len seats.old + sum_by (λ p. vec_len p.desk.seats) posts.items ≤ vec_capacity seats.old }
+    requires ended { vec_len ended.old + sum_by (λ p. vec_len p.room) posts.items ≤ vec_capacity ended.old }
+    ensures receivers { HasGrown (vec_len posts) receivers.old receivers.new }
+    ensures ended { HasGrown (sum_by (λ p. vec_len p.room) posts.items) ended.old ended.new }
+{
+    while let Some(post) = posts.pop() {
+        clear_post(post, receivers, seats, ended);
+    }
+    posts.destroy_empty();
+}
+
+// Takes apart what a worker left.
+fn clear_worker(
+    worked: Worked,
+    receivers: &mut Vec<ReceiverSeat<Noted>>,
+    ended: &mut Vec<Ended<Job>>,
+)
+    requires receivers { vec_len receivers.old < vec_capacity receivers.old }
+    requires ended { vec_len ended.old + vec_len worked.ended ≤ vec_capacity ended.old }
+    ensures receivers { HasGrown 1 receivers.old receivers.new }
+    ensures ended { HasGrown (vec_len worked.ended) ended.old ended.new }
+{
+    let Worked {
+        ended: own,
+        receiver,
+        replies: _,
+        log: _,
+        fate: _,
+    } = worked;
+    receivers.push_reserved(receiver);
+    pour(own, ended);
+}
+
+// The same of all of them.
+fn clear_workers(
+    mut worked: Vec<Worked>,
+    receivers: &mut Vec<ReceiverSeat<Noted>>,
+    ended: &mut Vec<Ended<Job>>,
+)
+    requires receivers { vec_len receivers.old + vec_len worked ≤ vec_capacity receivers.old }
+    requires ended { vec_len ended.old + sum_by (λ w. vec_len w.ended) worked.items ≤ vec_capacity ended.old }
+    ensures receivers { HasGrown (vec_len worked) receivers.old receivers.new }
+{
+    while let Some(one) = worked.pop() {
+        clear_worker(one, receivers, ended);
+    }
+    worked.destroy_empty();
+}
+
+// Takes apart a stand that never had a thread.
+fn clear_stand(
+    stand: Stand,
+    seats: &mut Vec<ConsumerSeat<Job>>,
+    senders: &mut Vec<SenderSeat<Noted>>,
+)
+    requires seats { vec_len seats.old < vec_capacity seats.old }
+    requires senders { vec_len senders.old + vec_len stand.stall.senders ≤ vec_capacity senders.old }
+    requires room { stand.room.items ≡ [] }
+    ensures seats { HasGrown 1 seats.old seats.new }
+    ensures senders { HasGrown (vec_len stand.stall.senders) senders.old senders.new }
+{
+    let Stand { stall, room } = stand;
+    let Stall {
+        shard: _,
+        seat,
+        senders: live,
+        bell: _,
+    } = stall;
+    seats.push_reserved(seat);
+    pour(live, senders);
+    room.destroy_empty();
+}
+
+// The same of all of them.
+fn clear_stands(
+    mut stands: Vec<Stand>,
+    seats: &mut Vec<ConsumerSeat<Job>>,
+    senders: &mut Vec<SenderSeat<Noted>>,
+)
+    requires seats { vec_len seats.old + vec_len stands ≤ vec_capacity seats.old }
+    requires senders { vec_len senders.old + sum_by (λ s. vec_len s.stall.senders) stands.items ≤ vec_capacity senders.old }
+    requires rooms { All (λ s. s.room.items ≡ []) stands.items }
+    ensures seats { HasGrown (vec_len stands) seats.old seats.new }
+{
+    while let Some(stand) = stands.pop() {
+        clear_stand(stand, seats, senders);
+    }
+    stands.destroy_empty();
+}
+
+// Takes apart what a consumer left.
+fn clear_consumer(
+    consumed: Consumed,
+    seats: &mut Vec<ConsumerSeat<Job>>,
+    ended: &mut Vec<SenderEnded<Noted>>,
+)
+    requires seats { vec_len seats.old < vec_capacity seats.old }
+    requires ended { vec_len ended.old + vec_len consumed.senders ≤ vec_capacity ended.old }
+    ensures seats { HasGrown 1 seats.old seats.new }
+    ensures ended { HasGrown (vec_len consumed.senders) ended.old ended.new }
+{
+    let Consumed {
+        seat,
+        senders,
+        copies: _,
+        kept: _,
+        torn: _,
+    } = consumed;
+    seats.push_reserved(seat);
+    pour(senders, ended);
+}
+
+// The same of all of them.
+fn clear_consumers(
+    mut consumed: Vec<Consumed>,
+    seats: &mut Vec<ConsumerSeat<Job>>,
+    ended: &mut Vec<SenderEnded<Noted>>,
+)
+    requires seats { vec_len seats.old + vec_len consumed ≤ vec_capacity seats.old }
+    requires ended { vec_len ended.old + sum_by (λ c. vec_len c.senders) consumed.items ≤ vec_capacity ended.old }
+    ensures seats { HasGrown (vec_len consumed) seats.old seats.new }
+{
+    while let Some(one) = consumed.pop() {
+        clear_consumer(one, seats, ended);
+    }
+    consumed.destroy_empty();
+}
+
+// Spends all lanes, with one consumer's end for each and with all seats that are there. A lane that is
+// abandoned asks no seat whose it is, so the first takes them all.
+fn abandon_lanes(
+    alloc: Global,
+    mut lanes: Vec<ShardQueue<Job>>,
+    mut consumers: Vec<ConsumerSeat<Job>>,
+    seats: Vec<ProducerSeat<Job>>,
+    ended: Vec<Ended<Job>>,
+)
+    requires some { 0 < vec_len lanes }
+    requires consumers { vec_len consumers ≡ vec_len lanes }
+{
+    let first = lanes.remove(0);
+    first.abandon(seats, ended, consumers.remove(0));
+    while let Some(lane) = lanes.pop() {
+        lane.abandon(Vec::new(alloc), Vec::new(alloc), consumers.remove(0));
+    }
+    lanes.destroy_empty();
+    consumers.destroy_empty();
+}
+
+// The same of all channels.
+fn abandon_channels(
+    alloc: Global,
+    mut channels: Vec<ReplyChannel<Noted>>,
+    mut receivers: Vec<ReceiverSeat<Noted>>,
+    seats: Vec<SenderSeat<Noted>>,
+    ended: Vec<SenderEnded<Noted>>,
+)
+    requires some { 0 < vec_len channels }
+    requires receivers { vec_len receivers ≡ vec_len channels }
+{
+    let first = channels.remove(0);
+    first.abandon(seats, ended, receivers.remove(0));
+    while let Some(channel) = channels.pop() {
+        channel.abandon(Vec::new(alloc), Vec::new(alloc), receivers.remove(0));
+    }
+    channels.destroy_empty();
+    receivers.destroy_empty();
+}
+
+// Room for the seats of all queues.
+struct Ends {
+    consumers: Vec<ConsumerSeat<Job>>,
+    receivers: Vec<ReceiverSeat<Noted>>,
+    spares: Spares,
+}
+
+// The room that is needed here; the other baskets are empty, and are spent.
+fn ends_of(baskets: Baskets) -> Ends
+    requires hands { (baskets.hands.items ≡ []) × (baskets.sender_hands.items ≡ []) }
+    requires lists { All (λ v. v.items ≡ []) baskets.lists.items × All (λ v. v.items ≡ []) baskets.sender_lists.items }
+    ensures consumers { result.consumers ≡ baskets.consumers }
+    ensures receivers { result.receivers ≡ baskets.receivers }
+    ensures spares { result.spares ≡ baskets.spares }
+{
+    let Baskets {
+        hands,
+        lists,
+        sender_hands,
+        sender_lists,
+        consumers,
+        receivers,
+        replies: _,
+        logs: _,
+        copies: _,
+        lanes: _,
+        channels: _,
+        spares,
+    } = baskets;
+    hands.destroy_empty();
+    spend_lists(lists);
+    sender_hands.destroy_empty();
+    spend_lists(sender_lists);
+    Ends {
+        consumers,
+        receivers,
+        spares,
+    }
+}
+
+/// Spends all that is left of a run that came to nothing, whichever of its actors have had a thread.
+/// What waits in a queue is dropped. It takes no memory.
+pub fn abandon(alloc: Global, floor: Floor, ran: Ran, baskets: Baskets)
+    requires lanes { 0 < length floor.office.lanes.items }
+    requires channels { 0 < length floor.depot.channels.items }
+    requires baskets { AreBaskets (length floor.depot.channels.items) (length floor.office.lanes.items) baskets }
+    requires left { IsSpendable floor (length floor.depot.channels.items) ran }
+    requires worked { All (λ w. vec_len w.ended ≡ length floor.office.lanes.items) ran.worked.items }
+    requires consumed { All (λ c. vec_len c.senders ≡ length floor.depot.channels.items) ran.consumed.items }
+{
+    let Remains {
+        directory: _,
+        lanes,
+        channels,
+        mailboxes: _,
+    } = remains_of(floor);
+    let Ran {
+        worked,
+        consumed,
+        said: _,
+        stands,
+        posts,
+        started: _,
+    } = ran;
+    let Ends {
+        mut consumers,
+        mut receivers,
+        spares,
+    } = ends_of(baskets);
+    let Spares {
+        mut seats,
+        mut ended,
+        mut senders,
+        mut senders_ended,
+    } = spares;
+    clear_posts(posts, &mut receivers, &mut seats, &mut ended);
+    clear_workers(worked, &mut receivers, &mut ended);
+    clear_stands(stands, &mut consumers, &mut senders);
+    clear_consumers(consumed, &mut consumers, &mut senders_ended);
+    abandon_lanes(alloc, lanes, consumers, seats, ended);
+    abandon_channels(alloc, channels, receivers, senders, senders_ended);
+}

@@ -1,0 +1,59 @@
+//! What is left of all seats is collected, lane by lane and channel by channel, and each of these is
+//! closed. What the seats' holders did does not belong here.
+
+ghost use Rattle.std.specs.Prelude.{◌≡◌, ◌≤◌, [], MatchOption, map, vec_len, vec_capacity};
+ghost use Rattle.lane_seats.specs.Rooms.{AreRooms};
+ghost use Rattle.lane_seats.specs.Rows.{AreConsumers, AreEndedHands};
+ghost use Rattle.lane_seats.specs.SenderRows.{AreReceivers, AreSenderEndedHands};
+ghost use Rattle.reckoning.specs.Closing.{AreChannelsClosedWith, AreChannelsTornWith, AreClosedWith, AreTornWith};
+
+use delivery_token::{Job, Noted};
+use lane_seats::{close_channels, close_lanes, collect_all, collect_all_senders};
+use shard_queue::{
+    Closed, ConsumerSeat, Ended, ReceiverSeat, ReplyChannel, ReplyClosed, SenderEnded, ShardQueue,
+};
+use std::alloc::Global;
+
+/// Closes each lane with what is left of all workers' seats, a hand for each worker, and with its
+/// consumer's. None just where some lane is torn. `lists` has an empty list for each lane with room for
+/// all workers, `closed` has room for all lanes.
+pub fn close_all_lanes(
+    alloc: Global,
+    lanes: Vec<ShardQueue<Job>>,
+    hands: Vec<Vec<Ended<Job>>>,
+    consumers: Vec<ConsumerSeat<Job>>,
+    mut lists: Vec<Vec<Ended<Job>>>,
+    closed: Vec<Closed<Job>>,
+) -> Option<Vec<Closed<Job>>>
+    requires hands { AreEndedHands lanes.items 0 (map (λ h. h.items) hands.items) }
+    requires consumers { AreConsumers lanes.items consumers.items }
+    requires lists { AreRooms (vec_len lanes) (vec_len hands) lists }
+    requires closed { (closed.items ≡ []) × (vec_len lanes ≤ vec_capacity closed) }
+    ensures { MatchOption result (AreTornWith lanes.items (map (λ h. h.items) hands.items) consumers.items)
+        (λ cs. AreClosedWith lanes.items (map (λ h. h.items) hands.items) consumers.items cs.items) }
+{
+    collect_all(&mut lists, hands);
+    close_lanes(alloc, lanes, lists, consumers, closed)
+}
+
+/// Closes each reply channel with what is left of all consumers' seats, a hand for each consumer, and
+/// with its worker's. None just where some channel is torn. `lists` has an empty list for each channel
+/// with room for all consumers, `closed` has room for all channels.
+pub fn close_all_channels(
+    alloc: Global,
+    channels: Vec<ReplyChannel<Noted>>,
+    hands: Vec<Vec<SenderEnded<Noted>>>,
+    receivers: Vec<ReceiverSeat<Noted>>,
+    mut lists: Vec<Vec<SenderEnded<Noted>>>,
+    closed: Vec<ReplyClosed<Noted>>,
+) -> Option<Vec<ReplyClosed<Noted>>>
+    requires hands { AreSenderEndedHands channels.items 0 (map (λ h. h.items) hands.items) }
+    requires receivers { AreReceivers channels.items receivers.items }
+    requires lists { AreRooms (vec_len channels) (vec_len hands) lists }
+    requires closed { (closed.items ≡ []) × (vec_len channels ≤ vec_capacity closed) }
+    ensures { MatchOption result (AreChannelsTornWith channels.items (map (λ h. h.items) hands.items) receivers.items)
+        (λ cs. AreChannelsClosedWith channels.items (map (λ h. h.items) hands.items) receivers.items cs.items) }
+{
+    collect_all_senders(&mut lists, hands);
+    close_channels(alloc, channels, lists, receivers, closed)
+}

@@ -1,0 +1,148 @@
+//! What the threads left is taken apart, part by part, each part into a list of its own in the order of
+//! the actors. Nothing is closed or compared here.
+
+ghost use Rattle.std.specs.Prelude.{◌≡◌, ◌<◌, ◌++◌, ◌∷◌, [], None, map, vec_len, vec_capacity};
+ghost use Rattle.reckoning.specs.Gathered.{AreConsumers, AreWorkers, IsRoomForConsumers, IsRoomForWorkers, fault_of_consumer, fault_of_fate, graver, gravest};
+
+use delivery_token::{Job, Noted, WorkerLog};
+use lane_work::{Consumed, Fate, Worked};
+use shard_queue::{ConsumerSeat, Ended, ReceiverSeat, SenderEnded};
+
+/// Why what the threads left is no report.
+#[derive(Clone, Copy, Debug, PartialEq, Eq)]
+pub enum Fault {
+    /// A worker never had a thread.
+    Spawn,
+    /// An actor wanted memory.
+    NoMemory,
+    /// A worker heard what it didn't await, or a consumer met a copy that was nobody's.
+    Torn,
+}
+
+/// What the workers left, by their numbers.
+pub struct FromWorkers {
+    pub hands: Vec<Vec<Ended<Job>>>,
+    pub receivers: Vec<ReceiverSeat<Noted>>,
+    pub replies: Vec<Vec<Vec<u8>>>,
+    pub logs: Vec<WorkerLog>,
+}
+
+/// What the consumers left, by their shards.
+pub struct FromConsumers {
+    pub seats: Vec<ConsumerSeat<Job>>,
+    pub hands: Vec<Vec<SenderEnded<Noted>>>,
+    pub copies: Vec<Vec<Job>>,
+}
+
+// The fault of a fate, if it is one.
+fn fault_of(fate: Fate) -> Option<Fault>
+    ensures { result ≡ fault_of_fate fate }
+{
+    match fate {
+        Fate::Whole => None,
+        Fate::NotBegun => Some(Fault::Spawn),
+        Fate::NoMemory => Some(Fault::NoMemory),
+        Fate::Torn => Some(Fault::Torn),
+    }
+}
+
+// The graver of two faults: Spawn before NoMemory, NoMemory before Torn.
+pub(crate) fn graver(one: Option<Fault>, other: Option<Fault>) -> Option<Fault>
+    ensures { result ≡ graver one other }
+{
+    match one {
+        None | Some(Fault::Torn) => match other {
+            None => one,
+            Some(fault) => Some(fault),
+        },
+        Some(Fault::NoMemory) => match other {
+            Some(Fault::Spawn) => other,
+            _ => one,
+        },
+        Some(Fault::Spawn) => one,
+    }
+}
+
+// Lays a worker's parts behind those of the workers before it.
+fn lay_worker(worked: Worked, into: &mut FromWorkers) -> Fate
+    requires hands { vec_len into.old.hands < vec_capacity into.old.hands }
+    requires receivers { vec_len into.old.receivers < vec_capacity into.old.receivers }
+    requires replies { vec_len into.old.replies < vec_capacity into.old.replies }
+    requires logs { vec_len into.old.logs < vec_capacity into.old.logs }
+    ensures hands { (into.new.hands.items ≡ into.old.hands.items ++ worked.ended ∷ []) × (vec_capacity into.new.hands ≡ vec_capacity into.old.hands) }
+    ensures receivers { (into.new.receivers.items ≡ into.old.receivers.items ++ worked.receiver ∷ []) × (vec_capacity into.new.receivers ≡ vec_capacity into.old.receivers) }
+    ensures replies { (into.new.replies.items ≡ into.old.replies.items ++ worked.replies ∷ []) × (vec_capacity into.new.replies ≡ vec_capacity into.old.replies) }
+    ensures logs { (into.new.logs.items ≡ into.old.logs.items ++ worked.log ∷ []) × (vec_capacity into.new.logs ≡ vec_capacity into.old.logs) }
+    ensures fate { result ≡ worked.fate }
+{
+    let Worked {
+        ended,
+        receiver,
+        replies,
+        log,
+        fate,
+    } = worked;
+    into.hands.push_reserved(ended);
+    into.receivers.push_reserved(receiver);
+    into.replies.push_reserved(replies);
+    into.logs.push_reserved(log);
+    fate
+}
+
+/// Takes apart what the workers left; `into` is empty and has room for all. Answers the gravest fault
+/// of a worker, if one has any.
+pub fn gather_workers(mut worked: Vec<Worked>, into: &mut FromWorkers) -> Option<Fault>
+    requires room { IsRoomForWorkers (vec_len worked) into.old }
+    ensures parts { AreWorkers worked.items into.new }
+    ensures fault { result ≡ gravest None (map (λ w. fault_of_fate w.fate) worked.items) }
+{
+    let mut worst = None;
+    for _ in 0..worked.len() {
+        let fate = lay_worker(worked.remove(0), into);
+        worst = graver(worst, fault_of(fate));
+    }
+    worked.destroy_empty();
+    worst
+}
+
+// Lays a consumer's parts behind those of the consumers before it, and answers its fault.
+fn lay_consumer(consumed: Consumed, into: &mut FromConsumers) -> Option<Fault>
+    requires seats { vec_len into.old.seats < vec_capacity into.old.seats }
+    requires hands { vec_len into.old.hands < vec_capacity into.old.hands }
+    requires copies { vec_len into.old.copies < vec_capacity into.old.copies }
+    ensures seats { (into.new.seats.items ≡ into.old.seats.items ++ consumed.seat ∷ []) × (vec_capacity into.new.seats ≡ vec_capacity into.old.seats) }
+    ensures hands { (into.new.hands.items ≡ into.old.hands.items ++ consumed.senders ∷ []) × (vec_capacity into.new.hands ≡ vec_capacity into.old.hands) }
+    ensures copies { (into.new.copies.items ≡ into.old.copies.items ++ consumed.copies ∷ []) × (vec_capacity into.new.copies ≡ vec_capacity into.old.copies) }
+    ensures fault { result ≡ fault_of_consumer consumed }
+{
+    let Consumed {
+        seat,
+        senders,
+        copies,
+        kept,
+        torn,
+    } = consumed;
+    into.seats.push_reserved(seat);
+    into.hands.push_reserved(senders);
+    into.copies.push_reserved(copies);
+    if !kept {
+        return Some(Fault::NoMemory);
+    }
+    if torn { Some(Fault::Torn) } else { None }
+}
+
+/// Takes apart what the consumers left; `into` is empty and has room for all. Answers the gravest fault
+/// of a consumer, if one has any.
+pub fn gather_consumers(mut consumed: Vec<Consumed>, into: &mut FromConsumers) -> Option<Fault>
+    requires room { IsRoomForConsumers (vec_len consumed) into.old }
+    ensures parts { AreConsumers consumed.items into.new }
+    ensures fault { result ≡ gravest None (map fault_of_consumer consumed.items) }
+{
+    let mut worst = None;
+    for _ in 0..consumed.len() {
+        let fault = lay_consumer(consumed.remove(0), into);
+        worst = graver(worst, fault);
+    }
+    consumed.destroy_empty();
+    worst
+}

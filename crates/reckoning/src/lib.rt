@@ -1,0 +1,17 @@
+//! What the threads of a running house left is gathered, each queue is closed, and the mailboxes are
+//! taken out of their locks: only here is it known what lay between the threads. Nothing runs any more;
+//! what a run is told, and what it reports, stands above.
+#![tactic(auto)]
+
+mod abandoning;
+mod close;
+mod gather;
+mod remains;
+mod settling;
+mod shelves;
+
+pub use abandoning::abandon;
+pub use gather::Fault;
+pub use remains::{Remains, remains_of};
+pub use settling::{Books, Closes, settle};
+pub use shelves::{Shelves, is_wanting, said_by_all, take_out};

@@ -1,0 +1,162 @@
+//! The reckoning as a whole: what the threads left is gathered, and all queues are closed with it. What
+//! the mailboxes hold, and how it all agrees, stands above.
+
+ghost use Rattle.std.specs.Prelude.{◌≡◌, IfErr, IfOk, map, vec_len};
+ghost use Rattle.house_floor.specs.Opening.{AreBaskets};
+ghost use Rattle.lane_seats.specs.Rows.{AreConsumers, AreEndedHands};
+ghost use Rattle.lane_seats.specs.SenderRows.{AreReceivers, AreSenderEndedHands};
+ghost use Rattle.reckoning.specs.Settling.{IsSettled, IsWhyNot, IsGathered};
+
+use crate::close::{close_all_channels, close_all_lanes};
+use crate::gather::{Fault, FromConsumers, FromWorkers, gather_consumers, gather_workers, graver};
+use delivery_token::{Job, Noted, WorkerLog};
+use house_floor::Baskets;
+use lane_work::{Consumed, Worked};
+use shard_queue::{Closed, Ended, ReplyChannel, ReplyClosed, SenderEnded, ShardQueue};
+use std::alloc::Global;
+
+/// What was taken of each queue, to its end.
+#[derive(Drop)]
+pub struct Closes {
+    /// Of each shard's lane.
+    pub lanes: Vec<Closed<Job>>,
+    /// Of each worker's reply channel.
+    pub channels: Vec<ReplyClosed<Noted>>,
+}
+
+/// What the threads of a run left, by their numbers, and what passed between them.
+#[derive(Drop)]
+pub struct Books {
+    /// For each worker, for each of its connections, what was replied.
+    pub replies: Vec<Vec<Vec<u8>>>,
+    /// For each worker, the verdicts on its copies, in the order in which they were submitted.
+    pub logs: Vec<WorkerLog>,
+    /// For each consumer, the copies that it took, in order.
+    pub copies: Vec<Vec<Job>>,
+    /// What was taken of each queue.
+    pub closed: Closes,
+}
+
+// What the threads left, taken apart, and room for what comes of the queues.
+struct Gathered {
+    workers: FromWorkers,
+    consumers: FromConsumers,
+    lists: Vec<Vec<Ended<Job>>>,
+    sender_lists: Vec<Vec<SenderEnded<Noted>>>,
+    closed: Closes,
+    // The gravest fault of a worker or a consumer.
+    worst: Option<Fault>,
+}
+
+// Takes apart what all threads left.
+fn gather(worked: Vec<Worked>, consumed: Vec<Consumed>, baskets: Baskets) -> Gathered
+    requires baskets { AreBaskets (vec_len worked) (vec_len consumed) baskets }
+    ensures { IsGathered worked.items consumed.items result }
+{
+    let Baskets {
+        hands,
+        lists,
+        sender_hands,
+        sender_lists,
+        consumers: seats,
+        receivers,
+        replies,
+        logs,
+        copies,
+        lanes,
+        channels,
+        spares,
+    } = baskets;
+    spares.spend();
+    let mut workers = FromWorkers {
+        hands,
+        receivers,
+        replies,
+        logs,
+    };
+    let mut consumers = FromConsumers {
+        seats,
+        hands: sender_hands,
+        copies,
+    };
+    let of_workers = gather_workers(worked, &mut workers);
+    let of_consumers = gather_consumers(consumed, &mut consumers);
+    let worst = graver(of_workers, of_consumers);
+    Gathered {
+        workers,
+        consumers,
+        lists,
+        sender_lists,
+        closed: Closes { lanes, channels },
+        worst,
+    }
+}
+
+/// Closes each lane and each reply channel with what the workers and consumers left, one of each for
+/// each of their own. `before` is a fault that is known already.
+///
+/// Errors: the gravest of the faults that the threads had and of that one, `Spawn` before `NoMemory`
+/// before `Torn`; where there is none, `Torn` if some queue couldn't be closed. All that was given is
+/// spent then.
+pub fn settle(
+    alloc: Global,
+    lanes: Vec<ShardQueue<Job>>,
+    channels: Vec<ReplyChannel<Noted>>,
+    worked: Vec<Worked>,
+    consumed: Vec<Consumed>,
+    baskets: Baskets,
+    before: Option<Fault>,
+) -> Result<Books, Fault>
+    requires counts { (vec_len worked ≡ vec_len channels) × (vec_len consumed ≡ vec_len lanes) }
+    requires hands { AreEndedHands lanes.items 0 (map (λ w. w.ended.items) worked.items) }
+    requires receivers { AreReceivers channels.items (map (λ w. w.receiver) worked.items) }
+    requires consumers { AreConsumers lanes.items (map (λ c. c.seat) consumed.items) }
+    requires senders { AreSenderEndedHands channels.items 0 (map (λ c. c.senders.items) consumed.items) }
+    requires baskets { AreBaskets (vec_len channels) (vec_len lanes) baskets }
+    ensures settled { IfOk result (λ books. IsSettled lanes.items channels.items worked.items consumed.items before books) }
+    ensures fault { IfErr result (IsWhyNot lanes.items channels.items worked.items consumed.items before) }
+{
+    let Gathered {
+        workers,
+        consumers,
+        lists,
+        sender_lists,
+        closed,
+        worst,
+    } = gather(worked, consumed, baskets);
+    let FromWorkers {
+        hands,
+        receivers,
+        replies,
+        logs,
+    } = workers;
+    let FromConsumers {
+        seats,
+        hands: sender_hands,
+        copies,
+    } = consumers;
+    let lanes = close_all_lanes(alloc, lanes, hands, seats, lists, closed.lanes);
+    let channels = close_all_channels(
+        alloc,
+        channels,
+        sender_hands,
+        receivers,
+        sender_lists,
+        closed.channels,
+    );
+    if let Some(fault) = graver(before, worst) {
+        return Err(fault);
+    }
+    let Some(lanes) = lanes else {
+        return Err(Fault::Torn);
+    };
+    let Some(channels) = channels else {
+        return Err(Fault::Torn);
+    };
+    Ok(Books {
+        replies,
+        logs,
+        copies,
+        closed: Closes { lanes, channels },
+    })
+}

@@ -1,0 +1,55 @@
+//! The mailboxes of a run, out of their locks: what each accepted, and what is there. What the threads
+//! said of it stands elsewhere.
+
+ghost use Rattle.std.specs.Prelude.{◌≡◌, IfOk, vec_len};
+ghost use Rattle.reckoning.specs.Settling.{are_said, wants};
+
+use delivery_token::{CopyKey, Text};
+use mailbox::Mailbox;
+use std::alloc::{AllocError, Global};
+use std::sync::Mutex;
+
+/// What the mailboxes hold, by their numbers.
+#[derive(Drop)]
+pub struct Shelves {
+    /// The copies that each accepted, with their UIDs, in the order of the deliveries.
+    pub accepted: Vec<Vec<(CopyKey, u32)>>,
+    /// The messages that are there: UID and text, by rising UIDs.
+    pub texts: Vec<Vec<(u32, Text)>>,
+}
+
+/// What each mailbox accepted, and what is there. The only error is that memory is refused.
+pub fn take_out(alloc: Global, mailboxes: Vec<Mutex<Mailbox>>) -> Result<Shelves, AllocError>
+    ensures counts { IfOk result (λ s. (vec_len s.accepted ≡ vec_len mailboxes) × (vec_len s.texts ≡ vec_len mailboxes)) }
+{
+    let mut accepted = Vec::with_capacity(alloc, mailboxes.len())?;
+    let mut texts = Vec::with_capacity(alloc, mailboxes.len())?;
+    for behind in mailboxes {
+        let mailbox = behind.into_inner();
+        accepted.push(Vec::from_slice(alloc, mailbox.accepted())?)?;
+        texts.push(mailbox.texts(alloc)?)?;
+    }
+    Ok(Shelves { accepted, texts })
+}
+
+/// Whether some session wanted memory.
+pub fn is_wanting(said: &[Result<Vec<u8>, AllocError>]) -> bool
+    ensures { result ≡ wants said.now }
+{
+    said.iter().any(|one| one.is_err())
+}
+
+/// What the sessions said, where each has had memory. The only error is that memory is refused, to a
+/// session or here.
+pub fn said_by_all(
+    alloc: Global,
+    said: Vec<Result<Vec<u8>, AllocError>>,
+) -> Result<Vec<Vec<u8>>, AllocError>
+    ensures { IfOk result (λ all. are_said all.items ≡ said.items) }
+{
+    let mut all = Vec::with_capacity(alloc, said.len())?;
+    for one in said {
+        all.push(one?)?;
+    }
+    Ok(all)
+}
