@@ -1,0 +1,58 @@
+-- The floor of a plan's house.
+use Rattle.std.proofs.Common.{◌≡◌, ◌∙◌, ℕ, List, [], ◌∷◌, All, replicate, length, refl, sym, ap, ap₂, subst}
+use Rattle.std.proofs.lemmas.List.Elements.{All-head, All-tail, All-weaker}
+use Rattle.delivery_token.specs.declared.Job.{Job}
+use Rattle.envelope.specs.Directory.{Directory}
+use Rattle.shard_queue.specs.declared.ends.ReplyChannel.{ReplyChannel}
+use Rattle.delivery_token.specs.declared.log.Noted.{Noted}
+use Rattle.shard_queue.specs.declared.queue.ShardQueue.{ShardQueue}
+use Rattle.shard_queue.specs.Reply.{room_of, senders_of}
+use Rattle.shard_queue.specs.Seats.{capacity_of, producers_of}
+use Rattle.house.specs.Settings.{setup_of}
+use Rattle.lane_work.specs.Account.{Premises}
+use Rattle.lane_work.specs.Copies.{Room, rooms_of}
+use Rattle.house_floor.specs.Crew.{IsHouse}
+use Rattle.house_floor.specs.Opening.{IsFloor, reply_room}
+use Rattle.house_floor.specs.declared.floor.Floor.{Floor}
+use Rattle.house_floor.specs.declared.opening.Sizes.{Sizes}
+use Rattle.house_threads.specs.Crew.{Plans}
+use Rattle.running_house.specs.Agree.{AreSizesFor, IsFloorFor}
+use Rattle.running_house.specs.Plan.{premises_for}
+use Rattle.running_house.specs.declared.plan.Plan.{Plan}
+
+-- lanes of one size have rooms of one size
+pub same_rooms : (depth producers : ℕ) (qs : List (ShardQueue Job)) → All (λ q. (capacity_of q ≡ depth) × (producers_of q ≡ producers)) qs
+    → rooms_of qs ≡ replicate (length qs) (record { producers = producers; places = depth })
+same_rooms depth producers [] all = refl
+same_rooms depth producers (q ∷ qs) all =
+    let here = All-head (λ (x : ShardQueue Job). (capacity_of x ≡ depth) × (producers_of x ≡ producers)) q qs all in
+    let rest = same_rooms depth producers qs (All-tail (λ (x : ShardQueue Job). (capacity_of x ≡ depth) × (producers_of x ≡ producers)) q qs all) in
+    ap₂ (λ (room : Room) (rooms : List Room). room ∷ rooms)
+    (ap (λ n. let r : Room = record { producers = n; places = capacity_of q } in r) here.1 ∙ ap (λ n. let r : Room = record { producers = producers; places = n } in r) here.0) rest
+
+pub floor_for : (plan : Plan) (directory : Directory) (sizes : Sizes) (floor : Floor) → directory ≡ (setup_of plan.config).directory → AreSizesFor plan sizes → IsFloor directory sizes floor → IsFloorFor plan floor
+floor_for plan directory sizes floor same are is =
+    let as_large = All-weaker (λ (q : ShardQueue Job). (capacity_of q ≡ sizes.depth) × (producers_of q ≡ sizes.workers)) (λ q. (capacity_of q ≡ plan.config.depth) × (producers_of q ≡ length plan.workers.items))
+    (λ q h. (h.0 ∙ are.depth, h.1 ∙ are.workers)) floor.office.lanes.items is.lanes in
+    let shards : directory.shards ≡ plan.config.shards = ap (λ d. d.shards) same in
+    let many : length floor.office.lanes.items ≡ plan.config.shards = sym is.house.shards ∙ ap (λ d. d.shards) is.is ∙ shards in
+    let rooms : rooms_of floor.office.lanes.items ≡ replicate plan.config.shards (record { producers = length plan.workers.items; places = plan.config.depth }) =
+    same_rooms plan.config.depth (length plan.workers.items) floor.office.lanes.items as_large
+    ∙ ap (λ n. let rs : List Room = replicate n (record { producers = length plan.workers.items; places = plan.config.depth }) in rs) many in
+    record {
+      house = subst (IsHouse floor) are.workers is.house;
+      premises =
+          ap (λ d. let h : Premises = record { directory = d; rooms = rooms_of floor.office.lanes.items; host = floor.office.host.items; max_message = floor.office.max_message } in h) (is.is ∙ same)
+          ∙ ap (λ rs. let h : Premises = record { directory = (setup_of plan.config).directory; rooms = rs; host = floor.office.host.items; max_message = floor.office.max_message } in h) rooms
+          ∙ ap (λ bs. let h : Premises = record { directory = (setup_of plan.config).directory; rooms = (premises_for plan).rooms; host = bs; max_message = floor.office.max_message } in h) (is.host ∙ are.host)
+          ∙ ap (λ n. let h : Premises = record { directory = (setup_of plan.config).directory; rooms = (premises_for plan).rooms; host = plan.config.host.items; max_message = n } in h) (is.max_message ∙ are.max_message);
+      mailboxes = is.mailboxes ∙ ap (λ d. length d.homes) same;
+      turns = is.turns ∙ are.turns;
+      lanes = as_large;
+      channels = All-weaker (λ (c : ReplyChannel Noted). (room_of c ≡ reply_room) × (senders_of c ≡ directory.shards)) (λ c. (room_of c ≡ reply_room) × (senders_of c ≡ plan.config.shards))
+          (λ c h. (h.0, h.1 ∙ shards)) floor.depot.channels.items is.channels;
+    }
+
+-- it has as many workers as there are of these
+pub house_of : (plan : Plan) (floor : Floor) → IsFloorFor plan floor → (plans : Plans) → plans ≡ plan.workers.items → IsHouse floor (length plans)
+house_of plan floor is plans same = subst (IsHouse floor) (sym (ap length same)) is.house

@@ -1,0 +1,60 @@
+use Rattle.std.proofs.Common.{◌==◌, ◌∙◌, map, sym, ap, subst, arith}
+use Rattle.lane_work.specs.declared.consumer.Consumed.{Consumed}
+use Rattle.lane_work.specs.declared.worker.Worked.{Worked}
+use Rattle.lane_seats.specs.Rows as rows
+use Rattle.lane_seats.specs.SenderRows.{AreReceivers, AreSenderEndedHands}
+use Rattle.reckoning.proofs.Parts.{consumers_of, ended_of, receivers_of, sender_hands_of}
+use Rattle.agreement.specs.Lists.{ListsAgree}
+use Rattle.reckoning.specs.Settling.{IsSettled, are_said}
+use Rattle.running_house.specs.Agree.{accepted_of, notes_of, texts_of}
+use Rattle.running_house.proofs.Moves.{if_ok}
+use Rattle.running_house.proofs.Reports.{agrees}
+use Rattle.running_house.proofs.report.report_of.Goals as goal
+
+pub settle-requires-clause-hands : goal.settle-requires-clause-hands
+settle-requires-clause-hands c =
+    let ws = c.args.ran.worked in
+    let count = c.requires.all.worked in
+    let ok = ws.ok.0 in
+    subst (λ v. rows.AreEndedHands v.items 0 (map (λ (w : Worked). w.ended.items) ws.items)) (sym c.remains_of-directory.ensures.lanes)
+    (ended_of c.args.floor c.args.plan.now.workers.items c.requires.floor.house.channels 0 ws.items c.requires.worked (omega (arith, count, ok)))
+
+pub settle-requires-clause-receivers : goal.settle-requires-clause-receivers
+settle-requires-clause-receivers c =
+    let ws = c.args.ran.worked in
+    let count = c.requires.all.worked in
+    let ok = ws.ok.0 in
+    subst (λ v. AreReceivers v.items (map (λ (w : Worked). w.receiver) ws.items)) (sym c.remains_of-directory.ensures.channels)
+    (receivers_of c.args.floor c.args.plan.now.workers.items c.requires.floor.house.channels 0 ws.items c.requires.worked (omega (arith, count, ok)))
+
+pub settle-requires-clause-consumers : goal.settle-requires-clause-consumers
+settle-requires-clause-consumers c =
+    let cs = c.args.ran.consumed in
+    let count = c.requires.all.consumed in
+    let ok = cs.ok.0 in
+    subst (λ v. rows.AreConsumers v.items (map (λ (d : Consumed). d.seat) cs.items)) (sym c.remains_of-directory.ensures.lanes)
+    (consumers_of c.args.floor 0 cs.items c.requires.consumed (omega (arith, count, ok)))
+
+pub settle-requires-clause-senders : goal.settle-requires-clause-senders
+settle-requires-clause-senders c =
+    let cs = c.args.ran.consumed in
+    let count = c.requires.all.consumed in
+    let ok = cs.ok.0 in
+    subst (λ v. AreSenderEndedHands v.items 0 (map (λ (d : Consumed). d.senders.items) cs.items)) (sym c.remains_of-directory.ensures.channels)
+    (sender_hands_of c.args.floor 0 cs.items c.requires.consumed (omega (arith, count, ok)))
+
+pub returns-clause-agrees : goal.returns-clause-agrees
+returns-clause-agrees c =
+    let ws = c.args.ran.worked in
+    let cs = c.args.ran.consumed in
+    let said = c.args.ran.said in
+    let books = c.in_ok-books.books in
+    let before = c.fault_of_sessions-before.result in
+    let settled = subst (λ v. IsSettled v.items c.args.floor.depot.channels.items ws.items cs.items before books) c.remains_of-directory.ensures.lanes
+    (subst (λ v. IsSettled c.remains_of-directory.result.lanes.items v.items ws.items cs.items before books) c.remains_of-directory.ensures.channels c.in_ok-books.ensures.settled) in
+    let is = c.remains_of-directory.ensures.directory in
+    if_ok c.compare.result c.compare.ensures.lists c.compare.ensures.same
+    (λ r lists same. agrees c.args.plan.now c.args.floor c.requires.floor ws.items cs.items said.items c.requires.worked c.requires.consumed c.requires.said
+    (sym ws.ok.0 ∙ c.requires.all.worked) (sym cs.ok.0 ∙ c.requires.all.consumed) (sym said.ok.0 ∙ c.requires.all.said) before books settled
+    r same.0 same.1 same.3 (ap (λ v. are_said v.items) same.2 ∙ c.in_ok-sessions.ensures) c.is_empty.result (c.is_empty.ensures ∙ ap (λ n. n == 0) c.args.plan.now.sessions.ok.0)
+    (subst (λ d. ListsAgree d c.is_empty.result (notes_of r) (map (λ v. v.items) books.copies.items) (accepted_of r) (texts_of r)) is lists))

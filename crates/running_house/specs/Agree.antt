@@ -1,0 +1,98 @@
+-- What a report says of a run: how what the threads left agrees.
+use Rattle.std.specs.Prelude.{◌≡◌, ◌==◌, ℕ, ◌<◌, List, [], length, map, All, Some, slice_get, slice_index_or}
+use Rattle.delivery_token.specs.declared.CopyKey.{CopyKey}
+use Rattle.delivery_token.specs.declared.Job.{Job}
+use Rattle.delivery_token.specs.declared.log.Noted.{Noted}
+use Rattle.agreement.specs.Lists.{ListsAgree}
+use Rattle.shard_queue.specs.declared.lane.Entry.{Entry}
+use Rattle.shard_queue.specs.Closing.{IsWhole}
+use Rattle.shard_queue.specs.Lane.{of}
+use Rattle.shard_queue.specs.Reply.{reply_history, room_of, senders_of}
+use Rattle.shard_queue.specs.Seats.{capacity_of, history, numbers, producers_of}
+use Rattle.lane_work.specs.Account.{Account}
+use Rattle.lane_work.specs.Consuming.{items_of}
+use Rattle.lane_work.specs.Speaking.{premises_of}
+use Rattle.house_floor.specs.Crew.{IsHouse}
+use Rattle.house_floor.specs.Opening.{reply_room}
+use Rattle.house_floor.specs.declared.floor.Floor.{Floor}
+use Rattle.house_floor.specs.declared.opening.Sizes.{Sizes}
+use Rattle.house_threads.specs.Crew.{WasVisited}
+use Rattle.house_floor.specs.declared.floor.Visit.{Visit}
+use Rattle.running_house.specs.Plan.{connections_of, premises_for}
+use Rattle.running_house.specs.declared.plan.Plan.{Plan}
+use Rattle.running_house.specs.declared.plan.Report.{Report}
+
+-- ---- what the report holds, by numbers
+
+-- of each worker, of each of its connections, what was replied
+abbrev pub replies_of : Report → List (List (List ℕ))
+replies_of r = map (λ w. map (λ b. b.items) w.items) r.replies.items
+
+-- what each worker heard
+abbrev pub notes_of : Report → List (List Noted)
+notes_of r = map (λ l. l.notes) r.logs.items
+
+-- what each mailbox accepted
+abbrev pub accepted_of : Report → List (List (CopyKey × ℕ))
+accepted_of r = map (λ v. v.items) r.accepted.items
+
+-- and the messages that are there
+abbrev pub texts_of : Report → List (List (ℕ × List ℕ))
+texts_of r = map (λ v. v.items) r.texts.items
+
+-- all that was taken from each lane
+abbrev pub histories : Report → List (List (Entry Job))
+histories r = map history r.closed.lanes.items
+
+-- all that was received on each reply channel
+abbrev pub answers : Report → List (List (Entry Noted))
+answers r = map reply_history r.closed.channels.items
+
+-- the copies that were taken from each lane
+abbrev pub copies_taken : Report → List (List Job)
+copies_taken r = map items_of (histories r)
+
+-- ---- the house
+
+-- the sizes of this plan's house
+pub record AreSizesFor (plan : Plan) (sizes : Sizes) : Type 0 where
+  pub host : sizes.host.now ≡ plan.config.host.items
+  pub max_message : sizes.max_message ≡ plan.config.max_message
+  pub workers : sizes.workers ≡ length plan.workers.items
+  pub depth : sizes.depth ≡ plan.config.depth
+  pub ring : 0 < sizes.limits.ring
+  pub turns : sizes.turns ≡ plan.turns
+
+-- this is the floor of this plan's house
+pub record IsFloorFor (plan : Plan) (floor : Floor) : Type 0 where
+  pub house : IsHouse floor (length plan.workers.items)
+  pub premises : premises_of floor.office ≡ premises_for plan
+  pub mailboxes : length floor.depot.mailboxes.items ≡ length (premises_for plan).directory.homes
+  pub turns : floor.turns ≡ plan.turns
+  pub lanes : All (λ q. (capacity_of q ≡ plan.config.depth) × (producers_of q ≡ length plan.workers.items)) floor.office.lanes.items
+  pub channels : All (λ c. (room_of c ≡ reply_room) × (senders_of c ≡ plan.config.shards)) floor.depot.channels.items
+
+-- ---- the report
+
+pub record Agrees (plan : Plan) (r : Report) : Type 0 where
+  -- Each worker's replies and log are what its connections come to by the dialogue, where it heard what was received on its channel; and what was taken of
+  -- it from each lane is what its connections submitted, then its end.
+  pub accounts : (p : ℕ) → p < length (connections_of plan)
+      → Account (premises_for plan) p (slice_index_or (connections_of plan) p []) (slice_index_or (replies_of r) p []) (slice_index_or (notes_of r) p [])
+      (slice_index_or (answers r) p []) (map (of p) (histories r))
+  -- What each mailbox accepted of each worker is what the worker's log has as stored there, and nothing else was accepted; each message that is there
+  -- has the text of its copy, and where no session could remove one, every accepted copy is there.
+  pub lists : ListsAgree (premises_for plan).directory (length plan.sessions.items == 0) (notes_of r) (copies_taken r) (accepted_of r) (texts_of r)
+  -- Each session was greeted, and said what its steps come to, hold by hold.
+  pub said : (n : ℕ) (visit : Visit) → slice_get plan.sessions.items n ≡ Some visit
+      → WasVisited (premises_for plan).directory (length (premises_for plan).directory.homes) plan.turns visit
+      (slice_index_or (map (λ b. b.items) r.sessions.items) n [])
+  -- There is one of each for each worker and session.
+  pub seats : map (λ l. l.seat) r.logs.items ≡ numbers 0 (length (connections_of plan))
+  pub replies : length (replies_of r) ≡ length (connections_of plan)
+  pub sessions : length r.sessions.items ≡ length plan.sessions.items
+  -- Each lane and each reply channel was closed: all that was put was taken, and nobody else put anything.
+  pub shards : length (histories r) ≡ plan.config.shards
+  pub lanes : All (λ c. IsWhole (length (connections_of plan)) plan.config.depth (history c)) r.closed.lanes.items
+  pub workers : length r.closed.channels.items ≡ length (connections_of plan)
+  pub channels : All (λ c. IsWhole plan.config.shards reply_room (reply_history c)) r.closed.channels.items

@@ -1,0 +1,86 @@
+-- What a plan says: what each peer sends, and what may be wrong with it.
+use Rattle.std.specs.Prelude.{◌≡◌, ◌⊎◌, ◌==◌, ℕ, Bool, List, length, map, filter, replicate, nat_lt, Option, Some, None, is_none, if◌then◌else◌}
+use Rattle.std.specs.List.{list_any}
+use Rattle.envelope.specs.Directory.{Home}
+use Rattle.house.specs.Settings.{config_fault, setup_of}
+use Rattle.house.specs.declared.config.ConfigFault.{ConfigFault}
+use Rattle.house.specs.declared.config.ConfigFault.TheVariants as settings
+use Rattle.house_floor.specs.Users.{user_numbered}
+use Rattle.house_floor.specs.declared.floor.Visit.{Visit}
+use Rattle.lane_work.specs.Account.{Premises}
+use Rattle.reckoning.specs.declared.gather.Fault.{Fault}
+use Rattle.reckoning.specs.declared.gather.Fault.TheVariants as reckoned
+use Rattle.running_house.specs.declared.plan.Plan.{Plan}
+use Rattle.running_house.specs.declared.plan.WorkFault.{WorkFault}
+use Rattle.running_house.specs.declared.plan.WorkFault.TheVariants.{Config, NoMemory, Spawn, Torn}
+
+-- what the connections of the house are told of it, and how much room its lanes have
+abbrev pub premises_for : Plan → Premises
+premises_for plan =
+    let k = setup_of plan.config in
+    record {
+      directory = k.directory;
+      rooms = replicate plan.config.shards (record { producers = length plan.workers.items; places = plan.config.depth });
+      host = k.host;
+      max_message = k.max_message;
+    }
+
+-- for each worker, for each of its connections, the bytes that its peer sends
+abbrev pub connections_of : Plan → List (List (List ℕ))
+connections_of plan = map (λ w. map (λ b. b.items) w.items) plan.workers.items
+
+-- at most so many workers
+abbrev pub most_workers : ℕ
+most_workers = 8
+
+-- and so many sessions of all users: there are at most 64 mailboxes, a user has one at least, and at most 4 sessions
+abbrev pub most_sessions : ℕ
+most_sessions = 256
+
+-- ---- what may be wrong
+
+-- how many of these sessions are of this user
+abbrev pub count_of : ℕ → List Visit → ℕ
+count_of user visits = length (filter (λ (v : Visit). v.user == user) visits)
+
+-- some user has more sessions than this
+abbrev pub are_too_many : ℕ → List Visit → Bool
+are_too_many most visits = list_any (λ (v : Visit). nat_lt most (count_of v.user visits)) visits
+
+-- some session's user isn't there
+abbrev pub is_someone_missing : List Home → List Visit → Bool
+is_someone_missing homes visits = list_any (λ (v : Visit). is_none (user_numbered v.user homes)) visits
+
+abbrev pub after_settings : Plan → Option ConfigFault → Option ConfigFault
+after_settings plan (Some fault) = Some fault
+after_settings plan None =
+    if nat_lt most_workers (length plan.workers.items) then Some settings.TooMany
+    else if nat_lt most_sessions (length plan.sessions.items) then Some settings.TooMany
+    else if are_too_many plan.config.sessions plan.sessions.items then Some settings.TooMany
+    else if is_someone_missing (setup_of plan.config).directory.homes plan.sessions.items then Some settings.BadName
+    else None
+
+-- what is wrong: with the settings; that there are too many workers, or sessions of one user; that a session's user isn't there
+abbrev pub plan_fault : Plan → Option ConfigFault
+plan_fault plan = after_settings plan (config_fault plan.config)
+
+-- how a fault of the settings is told
+abbrev pub of_config : ConfigFault → WorkFault
+of_config settings.NoMemory = NoMemory
+of_config fault = Config fault
+
+-- how a fault of the threads is told
+abbrev pub of_reckoning : Fault → WorkFault
+of_reckoning reckoned.Spawn = Spawn
+of_reckoning reckoned.NoMemory = NoMemory
+of_reckoning reckoned.Torn = Torn
+
+-- before anything runs: want of memory, or the plan's own fault
+abbrev pub IsFaultOf : Plan → WorkFault → Type 0
+IsFaultOf plan fault = (fault ≡ NoMemory) ⊎ ((wrong : ConfigFault) × (plan_fault plan ≡ Some wrong) × (fault ≡ Config wrong))
+
+-- why a run has no report: the plan's own fault, before anything runs, or one that isn't the plan's
+abbrev pub IsFault : Plan → WorkFault → Type 0
+IsFault plan Spawn = plan_fault plan ≡ None
+IsFault plan Torn = plan_fault plan ≡ None
+IsFault plan fault = IsFaultOf plan fault

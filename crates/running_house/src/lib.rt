@@ -1,0 +1,11 @@
+//! The running house: a plan is run by threads, one for each worker, each shard's consumer and each
+//! session, and what they leave is compared and reported. What an actor does in its thread stands
+//! below, sockets and command lines elsewhere.
+#![tactic(auto)]
+
+mod plan;
+mod report;
+mod run;
+
+pub use plan::{Plan, Report, WorkFault};
+pub use run::run_house;

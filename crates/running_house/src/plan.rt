@@ -1,0 +1,163 @@
+//! What a run is told and what it reports, and what may be wrong with a plan. Nothing is run here.
+
+ghost use Rattle.std.specs.Prelude.{◌≡◌, ◌≢◌, ◌<◌, ◌≤◌, All, None, is_none, IfErr, IfOk, length};
+ghost use Rattle.house.specs.Settings.{IsInRange, setup_of};
+ghost use Rattle.house_floor.specs.Users.{user_numbered};
+ghost use Rattle.running_house.specs.Plan.{IsFaultOf, are_too_many, count_of, is_someone_missing, most_sessions, most_workers, of_config, of_reckoning, plan_fault};
+
+use delivery_token::{CopyKey, Text, WorkerLog};
+use envelope::Directory;
+use house::{Config, ConfigFault, directory_of};
+use house_floor::{Visit, inbox_numbered};
+use reckoning::{Closes, Fault};
+use std::alloc::{AllocError, Global};
+use thiserror::Error;
+
+/// The most workers of a running house.
+const MOST_WORKERS: usize = 8;
+
+/// The most sessions of all users: 64 mailboxes have at most 64 users, who have at most 4 sessions.
+const MOST_SESSIONS: usize = 256;
+
+/// What is to be run.
+#[derive(Drop)]
+pub struct Plan {
+    /// The settings of the house.
+    pub config: Config,
+    /// For each worker, 1 to 8, the connections that it serves one after another: of each the bytes
+    /// that its peer sends before it goes.
+    pub workers: Vec<Vec<Vec<u8>>>,
+    /// The sessions, at most `config.sessions` of one user.
+    pub sessions: Vec<Visit>,
+    /// So many turns a session has at most where it awaits changes.
+    pub turns: u64,
+}
+
+/// What a run left.
+#[derive(Drop)]
+pub struct Report {
+    /// For each worker, for each of its connections, what was replied.
+    pub replies: Vec<Vec<Vec<u8>>>,
+    /// For each worker, the verdicts on its copies, in the order in which they were submitted.
+    pub logs: Vec<WorkerLog>,
+    /// For each mailbox, the copies that it accepted, with their UIDs.
+    pub accepted: Vec<Vec<(CopyKey, u32)>>,
+    /// For each mailbox, the messages that are there: UID and text.
+    pub texts: Vec<Vec<(u32, Text)>>,
+    /// For each session, what it said.
+    pub sessions: Vec<Vec<u8>>,
+    /// What was taken of each queue.
+    pub closed: Closes,
+}
+
+/// Why there is no report. Of several causes the first in this order is told.
+#[derive(Clone, Copy, Debug, PartialEq, Eq, Error)]
+pub enum WorkFault {
+    /// The settings are wrong, or there are too many workers or sessions, or a session's user isn't
+    /// there.
+    #[error("{0}")]
+    Config(ConfigFault),
+    /// A thread could not be made.
+    #[error("Spawn")]
+    Spawn,
+    /// Memory was refused.
+    #[error("NoMemory")]
+    NoMemory,
+    /// What the threads left doesn't agree.
+    #[error("Torn")]
+    Torn,
+}
+
+impl From<AllocError> for WorkFault {
+    ghost use Rattle.running_house.specs.declared.plan.WorkFault.{WorkFault};
+
+    ghost from_gives = { λ _ fault. fault ≡ WorkFault.NoMemory };
+
+    fn from(_error: AllocError) -> WorkFault {
+        WorkFault::NoMemory
+    }
+}
+
+impl From<Fault> for WorkFault {
+    ghost from_gives = { λ known fault. fault ≡ of_reckoning known };
+
+    fn from(fault: Fault) -> WorkFault {
+        match fault {
+            Fault::Spawn => WorkFault::Spawn,
+            Fault::NoMemory => WorkFault::NoMemory,
+            Fault::Torn => WorkFault::Torn,
+        }
+    }
+}
+
+impl From<ConfigFault> for WorkFault {
+    ghost from_gives = { λ config fault. fault ≡ of_config config };
+
+    fn from(fault: ConfigFault) -> WorkFault {
+        match fault {
+            ConfigFault::NoMemory => WorkFault::NoMemory,
+            fault => WorkFault::Config(fault),
+        }
+    }
+}
+
+// How many of these sessions are of this user.
+fn count_of(visits: &[Visit], user: u8) -> usize
+    ensures { result ≡ count_of user visits.now }
+{
+    visits.iter().filter(|visit| visit.user == user).count()
+}
+
+// Whether some user has more sessions than this.
+fn are_too_many(visits: &[Visit], most: u8) -> bool
+    ensures { result ≡ are_too_many most visits.now }
+{
+    visits
+        .iter()
+        .any(|visit| usize::from(most) < count_of(visits, visit.user))
+}
+
+// Whether there is no user of this number.
+fn is_nobody(directory: &Directory, user: u8) -> bool
+    ensures { result ≡ is_none (user_numbered user directory.now.homes) }
+{
+    inbox_numbered(directory, user).is_none()
+}
+
+// Whether some session's user isn't there.
+fn is_someone_missing(directory: &Directory, visits: &[Visit]) -> bool
+    ensures { result ≡ is_someone_missing directory.now.homes visits.now }
+{
+    visits.iter().any(|visit| is_nobody(directory, visit.user))
+}
+
+/// The directory that the house of this plan goes by.
+///
+/// Errors: `Config` of the first fault: those of the settings, in the order of `House::new`; `TooMany`
+/// for more than 8 workers, more sessions of one user than `config.sessions`, or more than 256 in all; `BadName` for a session
+/// whose user isn't there. In place of any of them, and where nothing is wrong, `NoMemory` if memory is
+/// refused.
+pub(crate) fn directory_for(alloc: Global, plan: &Plan) -> Result<Directory, WorkFault>
+    requires range { IsInRange plan.now.config }
+    ensures directory { IfOk result (λ d. d ≡ (setup_of plan.now.config).directory) }
+    ensures host { IfOk result (λ d. length plan.now.config.host.items < 256) }
+    ensures right { IfOk result (λ d. plan_fault plan.now ≡ None) }
+    ensures few { IfOk result (λ d. (length plan.now.workers.items ≤ most_workers) × (length plan.now.sessions.items ≤ most_sessions)) }
+    ensures visits { IfOk result (λ d. All (λ v. user_numbered v.user d.homes ≢ None) plan.now.sessions.items) }
+    ensures fault { IfErr result (IsFaultOf plan.now) }
+{
+    let directory = directory_of(alloc, &plan.config)?;
+    if MOST_WORKERS < plan.workers.len() {
+        return Err(WorkFault::Config(ConfigFault::TooMany));
+    }
+    if MOST_SESSIONS < plan.sessions.len() {
+        return Err(WorkFault::Config(ConfigFault::TooMany));
+    }
+    if are_too_many(&plan.sessions, plan.config.sessions) {
+        return Err(WorkFault::Config(ConfigFault::TooMany));
+    }
+    if is_someone_missing(&directory, &plan.sessions) {
+        return Err(WorkFault::Config(ConfigFault::BadName));
+    }
+    Ok(directory)
+}

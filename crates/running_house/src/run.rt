@@ -1,0 +1,87 @@
+//! The whole run: made, run and compared, in this order.
+
+ghost use Rattle.std.specs.Prelude.{◌≡◌, ◌<◌, ◌≤◌, None, IfErr, IfOk, length};
+ghost use Rattle.house.specs.Settings.{IsInRange};
+ghost use Rattle.running_house.specs.Agree.{Agrees, AreSizesFor};
+ghost use Rattle.running_house.specs.Plan.{IsFault, most_workers, plan_fault};
+
+use crate::plan::{Plan, Report, WorkFault, directory_for};
+use crate::report::report_of;
+use house_floor::{Opened, Sizes, open};
+use house_threads::{Started, run_threads};
+use mailbox::Limits;
+use pace::Gate;
+use reckoning::abandon;
+use std::alloc::Global;
+use std::sync::Wait;
+use std::thread::Threads;
+
+// How large the parts of this plan's house are.
+fn sizes_of(plan: &Plan) -> Sizes<'_>
+    requires range { IsInRange plan.now.config }
+    requires few { length plan.now.workers.items ≤ most_workers }
+    ensures { AreSizesFor plan.now result }
+{
+    let config = &plan.config;
+    Sizes {
+        host: &config.host,
+        max_message: config.max_message,
+        workers: plan.workers.len() as u8,
+        depth: config.depth,
+        uidvalidity: config.uidvalidity,
+        first_uid: config.first_uid,
+        limits: Limits {
+            messages: config.messages,
+            ring: config.ring,
+            ring_max: config.ring_max,
+        },
+        turns: plan.turns,
+    }
+}
+
+/// Runs a plan in a house of its own, with a thread for each shard's consumer, each worker and each
+/// session, in this order, and joins them all. Each actor asks the gate before each of its events.
+///
+/// Where the answer is Ok the report agrees with the plan and in itself; that is compared after the
+/// joins, when each queue is closed.
+///
+/// Errors, the first that holds: `Config`, before anything runs, of the first fault of the settings, in
+/// the order of `House::new`; `TooMany` for more than 8 workers, more sessions of one user than
+/// `config.sessions`, or more than 256 in all; `BadName` for a session whose user isn't there. `Spawn`
+/// where a thread can't be made: no actor behind it begins. `NoMemory` where memory is refused, to an
+/// actor too: it stops, and the others go on. `Torn` where a worker heard a verdict that it didn't
+/// await, an end is missing, or what the threads left doesn't agree.
+pub fn run_house<R: Threads + Wait + Sync, G: Gate + Sync>(
+    rt: &R,
+    alloc: Global,
+    plan: &Plan,
+    gate: &G,
+) -> Result<Report, WorkFault>
+    requires range { IsInRange plan.now.config }
+    requires some { 0 < length plan.now.workers.items }
+    ensures agrees { IfOk result (Agrees plan.now) }
+    ensures right { IfOk result (λ report. plan_fault plan.now ≡ None) }
+    ensures fault { IfErr result (IsFault plan.now) }
+{
+    let directory = directory_for(alloc, plan)?;
+    let sizes = sizes_of(plan);
+    let Opened {
+        floor,
+        crew,
+        baskets,
+        sleepers: _,
+    } = open(alloc, directory, sizes, plan.sessions.as_slice())?;
+    let (workers, sessions) = (plan.workers.as_slice(), plan.sessions.as_slice());
+    let ran = run_threads(rt, &floor, gate, workers, sessions, crew);
+    match ran.started {
+        Started::All => report_of(alloc, plan, floor, ran, baskets),
+        Started::Spawn => {
+            abandon(alloc, floor, ran, baskets);
+            Err(WorkFault::Spawn)
+        }
+        Started::NoMemory => {
+            abandon(alloc, floor, ran, baskets);
+            Err(WorkFault::NoMemory)
+        }
+    }
+}
