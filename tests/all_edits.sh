@@ -20,6 +20,8 @@ put_back() {
         mv -- "$to" "$from"
     done <"$moved"
     rm -f -- "$moved"
+    # Those that were made for this run alone.
+    find crates -maxdepth 2 -name must-fail -type d -empty -delete
 }
 trap put_back EXIT
 trap 'exit 1' HUP INT TERM
@@ -29,6 +31,7 @@ for crate in "$@"; do
     for edit in "crates/$crate/must-fail-more"/*.edit; do
         [ -e "$edit" ] || continue
         to=crates/$crate/must-fail/$(basename -- "$edit")
+        mkdir -p -- "crates/$crate/must-fail"
         [ ! -e "$to" ] || { echo "all_edits: $edit and $to have one name" >&2; exit 2; }
         echo "$edit $to" >>"$moved"
         mv -- "$edit" "$to"

@@ -1,0 +1,101 @@
+//! The mail in the running house: each worker has its part of it, in connections one after another.
+
+ghost use Rattle.std.specs.Prelude.{◌<◌, IfOk, length};
+ghost use Rattle.house.specs.Settings.{IsFrom, IsInRange};
+
+use crate::mail::{config_of, opening, push_message};
+use pace::{Actor, Gate};
+use running_house::{Plan, Report, run_house};
+use std::alloc::{AllocError, Global};
+use std::io::{self, Error, ErrorKind};
+use std::sync::Wait;
+use std::thread::Threads;
+
+/// How many messages come in a connection.
+const EACH: usize = 100;
+
+/// What a run left.
+#[derive(Clone, Copy)]
+pub struct Found {
+    /// How many copies were accepted.
+    pub accepted: usize,
+    /// How many messages there are.
+    pub texts: usize,
+}
+
+// Lets all pass.
+#[derive(Drop)]
+struct Open {}
+
+impl Gate for Open {
+    fn pass(&self, _who: Actor, _number: u64) {}
+}
+
+// A connection in which messages come, for one user after another from this number on.
+fn connection(alloc: Global, first: usize) -> Result<Vec<u8>, AllocError> {
+    let mut bytes = opening(alloc)?;
+    for place in 0..EACH {
+        push_message(first.wrapping_add(place), &mut bytes)?;
+    }
+    bytes.extend_from_slice(b"QUIT\r\n")?;
+    Ok(bytes)
+}
+
+// So many connections, all from this number on.
+fn connections(alloc: Global, first: u8, count: usize) -> Result<Vec<Vec<u8>>, AllocError> {
+    let mut connections = Vec::new(alloc);
+    for _ in 0..count {
+        connections.push(connection(alloc, usize::from(first))?)?;
+    }
+    Ok(connections)
+}
+
+/// A plan in which so many copies come to so many shards by so many workers, each of which begins with another user. An error where
+/// memory is refused.
+pub fn plan_of(alloc: Global, workers: u8, shards: u8, copies: usize) -> Result<Plan, AllocError>
+    requires some { 0 < workers }
+    requires shards { IsFrom 1 8 shards }
+    ensures range { IfOk result (λ plan. IsInRange plan.config) }
+    ensures some { IfOk result (λ plan. 0 < length plan.workers.items) }
+{
+    let count = copies / EACH / usize::from(workers);
+    let mut all = Vec::new(alloc);
+    for worker in 0..workers {
+        all.push(connections(alloc, worker, count)?)?;
+    }
+    Ok(Plan {
+        config: config_of(alloc, shards)?,
+        workers: all,
+        sessions: Vec::new(alloc),
+        turns: 0,
+    })
+}
+
+fn found_in(report: &Report) -> Found {
+    let mut accepted: usize = 0;
+    for pairs in &report.accepted {
+        accepted = accepted.saturating_add(pairs.len());
+    }
+    let mut texts: usize = 0;
+    for rows in &report.texts {
+        texts = texts.saturating_add(rows.len());
+    }
+    Found { accepted, texts }
+}
+
+/// What such a plan comes to.
+///
+/// Errors: `Other` where the run has no report.
+pub fn deliver_by_threads<R: Threads + Wait + Sync>(
+    rt: &R,
+    alloc: Global,
+    plan: &Plan,
+) -> io::Result<Found>
+    requires range { IsInRange plan.now.config }
+    requires some { 0 < length plan.now.workers.items }
+{
+    match run_house(rt, alloc, plan, &Open {}) {
+        Ok(report) => Ok(found_in(&report)),
+        Err(_) => Err(Error::from(ErrorKind::Other)),
+    }
+}
