@@ -1,4 +1,4 @@
-mod ListLaws
+pub mod ListLaws
 mod WaitLaws
 mod WovenLaws
 mod TalkLines
@@ -8,4 +8,4 @@ mod Refuted
 mod Connections
 mod FullLaws
 mod KeyLaws
-mod LogLaws
+pub mod LogLaws

@@ -1,3 +1,4 @@
 pub mod Moves
 pub mod Reports
 pub mod Floors
+pub mod TellLaws

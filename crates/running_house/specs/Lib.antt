@@ -1,2 +1,3 @@
 pub mod Plan
 pub mod Agree
+pub mod Tells

@@ -3,9 +3,11 @@
 //! below, sockets and command lines elsewhere.
 #![tactic(auto)]
 
+mod laws;
 mod plan;
 mod report;
 mod run;
 
+pub use laws::reports_tell_of_each_copy;
 pub use plan::{Plan, Report, WorkFault};
 pub use run::run_house;
