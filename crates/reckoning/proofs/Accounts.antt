@@ -1,21 +1,19 @@
 -- Each worker's account, said of what was taken of the queues.
-use Rattle.std.proofs.Common.{◌≡◌, ◌<◌, ◌+◌, ◌∙◌, ℕ, zero, suc, true, false, Bool, List, [], ◌∷◌, All, Option, None, Some, Vec, length, map, slice_get, slice_index_or, refl, sym, ap, subst, arith}
+use Rattle.std.proofs.Common.{◌≡◌, ◌<◌, ◌+◌, ◌∙◌, ℕ, zero, suc, true, false, Bool, List, [], ◌∷◌, All, None, Some, Vec, length, map, slice_get, slice_index_or, refl, sym, ap, subst, arith}
 use Rattle.std.specs.Global.{Global}
 use Rattle.std.proofs.lemmas.List.Elements.{All-cons, All-nil, All-head, All-tail}
-use Rattle.std.proofs.lemmas.Option.{get_or_from_slice_get}
 use Rattle.delivery_token.specs.declared.Job.{Job}
 use Rattle.delivery_token.specs.declared.log.Noted.{Noted}
 use Rattle.shard_queue.specs.declared.lane.Entry.{Entry}
 use Rattle.shard_queue.specs.declared.queue.Closed.{Closed}
 use Rattle.shard_queue.specs.declared.queue.ConsumerSeat.{ConsumerSeat}
 use Rattle.shard_queue.specs.declared.queue.Ended.{Ended}
-use Rattle.shard_queue.specs.declared.queue.ShardQueue.{ShardQueue}
 use Rattle.shard_queue.specs.declared.reply.ReplyClosed.{ReplyClosed}
 use Rattle.shard_queue.specs.declared.reply.SenderEnded.{SenderEnded}
 use Rattle.shard_queue.specs.Lane.{of}
 use Rattle.shard_queue.specs.Reply.{received, reply_history}
-use Rattle.shard_queue.specs.Seats.{got, history, said}
-use Rattle.lane_work.specs.Account.{Account, Premises}
+use Rattle.shard_queue.specs.Seats.{got, history}
+use Rattle.lane_work.specs.Account.{Account}
 use Rattle.lane_work.specs.Consuming.{items_of}
 use Rattle.lane_work.specs.Speaking.{premises_of}
 use Rattle.lane_work.specs.declared.consumer.Consumed.{Consumed}
@@ -76,7 +74,7 @@ whole_of fates.Torn is = absurd (cc)
 abbrev pub HasAccount : (floor : Floor) (plans : Plans) (replies : List (List (List ℕ))) (notes : List (List Noted)) (answers : List (List (Entry Noted))) (histories : List (List (Entry Job))) → ℕ → Type 0
 HasAccount floor plans replies notes answers histories p =
     Account (premises_of floor.office) p (slice_index_or (map (λ (w : Vec (Vec ℕ Global) Global). map (λ b. b.items) w.items) plans) p []) (slice_index_or replies p []) (slice_index_or notes p [])
-        (slice_index_or answers p []) (map (of p) histories)
+    (slice_index_or answers p []) (map (of p) histories)
 
 module _ (floor : Floor) (plans : Plans) (same : length floor.depot.channels.items ≡ length plans) (ws : List Worked) (all : AllAt (IsWorkOf floor plans) 0 ws) (count : length ws ≡ length plans)
     (fates : All (λ w. fault_of_fate w.fate ≡ None) ws) where
@@ -95,22 +93,22 @@ module _ (floor : Floor) (plans : Plans) (same : length floor.depot.channels.ite
       let account = worked.3 (whole_of w.0.fate (all_at (λ (v : Worked). fault_of_fate v.fate ≡ None) ws p w.0 fates w.1)) in
       let within = in_at (λ (v : Worked). v.ended.items) ws are.0 p w.0 are.1 w.1 in
       let carried = account_of_history (premises_of floor.office) p (map (λ b. b.items) plan.0.items) (map (λ b. b.items) w.0.replies.items) w.0.log.notes (received w.0.receiver)
-          floor.office.lanes.items w.0.ended.items (map history closed) worked.0 (lanes.are_heard are.2 w.0.ended.items within) account in
+      floor.office.lanes.items w.0.ended.items (map history closed) worked.0 (lanes.are_heard are.2 w.0.ended.items within) account in
       let a = sym (mapped_at (λ (v : Vec (Vec ℕ Global) Global). map (λ b. b.items) v.items) plans p plan.0 [] plan.1) in
       let b = sym (mapped_at (λ (v : Worked). map (λ b. b.items) v.replies.items) ws p w.0 [] w.1) in
       let c = sym (mapped_at (λ (v : Worked). v.log.notes) ws p w.0 [] w.1) in
       let d = sym (ap (λ xs. slice_index_or xs p []) (channels.histories_taken heard.2 ∙ twice ws) ∙ mapped_at (λ (v : Worked). received v.receiver) ws p w.0 [] w.1) in
       subst (λ x. Account (premises_of floor.office) p x (slice_index_or (map (λ (v : Worked). map (λ b. b.items) v.replies.items) ws) p []) (slice_index_or (map (λ (v : Worked). v.log.notes) ws) p [])
-          (slice_index_or (map reply_history replied) p []) (map (of p) (map history closed))) a
+      (slice_index_or (map reply_history replied) p []) (map (of p) (map history closed))) a
       (subst (λ x. Account (premises_of floor.office) p (map (λ b. b.items) plan.0.items) x (slice_index_or (map (λ (v : Worked). v.log.notes) ws) p [])
-          (slice_index_or (map reply_history replied) p []) (map (of p) (map history closed))) b
+      (slice_index_or (map reply_history replied) p []) (map (of p) (map history closed))) b
       (subst (λ x. Account (premises_of floor.office) p (map (λ b. b.items) plan.0.items) (map (λ b. b.items) w.0.replies.items) x
-          (slice_index_or (map reply_history replied) p []) (map (of p) (map history closed))) c
+      (slice_index_or (map reply_history replied) p []) (map (of p) (map history closed))) c
       (subst (λ x. Account (premises_of floor.office) p (map (λ b. b.items) plan.0.items) (map (λ b. b.items) w.0.replies.items) w.0.log.notes x (map (of p) (map history closed))) d carried)))
     where
-    twice : (vs : List Worked) → map received (map (λ (v : Worked). v.receiver) vs) ≡ map (λ (v : Worked). received v.receiver) vs
-    twice [] = refl
-    twice (v ∷ vs) = ap (λ xs. received v.receiver ∷ xs) (twice vs)
+      twice : (vs : List Worked) → map received (map (λ (v : Worked). v.receiver) vs) ≡ map (λ (v : Worked). received v.receiver) vs
+      twice [] = refl
+      twice (v ∷ vs) = ap (λ xs. received v.receiver ∷ xs) (twice vs)
 
 -- ---- copies
 
@@ -119,11 +117,11 @@ kept_of [] all = All-nil (λ (c : Consumed). c.kept ≡ true)
 kept_of (c ∷ cs) all =
     All-cons (λ (d : Consumed). d.kept ≡ true) c cs (by_cases c.kept refl) (kept_of cs (All-tail (λ (d : Consumed). fault_of_consumer d ≡ None) c cs all))
   where
-  by_cases : (b : Bool) → c.kept ≡ b → c.kept ≡ true
-  by_cases true is = is
-  by_cases false is =
-      let none = All-head (λ (d : Consumed). fault_of_consumer d ≡ None) c cs all in
-      absurd (cc)
+    by_cases : (b : Bool) → c.kept ≡ b → c.kept ≡ true
+    by_cases true is = is
+    by_cases false is =
+        let none = All-head (λ (d : Consumed). fault_of_consumer d ≡ None) c cs all in
+        absurd (cc)
 
 -- what the consumers kept is what was taken
 pub copies_taken : (floor : Floor) (cs : List Consumed) (closed : List (Closed Job)) (hands : List (List (Ended Job)))
@@ -133,6 +131,6 @@ pub copies_taken : (floor : Floor) (cs : List Consumed) (closed : List (Closed J
 copies_taken floor cs closed hands all count services are =
     copies_of floor 0 cs all (omega (arith, count)) (kept_of cs services) ∙ sym (ap (λ xs. map items_of xs) (lanes.histories_taken are.2) ∙ thrice cs)
   where
-  thrice : (ds : List Consumed) → map items_of (map got (map (λ (c : Consumed). c.seat) ds)) ≡ map (λ (c : Consumed). items_of (got c.seat)) ds
-  thrice [] = refl
-  thrice (d ∷ ds) = ap (λ xs. items_of (got d.seat) ∷ xs) (thrice ds)
+    thrice : (ds : List Consumed) → map items_of (map got (map (λ (c : Consumed). c.seat) ds)) ≡ map (λ (c : Consumed). items_of (got c.seat)) ds
+    thrice [] = refl
+    thrice (d ∷ ds) = ap (λ xs. items_of (got d.seat) ∷ xs) (thrice ds)

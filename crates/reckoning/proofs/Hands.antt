@@ -1,5 +1,5 @@
 -- Hands that are collected, and rooms for them.
-use Rattle.std.proofs.Common.{◌≡◌, ◌≤◌, ◌+◌, ◌∙◌, ℕ, suc, List, [], ◌∷◌, All, Option, Some, None, MatchOption, Vec, length, map, ap, vec_len, vec_capacity, arith}
+use Rattle.std.proofs.Common.{◌≡◌, ◌≤◌, ◌+◌, ℕ, suc, List, [], ◌∷◌, All, Option, Some, None, MatchOption, Vec, length, map, ap, vec_len, vec_capacity, arith}
 use Rattle.std.specs.Global.{Global}
 use Rattle.std.proofs.lemmas.List.Elements.{All-cons, All-nil, All-map, All-weaker}
 use Rattle.delivery_token.specs.declared.Job.{Job}

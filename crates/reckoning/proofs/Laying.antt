@@ -14,7 +14,7 @@ pub laid_items : {A B C : Type 0} (items : C → B) (f : A → B) (done new : Li
     → map items done ++ map f left ≡ all → left ≡ x ∷ rest → new ≡ done ++ y ∷ [] → items y ≡ f x → map items new ++ map f rest ≡ all
 laid_items items f done new all left rest x y before first more same =
     laid f (map items done) (map items new) all left rest x before first
-        (ap (λ ys. map items ys) more ∙ map-append items done (y ∷ []) ∙ ap (λ b. map items done ++ b ∷ []) same)
+    (ap (λ ys. map items ys) more ∙ map-append items done (y ∷ []) ∙ ap (λ b. map items done ++ b ∷ []) same)
 
 pub graver_next : {A : Type 0} (f : A → Option Fault) (worst : Option Fault) (one : Option Fault) (all : Option Fault) (left rest : List A) (x : A)
     → gravest worst (map f left) ≡ all → left ≡ x ∷ rest → one ≡ f x → gravest (graver worst one) (map f rest) ≡ all

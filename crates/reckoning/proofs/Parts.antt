@@ -1,11 +1,6 @@
 -- What the workers and consumers promise of themselves, said of their parts in lists of their own.
-use Rattle.std.proofs.Common.{◌≡◌, ◌<◌, ◌+◌, ◌∙◌, ℕ, zero, suc, true, List, [], ◌∷◌, All, Some, Vec, length, map, drop, slice_get, refl, sym, ap, subst, arith}
-use Rattle.std.specs.Global.{Global}
+use Rattle.std.proofs.Common.{◌≡◌, ◌<◌, ◌+◌, ◌∙◌, ℕ, zero, suc, true, List, [], ◌∷◌, All, Some, length, map, drop, slice_get, refl, sym, ap, subst, arith}
 use Rattle.std.proofs.lemmas.List.Elements.{All-head, All-tail}
-use Rattle.delivery_token.specs.declared.Job.{Job}
-use Rattle.delivery_token.specs.declared.log.Noted.{Noted}
-use Rattle.shard_queue.specs.declared.ends.ReplyChannel.{ReplyChannel}
-use Rattle.shard_queue.specs.declared.queue.ShardQueue.{ShardQueue}
 use Rattle.shard_queue.specs.Seats.{numbers}
 use Rattle.shard_queue.specs.Seats.{got}
 use Rattle.lane_work.specs.Consuming.{items_of}
@@ -50,7 +45,7 @@ module _ (floor : Floor) (plans : Plans) (same : length floor.depot.channels.ite
       let channel = some_at floor.depot.channels.items n (omega (arith, same, count)) in
       let plan = some_at plans n (omega (arith, count)) in
       subst (λ cs. AreReceivers cs (w.receiver ∷ map (λ v. v.receiver) ws)) (sym (from_here floor.depot.channels.items n channel.0 channel.1))
-          ((all.0.each channel.0 plan.0 channel.1 plan.1).1, receivers_of (suc n) ws all.1 (omega (arith, count)))
+      ((all.0.each channel.0 plan.0 channel.1 plan.1).1, receivers_of (suc n) ws all.1 (omega (arith, count)))
 
   pub seats_of : (n : ℕ) (ws : List Worked) → AllAt (IsWorkOf floor plans) n ws → n + length ws ≡ length plans → map (λ w. w.log.seat) ws ≡ numbers n (length ws)
   seats_of n [] all count = refl
@@ -65,7 +60,7 @@ module _ (floor : Floor) where
   consumers_of n (c ∷ cs) all count =
       let lane = some_at floor.office.lanes.items n (omega (arith, count)) in
       subst (λ qs. rows.AreConsumers qs (c.seat ∷ map (λ d. d.seat) cs)) (sym (from_here floor.office.lanes.items n lane.0 lane.1))
-          ((all.0.each lane.0 lane.1).2.seat, consumers_of (suc n) cs all.1 (omega (arith, count)))
+      ((all.0.each lane.0 lane.1).2.seat, consumers_of (suc n) cs all.1 (omega (arith, count)))
 
   pub sender_hands_of : (n : ℕ) (cs : List Consumed) → AllAt (IsServiceOf floor) n cs → n + length cs ≡ length floor.office.lanes.items → AreSenderEndedHands floor.depot.channels.items n (map (λ c. c.senders.items) cs)
   sender_hands_of n [] all count = tt

@@ -1,5 +1,5 @@
 -- What is known when all queues were closed with what the threads left.
-use Rattle.std.specs.Prelude.{◌≡◌, ◌≤◌, ◌⊎◌, ℕ, Bool, List, [], All, length, map, Option, Some, None, Result, Ok, Err, is_err, Vec, vec_capacity}
+use Rattle.std.specs.Prelude.{◌≡◌, ◌≤◌, ◌⊎◌, ℕ, Bool, List, [], All, length, map, Option, Some, None, Result, Ok, is_err, Vec, vec_capacity}
 use Rattle.std.specs.Global.{Global}
 use Rattle.std.specs.List.{list_any}
 use Rattle.std.specs.declared.alloc.AllocError.{AllocError}

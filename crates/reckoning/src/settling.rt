@@ -8,9 +8,7 @@ ghost use Rattle.lane_seats.specs.SenderRows.{AreReceivers, AreSenderEndedHands}
 ghost use Rattle.reckoning.specs.Settling.{IsSettled, IsWhyNot, IsGathered};
 
 use crate::close::{close_all_channels, close_all_lanes};
-use crate::gather::{
-    Fault, FromConsumers, FromWorkers, gather_consumers, gather_workers, graver,
-};
+use crate::gather::{Fault, FromConsumers, FromWorkers, gather_consumers, gather_workers, graver};
 use delivery_token::{Job, Noted, WorkerLog};
 use house_floor::Baskets;
 use lane_work::{Consumed, Worked};

@@ -1,16 +1,18 @@
-//! What time a copy takes in the running house, with one worker and with four, over one shard and over four, and in the house on one
-//! thread. What was delivered is printed, which doesn't vary; the times stand on standard error. With the word `measure` there are
-//! many more copies.
+//! A small plan with its whole report; and then what time a copy takes in the running house, with one worker and with four, over one
+//! shard and over four, and in the house on one thread. What was delivered is printed, which doesn't vary; the times stand on
+//! standard error. With the word `measure` there are many more copies.
 #![tactic(auto)]
 
 mod alone;
 mod mail;
+mod small;
 mod threads;
 
 ghost use Rattle.std.specs.Prelude.{◌<◌};
 ghost use Rattle.house.specs.Settings.{IsFrom};
 
 use crate::alone::{deliver_alone, pieces};
+use crate::small::{run_and_print, small_plan};
 use crate::threads::{Found, deliver_by_threads, plan_of};
 use std::env::{self, Env};
 use std::io;
@@ -101,7 +103,14 @@ fn copies_asked<T: AllocGlobal + Env>(rt: &T) -> io::Result<usize> {
     }
 }
 
+/// A small plan first, with its whole report.
+fn show<T: AllocGlobal + Print + Eprint + Threads + Wait + Sync>(rt: &T) -> io::Result<()> {
+    let plan = small_plan(rt.alloc())?;
+    run_and_print(rt, &plan)
+}
+
 fn main(rt: HostRuntime) -> io::Result<()> {
+    show(&rt)?;
     let copies = copies_asked(&rt)?;
     println!(&rt; "{copies} copies, each of {} bytes of data", mail::DATA)?;
     measure(&rt, 1, 1, copies)?;

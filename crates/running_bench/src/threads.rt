@@ -23,9 +23,9 @@ pub struct Found {
     pub texts: usize,
 }
 
-// Lets all pass.
+/// Lets all pass.
 #[derive(Drop)]
-struct Open {}
+pub struct Open {}
 
 impl Gate for Open {
     fn pass(&self, _who: Actor, _number: u64) {}

@@ -1,4 +1,4 @@
-use Rattle.std.proofs.Common.{◌≡◌, ◌<◌, ◌+◌, length, map, vec_len, arith}
+use Rattle.std.proofs.Common.{◌≡◌, length, map, arith}
 use Rattle.reckoning.specs.Gathered.{fault_of_consumer}
 use Rattle.reckoning.proofs.Laying.{all_laid, gravest_of_none}
 use Rattle.reckoning.proofs.gather.gather_consumers.Goals as goal

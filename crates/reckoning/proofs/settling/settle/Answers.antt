@@ -1,4 +1,4 @@
-use Rattle.std.proofs.Common.{◌≡◌, ◌∙◌, sym, ap, subst, None, Some, length, map, vec_len}
+use Rattle.std.proofs.Common.{◌∙◌, sym, subst, None, length, map, vec_len}
 use Rattle.lane_work.specs.declared.worker.Worked.{Worked}
 use Rattle.lane_work.specs.declared.consumer.Consumed.{Consumed}
 use Rattle.reckoning.specs.Closing.{AreChannelsClosedWith, AreClosedWith}
@@ -10,17 +10,17 @@ pub close_all_lanes-lanes-requires-clause-lists : goal.close_all_lanes-lanes-req
 close_all_lanes-lanes-requires-clause-lists c =
     let hands = c.gather-workers.result.workers.hands in
     rooms_for c.gather-workers.result.lists (length c.args.consumed.items) (vec_len c.args.lanes) (length c.args.worked.items) (vec_len hands)
-        (sym c.args.consumed.ok.0 ∙ c.requires.counts.1)
-        (sym (hands.ok.0 ∙ mapped_length (λ h. h.items) (λ (w : Worked). w.ended.items) hands.items c.args.worked.items c.gather-workers.ensures.of_workers.hands))
-        c.gather-workers.ensures.lists
+    (sym c.args.consumed.ok.0 ∙ c.requires.counts.1)
+    (sym (hands.ok.0 ∙ mapped_length (λ h. h.items) (λ (w : Worked). w.ended.items) hands.items c.args.worked.items c.gather-workers.ensures.of_workers.hands))
+    c.gather-workers.ensures.lists
 
 pub close_all_channels-channels-requires-clause-lists : goal.close_all_channels-channels-requires-clause-lists
 close_all_channels-channels-requires-clause-lists c =
     let hands = c.gather-workers.result.consumers.hands in
     rooms_for c.gather-workers.result.sender_lists (length c.args.worked.items) (vec_len c.args.channels) (length c.args.consumed.items) (vec_len hands)
-        (sym c.args.worked.ok.0 ∙ c.requires.counts.0)
-        (sym (hands.ok.0 ∙ mapped_length (λ h. h.items) (λ d. d.senders.items) hands.items c.args.consumed.items c.gather-workers.ensures.of_consumers.hands))
-        c.gather-workers.ensures.sender_lists
+    (sym c.args.worked.ok.0 ∙ c.requires.counts.0)
+    (sym (hands.ok.0 ∙ mapped_length (λ h. h.items) (λ d. d.senders.items) hands.items c.args.consumed.items c.gather-workers.ensures.of_consumers.hands))
+    c.gather-workers.ensures.sender_lists
 
 pub returns-clause-settled : goal.returns-clause-settled
 returns-clause-settled c =
