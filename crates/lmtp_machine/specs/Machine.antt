@@ -1,5 +1,5 @@
 -- What an LMTP machine is seen as, and the conversations for which it stands.
-use Rattle.std.specs.Prelude.{◌≡◌, ℕ, ◌<◌, List, [], ◌∷◌, ◌++◌, length, All}
+use Rattle.std.specs.Prelude.{◌≡◌, ℕ, Bool, true, false, ◌<◌, List, [], ◌∷◌, ◌++◌, length, All}
 use Rattle.line_io.specs.Wire.{IsUncut, joined}
 use Rattle.line_io.specs.Cutting.{Cutter}
 use Rattle.line_io.specs.Cutting.{StandsFor as HasTaken}
@@ -8,7 +8,7 @@ use Rattle.dot_stuffing.specs.Unstuffing.{StandsFor as HasUnstuffed}
 use Rattle.lmtp_machine.specs.declared.commands.Stage.{Stage}
 use Rattle.lmtp_machine.specs.declared.commands.Stage.TheVariants as stages
 use Rattle.lmtp_machine.specs.Standing.{CommandState, standing_of}
-use Rattle.lmtp_machine.specs.Dialogue.{Data, Setting, Submission}
+use Rattle.lmtp_machine.specs.Dialogue.{Phase, Start, Ready, Transaction, Data, Waiting, Ended, Setting, Submission}
 use Rattle.lmtp_machine.specs.Conversation.{Conversation}
 
 pub record Machine : Type 0 where
@@ -53,3 +53,12 @@ pub record StandsFor (m : Machine) (c : Conversation) : Type 0 where
 abbrev pub IsPending : Stage → List ℕ → List Submission → Type 0
 IsPending stages.Waiting recipients pending = (s : Submission) × (pending ≡ s ∷ []) × (length s.keys ≡ length recipients)
 IsPending _ recipients pending = pending ≡ []
+
+-- within a message's data, which has begun and not ended
+abbrev pub is_data : Phase → Bool
+is_data Start = false
+is_data Ready = false
+is_data (Transaction sender recipients) = false
+is_data (Data sender recipients lines) = true
+is_data (Waiting count) = false
+is_data Ended = false

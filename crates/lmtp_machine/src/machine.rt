@@ -6,7 +6,7 @@ ghost use Rattle.std.specs.Prelude.{All, ◌≡◌, ◌+◌, ◌*◌, ◌++◌, 
 ghost use Rattle.lmtp_machine.specs.Dialogue as dialogue;
 ghost use Rattle.lmtp_machine.specs.Conversation.{Conversation, opened};
 ghost use Rattle.envelope.specs.Directory.{Directory};
-ghost use Rattle.lmtp_machine.specs.Machine.{StandsFor};
+ghost use Rattle.lmtp_machine.specs.Machine.{StandsFor, is_data};
 ghost use Rattle.lmtp_machine.specs.Standing.{IsOpen};
 ghost use Rattle.lmtp_machine.specs.Message.{plain};
 ghost use Rattle.lmtp_machine.specs.Dialogue.{keys_from, on_outcome};
@@ -162,6 +162,14 @@ impl LmtpMachine {
             Stage::Start | Stage::Ready | Stage::Transaction | Stage::Data | Stage::Waiting =>
                 false,
         }
+    }
+
+    /// Whether the connection is within a message's data, which has begun and not ended: bytes that come are data then, and no copy
+    /// was made yet.
+    pub fn is_within_data(&self) -> bool
+        ensures { (c : Conversation) → StandsFor self.now c → result ≡ is_data c.standing.phase }
+    {
+        matches!(self.commands.stage(), Stage::Data)
     }
 
     /// The message that was submitted.
