@@ -1,12 +1,13 @@
 -- The settings of a house: those that stand where none are given, their ranges, what may be wrong with them, and what they settle.
-use Rattle.std.specs.Prelude.{◌≡◌, ℕ, ◌*◌, ◌<◌, ◌≤◌, ◌==◌, ◌&&◌, ◌||◌, not, Bool, true, false, nat_lt, max, List, [], ◌∷◌, length, map, codes, Option, Some, None, Result, Ok, Err}
+use Rattle.std.specs.Prelude.{◌≡◌, ℕ, ◌+◌, ◌*◌, ◌<◌, ◌≤◌, ◌==◌, ◌&&◌, ◌||◌, not, Bool, nat_lt, max, List, [], ◌∷◌, length, map, count_by, codes, Option, Some, None, Result, Ok, Err, if◌then◌else◌}
+use Rattle.std.specs.List.{list_any}
 use Rattle.envelope.specs.Directory.{Home}
 use Rattle.envelope.specs.Names.{home_of, words_read}
 use Rattle.envelope.specs.declared.directory.DirectoryFault.{DirectoryFault}
 use Rattle.envelope.specs.declared.directory.DirectoryFault.TheVariants as names
 use Rattle.house.specs.declared.config.Config.{Config}
 use Rattle.house.specs.declared.config.ConfigFault.{ConfigFault}
-use Rattle.house.specs.declared.config.ConfigFault.TheVariants.{TooMany, BadName, Twice, Ring, NoMemory}
+use Rattle.house.specs.declared.config.ConfigFault.TheVariants.{TooMany, BadName, Twice, Ring, Ports, NoMemory}
 use Rattle.callers.specs.Caller.{Setup}
 
 -- so many connections may stand at a time
@@ -35,6 +36,9 @@ pub record IsDefault (c : Config) (words : List (List ℕ)) : Type 0 where
   pub uidvalidity : c.uidvalidity ≡ 1
   pub first_uid : c.first_uid ≡ 1
   pub sessions : c.sessions ≡ 2
+  pub workers : c.workers ≡ 4
+  pub lmtp_port : c.lmtp_port ≡ 2424
+  pub imap_port : c.imap_port ≡ 14300
 
 -- ---- the ranges of the numbers
 
@@ -53,6 +57,9 @@ pub record IsInRange (c : Config) : Type 0 where
   pub uidvalidity : IsFrom 1 4294967295 c.uidvalidity
   pub first_uid : IsFrom 1 4294967294 c.first_uid
   pub sessions : IsFrom 1 4 c.sessions
+  pub workers : IsFrom 1 8 c.workers
+  pub lmtp_port : IsFrom 1 65535 c.lmtp_port
+  pub imap_port : IsFrom 1024 65472 c.imap_port
 
 -- ---- what may be wrong
 
@@ -67,14 +74,28 @@ fault_named names.NoMemory = NoMemory
 abbrev pub is_ring_wrong : Config → Bool
 is_ring_wrong c = nat_lt c.ring (2 * c.messages) || (not (c.ring_max == 0) && nat_lt c.ring_max c.ring)
 
-abbrev pub names_then_ring : Result (List Home) DirectoryFault → (is_wrong : Bool) → Option ConfigFault
-names_then_ring (Err fault) is_wrong = Some (fault_named fault)
-names_then_ring (Ok homes) true = Some Ring
-names_then_ring (Ok homes) false = None
+-- a word with a slash names a folder, the others each a user
+abbrev pub has_slash : List ℕ → Bool
+has_slash word = list_any (λ b. b == 47) word
 
--- what is wrong: too many words, the host's name, the domain's, the words one by one, and the ring last
+abbrev pub users_in : Config → ℕ
+users_in c = count_by (λ w. not (has_slash w.items)) c.mailboxes.items
+
+-- The port that mail comes to is not that of SMTP, nor that of some user: these are as many as there are users, from the first one on.
+abbrev pub are_ports_wrong : Config → Bool
+are_ports_wrong c = (c.lmtp_port == 25) || (not (nat_lt c.lmtp_port c.imap_port) && nat_lt c.lmtp_port (c.imap_port + users_in c))
+
+-- what is wrong with the numbers, where the names are right
+unfoldable pub fault_of_numbers : Config → Option ConfigFault
+fault_of_numbers c = if is_ring_wrong c then Some Ring else if are_ports_wrong c then Some Ports else None
+
+abbrev pub names_first : Result (List Home) DirectoryFault → Option ConfigFault → Option ConfigFault
+names_first (Err fault) later = Some (fault_named fault)
+names_first (Ok homes) later = later
+
+-- what is wrong: too many words, the host's name, the domain's, the words one by one, the ring, and the ports last
 abbrev pub config_fault : Config → Option ConfigFault
-config_fault c = names_then_ring (words_read (c.host.items ∷ c.domain.items ∷ []) (words_of c)) (is_ring_wrong c)
+config_fault c = names_first (words_read (c.host.items ∷ c.domain.items ∷ []) (words_of c)) (fault_of_numbers c)
 
 -- ---- what the settings settle
 

@@ -36,6 +36,12 @@ pub struct Config {
     pub first_uid: u32,
     /// So many sessions of one user may run as threads, 1 to 4. A house that is played step by step doesn't look at it.
     pub sessions: u8,
+    /// So many LMTP connections may be served at a time, 1 to 8. Only a server looks at it, and at the ports.
+    pub workers: u8,
+    /// The port that mail comes to, 1 to 65535: not 25, where others expect SMTP (RFC 2033, 5), nor one of the users'.
+    pub lmtp_port: u16,
+    /// The port of the first user's sessions, 1024 to 65472; the others' follow, in the order of the users.
+    pub imap_port: u16,
 }
 
 /// What is wrong with the settings. The first that holds is the fault; want of memory comes where memory was refused.
@@ -53,6 +59,9 @@ pub enum ConfigFault {
     /// The ring keeps fewer than two changes for each message, or may keep at most fewer than it keeps.
     #[error("Ring")]
     Ring,
+    /// Mail is to come to port 25, or to a port of a user's sessions.
+    #[error("Ports")]
+    Ports,
     /// Memory was refused.
     #[error("NoMemory")]
     NoMemory,
@@ -111,6 +120,9 @@ impl Config {
             uidvalidity: 1,
             first_uid: 1,
             sessions: 2,
+            workers: 4,
+            lmtp_port: 2424,
+            imap_port: 14300,
         })
     }
 }

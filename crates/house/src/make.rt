@@ -6,7 +6,7 @@ ghost use Rattle.delivery_core.specs.New.{IsNewBox};
 ghost use Rattle.delivery_core.specs.Stands.{EachAt};
 ghost use Rattle.envelope.specs.Names.{texts, words_read};
 ghost use Rattle.house.specs.Scene.{empty_scene};
-ghost use Rattle.house.specs.Settings.{IsInRange, config_fault, fault_named, is_ring_wrong, seats, setup_of, words_of};
+ghost use Rattle.house.specs.Settings.{IsInRange, are_ports_wrong, config_fault, fault_named, fault_of_numbers, has_slash, is_ring_wrong, seats, setup_of, users_in, words_of};
 ghost use Rattle.house.specs.Stands.{StandsFor};
 
 use crate::config::{Config, ConfigFault};
@@ -27,6 +27,9 @@ const SESSIONS: usize = 8;
 
 /// The most mailboxes of a house.
 const MOST_MAILBOXES: usize = 64;
+
+/// Where mail comes by SMTP, which an LMTP server must keep away from (RFC 2033, 5).
+const SMTP_PORT: u16 = 25;
 
 // The words where they lie.
 fn borrowed_words(alloc: Global, words: &[Vec<u8>]) -> Result<Vec<&[u8]>, AllocError>
@@ -73,6 +76,47 @@ fn is_ring_wrong(config: &Config) -> bool
     config.ring < 2 * config.messages || (config.ring_max != 0 && config.ring_max < config.ring)
 }
 
+// Whether the word names a folder.
+fn has_slash(word: &[u8]) -> bool
+    ensures { result ≡ has_slash word.now }
+{
+    word.iter().any(|byte| *byte == b'/')
+}
+
+// How many of the settings' words name a user.
+fn users_in(config: &Config) -> usize
+    ensures { result ≡ users_in config.now }
+{
+    config
+        .mailboxes
+        .iter()
+        .filter(|word| !has_slash(word))
+        .count()
+}
+
+// Whether mail is to come to a port where others rest.
+fn are_ports_wrong(config: &Config) -> bool
+    ensures { result ≡ are_ports_wrong config.now }
+{
+    let (port, first) = (usize::from(config.lmtp_port), usize::from(config.imap_port));
+    config.lmtp_port == SMTP_PORT || (first <= port && port - first < users_in(config))
+}
+
+// What is wrong with the numbers.
+#[tactic(auto, unfolding(crate::specs::Settings::fault_of_numbers))]
+fn fault_of_numbers(config: &Config) -> Option<ConfigFault>
+    requires { IsInRange config.now }
+    ensures { result ≡ fault_of_numbers config.now }
+{
+    if is_ring_wrong(config) {
+        return Some(ConfigFault::Ring);
+    }
+    if are_ports_wrong(config) {
+        return Some(ConfigFault::Ports);
+    }
+    None
+}
+
 /// The directory that a house of these settings goes by.
 ///
 /// Errors: those of `House::new`, in the same order.
@@ -86,10 +130,10 @@ pub fn directory_of(alloc: Global, config: &Config) -> Result<Directory, ConfigF
     ensures made { config_fault config.now ≡ None → IsOkUnless result ConfigFault.NoMemory }
 {
     let directory = named_directory(alloc, config)?;
-    if is_ring_wrong(config) {
-        return Err(ConfigFault::Ring);
+    match fault_of_numbers(config) {
+        Some(fault) => Err(fault),
+        None => Ok(directory),
     }
-    Ok(directory)
 }
 
 // At each seat nobody.
@@ -120,7 +164,7 @@ impl House {
     /// Errors, the first that holds: `TooMany` for more than 64 mailboxes; `BadName` for the host, then for the domain; then the fault
     /// of the first word that has one, `BadName` if it is spelled wrong or its user has no word before it, `Twice` if it names an
     /// earlier one's mailbox in upper or lower case; `Ring` where the ring keeps fewer than two changes for each message, or its most
-    /// is not 0 and is less than it. In place of any of them, and where nothing else is wrong, `NoMemory` if memory is refused.
+    /// is not 0 and is less than it; `Ports` where mail is to come to port 25 or to a user's port. In place of any of them, and where nothing else is wrong, `NoMemory` if memory is refused.
     pub fn new(alloc: Global, config: &Config) -> Result<House, ConfigFault>
         requires { IsInRange config.now }
         ensures stands { IfOk result (λ h. StandsFor (setup_of config.now) h empty_scene) }

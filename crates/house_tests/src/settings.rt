@@ -12,13 +12,16 @@ fn what_stands_where_nothing_is_given(rt: HostRuntime) -> Result<(), AllocError>
     assert_eq!(rt; config.domain.as_slice(), b"example.org".as_slice());
     assert_eq!(rt; config.mailboxes.len(), 1);
     assert_eq!(rt; config.max_message, 1_048_576);
+    assert_eq!(rt; config.workers, 4);
+    assert_eq!(rt; config.lmtp_port, 2424);
+    assert_eq!(rt; config.imap_port, 14_300);
     Ok(())
 }
 
 #[test]
 fn faults_have_names(rt: HostRuntime) -> Result<(), AllocError> {
-    let text = format!(in rt.alloc(); "{} {}", ConfigFault::TooMany, ConfigFault::Ring)?;
-    assert_eq!(rt; text.as_str(), "TooMany Ring");
+    let text = format!(in rt.alloc(); "{} {}", ConfigFault::TooMany, ConfigFault::Ports)?;
+    assert_eq!(rt; text.as_str(), "TooMany Ports");
     Ok(())
 }
 
@@ -75,5 +78,49 @@ fn faults_in_their_order(rt: HostRuntime) -> Result<(), AllocError> {
         fault_of(alloc, MANY, b"", 16, 0)?,
     ];
     assert_eq!(rt; found, FAULTS);
+    Ok(())
+}
+
+// What is wrong with settings of two users and a folder where mail comes to this port, the users' sessions to 14300 and 14301, and the ring
+// keeps so many changes.
+fn fault_at(alloc: Global, port: u16, ring: usize) -> Result<Option<ConfigFault>, AllocError>
+    requires least { 16 ≤ ring }
+    requires most { ring ≤ 65536 }
+    requires port { 1 ≤ port }
+{
+    let words = [
+        b"alice".as_slice(),
+        b"alice/Work".as_slice(),
+        b"bob".as_slice(),
+    ];
+    let mut config = Config::new(alloc, &words)?;
+    config.lmtp_port = port;
+    config.ring = ring;
+    Ok(House::new(alloc, &config).err())
+}
+
+const PORTS: [Option<ConfigFault>; 7] = [
+    None,
+    Some(ConfigFault::Ports),
+    None,
+    Some(ConfigFault::Ports),
+    Some(ConfigFault::Ports),
+    None,
+    Some(ConfigFault::Ring),
+];
+
+#[test]
+fn mail_comes_to_a_port_of_its_own(rt: HostRuntime) -> Result<(), AllocError> {
+    let alloc = rt.alloc();
+    let found = [
+        fault_at(alloc, 2424, 2048)?,
+        fault_at(alloc, 25, 2048)?,
+        fault_at(alloc, 14_299, 2048)?,
+        fault_at(alloc, 14_300, 2048)?,
+        fault_at(alloc, 14_301, 2048)?,
+        fault_at(alloc, 14_302, 2048)?,
+        fault_at(alloc, 25, 2047)?,
+    ];
+    assert_eq!(rt; found, PORTS);
     Ok(())
 }

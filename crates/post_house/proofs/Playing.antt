@@ -45,6 +45,7 @@ told_fault config_faults.TooMany x e = cc
 told_fault config_faults.BadName x e = cc
 told_fault config_faults.Twice x e = cc
 told_fault config_faults.Ring x e = cc
+told_fault config_faults.Ports x e = cc
 told_fault config_faults.NoMemory x e = absurd (none_told e)
   where
     none_told : failures.NoMemory ≡ failures.Config x → ⊥

@@ -22,6 +22,7 @@ config_failure config_faults.TooMany = Config config_faults.TooMany
 config_failure config_faults.BadName = Config config_faults.BadName
 config_failure config_faults.Twice = Config config_faults.Twice
 config_failure config_faults.Ring = Config config_faults.Ring
+config_failure config_faults.Ports = Config config_faults.Ports
 config_failure config_faults.NoMemory = NoMemory
 
 abbrev pub run_failure : RunFault → Failure

@@ -3,8 +3,8 @@ use Rattle.house.specs.Settings.{words_of}
 use Rattle.house.proofs.NewHouse.{read_homes, directory_is}
 use Rattle.house.proofs.make.directory_of.Goals as goal
 
-pub returns-clause-directory : goal.returns-clause-directory
-returns-clause-directory c =
+pub returns-in-None-clause-directory : goal.returns-in-None-clause-directory
+returns-in-None-clause-directory c =
     let config = c.args.config.now in
     let made = c.in_ok-directory.ensures in
     directory_is config c.in_ok-directory.directory made.domains
