@@ -1,3 +1,3 @@
 mod UserLaws
-mod Places
+pub mod Places
 mod DealLaws

@@ -21,7 +21,7 @@ pub record IsFloor (directory : Directory) (sizes : Sizes) (floor : Floor) : Typ
   pub host : floor.office.host.items ≡ sizes.host.now
   pub max_message : floor.office.max_message ≡ sizes.max_message
   pub turns : floor.turns ≡ sizes.turns
-  pub bells : length floor.office.bells.items ≡ directory.shards
+  pub bells : length floor.bells.items ≡ directory.shards
   pub mailboxes : length floor.depot.mailboxes.items ≡ length directory.homes
   pub lanes : All (λ q. (capacity_of q ≡ sizes.depth) × (producers_of q ≡ sizes.workers)) floor.office.lanes.items
   pub channels : All (λ c. (room_of c ≡ reply_room) × (senders_of c ≡ directory.shards)) floor.depot.channels.items

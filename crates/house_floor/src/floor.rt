@@ -1,5 +1,6 @@
 //! What the threads share, and what is dealt to each of them. How it is made stands in `opening`.
 
+use crossbeam_utils::sync::Unparker;
 use delivery_token::{Job, Noted};
 use lane_work::{Consumed, Depot, Desk, Office, Stall, Worked};
 use session_thread::Step;
@@ -13,6 +14,8 @@ pub struct Floor {
     pub office: Office,
     /// What the consumers share.
     pub depot: Depot,
+    /// The bell of each shard's consumer, which the workers ring.
+    pub bells: Vec<Unparker>,
     /// So many turns a session has at most where it awaits changes.
     pub turns: u64,
     pub alloc: Global,

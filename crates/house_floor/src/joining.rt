@@ -44,7 +44,6 @@ fn lay_floor(
         host: hall.host,
         max_message: sizes.max_message,
         lanes,
-        bells: hall.consumers,
     };
     let depot = Depot {
         mailboxes: hall.mailboxes,
@@ -54,6 +53,7 @@ fn lay_floor(
     Floor {
         office,
         depot,
+        bells: hall.consumers,
         turns: sizes.turns,
         alloc,
     }

@@ -16,7 +16,7 @@ ghost use Rattle.house_threads.specs.Crew.{IsPostLeft};
 use delivery_token::WorkerLog;
 use house_floor::{Post, Stand};
 use lane_work::{
-    Consumed, Depot, Desk, Fate, Office, Stall, Worked, end_all, end_one, end_senders, ring,
+    Consumed, Depot, Desk, Fate, Office, Stall, Summons, Worked, end_all, end_one, end_senders,
 };
 use pace::{Gate, Pace};
 use std::alloc::Global;
@@ -25,11 +25,12 @@ use std::sync::Wait;
 /// A worker that has no thread: it ends its seat on each lane, and hears nothing. To wait for the ends
 /// of its channel would be to wait for ever: they come when each worker's seats have ended, and this
 /// thread ends those of the workers behind it.
-pub(crate) fn stand_down<R: Wait, G: Gate>(
+pub(crate) fn stand_down<R: Wait, G: Gate, S: Summons>(
     rt: &R,
     alloc: Global,
     pace: &mut Pace<'_, G>,
     office: &Office,
+    summons: &S,
     post: Post,
 ) -> Worked
     requires seats { AreSeats office.now.lanes.items post.desk.number post.desk.seats.items }
@@ -44,7 +45,7 @@ pub(crate) fn stand_down<R: Wait, G: Gate>(
         ends: _,
     } = desk;
     let log = WorkerLog::new(alloc, number);
-    let ended = end_all(rt, pace, office, number, seats, room);
+    let ended = end_all(rt, pace, office, summons, number, seats, room);
     Worked {
         ended,
         receiver,
@@ -86,10 +87,11 @@ pub(crate) fn step_aside<R: Wait, G: Gate>(
 
 /// A worker that isn't to begin: it ends its seats on the first lanes, whose consumers run, and keeps
 /// the others.
-pub(crate) fn end_first<R: Wait, G: Gate>(
+pub(crate) fn end_first<R: Wait, G: Gate, S: Summons>(
     rt: &R,
     pace: &mut Pace<'_, G>,
     office: &Office,
+    summons: &S,
     post: Post,
     manned: usize,
 ) -> Post
@@ -108,7 +110,7 @@ pub(crate) fn end_first<R: Wait, G: Gate>(
     for lane in 0..manned {
         let seat = seats.remove(0);
         room.push_reserved(end_one(rt, pace, &office.lanes[lane], seat));
-        ring(&office.bells, lane);
+        summons.summon(rt, lane);
     }
     Post {
         desk: Desk {

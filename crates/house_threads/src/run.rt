@@ -62,7 +62,7 @@ fn end_posts<R: Wait, G: Gate>(
     for done in 0..posts.len() {
         let post = posts.remove(0);
         let mut pace = Pace::new(gate, Actor::Worker(post.desk.number));
-        idle.push_reserved(end_first(rt, &mut pace, &floor.office, post, manned));
+        idle.push_reserved(end_first(rt, &mut pace, &floor.office, &floor.bells, post, manned));
     }
     posts.destroy_empty();
     idle

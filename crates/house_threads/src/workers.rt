@@ -57,7 +57,14 @@ fn work_there<R: Wait, G: Gate>(
     let post = ManuallyDrop::into_inner(post);
     let mut pace = Pace::new(gate, Actor::Worker(number));
     if manned.workers.load(Ordering::SeqCst) <= u64::from(number) {
-        let down = stand_down(rt, floor.alloc, &mut pace, &floor.office, post);
+        let down = stand_down(
+            rt,
+            floor.alloc,
+            &mut pace,
+            &floor.office,
+            &floor.bells,
+            post,
+        );
         return packed(down);
     }
     let Post { desk, room } = post;
@@ -66,6 +73,7 @@ fn work_there<R: Wait, G: Gate>(
         floor.alloc,
         &mut pace,
         &floor.office,
+        &floor.bells,
         &floor.depot.channels[place],
         desk,
         room,

@@ -269,15 +269,15 @@ notes_next keys mailboxes text verdicts i k m v old was new same as_many under k
 pub told_more : (judged : List Judged) (m : Submission) (vs : List Verdict) → told (judged ++ record { message = m; verdicts = vs } ∷ []) ≡ told judged ++ zip (copies_of m) vs
 told_more judged m vs = flat_map-append (λ (j : Judged). zip (copies_of j.message) j.verdicts) judged (record { message = m; verdicts = vs } ∷ []) ∙ ap (λ l. told judged ++ l) (append-nil (zip (copies_of m) vs))
 
-pub books_more : (d : Directory) (rooms : List Room) (p : ℕ) (judged : List Judged) (notes more : List Noted) (heard hears : List (Entry Noted)) (m : Submission) (slots full : List (Option Verdict)) (vs : List Verdict) (before after : List (List (Entry Job)))
+pub books_more : (d : Directory) (rooms : List Room) (p : ℕ) (judged : List Judged) (keeps more : List (Job × Verdict) → Type 0) (heard hears : List (Entry Noted)) (m : Submission) (slots full : List (Option Verdict)) (vs : List Verdict) (before after : List (List (Entry Job)))
     → length m.mailboxes ≡ length m.keys → length slots ≡ length m.keys → WereTried d rooms p (copies_of m) slots before → Fills slots full → full ≡ map (λ v. Some v) vs
     → HavePut d p (copies_of m) slots before after → length after ≡ length before
-    → more ≡ notes ++ map note_of (zip (copies_of m) vs) → IsStartOf heard hears → WereHeard hears (copies_of m) slots full
-    → AreBooks d rooms p judged notes heard before → AreBooks d rooms p (judged ++ record { message = m; verdicts = vs } ∷ []) more hears after
-books_more d rooms p judged notes more heard hears m slots full vs before after same as_many each fills known was len noted grew told_all books =
+    → ((copies : List (Job × Verdict)) → keeps copies → more (copies ++ zip (copies_of m) vs)) → IsStartOf heard hears → WereHeard hears (copies_of m) slots full
+    → AreBooks d rooms p judged keeps heard before → AreBooks d rooms p (judged ++ record { message = m; verdicts = vs } ∷ []) more hears after
+books_more d rooms p judged keeps more heard hears m slots full vs before after same as_many each fills known was len notes grew told_all books =
     let t = told_more judged m vs in
     record {
-      noted = noted ∙ ap (λ l. l ++ map note_of (zip (copies_of m) vs)) books.noted ∙ sym (ap (map note_of) t ∙ map-append note_of (told judged) (zip (copies_of m) vs));
+      noted = subst more (sym t) (notes (told judged) books.noted);
       lanes = λ lane under.
           let b = books.lanes lane (omega arith) in
           let jobs = under_way d lane (copies_of m) slots in

@@ -4,6 +4,7 @@ use Rattle.std.specs.Global.{Global}
 use Rattle.std.proofs.lemmas.List.{map-append, length-map, length-take-le}
 use Rattle.std.proofs.lemmas.List.Elements.{All-head, All-tail}
 use Rattle.delivery_token.specs.declared.Job.{Job}
+use Rattle.delivery_token.specs.declared.Verdict.{Verdict}
 use Rattle.delivery_token.specs.declared.log.Noted.{Noted}
 use Rattle.shard_queue.specs.declared.lane.Entry.{Entry}
 use Rattle.shard_queue.specs.declared.lane.Entry.TheVariants.{End}
@@ -13,17 +14,17 @@ use Rattle.shard_queue.specs.Shared.{IsStartOf}
 use Rattle.envelope.specs.Directory.{Directory}
 use Rattle.lane_work.specs.Talk.{Judged, WholeTalk}
 use Rattle.lane_work.specs.Copies.{Room, none, room_at}
-use Rattle.lane_work.specs.Account.{Account, AreBooks, HasServed, HaveEnded, HaveTalked, Premises, next, setting_at}
+use Rattle.lane_work.specs.Account.{Account, AreBooks, HasServed, HaveEnded, HaveTalked, Premises, next, notes_tell, setting_at}
 use Rattle.lane_work.specs.Account as account
 use Rattle.lane_work.specs.Speaking.{Spoke}
 use Rattle.lane_work.proofs.CopyLaws.{take_next, were_put_later}
 
-pub served_next : (house : Premises) (p : ℕ) (connections replies : List (List ℕ)) (bytes reply : List ℕ) (serial : ℕ) (notes more : List Noted) (heard hears : List (Entry Noted)) (before after : List (List (Entry Job)))
+pub served_next : (house : Premises) (p : ℕ) (connections replies : List (List ℕ)) (bytes reply : List ℕ) (serial : ℕ) (keeps more : List (Job × Verdict) → Type 0) (heard hears : List (Entry Noted)) (before after : List (List (Entry Job)))
     → serial ≡ length connections
-    → HasServed house p connections replies notes heard before
-    → ((done : List Judged) → AreBooks house.directory house.rooms p done notes heard before → Spoke house.directory house.rooms p done bytes (setting_at house p serial) house.host reply more hears after)
+    → HasServed house p connections replies keeps heard before
+    → ((done : List Judged) → AreBooks house.directory house.rooms p done keeps heard before → Spoke house.directory house.rooms p done bytes (setting_at house p serial) house.host reply more hears after)
     → HasServed house p (connections ++ bytes ∷ []) (replies ++ reply ∷ []) more hears after
-served_next house p connections replies bytes reply serial notes more heard hears before after is served speaks =
+served_next house p connections replies bytes reply serial keeps more heard hears before after is served speaks =
     let s = speaks served.judged served.books in
     record {
       judged = served.judged ++ s.judged;
@@ -33,7 +34,7 @@ served_next house p connections replies bytes reply serial notes more heard hear
     }
 
 -- before the first connection
-pub books_begin : (d : Directory) (rooms : List Room) (p : ℕ) (notes : List Noted) (heard : List (Entry Noted)) (ss : List (ProducerSeat Job)) → notes ≡ [] → All (λ s. sent s ≡ []) ss → AreBooks d rooms p [] notes heard (map sent ss)
+pub books_begin : (d : Directory) (rooms : List Room) (p : ℕ) (notes : List Noted) (heard : List (Entry Noted)) (ss : List (ProducerSeat Job)) → notes ≡ [] → All (λ s. sent s ≡ []) ss → AreBooks d rooms p [] (notes_tell notes) heard (map sent ss)
 books_begin d rooms p notes heard ss is each = record { noted = is; lanes = λ lane under. ([], none, nothing_sent ss each lane) } where
   nothing_sent : (xs : List (ProducerSeat Job)) → All (λ s. sent s ≡ []) xs → (lane : ℕ) → slice_index_or (map sent xs) lane [] ≡ []
   nothing_sent [] h lane = refl
@@ -42,7 +43,7 @@ books_begin d rooms p notes heard ss is each = record { noted = is; lanes = λ l
 
 -- the seats have ended
 pub account_of : (house : Premises) (p : ℕ) (connections replies : List (List ℕ)) (notes : List Noted) (heard hears : List (Entry Noted)) (before after : List (List (Entry Job)))
-    → IsStartOf heard hears → HaveEnded p before after → HasServed house p connections replies notes heard before → Account house p connections replies notes hears after
+    → IsStartOf heard hears → HaveEnded p before after → HasServed house p connections replies (notes_tell notes) heard before → Account house p connections replies notes hears after
 account_of house p connections replies notes heard hears before after grew ended served = record {
   judged = served.judged;
   talked = served.talked;
@@ -57,22 +58,22 @@ account_of house p connections replies notes heard hears before after grew ended
   at_end (x ∷ xs) (suc lane) h = at_end xs lane (omega arith)
 
 pub served_step : (house : Premises) (p : ℕ) (conns : List (Vec ℕ Global)) (i : ℕ) (conn : Vec ℕ Global) (bytes : List ℕ) (replies more : List (Vec ℕ Global)) (reply : Vec ℕ Global)
-    (notes noted : List Noted) (heard hears : List (Entry Noted)) (before after : List (List (Entry Job)))
+    (keeps kept : List (Job × Verdict) → Type 0) (heard hears : List (Entry Noted)) (before after : List (List (Entry Job)))
     → i < length conns → conn ≡ slice_index_or conns i conn → bytes ≡ conn.items → more ≡ replies ++ reply ∷ []
-    → HasServed house p (map (λ b. b.items) (take i conns)) (map (λ b. b.items) replies) notes heard before
-    → ((done : List Judged) → AreBooks house.directory house.rooms p done notes heard before → Spoke house.directory house.rooms p done bytes (setting_at house p i) house.host reply.items noted hears after)
-    → HasServed house p (map (λ b. b.items) (take (i + 1) conns)) (map (λ b. b.items) more) noted hears after
-served_step house p conns i conn bytes replies more reply notes noted heard hears before after under is same new served speaks =
+    → HasServed house p (map (λ b. b.items) (take i conns)) (map (λ b. b.items) replies) keeps heard before
+    → ((done : List Judged) → AreBooks house.directory house.rooms p done keeps heard before → Spoke house.directory house.rooms p done bytes (setting_at house p i) house.host reply.items kept hears after)
+    → HasServed house p (map (λ b. b.items) (take (i + 1) conns)) (map (λ b. b.items) more) kept hears after
+served_step house p conns i conn bytes replies more reply keeps kept heard hears before after under is same new served speaks =
     let f : Vec ℕ Global → List ℕ = λ b. b.items in
     let one : map f (take (i + 1) conns) ≡ map f (take i conns) ++ bytes ∷ [] =
     ap (map f) (take_next conns i conn under is) ∙ map-append f (take i conns) (conn ∷ []) ∙ ap (λ x. map f (take i conns) ++ x ∷ []) (sym same) in
     let two : map f more ≡ map f replies ++ reply.items ∷ [] = ap (map f) new ∙ map-append f replies (reply ∷ []) in
     let count : i ≡ length (map f (take i conns)) = let l = length-map (take i conns) f in let k : length (take i conns) ≡ i = length-take-le i conns (omega arith) in sym (l ∙ k) in
-    subst (λ x. HasServed house p x (map f more) noted hears after) (sym one)
-    (subst (λ x. HasServed house p (map f (take i conns) ++ bytes ∷ []) x noted hears after) (sym two)
-    (served_next house p (map f (take i conns)) (map f replies) bytes reply.items i notes noted heard hears before after count served speaks))
+    subst (λ x. HasServed house p x (map f more) kept hears after) (sym one)
+    (subst (λ x. HasServed house p (map f (take i conns) ++ bytes ∷ []) x kept hears after) (sym two)
+    (served_next house p (map f (take i conns)) (map f replies) bytes reply.items i keeps kept heard hears before after count served speaks))
 
-pub served_begin : (house : Premises) (p : ℕ) (replies : List (Vec ℕ Global)) (notes : List Noted) (heard : List (Entry Noted)) (before : List (List (Entry Job))) → replies ≡ [] → AreBooks house.directory house.rooms p [] notes heard before
-    → HasServed house p [] (map (λ b. b.items) replies) notes heard before
-served_begin house p replies notes heard before is books =
-    subst (λ (l : List (Vec ℕ Global)). HasServed house p [] (map (λ b. b.items) l) notes heard before) (sym is) (record { judged = []; talked = account.none; books = books })
+pub served_begin : (house : Premises) (p : ℕ) (replies : List (Vec ℕ Global)) (keeps : List (Job × Verdict) → Type 0) (heard : List (Entry Noted)) (before : List (List (Entry Job))) → replies ≡ [] → AreBooks house.directory house.rooms p [] keeps heard before
+    → HasServed house p [] (map (λ b. b.items) replies) keeps heard before
+served_begin house p replies keeps heard before is books =
+    subst (λ (l : List (Vec ℕ Global)). HasServed house p [] (map (λ b. b.items) l) keeps heard before) (sym is) (record { judged = []; talked = account.none; books = books })

@@ -13,7 +13,7 @@ use Rattle.lmtp_machine.specs.declared.connection.What.TheVariants.{More, Submit
 use Rattle.lmtp_machine.specs.declared.reply.Reply.{Reply}
 use Rattle.lmtp_machine.specs.Calls.{Follows, Happens, Submits, Tells}
 use Rattle.lmtp_machine.specs.Conversation.{Conversation, led_by, opened}
-use Rattle.lmtp_machine.specs.Dialogue.{Phase, Waiting, Ended, Setting, Submission, Turn, on_event, on_verdicts, verdict_reply}
+use Rattle.lmtp_machine.specs.Dialogue.{Phase, Waiting, Ended, Setting, Submission, Turn, Event, on_event, on_verdicts, verdict_reply}
 use Rattle.lmtp_machine.specs.Dialogue as on
 use Rattle.lmtp_machine.specs.Machine.{Machine, StandsFor}
 use Rattle.lmtp_machine.specs.Replies.{reply_text, wire}
@@ -36,13 +36,36 @@ is_over More turn tells e = absurd (let x : false ≡ true = e in cc)
 is_over Submit turn tells e = absurd (let x : false ≡ true = e in cc)
 is_over Quit turn tells e = tells.1
 
+-- what was told before may stand in front of all that is written
+pub follows_behind : (told : List ℕ) {S : Conversation → Type 0} (setting : Setting) (host : List ℕ) (d : Directory) (c : Conversation) (piece : List ℕ) (fed : Fed) (old new : List ℕ) (pending : List Submission)
+    → Follows S setting host d c piece fed old new pending → Follows S setting host d c piece fed (told ++ old) (told ++ new) pending
+follows_behind told setting host d c piece fed old new pending f = record {
+  turn = f.turn;
+  after = f.after;
+  leads = f.leads;
+  stands = f.stands;
+  said = ap (λ l. told ++ l) f.said ∙ sym (append_assoc told old (wire host f.turn.replies));
+  tells = f.tells;
+  submits = f.submits;
+  stops = f.stops;
+  one = f.one;
+  ended = f.ended;
+}
+
+pub happens_behind : (told : List ℕ) {S : Conversation → Type 0} (setting : Setting) (host : List ℕ) (d : Directory) (c : Conversation) (event : Event) (old new : List ℕ)
+    → Happens S setting host d c event old new → Happens S setting host d c event (told ++ old) (told ++ new)
+happens_behind told setting host d c event old new h = record {
+  stands = h.stands;
+  said = ap (λ l. told ++ l) h.said ∙ sym (append_assoc told old (wire host (on_event setting d c.standing event).replies));
+}
+
 -- some bytes were taken, and nothing was submitted
-pub stands_on : (d : Directory) (rooms : List Room) (p : ℕ) (done : List Judged) (bytes : List ℕ) (m after : Machine) (out more : List ℕ) (notes : List Noted) (heard : List (Entry Noted)) (sent : List (List (Entry Job))) (piece : List ℕ) (fed : Fed)
+pub stands_on : (d : Directory) (rooms : List Room) (p : ℕ) (done : List Judged) (bytes : List ℕ) (m after : Machine) (out more : List ℕ) (keeps : List (Job × Verdict) → Type 0) (heard : List (Entry Noted)) (sent : List (List (Entry Job))) (piece : List ℕ) (fed : Fed)
     → after.setting ≡ m.setting → after.host ≡ m.host → (fed.what ≡ Submit → ⊥)
     → ((c : Conversation) → StandsFor m c → Follows (StandsFor after) m.setting m.host d c piece fed out more after.pending)
-    → Stands d rooms p done bytes false m out notes heard sent
-    → Stands d rooms p done (bytes ++ take fed.used piece) (is_quit fed.what) after more notes heard sent
-stands_on d rooms p done bytes m after out more notes heard sent piece fed setting host not ok s =
+    → Stands d rooms p done bytes false m out keeps heard sent
+    → Stands d rooms p done (bytes ++ take fed.used piece) (is_quit fed.what) after more keeps heard sent
+stands_on d rooms p done bytes m after out more keeps heard sent piece fed setting host not ok s =
     let f = ok s.at s.machine in
     record {
       said = s.said ++ f.turn.replies;
@@ -65,16 +88,16 @@ waits_now Submit turn e tells = tells
 waits_now Quit turn e tells = absurd (let x : Quit ≡ Submit = e in cc)
 
 -- some bytes were taken, and a message was submitted, judged and answered
-pub stands_judged : (d : Directory) (rooms : List Room) (p : ℕ) (done : List Judged) (bytes : List ℕ) (m mid after : Machine) (out between more : List ℕ) (notes noted : List Noted) (heard hears : List (Entry Noted)) (sent put : List (List (Entry Job)))
+pub stands_judged : (d : Directory) (rooms : List Room) (p : ℕ) (done : List Judged) (bytes : List ℕ) (m mid after : Machine) (out between more : List ℕ) (keeps kept : List (Job × Verdict) → Type 0) (heard hears : List (Entry Noted)) (sent put : List (List (Entry Job)))
     (piece : List ℕ) (fed : Fed) (message : Submission) (vs : List Verdict)
     → mid.setting ≡ m.setting → mid.host ≡ m.host → after.setting ≡ mid.setting → after.host ≡ mid.host → fed.what ≡ Submit
     → mid.pending ≡ message ∷ [] → length vs ≡ length message.keys
     → ((c : Conversation) → StandsFor m c → Follows (StandsFor mid) m.setting m.host d c piece fed out between mid.pending)
     → ((x : Directory) (c : Conversation) → StandsFor mid c → Happens (StandsFor after) mid.setting mid.host x c (on.Answered vs) between more)
-    → ((judged : List Judged) → AreBooks d rooms p judged notes heard sent → AreBooks d rooms p (judged ++ record { message = message; verdicts = vs } ∷ []) noted hears put)
-    → Stands d rooms p done bytes false m out notes heard sent
-    → Stands d rooms p done (bytes ++ take fed.used piece) (is_quit fed.what) after more noted hears put
-stands_judged d rooms p done bytes m mid after out between more notes noted heard hears sent put piece fed message vs set1 host1 set2 host2 what pending as_many feeds answers books s =
+    → ((judged : List Judged) → AreBooks d rooms p judged keeps heard sent → AreBooks d rooms p (judged ++ record { message = message; verdicts = vs } ∷ []) kept hears put)
+    → Stands d rooms p done bytes false m out keeps heard sent
+    → Stands d rooms p done (bytes ++ take fed.used piece) (is_quit fed.what) after more kept hears put
+stands_judged d rooms p done bytes m mid after out between more keeps kept heard hears sent put piece fed message vs set1 host1 set2 host2 what pending as_many feeds answers books s =
     let f = feeds s.at s.machine in
     let w = waits_now fed.what f.turn what f.tells in
     let only : f.turn.submissions ≡ message ∷ [] = sym f.submits ∙ pending in
@@ -101,14 +124,14 @@ stands_judged d rooms p done bytes m mid after out between more notes noted hear
           ∙ ap (λ x. wire x (s.said ++ f.turn.replies) ++ wire mid.host (map verdict_reply vs)) (sym host1)
           ∙ sym (wire_more mid.host (s.said ++ f.turn.replies) (map verdict_reply vs))
           ∙ ap (λ x. wire x ((s.said ++ f.turn.replies) ++ map verdict_reply vs)) (sym host2);
-      books = subst (λ l. AreBooks d rooms p l noted hears put) (append_assoc done s.judged (one ∷ [])) (books (done ++ s.judged) s.books);
+      books = subst (λ l. AreBooks d rooms p l kept hears put) (append_assoc done s.judged (one ∷ [])) (books (done ++ s.judged) s.books);
     }
 
 -- all was taken, or the dialogue has ended
-pub spoke : (d : Directory) (rooms : List Room) (p : ℕ) (done : List Judged) (bytes taken left : List ℕ) (over : Bool) (m : Machine) (setting : Setting) (host out : List ℕ) (notes : List Noted) (heard : List (Entry Noted)) (sent : List (List (Entry Job)))
+pub spoke : (d : Directory) (rooms : List Room) (p : ℕ) (done : List Judged) (bytes taken left : List ℕ) (over : Bool) (m : Machine) (setting : Setting) (host out : List ℕ) (keeps : List (Job × Verdict) → Type 0) (heard : List (Entry Noted)) (sent : List (List (Entry Job)))
     → bytes ≡ taken ++ left → (left ≡ []) ⊎ (over ≡ true) → m.setting ≡ setting → m.host ≡ host
-    → Stands d rooms p done taken over m out notes heard sent → Spoke d rooms p done bytes setting host out notes heard sent
-spoke d rooms p done bytes taken left over m setting host out notes heard sent whole ended set same s = record {
+    → Stands d rooms p done taken over m out keeps heard sent → Spoke d rooms p done bytes setting host out keeps heard sent
+spoke d rooms p done bytes taken left over m setting host out keeps heard sent whole ended set same s = record {
   said = s.said;
   judged = s.judged;
   talk = record {
@@ -127,11 +150,11 @@ spoke d rooms p done bytes taken left over m setting host out notes heard sent w
   how (inr e) k = inr (k e)
 
 -- a new connection was greeted
-pub begins : (d : Directory) (rooms : List Room) (p : ℕ) (done : List Judged) (m after : Machine) (out : List ℕ) (notes : List Noted) (heard : List (Entry Noted)) (sent : List (List (Entry Job)))
+pub begins : (d : Directory) (rooms : List Room) (p : ℕ) (done : List Judged) (m after : Machine) (out : List ℕ) (keeps : List (Job × Verdict) → Type 0) (heard : List (Entry Noted)) (sent : List (List (Entry Job)))
     → after.setting ≡ m.setting → after.host ≡ m.host → StandsFor m opened
     → ((x : Directory) (c : Conversation) → StandsFor m c → Happens (StandsFor after) m.setting m.host x c on.Opened [] out)
-    → AreBooks d rooms p done notes heard sent → Stands d rooms p done [] false after out notes heard sent
-begins d rooms p done m after out notes heard sent setting host new greets books =
+    → AreBooks d rooms p done keeps heard sent → Stands d rooms p done [] false after out keeps heard sent
+begins d rooms p done m after out keeps heard sent setting host new greets books =
     let h = greets d opened new in
     record {
       said = (on_event m.setting d opened.standing on.Opened).replies;
@@ -141,7 +164,7 @@ begins d rooms p done m after out notes heard sent setting host new greets books
       machine = h.stands;
       ended = λ e. absurd (let x : false ≡ true = e in cc);
       replies = h.said ∙ ap (λ x. wire x (on_event m.setting d opened.standing on.Opened).replies) (sym host);
-      books = subst (λ l. AreBooks d rooms p l notes heard sent) (sym (append-nil done)) books;
+      books = subst (λ l. AreBooks d rooms p l keeps heard sent) (sym (append-nil done)) books;
     }
 
 pub take_more : {A : Type 0} (xs : List A) (i f n : ℕ) → n ≡ i + f → take i xs ++ take f (drop i xs) ≡ take n xs

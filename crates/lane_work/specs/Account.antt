@@ -1,6 +1,7 @@
 -- What one worker's thread says: of its own seats, its own log and its own replies.
 use Rattle.std.specs.Prelude.{◌≡◌, ℕ, ◌<◌, List, [], ◌∷◌, ◌++◌, length, map, slice_index_or}
 use Rattle.delivery_token.specs.declared.Job.{Job}
+use Rattle.delivery_token.specs.declared.Verdict.{Verdict}
 use Rattle.delivery_token.specs.declared.log.Noted.{Noted}
 use Rattle.envelope.specs.Directory.{Directory}
 use Rattle.lmtp_machine.specs.declared.reply.Reply.{Reply}
@@ -30,9 +31,14 @@ pub data HaveTalked (house : Premises) (seat : ℕ) : List (List ℕ) → List (
       → WholeTalk (setting_at house seat (length connections)) house.directory bytes said more
       → HaveTalked house seat (connections ++ bytes ∷ []) (replies ++ wire house.host said ∷ []) (judged ++ more)
 
--- The log has exactly one verdict for each copy of these messages, in their order, and each lane got those copies of its mailboxes that weren't refused at once.
-pub record AreBooks (directory : Directory) (rooms : List Room) (seat : ℕ) (judged : List Judged) (notes : List Noted) (heard : List (Entry Noted)) (sent : List (List (Entry Job))) : Type 0 where
-  pub noted : notes ≡ map note_of (told judged)
+-- what notes are to tell of copies and the verdicts on them: each is noted, in their order, and nothing else is
+abbrev pub notes_tell : List Noted → List (Job × Verdict) → Type 0
+notes_tell notes copies = notes ≡ map note_of copies
+
+-- What is kept tells of each copy of these messages with its verdict, in their order, and of nothing else; and each lane got those copies of its mailboxes that
+-- weren't refused at once. What `keeps` is, who keeps it says.
+pub record AreBooks (directory : Directory) (rooms : List Room) (seat : ℕ) (judged : List Judged) (keeps : List (Job × Verdict) → Type 0) (heard : List (Entry Noted)) (sent : List (List (Entry Job))) : Type 0 where
+  pub noted : keeps (told judged)
   pub lanes : (lane : ℕ) → lane < length sent → (jobs : List Job) × WerePut directory (room_at rooms lane) seat lane heard [] (told judged) jobs × (slice_index_or sent lane [] ≡ map (λ job. Item seat job) jobs)
 
 -- The account of a worker that went through its connections. `said` is what it has put on each lane, its end included.
@@ -47,7 +53,7 @@ abbrev pub HaveEnded : ℕ → (before after : List (List (Entry Job))) → Type
 HaveEnded seat before after = after ≡ map (λ entries. entries ++ End seat ∷ []) before
 
 -- The same before the ends are put.
-pub record HasServed (house : Premises) (seat : ℕ) (connections replies : List (List ℕ)) (notes : List Noted) (heard : List (Entry Noted)) (sent : List (List (Entry Job))) : Type 0 where
+pub record HasServed (house : Premises) (seat : ℕ) (connections replies : List (List ℕ)) (keeps : List (Job × Verdict) → Type 0) (heard : List (Entry Noted)) (sent : List (List (Entry Job))) : Type 0 where
   pub judged : List Judged
   pub talked : HaveTalked house seat connections replies judged
-  pub books : AreBooks house.directory house.rooms seat judged notes heard sent
+  pub books : AreBooks house.directory house.rooms seat judged keeps heard sent

@@ -1,6 +1,7 @@
 -- How far a worker came with one connection.
 use Rattle.std.specs.Prelude.{◌≡◌, ℕ, Bool, true, false, List, ◌++◌}
 use Rattle.delivery_token.specs.declared.Job.{Job}
+use Rattle.delivery_token.specs.declared.Verdict.{Verdict}
 use Rattle.delivery_token.specs.declared.log.Noted.{Noted}
 use Rattle.envelope.specs.Directory.{Directory}
 use Rattle.lmtp_machine.specs.declared.connection.What.{What}
@@ -25,7 +26,7 @@ is_quit Submit = false
 is_quit Quit = true
 
 -- The connection has taken these bytes; its replies are in `out`, and what it submitted stands in the books, behind what was done before it.
-pub record Stands (directory : Directory) (rooms : List Room) (seat : ℕ) (done : List Judged) (bytes : List ℕ) (over : Bool) (m : Machine) (out : List ℕ) (notes : List Noted) (heard : List (Entry Noted)) (sent : List (List (Entry Job))) : Type 0 where
+pub record Stands (directory : Directory) (rooms : List Room) (seat : ℕ) (done : List Judged) (bytes : List ℕ) (over : Bool) (m : Machine) (out : List ℕ) (keeps : List (Job × Verdict) → Type 0) (heard : List (Entry Noted)) (sent : List (List (Entry Job))) : Type 0 where
   pub said : List Reply
   pub judged : List Judged
   pub at : Conversation
@@ -33,12 +34,12 @@ pub record Stands (directory : Directory) (rooms : List Room) (seat : ℕ) (done
   pub machine : StandsFor m at
   pub ended : over ≡ true → at.standing.phase ≡ Ended
   pub replies : out ≡ wire m.host said
-  pub books : AreBooks directory rooms seat (done ++ judged) notes heard sent
+  pub books : AreBooks directory rooms seat (done ++ judged) keeps heard sent
 
 -- The connection is over: all that its peer sent was taken, or the dialogue ended before.
-pub record Spoke (directory : Directory) (rooms : List Room) (seat : ℕ) (done : List Judged) (bytes : List ℕ) (setting : Setting) (host out : List ℕ) (notes : List Noted) (heard : List (Entry Noted)) (sent : List (List (Entry Job))) : Type 0 where
+pub record Spoke (directory : Directory) (rooms : List Room) (seat : ℕ) (done : List Judged) (bytes : List ℕ) (setting : Setting) (host out : List ℕ) (keeps : List (Job × Verdict) → Type 0) (heard : List (Entry Noted)) (sent : List (List (Entry Job))) : Type 0 where
   pub said : List Reply
   pub judged : List Judged
   pub talk : WholeTalk setting directory bytes said judged
   pub replies : out ≡ wire host said
-  pub books : AreBooks directory rooms seat (done ++ judged) notes heard sent
+  pub books : AreBooks directory rooms seat (done ++ judged) keeps heard sent

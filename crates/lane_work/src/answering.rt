@@ -86,7 +86,7 @@ fn answer<R: Wait, G: Gate>(
 /// What becomes of one copy: it is delivered, and its producer is told. Whether it was a copy of this
 /// house: of a producer that has a channel, and for a mailbox that is there. One of a producer without
 /// a channel isn't delivered.
-pub(crate) fn serve_copy<R: Wait, G: Gate>(
+pub fn serve_copy<R: Wait, G: Gate>(
     rt: &R,
     pace: &mut Pace<'_, G>,
     depot: &Depot,

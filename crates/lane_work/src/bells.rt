@@ -8,10 +8,19 @@ use std::sync::Wait;
 /// So often a consumer pauses before it sleeps.
 const PAUSES: u32 = 64;
 
-/// Wakes a shard's consumer. Where the shard has no bell it does nothing.
-pub fn ring(bells: &[Unparker], shard: usize) {
-    if let Some(bell) = bells.get(shard) {
-        bell.unpark();
+/// Whoever is to take what waits on a shard's lane, as a producer calls for it.
+pub trait Summons {
+    /// Something may wait on this shard's lane. Nothing is proved of it: one call too many has to do
+    /// no harm.
+    fn summon<R: Wait>(&self, rt: &R, shard: usize);
+}
+
+/// A row of bells, that of each shard's consumer at its number. Where one is missing nothing is rung.
+impl Summons for Vec<Unparker> {
+    fn summon<R: Wait>(&self, _rt: &R, shard: usize) {
+        if let Some(bell) = self.get(shard) {
+            bell.unpark();
+        }
     }
 }
 

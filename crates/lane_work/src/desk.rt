@@ -1,7 +1,6 @@
 //! What a worker holds, and what all workers share. What they do with it stands in the modules
 //! beside this one.
 
-use crossbeam_utils::sync::Unparker;
 use delivery_token::{Job, Noted};
 use envelope::Directory;
 use shard_queue::{ProducerSeat, ReceiverSeat, ShardQueue};
@@ -16,8 +15,6 @@ pub struct Office {
     pub max_message: usize,
     /// The lane of each shard, as many as the directory has shards.
     pub lanes: Vec<ShardQueue<Job>>,
-    /// The bell of each shard's consumer. Where one is missing nothing is rung.
-    pub bells: Vec<Unparker>,
 }
 
 /// What one worker holds.

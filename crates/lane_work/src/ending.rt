@@ -11,7 +11,7 @@ ghost use Rattle.lane_work.specs.Account.{HaveEnded};
 ghost use Rattle.lane_work.specs.Answering.{HaveClosed};
 ghost use Rattle.lane_work.specs.Ends.{ends_in};
 
-use crate::bells::ring;
+use crate::bells::Summons;
 use crate::desk::Office;
 use delivery_token::{Job, Noted};
 use pace::{Gate, Pace};
@@ -43,12 +43,13 @@ pub fn end_one<R: Wait, G: Gate>(
     unreachable!()
 }
 
-/// Ends a worker's seat on each lane, from the first on, and rings the bell of each lane's consumer.
+/// Ends a worker's seat on each lane, from the first on, and summons whoever is to take it there.
 /// `ended`, which is empty, has room for all.
-pub fn end_all<R: Wait, G: Gate>(
+pub fn end_all<R: Wait, G: Gate, S: Summons>(
     rt: &R,
     pace: &mut Pace<'_, G>,
     office: &Office,
+    summons: &S,
     number: u8,
     mut seats: Vec<ProducerSeat<Job>>,
     mut ended: Vec<Ended<Job>>,
@@ -61,14 +62,15 @@ pub fn end_all<R: Wait, G: Gate>(
     for lane in 0..office.lanes.len() {
         let seat = seats.remove(0);
         ended.push_reserved(end_one(rt, pace, &office.lanes[lane], seat));
-        ring(&office.bells, lane);
+        summons.summon(rt, lane);
     }
     seats.destroy_empty();
     ended
 }
 
-/// Receives until so many shards' ends came. Whether nothing else came.
-pub(crate) fn hear_ends<R: Wait, G: Gate>(
+/// Receives until the ends of so many shards came, of which `heard` came before. Answers whether nothing
+/// else came.
+pub fn hear_ends<R: Wait, G: Gate>(
     rt: &R,
     pace: &mut Pace<'_, G>,
     channel: &ReplyChannel<Noted>,

@@ -1,7 +1,7 @@
 //! The verdicts on a message are heard, until each is there. What is done with them stands in
 //! `worker`.
 
-ghost use Rattle.std.specs.Prelude.{◌≡◌, ◌≤◌, ◌<◌, ◌+◌, ℕ, ◌++◌, ◌∷◌, [], true, false, length, map, Some, None, Ok, OnOk, IfOk, slice_index_or, slice_set, vec_len};
+ghost use Rattle.std.specs.Prelude.{◌≡◌, ◌≤◌, ◌<◌, ◌+◌, ℕ, ◌++◌, ◌∷◌, [], true, false, length, map, Some, None, Ok, OnOk, OnErr, slice_index_or, slice_set, vec_len, vec_capacity};
 ghost use Rattle.std.specs.List.{list_all};
 ghost use Rattle.std.specs.Option.{is_some};
 ghost use Rattle.shard_queue.specs.Reply.{IsReceiver, received};
@@ -17,7 +17,6 @@ use delivery_token::{Noted, Verdict};
 use lmtp_machine::Submission;
 use pace::{Gate, Pace};
 use shard_queue::{Entry, ReplyChannel};
-use std::alloc::{AllocError, Global};
 use std::sync::Wait;
 
 fn are_known(slots: &[Option<Verdict>]) -> bool
@@ -67,6 +66,7 @@ pub(crate) fn hear_all<R: Wait, G: Gate>(
     ensures heard { WereHeard (received desk.new.receiver) (copies_of (submission_of message.now)) slots.old.items slots.new.items }
     ensures awaited { OnOk result (length (received desk.new.receiver) ≡ length (received desk.old.receiver) + unknown slots.old.items) }
     ensures known { OnOk result (list_all is_some slots.new.items ≡ true) }
+    ensures torn { OnErr result (length (received desk.old.receiver) < length (received desk.new.receiver)) }
 {
     for _ in rt.forever() {
         if are_known(slots.as_slice()) {
@@ -88,19 +88,16 @@ pub(crate) fn hear_all<R: Wait, G: Gate>(
     unreachable!()
 }
 
-/// The verdicts, where each is known.
-pub(crate) fn verdicts_of(
-    alloc: Global,
-    slots: &[Option<Verdict>],
-) -> Result<Vec<Verdict>, AllocError>
-    requires { list_all is_some slots.now ≡ true }
-    ensures known { IfOk result (λ vs. slots.now ≡ map (λ v. Some v) vs.items) }
-    ensures len { IfOk result (λ vs. vec_len vs ≡ length slots.now) }
+/// The verdicts, where each is known. `verdicts`, which is empty, has room for them.
+pub(crate) fn verdicts_of(slots: &[Option<Verdict>], mut verdicts: Vec<Verdict>) -> Vec<Verdict>
+    requires known { list_all is_some slots.now ≡ true }
+    requires room { (verdicts.items ≡ []) × (length slots.now ≤ vec_capacity verdicts) }
+    ensures known { slots.now ≡ map (λ v. Some v) result.items }
+    ensures len { vec_len result ≡ length slots.now }
 {
-    let mut verdicts = Vec::with_capacity(alloc, slots.len())?;
     for slot in slots {
         let Some(verdict) = slot else { unreachable!() };
         verdicts.push_reserved(*verdict);
     }
-    Ok(verdicts)
+    verdicts
 }

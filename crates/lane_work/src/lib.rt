@@ -10,12 +10,15 @@ mod desk;
 mod ending;
 mod hearing;
 mod laws;
+mod notebook;
 mod putting;
 mod worker;
 
-pub use bells::ring;
+pub use answering::serve_copy;
+pub use bells::Summons;
 pub use consumer::{Consumed, Depot, Stall, consume};
 pub use desk::{Desk, Office};
-pub use ending::{end_all, end_one, end_sender, end_senders};
+pub use ending::{end_all, end_one, end_sender, end_senders, hear_ends};
 pub use laws::accounts_meet_histories;
-pub use worker::{Fate, Worked, work};
+pub use notebook::{Notebook, Unkept};
+pub use worker::{Fate, Stop, Worked, turn, work};

@@ -10,7 +10,7 @@ ghost use Rattle.lane_work.specs.Seats.{AreSeats};
 ghost use Rattle.lane_work.specs.Desk.{SameButSeats};
 ghost use Rattle.lane_work.specs.Copies.{FoundFull, HavePut, IsAtOnce, WereTried, copies_of, room_at, room_of, rooms_of};
 
-use crate::bells::ring;
+use crate::bells::Summons;
 use crate::desk::{Desk, Office};
 use delivery_token::{CopyKey, Job, Refusal, Text, Verdict};
 use lmtp_machine::Submission;
@@ -43,11 +43,12 @@ fn put_on<R: Wait>(
     }
 }
 
-// The same, at the lane of the copy's mailbox, whose bell is rung.
-fn put_copy<R: Wait, G: Gate>(
+// The same, at the lane of the copy's mailbox, for which it is summoned.
+fn put_copy<R: Wait, G: Gate, S: Summons>(
     rt: &R,
     pace: &mut Pace<'_, G>,
     office: &Office,
+    summons: &S,
     desk: &mut Desk,
     key: CopyKey,
     mailbox: u8,
@@ -74,16 +75,17 @@ fn put_copy<R: Wait, G: Gate>(
         mailbox,
         text,
     );
-    ring(&office.bells, shard);
+    summons.summon(rt, shard);
     verdict
 }
 
 /// Puts each copy of a message, in the order of its recipients. In `slots`, which has room for as many as there are, is then of each what
 /// was known of it at once, or None where it is under way.
-pub(crate) fn put_all<R: Wait, G: Gate>(
+pub(crate) fn put_all<R: Wait, G: Gate, S: Summons>(
     rt: &R,
     pace: &mut Pace<'_, G>,
     office: &Office,
+    summons: &S,
     desk: &mut Desk,
     message: &Submission,
     slots: &mut Vec<Option<Verdict>>,
@@ -103,6 +105,7 @@ pub(crate) fn put_all<R: Wait, G: Gate>(
             rt,
             pace,
             office,
+            summons,
             desk,
             message.keys[i],
             message.mailboxes[i],

@@ -1,21 +1,27 @@
 //! A worker's connections, from the first greeting to the end of its seat on each lane. How copies are
 //! put and verdicts are heard stands in `putting` and `hearing`.
 
-ghost use Rattle.std.specs.Prelude.{◌≡◌, ◌≢◌, ◌≤◌, ◌<◌, ◌+◌, ◌-◌, ℕ, ◌++◌, ◌∷◌, [], take, true, false, length, map, zip, All, List, Some, None, Ok, OnOk, IfOk, vec_len, vec_capacity};
+ghost use Rattle.std.specs.Prelude.{◌≡◌, ◌≢◌, ◌≤◌, ◌<◌, ◌+◌, ◌-◌, ℕ, ◌++◌, ◌∷◌, [], take, true, false, length, map, All, List, Some, None, Ok, Err, OnOk, OnErr, IfOk, vec_len, vec_capacity};
+ghost use Rattle.std.specs.Io.{StartsWith};
+ghost use Rattle.delivery_token.specs.declared.Job.{Job};
+ghost use Rattle.delivery_token.specs.declared.Verdict.{Verdict};
 ghost use Rattle.shard_queue.specs.Seats.{sent, said};
 ghost use Rattle.shard_queue.specs.Reply.{IsReceiver, received};
+ghost use Rattle.shard_queue.specs.Shared.{IsStartOf};
 ghost use Rattle.lmtp_machine.specs.Calls.{Moves, submission_of};
 ghost use Rattle.lane_work.specs.Talk.{Judged};
 ghost use Rattle.lane_work.specs.Seats.{AreSeats};
-ghost use Rattle.lane_work.specs.Account.{AreBooks, HasServed, setting_at};
+ghost use Rattle.lane_work.specs.Account.{AreBooks, HasServed, notes_tell, setting_at};
 ghost use Rattle.lane_work.specs.Ends.{CountsEnds, ends_in};
 ghost use Rattle.lane_work.specs.Working.{IsWorked};
 ghost use Rattle.lane_work.specs.Speaking.{Spoke, Stands, is_quit, premises_of};
-ghost use Rattle.lane_work.specs.Copies.{copies_of, note_of, rooms_of};
+ghost use Rattle.lane_work.specs.Copies.{rooms_of};
 
+use crate::bells::Summons;
 use crate::desk::{Desk, Office};
 use crate::ending::{end_all, hear_ends};
 use crate::hearing::{hear_all, verdicts_of};
+use crate::notebook::Notebook;
 use crate::putting::put_all;
 use delivery_token::{Job, Noted, Verdict, WorkerLog};
 use lmtp_machine::{Fed, Limits, LmtpMachine, Submission, What};
@@ -24,12 +30,16 @@ use shard_queue::{Ended, ReceiverSeat, ReplyChannel};
 use std::alloc::Global;
 use std::sync::Wait;
 
-// Why a worker submits no more.
+// What the answer to a message takes at most: 40 bytes for each of 100 recipients (RFC 5321, section
+// 4.5.3.1.8).
+const ANSWER_ROOM: usize = 4000;
+
+/// Why a worker submits no more.
 #[derive(Clone, Copy, Debug, PartialEq, Eq)]
-pub(crate) enum Stop {
-    // Memory was refused.
+pub enum Stop {
+    /// Memory was refused.
     NoMemory,
-    // A verdict came that wasn't awaited, or a shard's end before its time.
+    /// A verdict came that wasn't awaited, or a shard's end before its time.
     Torn,
 }
 
@@ -47,28 +57,16 @@ pub enum Fate {
     Torn,
 }
 
-// Notes the verdict on each copy of a message, in the order of its recipients.
-fn note_all(log: &mut WorkerLog, message: &Submission, verdicts: &[Verdict])
-    requires mailboxes { vec_len message.now.mailboxes ≡ vec_len message.now.keys }
-    requires verdicts { length verdicts.now ≡ vec_len message.now.keys }
-    requires room { length verdicts.now ≤ log.old.spare }
-    ensures seat { log.new.seat ≡ log.old.seat }
-    ensures notes { log.new.notes ≡ log.old.notes ++ map note_of (zip (copies_of (submission_of message.now)) verdicts.now) }
-{
-    for i in 0..verdicts.len() {
-        log.note(message.keys[i], message.mailboxes[i], verdicts[i]);
-    }
-}
-
-// Puts the copies of a message, hears the verdict on each, and notes them.
-fn settle<R: Wait, G: Gate>(
+// Puts the copies of a message, hears the verdict on each, and notes them. All memory that this takes is asked for before the first copy is put.
+fn settle<R: Wait, G: Gate, S: Summons, N: Notebook>(
     rt: &R,
     alloc: Global,
     pace: &mut Pace<'_, G>,
     office: &Office,
+    summons: &S,
     channel: &ReplyChannel<Noted>,
     desk: &mut Desk,
-    log: &mut WorkerLog,
+    book: &mut N,
     message: &Submission,
 ) -> Result<Vec<Verdict>, Stop>
     requires seats { AreSeats office.now.lanes.items desk.old.number desk.old.seats.items }
@@ -79,38 +77,52 @@ fn settle<R: Wait, G: Gate>(
     ensures receiver { IsReceiver channel.now desk.new.receiver }
     ensures number { desk.new.number ≡ desk.old.number }
     ensures ends { CountsEnds desk.old desk.new }
-    ensures seat { log.new.seat ≡ log.old.seat }
+    ensures owner { N.owner book.new ≡ N.owner book.old }
     ensures verdicts { IfOk result (λ vs. vec_len vs ≡ vec_len message.now.keys) }
-    ensures books { IfOk result (λ vs. (judged : List Judged) → AreBooks office.now.directory (rooms_of office.now.lanes.items) desk.old.number judged log.old.notes (received desk.old.receiver) (map sent desk.old.seats.items)
-        → AreBooks office.now.directory (rooms_of office.now.lanes.items) desk.old.number (judged ++ record { message = submission_of message.now; verdicts = vs.items } ∷ []) log.new.notes (received desk.new.receiver) (map sent desk.new.seats.items)) }
+    ensures books { IfOk result (λ vs. (judged : List Judged) → AreBooks office.now.directory (rooms_of office.now.lanes.items) desk.old.number judged (N.tells book.old) (received desk.old.receiver) (map sent desk.old.seats.items)
+        → AreBooks office.now.directory (rooms_of office.now.lanes.items) desk.old.number (judged ++ record { message = submission_of message.now; verdicts = vs.items } ∷ []) (N.tells book.new) (received desk.new.receiver) (map sent desk.new.seats.items)) }
+    ensures err { result ≡ Err Stop.NoMemory → (map sent desk.new.seats.items ≡ map sent desk.old.seats.items) × (received desk.new.receiver ≡ received desk.old.receiver) }
+    ensures noted { result ≡ Err Stop.NoMemory → (copies : List (Job × Verdict)) → N.tells book.old copies → N.tells book.new copies }
+    ensures torn { result ≡ Err Stop.Torn → length (received desk.old.receiver) < length (received desk.new.receiver) }
+    ensures grew { IsStartOf (received desk.old.receiver) (received desk.new.receiver) }
 {
     let count = message.keys.len();
-    let Ok(()) = log.reserve(count) else {
+    let Ok(()) = book.reserve(count) else {
         return Err(Stop::NoMemory);
     };
     let Ok(mut slots) = Vec::with_capacity(alloc, count) else {
         return Err(Stop::NoMemory);
     };
-    put_all(rt, pace, office, desk, message, &mut slots);
+    let Ok(room) = Vec::with_capacity(alloc, count) else {
+        return Err(Stop::NoMemory);
+    };
+    put_all(rt, pace, office, summons, desk, message, &mut slots);
     let Ok(()) = hear_all(rt, pace, channel, desk, message, &mut slots) else {
         return Err(Stop::Torn);
     };
-    let Ok(verdicts) = verdicts_of(alloc, slots.as_slice()) else {
-        return Err(Stop::NoMemory);
-    };
-    note_all(log, message, verdicts.as_slice());
+    let verdicts = verdicts_of(slots.as_slice(), room);
+    book.note_all(message, verdicts.as_slice());
     Ok(verdicts)
 }
 
-// Takes bytes from the front of a piece: one line, or one end of data. A message that is submitted by it is settled and answered.
-fn turn<R: Wait, G: Gate>(
+/// Takes bytes from the front of a piece: one line, or one end of data. A message that is submitted by
+/// it is settled before anything more is taken: its copies are put, each into the lane of its mailbox's
+/// shard, for which `summons` is asked; the verdict on each is awaited, and noted in `book`; and then
+/// they are said. Replies go to `out`, behind what stands there; what was said before may have been
+/// sent.
+///
+/// Errors: `NoMemory` where memory was refused; then no copy was put and nothing was heard. `Torn` where
+/// something came that wasn't awaited, a verdict or a shard's end; copies may be under way then. After
+/// either, bytes may have been taken and replies written, and what stood in `out` stands there still.
+pub fn turn<R: Wait, G: Gate, S: Summons, N: Notebook>(
     rt: &R,
     alloc: Global,
     pace: &mut Pace<'_, G>,
     office: &Office,
+    summons: &S,
     channel: &ReplyChannel<Noted>,
     desk: &mut Desk,
-    log: &mut WorkerLog,
+    book: &mut N,
     machine: &mut LmtpMachine,
     piece: &[u8],
     out: &mut Vec<u8>,
@@ -123,14 +135,21 @@ fn turn<R: Wait, G: Gate>(
     ensures receiver { IsReceiver channel.now desk.new.receiver }
     ensures number { desk.new.number ≡ desk.old.number }
     ensures ends { CountsEnds desk.old desk.new }
-    ensures seat { log.new.seat ≡ log.old.seat }
+    ensures owner { N.owner book.new ≡ N.owner book.old }
     ensures quiet { OnOk result (machine.new.pending ≡ []) }
     ensures same { OnOk result ((machine.new.setting ≡ machine.old.setting) × (machine.new.host ≡ machine.old.host)) }
     ensures used { IfOk result (λ fed. fed.used ≤ length piece.now) }
     ensures moves { IfOk result (λ fed. Moves fed.used fed.what piece.now) }
-    ensures stands { IfOk result (λ fed. (done : List Judged) (bytes : List ℕ)
-        → Stands office.now.directory (rooms_of office.now.lanes.items) desk.old.number done bytes false machine.old out.old.items log.old.notes (received desk.old.receiver) (map sent desk.old.seats.items)
-        → Stands office.now.directory (rooms_of office.now.lanes.items) desk.old.number done (bytes ++ take fed.used piece.now) (is_quit fed.what) machine.new out.new.items log.new.notes (received desk.new.receiver) (map sent desk.new.seats.items)) }
+    ensures stands { IfOk result (λ fed. (done : List Judged) (bytes told : List ℕ)
+        → Stands office.now.directory (rooms_of office.now.lanes.items) desk.old.number done bytes false machine.old (told ++ out.old.items) (N.tells book.old) (received desk.old.receiver) (map sent desk.old.seats.items)
+        → Stands office.now.directory (rooms_of office.now.lanes.items) desk.old.number done (bytes ++ take fed.used piece.now) (is_quit fed.what) machine.new (told ++ out.new.items) (N.tells book.new) (received desk.new.receiver) (map sent desk.new.seats.items)) }
+    ensures kept { OnErr result ((done : List Judged) (bytes told : List ℕ)
+        → Stands office.now.directory (rooms_of office.now.lanes.items) desk.old.number done bytes false machine.old (told ++ out.old.items) (N.tells book.old) (received desk.old.receiver) (map sent desk.old.seats.items)
+        → StartsWith out.new.items out.old.items) }
+    ensures err { result ≡ Err Stop.NoMemory → (map sent desk.new.seats.items ≡ map sent desk.old.seats.items) × (received desk.new.receiver ≡ received desk.old.receiver) }
+    ensures noted { result ≡ Err Stop.NoMemory → (copies : List (Job × Verdict)) → N.tells book.old copies → N.tells book.new copies }
+    ensures torn { result ≡ Err Stop.Torn → length (received desk.old.receiver) < length (received desk.new.receiver) }
+    ensures grew { IsStartOf (received desk.old.receiver) (received desk.new.receiver) }
 {
     let Ok(fed) = machine.feed(piece, &office.directory, out) else {
         return Err(Stop::NoMemory);
@@ -140,31 +159,36 @@ fn turn<R: Wait, G: Gate>(
         What::Quit => return Ok(fed),
         What::Submit => {}
     }
+    let Ok(()) = out.reserve(ANSWER_ROOM) else {
+        return Err(Stop::NoMemory);
+    };
     let verdicts = match settle(
         rt,
         alloc,
         pace,
         office,
+        summons,
         channel,
         desk,
-        log,
+        book,
         machine.submission(),
     ) {
         Ok(verdicts) => verdicts,
         Err(stop) => return Err(stop),
     };
     let Ok(()) = machine.answer(verdicts.as_slice(), out) else {
-        return Err(Stop::NoMemory);
+        unreachable!()
     };
     Ok(fed)
 }
 
 // Goes on turn by turn, until all bytes are taken or the connection has ended.
-fn speak<R: Wait, G: Gate>(
+fn speak<R: Wait, G: Gate, S: Summons>(
     rt: &R,
     alloc: Global,
     pace: &mut Pace<'_, G>,
     office: &Office,
+    summons: &S,
     channel: &ReplyChannel<Noted>,
     desk: &mut Desk,
     log: &mut WorkerLog,
@@ -182,8 +206,8 @@ fn speak<R: Wait, G: Gate>(
     ensures ends { CountsEnds desk.old desk.new }
     ensures seat { log.new.seat ≡ log.old.seat }
     ensures spoke { OnOk result ((done : List Judged)
-        → Stands office.now.directory (rooms_of office.now.lanes.items) desk.old.number done [] false machine.old out.old.items log.old.notes (received desk.old.receiver) (map sent desk.old.seats.items)
-        → Spoke office.now.directory (rooms_of office.now.lanes.items) desk.old.number done bytes.now machine.old.setting machine.old.host out.new.items log.new.notes (received desk.new.receiver) (map sent desk.new.seats.items)) }
+        → Stands office.now.directory (rooms_of office.now.lanes.items) desk.old.number done [] false machine.old out.old.items (notes_tell log.old.notes) (received desk.old.receiver) (map sent desk.old.seats.items)
+        → Spoke office.now.directory (rooms_of office.now.lanes.items) desk.old.number done bytes.now machine.old.setting machine.old.host out.new.items (notes_tell log.new.notes) (received desk.new.receiver) (map sent desk.new.seats.items)) }
 {
     let mut used = 0;
     loop {
@@ -192,6 +216,7 @@ fn speak<R: Wait, G: Gate>(
             alloc,
             pace,
             office,
+            summons,
             channel,
             desk,
             log,
@@ -216,11 +241,12 @@ fn speak<R: Wait, G: Gate>(
 }
 
 // One connection: the replies to these bytes.
-fn converse<R: Wait, G: Gate>(
+fn converse<R: Wait, G: Gate, S: Summons>(
     rt: &R,
     alloc: Global,
     pace: &mut Pace<'_, G>,
     office: &Office,
+    summons: &S,
     channel: &ReplyChannel<Noted>,
     desk: &mut Desk,
     log: &mut WorkerLog,
@@ -237,8 +263,8 @@ fn converse<R: Wait, G: Gate>(
     ensures ends { CountsEnds desk.old desk.new }
     ensures seat { log.new.seat ≡ log.old.seat }
     ensures spoke { IfOk result (λ reply. (done : List Judged)
-        → AreBooks office.now.directory (rooms_of office.now.lanes.items) desk.old.number done log.old.notes (received desk.old.receiver) (map sent desk.old.seats.items)
-        → Spoke office.now.directory (rooms_of office.now.lanes.items) desk.old.number done bytes.now (setting_at (premises_of office.now) desk.old.number serial) office.now.host.items reply.items log.new.notes (received desk.new.receiver) (map sent desk.new.seats.items)) }
+        → AreBooks office.now.directory (rooms_of office.now.lanes.items) desk.old.number done (notes_tell log.old.notes) (received desk.old.receiver) (map sent desk.old.seats.items)
+        → Spoke office.now.directory (rooms_of office.now.lanes.items) desk.old.number done bytes.now (setting_at (premises_of office.now) desk.old.number serial) office.now.host.items reply.items (notes_tell log.new.notes) (received desk.new.receiver) (map sent desk.new.seats.items)) }
 {
     let limits = Limits {
         host: office.host.as_slice(),
@@ -256,6 +282,7 @@ fn converse<R: Wait, G: Gate>(
         alloc,
         pace,
         office,
+        summons,
         channel,
         desk,
         log,
@@ -283,11 +310,12 @@ pub struct Worked {
 }
 
 // The connections, one after another.
-fn go_through<R: Wait, G: Gate>(
+fn go_through<R: Wait, G: Gate, S: Summons>(
     rt: &R,
     alloc: Global,
     pace: &mut Pace<'_, G>,
     office: &Office,
+    summons: &S,
     channel: &ReplyChannel<Noted>,
     desk: &mut Desk,
     log: &mut WorkerLog,
@@ -298,14 +326,14 @@ fn go_through<R: Wait, G: Gate>(
     requires receiver { IsReceiver channel.now desk.old.receiver }
     requires lanes { office.now.directory.shards ≡ length office.now.lanes.items }
     requires host { length office.now.host.items < 256 }
-    requires begun { (replies.old.items ≡ []) × AreBooks office.now.directory (rooms_of office.now.lanes.items) desk.old.number [] log.old.notes (received desk.old.receiver) (map sent desk.old.seats.items) }
+    requires begun { (replies.old.items ≡ []) × AreBooks office.now.directory (rooms_of office.now.lanes.items) desk.old.number [] (notes_tell log.old.notes) (received desk.old.receiver) (map sent desk.old.seats.items) }
     ensures seats { AreSeats office.now.lanes.items desk.old.number desk.new.seats.items }
     ensures receiver { IsReceiver channel.now desk.new.receiver }
     ensures number { desk.new.number ≡ desk.old.number }
     ensures ends { CountsEnds desk.old desk.new }
     ensures seat { log.new.seat ≡ log.old.seat }
     ensures began { result ≢ Fate.NotBegun }
-    ensures whole { result ≡ Fate.Whole → HasServed (premises_of office.now) desk.old.number (map (λ b. b.items) connections.now) (map (λ b. b.items) replies.new.items) log.new.notes (received desk.new.receiver) (map sent desk.new.seats.items) }
+    ensures whole { result ≡ Fate.Whole → HasServed (premises_of office.now) desk.old.number (map (λ b. b.items) connections.now) (map (λ b. b.items) replies.new.items) (notes_tell log.new.notes) (received desk.new.receiver) (map sent desk.new.seats.items) }
 {
     for i in 0..connections.len() {
         let reply = match converse(
@@ -313,6 +341,7 @@ fn go_through<R: Wait, G: Gate>(
             alloc,
             pace,
             office,
+            summons,
             channel,
             desk,
             log,
@@ -340,11 +369,12 @@ fn go_through<R: Wait, G: Gate>(
 /// still ends its seats and hears all ends.
 ///
 /// `room`, which is empty, has room for what is left of each seat.
-pub fn work<R: Wait, G: Gate>(
+pub fn work<R: Wait, G: Gate, S: Summons>(
     rt: &R,
     alloc: Global,
     pace: &mut Pace<'_, G>,
     office: &Office,
+    summons: &S,
     channel: &ReplyChannel<Noted>,
     mut desk: Desk,
     room: Vec<Ended<Job>>,
@@ -366,6 +396,7 @@ pub fn work<R: Wait, G: Gate>(
         alloc,
         pace,
         office,
+        summons,
         channel,
         &mut desk,
         &mut log,
@@ -378,7 +409,7 @@ pub fn work<R: Wait, G: Gate>(
         mut receiver,
         ends,
     } = desk;
-    let ended = end_all(rt, pace, office, number, seats, room);
+    let ended = end_all(rt, pace, office, summons, number, seats, room);
     let quiet = hear_ends(rt, pace, channel, &mut receiver, ends, office.lanes.len());
     Worked {
         ended,

@@ -11,7 +11,8 @@ mod settling;
 mod shelves;
 
 pub use abandoning::abandon;
-pub use gather::Fault;
+pub use close::{close_all_channels, close_all_lanes};
+pub use gather::{Fault, FromConsumers, FromWorkers};
 pub use remains::{Remains, remains_of};
-pub use settling::{Books, Closes, settle};
+pub use settling::{Books, Closes, Gathered, gather_all, settle};
 pub use shelves::{Shelves, is_wanting, said_by_all, take_out};

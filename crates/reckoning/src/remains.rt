@@ -31,6 +31,7 @@ pub fn remains_of(floor: Floor) -> Remains
     let Floor {
         office,
         depot,
+        bells: _,
         turns: _,
         alloc: _,
     } = floor;
@@ -39,7 +40,6 @@ pub fn remains_of(floor: Floor) -> Remains
         host: _,
         max_message: _,
         lanes,
-        bells: _,
     } = office;
     let Depot {
         mailboxes,

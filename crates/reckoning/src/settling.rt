@@ -37,19 +37,22 @@ pub struct Books {
     pub closed: Closes,
 }
 
-// What the threads left, taken apart, and room for what comes of the queues.
-struct Gathered {
-    workers: FromWorkers,
-    consumers: FromConsumers,
-    lists: Vec<Vec<Ended<Job>>>,
-    sender_lists: Vec<Vec<SenderEnded<Noted>>>,
-    closed: Closes,
-    // The gravest fault of a worker or a consumer.
-    worst: Option<Fault>,
+/// What the threads left, taken apart, and room for what comes of the queues.
+pub struct Gathered {
+    pub workers: FromWorkers,
+    pub consumers: FromConsumers,
+    /// For what is left of all workers' seats on each lane.
+    pub lists: Vec<Vec<Ended<Job>>>,
+    /// For what is left of all consumers' seats on each channel.
+    pub sender_lists: Vec<Vec<SenderEnded<Noted>>>,
+    /// For what is taken of each queue.
+    pub closed: Closes,
+    /// The gravest fault of a worker or a consumer.
+    pub worst: Option<Fault>,
 }
 
-// Takes apart what all threads left.
-fn gather(worked: Vec<Worked>, consumed: Vec<Consumed>, baskets: Baskets) -> Gathered
+/// Takes apart what all threads left, for each queue to be closed.
+pub fn gather_all(worked: Vec<Worked>, consumed: Vec<Consumed>, baskets: Baskets) -> Gathered
     requires baskets { AreBaskets (vec_len worked) (vec_len consumed) baskets }
     ensures { IsGathered worked.items consumed.items result }
 {
@@ -123,7 +126,7 @@ pub fn settle(
         sender_lists,
         closed,
         worst,
-    } = gather(worked, consumed, baskets);
+    } = gather_all(worked, consumed, baskets);
     let FromWorkers {
         hands,
         receivers,

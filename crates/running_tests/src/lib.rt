@@ -10,6 +10,8 @@ mod faults;
 #[cfg(test)]
 mod gates;
 #[cfg(test)]
+mod notebooks;
+#[cfg(test)]
 mod plans;
 #[cfg(test)]
 mod reports;

@@ -62,6 +62,22 @@ returns-in-End-clause-heard g c =
     heard_still old (received c.recv_as.new.seat) (copies_of (submission_of c.args.message.now)) c.args.slots.now.items c.loop.slots.items c.loop.slots.items (c.recv_as.result ∷ [], grew)
     refl c.loop.invariant.6
 
+pub returns-then-not-note_in-clause-torn : goal.returns-then-not-note_in-clause-torn
+returns-then-not-note_in-clause-torn g c =
+    let old = received c.loop.desk.receiver in
+    let grew : received c.recv_as.new.seat ≡ old ++ c.recv_as.result ∷ [] = search rules in
+    let n = ap length grew ∙ length-append old (c.recv_as.result ∷ []) in
+    let l = ap length c.loop.invariant.4.1 ∙ length-append (received c.args.desk.now.receiver) c.loop.invariant.4.0 in
+    omega (arith, n, l)
+
+pub returns-in-End-clause-torn : goal.returns-in-End-clause-torn
+returns-in-End-clause-torn g c =
+    let old = received c.loop.desk.receiver in
+    let grew : received c.recv_as.new.seat ≡ old ++ c.recv_as.result ∷ [] = search rules in
+    let n = ap length grew ∙ length-append old (c.recv_as.result ∷ []) in
+    let l = ap length c.loop.invariant.4.1 ∙ length-append (received c.args.desk.now.receiver) c.loop.invariant.4.0 in
+    omega (arith, n, l)
+
 pub loop-preserved : goal.loop-preserved
 loop-preserved g c =
     let old = received c.loop.desk.receiver in

@@ -2,7 +2,7 @@ use Rattle.std.proofs.Common.{rules, ◌∙◌, subst, refl, map, List, arith}
 use Rattle.shard_queue.specs.Reply.{received}
 use Rattle.shard_queue.specs.Seats.{sent}
 use Rattle.lane_work.specs.Copies.{rooms_of}
-use Rattle.lane_work.specs.Account.{AreBooks, setting_at}
+use Rattle.lane_work.specs.Account.{notes_tell, AreBooks, setting_at}
 use Rattle.lane_work.specs.Seats.{AreSeats}
 use Rattle.lane_work.specs.Speaking.{Spoke, premises_of}
 use Rattle.lane_work.specs.Talk.{Judged}
@@ -16,7 +16,7 @@ loop-i-init g c = (
   refl,
   omega arith,
   refl,
-  served_begin (premises_of c.args.office.now) c.args.desk.now.number c.args.replies.now.items c.args.log.now.notes (received c.args.desk.now.receiver) (map sent c.args.desk.now.seats.items) c.requires.begun.0 c.requires.begun.1,
+  served_begin (premises_of c.args.office.now) c.args.desk.now.number c.args.replies.now.items (notes_tell c.args.log.now.notes) (received c.args.desk.now.receiver) (map sent c.args.desk.now.seats.items) c.requires.begun.0 c.requires.begun.1,
 )
 
 pub loop-i-preserved : goal.loop-i-preserved
@@ -32,8 +32,8 @@ loop-i-preserved g c =
       (let e = c.in-Ok.ensures.ends in omega (arith, e, v.3)),
       c.in-Ok.ensures.seat ∙ v.4,
       served_step (premises_of c.args.office.now) c.args.desk.now.number c.args.connections.now c.loop-i.i c.index-connections-i.result c.as_slice.result.now c.loop-i.replies.items c.push.new.self.items c.in-Ok.reply
-          c.loop-i.log.notes c.converse.new.log.notes (received c.loop-i.desk.receiver) (received c.converse.new.desk.receiver) before after c.loop-i-test.true c.index-connections-i.is (search rules) c.in-Ok-push.ensures.items v.5
-          (subst (λ n. (done : List Judged) → AreBooks d (rooms_of c.args.office.now.lanes.items) n done c.loop-i.log.notes (received c.loop-i.desk.receiver) before
-          → Spoke d (rooms_of c.args.office.now.lanes.items) n done c.as_slice.result.now (setting_at (premises_of c.args.office.now) n c.loop-i.i) c.args.office.now.host.items c.in-Ok.reply.items c.converse.new.log.notes (received c.converse.new.desk.receiver) after)
+          (notes_tell c.loop-i.log.notes) (notes_tell c.converse.new.log.notes) (received c.loop-i.desk.receiver) (received c.converse.new.desk.receiver) before after c.loop-i-test.true c.index-connections-i.is (search rules) c.in-Ok-push.ensures.items v.5
+          (subst (λ n. (done : List Judged) → AreBooks d (rooms_of c.args.office.now.lanes.items) n done (notes_tell c.loop-i.log.notes) (received c.loop-i.desk.receiver) before
+          → Spoke d (rooms_of c.args.office.now.lanes.items) n done c.as_slice.result.now (setting_at (premises_of c.args.office.now) n c.loop-i.i) c.args.office.now.host.items c.in-Ok.reply.items (notes_tell c.converse.new.log.notes) (received c.converse.new.desk.receiver) after)
           v.2 c.in-Ok.ensures.spoke),
     )

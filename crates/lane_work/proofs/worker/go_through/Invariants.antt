@@ -1,7 +1,7 @@
 use Rattle.std.proofs.Common.{◌≡◌, map, take}
 use Rattle.shard_queue.specs.Seats.{sent}
 use Rattle.shard_queue.specs.Reply.{IsReceiver, received}
-use Rattle.lane_work.specs.Account.{HasServed}
+use Rattle.lane_work.specs.Account.{notes_tell, HasServed}
 use Rattle.lane_work.specs.Ends.{CountsEnds}
 use Rattle.lane_work.specs.Seats.{AreSeats}
 use Rattle.lane_work.specs.Speaking.{premises_of}
@@ -14,4 +14,4 @@ invariant-loop-i g l =
     × (l.desk.number ≡ l.fn.desk.number)
     × CountsEnds l.fn.desk l.desk
     × (l.log.seat ≡ l.fn.log.seat)
-    × HasServed (premises_of l.office) l.fn.desk.number (map (λ b. b.items) (take l.i l.connections)) (map (λ b. b.items) l.replies.items) l.log.notes (received l.desk.receiver) (map sent l.desk.seats.items)
+    × HasServed (premises_of l.office) l.fn.desk.number (map (λ b. b.items) (take l.i l.connections)) (map (λ b. b.items) l.replies.items) (notes_tell l.log.notes) (received l.desk.receiver) (map sent l.desk.seats.items)

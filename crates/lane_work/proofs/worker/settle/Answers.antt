@@ -18,7 +18,7 @@ pub note_all-requires-clause-verdicts : goal.note_all-requires-clause-verdicts
 note_all-requires-clause-verdicts g c =
     let n = c.put_all.ensures.slots in
     let f = fills_length c.put_all.new.slots.items c.hear_all.new.slots.items c.hear_all.ensures.fills in
-    let l = c.in-Ok-verdicts_of.ensures.len in
+    let l = c.verdicts_of-verdicts.ensures.len in
     let a = c.as_slice.ensures.len in
     let b = c.as_slice-2.ensures.len in
     omega (arith, n, f, l, a, b, c.put_all.new.slots.ok.0, c.hear_all.new.slots.ok.0)
@@ -27,18 +27,26 @@ pub note_all-requires-clause-room : goal.note_all-requires-clause-room
 note_all-requires-clause-room g c =
     let n = c.put_all.ensures.slots in
     let f = fills_length c.put_all.new.slots.items c.hear_all.new.slots.items c.hear_all.ensures.fills in
-    let l = c.in-Ok-verdicts_of.ensures.len in
+    let l = c.verdicts_of-verdicts.ensures.len in
     let a = c.as_slice.ensures.len in
     let b = c.as_slice-2.ensures.len in
-    let r = c.in-Ok.ensures.ok in
     let k = c.len-count.ensures in
-    omega (arith, n, f, l, a, b, r, k, c.put_all.new.slots.ok.0, c.hear_all.new.slots.ok.0)
+    subst (g.N.Notebook.has_room c.reserve.new.self) (omega (arith, n, f, l, a, b, k, c.put_all.new.slots.ok.0, c.hear_all.new.slots.ok.0)) c.in-Ok.ensures.ok
+
+pub verdicts_of-verdicts-requires-clause-room : goal.verdicts_of-verdicts-requires-clause-room
+verdicts_of-verdicts-requires-clause-room g c =
+    let n = c.put_all.ensures.slots in
+    let f = fills_length c.put_all.new.slots.items c.hear_all.new.slots.items c.hear_all.ensures.fills in
+    let a = c.as_slice.ensures.len in
+    let k = c.len-count.ensures in
+    let r = c.in-Ok-with_capacity-2.ensures.capacity in
+    (c.in-Ok-with_capacity-2.ensures.items, omega (arith, n, f, a, k, r, c.put_all.new.slots.ok.0, c.hear_all.new.slots.ok.0))
 
 pub returns-clause-verdicts : goal.returns-clause-verdicts
 returns-clause-verdicts g c =
     let n = c.put_all.ensures.slots in
     let f = fills_length c.put_all.new.slots.items c.hear_all.new.slots.items c.hear_all.ensures.fills in
-    let l = c.in-Ok-verdicts_of.ensures.len in
+    let l = c.verdicts_of-verdicts.ensures.len in
     let a = c.as_slice.ensures.len in
     omega (arith, n, f, l, a, c.put_all.new.slots.ok.0, c.hear_all.new.slots.ok.0)
 
@@ -50,8 +58,8 @@ returns-clause-books g c judged books =
     let m = submission_of c.args.message.now in
     let before = map sent c.args.desk.now.seats.items in
     let mid = c.put_all.new.desk.seats.items in
-    books_more d (rooms_of c.args.office.now.lanes.items) p judged c.args.log.now.notes c.note_all.new.log.notes (received c.args.desk.now.receiver) (received c.hear_all.new.desk.receiver) m c.put_all.new.slots.items c.hear_all.new.slots.items c.in-Ok-verdicts_of.verdicts.items before (map sent c.hear_all.new.desk.seats.items)
-    (search rules) (search rules) c.put_all.ensures.tried c.hear_all.ensures.fills (sym c.as_slice.ensures.value ∙ c.in-Ok-verdicts_of.ensures.known)
+    books_more d (rooms_of c.args.office.now.lanes.items) p judged (g.N.Notebook.tells c.args.book.now) (g.N.Notebook.tells c.note_all.new.self) (received c.args.desk.now.receiver) (received c.hear_all.new.desk.receiver) m c.put_all.new.slots.items c.hear_all.new.slots.items c.verdicts_of-verdicts.result.items before (map sent c.hear_all.new.desk.seats.items)
+    (search rules) (search rules) c.put_all.ensures.tried c.hear_all.ensures.fills (sym c.as_slice.ensures.value ∙ c.verdicts_of-verdicts.ensures.known)
     (subst (HavePut d p (copies_of m) c.put_all.new.slots.items before) kept c.put_all.ensures.put)
     (ap length (sym kept) ∙ length-map mid sent ∙ c.put_all.ensures.same.3 ∙ sym (length-map c.args.desk.now.seats.items sent))
     (search rules) (subst (λ (r : ReceiverSeat Noted). IsStartOf (received r) (received c.hear_all.new.desk.receiver)) c.put_all.ensures.same.1 c.hear_all.ensures.grew) c.hear_all.ensures.heard books

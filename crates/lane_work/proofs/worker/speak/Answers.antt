@@ -1,6 +1,7 @@
-use Rattle.std.proofs.Common.{rules, inl, inr, ◌+◌, ◌-◌, ◌++◌, ◌∙◌, ap, sym, subst, length, map, take, drop, false, arith}
+use Rattle.std.proofs.Common.{rules, inl, inr, ◌+◌, ◌-◌, ◌++◌, ◌∙◌, ap, sym, subst, length, map, take, drop, [], false, arith}
 use Rattle.shard_queue.specs.Reply.{received}
 use Rattle.shard_queue.specs.Seats.{sent}
+use Rattle.lane_work.specs.Account.{notes_tell}
 use Rattle.lane_work.specs.Copies.{rooms_of}
 use Rattle.lane_work.specs.Seats.{AreSeats}
 use Rattle.lane_work.specs.Speaking.{Stands, is_quit}
@@ -13,13 +14,13 @@ returns-in-Quit-clause-spoke g c done begun =
     let d = c.args.office.now.directory in
     let bytes = c.args.bytes.now in
     let before = v.9 done begun in
-    let at_number = subst (λ n. Stands d (rooms_of c.args.office.now.lanes.items) n done (take c.loop-fed.used bytes) false c.loop-fed.machine c.loop-fed.out.items c.loop-fed.log.notes (received c.loop-fed.desk.receiver) (map sent c.loop-fed.desk.seats.items)) (sym v.2) before in
-    let after = c.in-Ok.ensures.stands done (take c.loop-fed.used bytes) at_number in
-    let here = subst (λ n. Stands d (rooms_of c.args.office.now.lanes.items) n done (take c.loop-fed.used bytes ++ take c.in-Ok.fed.used (take (length bytes - c.loop-fed.used) (drop c.loop-fed.used bytes))) (is_quit c.in-Ok.fed.what) c.turn.new.machine c.turn.new.out.items c.turn.new.log.notes (received c.turn.new.desk.receiver) (map sent c.turn.new.desk.seats.items)) v.2 after in
-    let whole = subst (λ l. Stands d (rooms_of c.args.office.now.lanes.items) c.args.desk.now.number done l (is_quit c.in-Ok.fed.what) c.turn.new.machine c.turn.new.out.items c.turn.new.log.notes (received c.turn.new.desk.receiver) (map sent c.turn.new.desk.seats.items))
+    let at_number = subst (λ n. Stands d (rooms_of c.args.office.now.lanes.items) n done (take c.loop-fed.used bytes) false c.loop-fed.machine c.loop-fed.out.items (notes_tell c.loop-fed.log.notes) (received c.loop-fed.desk.receiver) (map sent c.loop-fed.desk.seats.items)) (sym v.2) before in
+    let after = c.in-Ok.ensures.stands done (take c.loop-fed.used bytes) [] at_number in
+    let here = subst (λ n. Stands d (rooms_of c.args.office.now.lanes.items) n done (take c.loop-fed.used bytes ++ take c.in-Ok.fed.used (take (length bytes - c.loop-fed.used) (drop c.loop-fed.used bytes))) (is_quit c.in-Ok.fed.what) c.turn.new.machine c.turn.new.out.items (notes_tell c.turn.new.book.notes) (received c.turn.new.desk.receiver) (map sent c.turn.new.desk.seats.items)) v.2 after in
+    let whole = subst (λ l. Stands d (rooms_of c.args.office.now.lanes.items) c.args.desk.now.number done l (is_quit c.in-Ok.fed.what) c.turn.new.machine c.turn.new.out.items (notes_tell c.turn.new.book.notes) (received c.turn.new.desk.receiver) (map sent c.turn.new.desk.seats.items))
     (piece_more bytes c.loop-fed.used c.in-Ok.fed.used) here in
     spoke d (rooms_of c.args.office.now.lanes.items) c.args.desk.now.number done bytes (take (c.loop-fed.used + c.in-Ok.fed.used) bytes) (drop (c.loop-fed.used + c.in-Ok.fed.used) bytes) (is_quit c.in-Ok.fed.what) c.turn.new.machine
-    c.args.machine.now.setting c.args.machine.now.host c.turn.new.out.items c.turn.new.log.notes (received c.turn.new.desk.receiver) (map sent c.turn.new.desk.seats.items) (split_there bytes (c.loop-fed.used + c.in-Ok.fed.used))
+    c.args.machine.now.setting c.args.machine.now.host c.turn.new.out.items (notes_tell c.turn.new.book.notes) (received c.turn.new.desk.receiver) (map sent c.turn.new.desk.seats.items) (split_there bytes (c.loop-fed.used + c.in-Ok.fed.used))
     (inr (ap is_quit c.in-Quit.is)) (c.in-Ok.ensures.same.0 ∙ v.6) (c.in-Ok.ensures.same.1 ∙ v.7) whole
 
 pub returns-then-used-bytes-clause-spoke : goal.returns-then-used-bytes-clause-spoke
@@ -28,13 +29,13 @@ returns-then-used-bytes-clause-spoke g c done begun =
     let d = c.args.office.now.directory in
     let bytes = c.args.bytes.now in
     let before = v.9 done begun in
-    let at_number = subst (λ n. Stands d (rooms_of c.args.office.now.lanes.items) n done (take c.loop-fed.used bytes) false c.loop-fed.machine c.loop-fed.out.items c.loop-fed.log.notes (received c.loop-fed.desk.receiver) (map sent c.loop-fed.desk.seats.items)) (sym v.2) before in
-    let after = c.in-Ok.ensures.stands done (take c.loop-fed.used bytes) at_number in
-    let here = subst (λ n. Stands d (rooms_of c.args.office.now.lanes.items) n done (take c.loop-fed.used bytes ++ take c.in-Ok.fed.used (take (length bytes - c.loop-fed.used) (drop c.loop-fed.used bytes))) (is_quit c.in-Ok.fed.what) c.turn.new.machine c.turn.new.out.items c.turn.new.log.notes (received c.turn.new.desk.receiver) (map sent c.turn.new.desk.seats.items)) v.2 after in
-    let whole = subst (λ l. Stands d (rooms_of c.args.office.now.lanes.items) c.args.desk.now.number done l (is_quit c.in-Ok.fed.what) c.turn.new.machine c.turn.new.out.items c.turn.new.log.notes (received c.turn.new.desk.receiver) (map sent c.turn.new.desk.seats.items))
+    let at_number = subst (λ n. Stands d (rooms_of c.args.office.now.lanes.items) n done (take c.loop-fed.used bytes) false c.loop-fed.machine c.loop-fed.out.items (notes_tell c.loop-fed.log.notes) (received c.loop-fed.desk.receiver) (map sent c.loop-fed.desk.seats.items)) (sym v.2) before in
+    let after = c.in-Ok.ensures.stands done (take c.loop-fed.used bytes) [] at_number in
+    let here = subst (λ n. Stands d (rooms_of c.args.office.now.lanes.items) n done (take c.loop-fed.used bytes ++ take c.in-Ok.fed.used (take (length bytes - c.loop-fed.used) (drop c.loop-fed.used bytes))) (is_quit c.in-Ok.fed.what) c.turn.new.machine c.turn.new.out.items (notes_tell c.turn.new.book.notes) (received c.turn.new.desk.receiver) (map sent c.turn.new.desk.seats.items)) v.2 after in
+    let whole = subst (λ l. Stands d (rooms_of c.args.office.now.lanes.items) c.args.desk.now.number done l (is_quit c.in-Ok.fed.what) c.turn.new.machine c.turn.new.out.items (notes_tell c.turn.new.book.notes) (received c.turn.new.desk.receiver) (map sent c.turn.new.desk.seats.items))
     (piece_more bytes c.loop-fed.used c.in-Ok.fed.used) here in
     spoke d (rooms_of c.args.office.now.lanes.items) c.args.desk.now.number done bytes (take (c.loop-fed.used + c.in-Ok.fed.used) bytes) (drop (c.loop-fed.used + c.in-Ok.fed.used) bytes) (is_quit c.in-Ok.fed.what) c.turn.new.machine
-    c.args.machine.now.setting c.args.machine.now.host c.turn.new.out.items c.turn.new.log.notes (received c.turn.new.desk.receiver) (map sent c.turn.new.desk.seats.items) (split_there bytes (c.loop-fed.used + c.in-Ok.fed.used))
+    c.args.machine.now.setting c.args.machine.now.host c.turn.new.out.items (notes_tell c.turn.new.book.notes) (received c.turn.new.desk.receiver) (map sent c.turn.new.desk.seats.items) (split_there bytes (c.loop-fed.used + c.in-Ok.fed.used))
     (inl (none_left bytes (c.loop-fed.used + c.in-Ok.fed.used) (search rules))) (c.in-Ok.ensures.same.0 ∙ v.6) (c.in-Ok.ensures.same.1 ∙ v.7) whole
 
 pub loop-fed-preserved-in-Submit : goal.loop-fed-preserved-in-Submit
@@ -45,7 +46,7 @@ loop-fed-preserved-in-Submit g c =
       c.in-Ok.ensures.receiver,
       c.in-Ok.ensures.number ∙ v.2,
       (let e = c.in-Ok.ensures.ends in omega (arith, e, v.3)),
-      c.in-Ok.ensures.seat ∙ v.4,
+      c.in-Ok.ensures.owner ∙ v.4,
       c.in-Ok.ensures.quiet,
       c.in-Ok.ensures.same.0 ∙ v.6,
       c.in-Ok.ensures.same.1 ∙ v.7,
@@ -55,12 +56,12 @@ loop-fed-preserved-in-Submit g c =
           let d = c.args.office.now.directory in
           let bytes = c.args.bytes.now in
           let before = v.9 done begun in
-          let at_number = subst (λ n. Stands d (rooms_of c.args.office.now.lanes.items) n done (take c.loop-fed.used bytes) false c.loop-fed.machine c.loop-fed.out.items c.loop-fed.log.notes (received c.loop-fed.desk.receiver) (map sent c.loop-fed.desk.seats.items)) (sym v.2) before in
-          let after = c.in-Ok.ensures.stands done (take c.loop-fed.used bytes) at_number in
-          let here = subst (λ n. Stands d (rooms_of c.args.office.now.lanes.items) n done (take c.loop-fed.used bytes ++ take c.in-Ok.fed.used (take (length bytes - c.loop-fed.used) (drop c.loop-fed.used bytes))) (is_quit c.in-Ok.fed.what) c.turn.new.machine c.turn.new.out.items c.turn.new.log.notes (received c.turn.new.desk.receiver) (map sent c.turn.new.desk.seats.items)) v.2 after in
-          let whole = subst (λ l. Stands d (rooms_of c.args.office.now.lanes.items) c.args.desk.now.number done l (is_quit c.in-Ok.fed.what) c.turn.new.machine c.turn.new.out.items c.turn.new.log.notes (received c.turn.new.desk.receiver) (map sent c.turn.new.desk.seats.items))
+          let at_number = subst (λ n. Stands d (rooms_of c.args.office.now.lanes.items) n done (take c.loop-fed.used bytes) false c.loop-fed.machine c.loop-fed.out.items (notes_tell c.loop-fed.log.notes) (received c.loop-fed.desk.receiver) (map sent c.loop-fed.desk.seats.items)) (sym v.2) before in
+          let after = c.in-Ok.ensures.stands done (take c.loop-fed.used bytes) [] at_number in
+          let here = subst (λ n. Stands d (rooms_of c.args.office.now.lanes.items) n done (take c.loop-fed.used bytes ++ take c.in-Ok.fed.used (take (length bytes - c.loop-fed.used) (drop c.loop-fed.used bytes))) (is_quit c.in-Ok.fed.what) c.turn.new.machine c.turn.new.out.items (notes_tell c.turn.new.book.notes) (received c.turn.new.desk.receiver) (map sent c.turn.new.desk.seats.items)) v.2 after in
+          let whole = subst (λ l. Stands d (rooms_of c.args.office.now.lanes.items) c.args.desk.now.number done l (is_quit c.in-Ok.fed.what) c.turn.new.machine c.turn.new.out.items (notes_tell c.turn.new.book.notes) (received c.turn.new.desk.receiver) (map sent c.turn.new.desk.seats.items))
           (piece_more bytes c.loop-fed.used c.in-Ok.fed.used) here in
-          subst (λ b. Stands d (rooms_of c.args.office.now.lanes.items) c.args.desk.now.number done (take (c.loop-fed.used + c.in-Ok.fed.used) bytes) b c.turn.new.machine c.turn.new.out.items c.turn.new.log.notes (received c.turn.new.desk.receiver) (map sent c.turn.new.desk.seats.items))
+          subst (λ b. Stands d (rooms_of c.args.office.now.lanes.items) c.args.desk.now.number done (take (c.loop-fed.used + c.in-Ok.fed.used) bytes) b c.turn.new.machine c.turn.new.out.items (notes_tell c.turn.new.book.notes) (received c.turn.new.desk.receiver) (map sent c.turn.new.desk.seats.items))
           (ap is_quit c.in-Submit.is) whole,
     )
 
@@ -72,7 +73,7 @@ loop-fed-preserved g c =
       c.in-Ok.ensures.receiver,
       c.in-Ok.ensures.number ∙ v.2,
       (let e = c.in-Ok.ensures.ends in omega (arith, e, v.3)),
-      c.in-Ok.ensures.seat ∙ v.4,
+      c.in-Ok.ensures.owner ∙ v.4,
       c.in-Ok.ensures.quiet,
       c.in-Ok.ensures.same.0 ∙ v.6,
       c.in-Ok.ensures.same.1 ∙ v.7,
@@ -82,11 +83,11 @@ loop-fed-preserved g c =
           let d = c.args.office.now.directory in
           let bytes = c.args.bytes.now in
           let before = v.9 done begun in
-          let at_number = subst (λ n. Stands d (rooms_of c.args.office.now.lanes.items) n done (take c.loop-fed.used bytes) false c.loop-fed.machine c.loop-fed.out.items c.loop-fed.log.notes (received c.loop-fed.desk.receiver) (map sent c.loop-fed.desk.seats.items)) (sym v.2) before in
-          let after = c.in-Ok.ensures.stands done (take c.loop-fed.used bytes) at_number in
-          let here = subst (λ n. Stands d (rooms_of c.args.office.now.lanes.items) n done (take c.loop-fed.used bytes ++ take c.in-Ok.fed.used (take (length bytes - c.loop-fed.used) (drop c.loop-fed.used bytes))) (is_quit c.in-Ok.fed.what) c.turn.new.machine c.turn.new.out.items c.turn.new.log.notes (received c.turn.new.desk.receiver) (map sent c.turn.new.desk.seats.items)) v.2 after in
-          let whole = subst (λ l. Stands d (rooms_of c.args.office.now.lanes.items) c.args.desk.now.number done l (is_quit c.in-Ok.fed.what) c.turn.new.machine c.turn.new.out.items c.turn.new.log.notes (received c.turn.new.desk.receiver) (map sent c.turn.new.desk.seats.items))
+          let at_number = subst (λ n. Stands d (rooms_of c.args.office.now.lanes.items) n done (take c.loop-fed.used bytes) false c.loop-fed.machine c.loop-fed.out.items (notes_tell c.loop-fed.log.notes) (received c.loop-fed.desk.receiver) (map sent c.loop-fed.desk.seats.items)) (sym v.2) before in
+          let after = c.in-Ok.ensures.stands done (take c.loop-fed.used bytes) [] at_number in
+          let here = subst (λ n. Stands d (rooms_of c.args.office.now.lanes.items) n done (take c.loop-fed.used bytes ++ take c.in-Ok.fed.used (take (length bytes - c.loop-fed.used) (drop c.loop-fed.used bytes))) (is_quit c.in-Ok.fed.what) c.turn.new.machine c.turn.new.out.items (notes_tell c.turn.new.book.notes) (received c.turn.new.desk.receiver) (map sent c.turn.new.desk.seats.items)) v.2 after in
+          let whole = subst (λ l. Stands d (rooms_of c.args.office.now.lanes.items) c.args.desk.now.number done l (is_quit c.in-Ok.fed.what) c.turn.new.machine c.turn.new.out.items (notes_tell c.turn.new.book.notes) (received c.turn.new.desk.receiver) (map sent c.turn.new.desk.seats.items))
           (piece_more bytes c.loop-fed.used c.in-Ok.fed.used) here in
-          subst (λ b. Stands d (rooms_of c.args.office.now.lanes.items) c.args.desk.now.number done (take (c.loop-fed.used + c.in-Ok.fed.used) bytes) b c.turn.new.machine c.turn.new.out.items c.turn.new.log.notes (received c.turn.new.desk.receiver) (map sent c.turn.new.desk.seats.items))
+          subst (λ b. Stands d (rooms_of c.args.office.now.lanes.items) c.args.desk.now.number done (take (c.loop-fed.used + c.in-Ok.fed.used) bytes) b c.turn.new.machine c.turn.new.out.items (notes_tell c.turn.new.book.notes) (received c.turn.new.desk.receiver) (map sent c.turn.new.desk.seats.items))
           (ap is_quit c.in-More.is) whole,
     )

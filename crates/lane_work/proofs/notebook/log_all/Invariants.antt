@@ -1,6 +1,6 @@
 use Rattle.std.proofs.Common.{◌≡◌, ◌≤◌, ◌+◌, ◌++◌, map, zip, take, length}
 use Rattle.lane_work.specs.Copies.{copies, note_of}
-use Rattle.lane_work.proofs.worker.note_all.Given as goal
+use Rattle.lane_work.proofs.notebook.log_all.Given as goal
 
 abbrev pub invariant-loop-i : goal.invariant-loop-i
 invariant-loop-i l =

@@ -1,7 +1,7 @@
 use Rattle.std.proofs.Common.{rules, ◌∙◌}
 use Rattle.std.proofs.lemmas.List.{get_or_default}
 use Rattle.lane_work.proofs.CopyLaws.{notes_next}
-use Rattle.lane_work.proofs.worker.note_all.Goals as goal
+use Rattle.lane_work.proofs.notebook.log_all.Goals as goal
 
 pub loop-i-preserved : goal.loop-i-preserved
 loop-i-preserved c =

@@ -1,0 +1,89 @@
+//! What a worker notes of the copies that it has put: all of it, or nothing. How a verdict comes
+//! about does not belong here.
+
+ghost use Rattle.std.specs.Prelude.{◌≡◌, ◌≤◌, ◌++◌, ℕ, List, length, map, zip, IsOk, OnOk, OnErr, vec_len};
+ghost use Rattle.delivery_token.specs.declared.Job.{Job};
+ghost use Rattle.delivery_token.specs.declared.Verdict.{Verdict};
+ghost use Rattle.lmtp_machine.specs.Calls.{submission_of};
+ghost use Rattle.lane_work.specs.Account.{notes_tell};
+ghost use Rattle.lane_work.specs.Copies.{copies_of, note_of};
+
+use delivery_token::{Verdict, WorkerLog};
+use lmtp_machine::Submission;
+use std::alloc::AllocError;
+
+/// What a worker notes of its copies and of the verdicts on them.
+pub trait Notebook {
+    // It tells of these copies and their verdicts, and of no others.
+    ghost tells: { Self → List (Job × Verdict) → Type 0 };
+    // the number of the worker whose it is
+    ghost owner: { Self → ℕ };
+    // there is room for so many more notes
+    ghost has_room: { Self → ℕ → Type 0 };
+
+    /// Makes room for `count` more notes. What it tells stays.
+    ///
+    /// Errors: `AllocError` where there was no room and memory was refused; then nothing is changed.
+    fn reserve(&mut self, count: usize) -> Result<(), AllocError>
+        ensures owner { owner self.new ≡ owner self.old }
+        ensures tells { (copies : List (Job × Verdict)) → tells self.old copies → tells self.new copies }
+        ensures ok { OnOk result (has_room self.new count) }
+        ensures succeeds { has_room self.old count → IsOk result }
+        ensures err { OnErr result (self.new ≡ self.old) };
+
+    /// Notes the verdict on each copy of a message, in the order of its recipients, in room that was
+    /// reserved.
+    fn note_all(&mut self, message: &Submission, verdicts: &[Verdict])
+        requires mailboxes { vec_len message.now.mailboxes ≡ vec_len message.now.keys }
+        requires verdicts { length verdicts.now ≡ vec_len message.now.keys }
+        requires room { has_room self.old (length verdicts.now) }
+        ensures owner { owner self.new ≡ owner self.old }
+        ensures tells { (copies : List (Job × Verdict)) → tells self.old copies → tells self.new (copies ++ zip (copies_of (submission_of message.now)) verdicts.now) };
+}
+
+/// A log notes each verdict.
+impl Notebook for WorkerLog {
+    ghost tells = { λ log. notes_tell log.notes };
+
+    ghost owner = { λ log. log.seat };
+
+    ghost has_room = { λ log count. count ≤ log.spare };
+
+    fn reserve(&mut self, count: usize) -> Result<(), AllocError> {
+        WorkerLog::reserve(self, count)
+    }
+
+    fn note_all(&mut self, message: &Submission, verdicts: &[Verdict]) {
+        log_all(self, message, verdicts);
+    }
+}
+
+/// Where nobody asks for the verdicts afterwards: it notes nothing, and takes no memory.
+#[derive(Clone, Copy, Debug, PartialEq, Eq)]
+pub struct Unkept;
+
+impl Notebook for Unkept {
+    ghost tells = { λ _ _. Unit {0} };
+
+    ghost owner = { λ _. 0 };
+
+    ghost has_room = { λ _ _. Unit {0} };
+
+    fn reserve(&mut self, _count: usize) -> Result<(), AllocError> {
+        Ok(())
+    }
+
+    fn note_all(&mut self, _message: &Submission, _verdicts: &[Verdict]) {}
+}
+
+fn log_all(log: &mut WorkerLog, message: &Submission, verdicts: &[Verdict])
+    requires mailboxes { vec_len message.now.mailboxes ≡ vec_len message.now.keys }
+    requires verdicts { length verdicts.now ≡ vec_len message.now.keys }
+    requires room { length verdicts.now ≤ log.old.spare }
+    ensures seat { log.new.seat ≡ log.old.seat }
+    ensures notes { log.new.notes ≡ log.old.notes ++ map note_of (zip (copies_of (submission_of message.now)) verdicts.now) }
+{
+    for i in 0..verdicts.len() {
+        log.note(message.keys[i], message.mailboxes[i], verdicts[i]);
+    }
+}
