@@ -1,0 +1,111 @@
+-- What a clerk keeps from turn to turn.
+use Rattle.std.proofs.Common.{◌≡◌, ◌<◌, ◌+◌, ◌∙◌, ◌++◌, ◌∷◌, ℕ, suc, zero, Bool, not, ◌||◌, List, [], All, Option, None, Some, length, map, slice_get, slice_index_or, refl, sym, ap, subst, arith}
+use Rattle.std.specs.List.{list_any}
+use Rattle.std.proofs.lemmas.List.Elements.{All-head, All-tail}
+use Rattle.std.proofs.lemmas.Option.{slice_get-get_or}
+use Rattle.delivery_token.specs.declared.Job.{Job}
+use Rattle.delivery_token.specs.declared.log.Noted.{Noted}
+use Rattle.shard_queue.specs.declared.lane.Entry.{Entry}
+use Rattle.shard_queue.specs.declared.lane.Entry.TheVariants.{Item, End}
+use Rattle.shard_queue.specs.declared.queue.ShardQueue.{ShardQueue}
+use Rattle.shard_queue.specs.declared.reply.SenderSeat.{SenderSeat}
+use Rattle.shard_queue.specs.Reply.{said_on, sent_on}
+use Rattle.shard_queue.specs.Seats.{IsConsumer, got}
+use Rattle.lane_work.specs.Answering.{HaveAnswered, HaveClosed, WereAnswered, is_nobodys, is_ours, none}
+use Rattle.lane_work.specs.Ends.{ends_in}
+use Rattle.lane_work.specs.Seats.{AreSenders, AreSendersEnded}
+use Rattle.lane_work.specs.Consuming.{IsConsumed}
+use Rattle.lane_work.specs.declared.consumer.Consumed.{Consumed}
+use Rattle.lane_work.specs.declared.consumer.Depot.{Depot}
+use Rattle.lane_work.specs.declared.consumer.Stall.{Stall}
+use Rattle.lane_work.proofs.AnswerLaws.{answers_close, torn_next}
+use Rattle.lane_work.proofs.SeatLaws.{ends_next}
+use Rattle.clerks.specs.Keeping.{IsAnswering, IsOnLane, Keeps, counted}
+
+abbrev inside : {A : Type 0} → A → Option A → A
+inside a None = a
+inside a (Some x) = x
+
+pub one_inside : {A : Type 0} (o : Option A) (a b : A) → o ≡ Some a → o ≡ Some b → a ≡ b
+one_inside o a b is also = ap (inside a) (sym is ∙ also)
+
+unsent_at : (ss : List (SenderSeat Noted)) → All (λ s. sent_on s ≡ []) ss → (p : ℕ) → slice_index_or (map sent_on ss) p [] ≡ []
+unsent_at [] so p = refl
+unsent_at (s ∷ ss) so zero = All-head (λ s. sent_on s ≡ []) s ss so
+unsent_at (s ∷ ss) so (suc p) = unsent_at ss (All-tail (λ s. sent_on s ≡ []) s ss so) p
+
+-- before its first turn
+pub keeps_new : (lanes : Option (List (ShardQueue Job))) (depot : Option Depot) (stall : Stall) → ((ls : List (ShardQueue Job)) → lanes ≡ Some ls → IsOnLane ls stall)
+    → ((d : Depot) → depot ≡ Some d → AreSenders d.channels.items stall.shard stall.senders.items) → got stall.seat ≡ [] → All (λ s. sent_on s ≡ []) stall.senders.items
+    → Keeps lanes depot stall 0 Bool.false
+keeps_new lanes depot stall on senders fresh unsent =
+    record {
+      on_lane = on;
+      answering = λ d is. record {
+        senders = senders d is;
+        answered = λ p under. ([], subst (λ (l : List (Entry Job)). WereAnswered (length d.mailboxes.items) stall.shard p l []) (sym fresh) none, unsent_at stall.senders.items unsent p);
+        torn = ap (list_any (is_nobodys (length d.mailboxes.items) (length d.channels.items))) (sym fresh);
+      };
+      ends_are = sym (ap (λ l. counted (ends_in l)) fresh);
+    }
+
+-- after a turn, however it went
+pub keeps_next : (lanes : Option (List (ShardQueue Job))) (depot : Option Depot) (ls : List (ShardQueue Job)) (d : Depot) (old new : Stall) (lane : ShardQueue Job) (ends count : ℕ) (torn more : Bool)
+    → lanes ≡ Some ls → depot ≡ Some d → slice_get ls old.shard ≡ Some lane → Keeps lanes depot old ends torn
+    → new.shard ≡ old.shard → IsConsumer lane new.seat → AreSenders d.channels.items old.shard new.senders.items
+    → HaveAnswered (length d.mailboxes.items) (length d.channels.items) old.shard (got new.seat) [] (map sent_on new.senders.items)
+    → more ≡ list_any (is_nobodys (length d.mailboxes.items) (length d.channels.items)) (got new.seat) → count ≡ counted (ends_in (got new.seat))
+    → Keeps lanes depot new count more
+keeps_next lanes depot ls d old new lane ends count torn more ls_is d_is here so shard seat senders answered torn_is ends_is =
+    record {
+      on_lane = λ others is. subst (λ l. IsOnLane l new) (one_inside lanes ls others ls_is is) on;
+      answering = λ other is. subst (λ x. IsAnswering x new more) (one_inside depot d other d_is is) answering;
+      ends_are = ends_is;
+    } where
+      on : IsOnLane ls new
+      on = record {
+        there = subst (λ n. n < length ls) (sym shard) (so.on_lane ls ls_is).there;
+        seat = λ other is. subst (λ q. IsConsumer q new.seat) (one_inside (slice_get ls old.shard) lane other here (subst (λ n. slice_get ls n ≡ Some other) shard is)) seat;
+      }
+
+      answering : IsAnswering d new more
+      answering = record {
+        senders = subst (λ n. AreSenders d.channels.items n new.senders.items) (sym shard) senders;
+        answered = subst (λ n. HaveAnswered (length d.mailboxes.items) (length d.channels.items) n (got new.seat) [] (map sent_on new.senders.items)) (sym shard) answered;
+        torn = torn_is;
+      }
+
+-- whether one was nobody's, and how many ends there were, after a copy, after an end, and after nothing
+pub torn_copy : (m n p : ℕ) (job : Job) (took more : List (Entry Job)) (torn ours : Bool) → more ≡ took ++ Item p job ∷ [] → ours ≡ is_ours m n p job
+    → torn ≡ list_any (is_nobodys m n) took → (torn || not ours) ≡ list_any (is_nobodys m n) more
+torn_copy m n p job took more torn ours grew is so = torn_next m n took more (Item p job) torn (not ours) grew (ap not is) so
+
+pub ends_copy : (p : ℕ) (job : Job) (took more : List (Entry Job)) (ends : ℕ) → more ≡ took ++ Item p job ∷ [] → ends ≡ counted (ends_in took) → ends ≡ counted (ends_in more)
+ends_copy p job took more ends grew so = let e = ap ends_in grew ∙ ends_next took (Item p job) in omega (arith, e, so)
+
+pub ends_end : (p : ℕ) (took more : List (Entry Job)) (ends : ℕ) → more ≡ took ++ End p ∷ [] → ends ≡ counted (ends_in took) → counted (ends + 1) ≡ counted (ends_in more)
+ends_end p took more ends grew so = let e = ap ends_in grew ∙ ends_next took (End p) in omega (arith, e, so)
+
+-- the lane that the code reads at its shard
+pub lane_at : (ls : List (ShardQueue Job)) (i n : ℕ) (lane : ShardQueue Job) → i ≡ n → n < length ls → lane ≡ slice_index_or ls i lane → slice_get ls n ≡ Some lane
+lane_at ls i n lane same under is = slice_get-get_or ls n lane under ∙ ap (λ k. Some (slice_index_or ls k lane)) (sym same) ∙ ap Some (sym is)
+
+-- what a clerk leaves, when its senders have ended
+pub leaves : (lane : ShardQueue Job) (ls : List (ShardQueue Job)) (d : Depot) (stall : Stall) (torn : Bool) (c : Consumed) → IsOnLane ls stall → IsAnswering d stall torn
+    → slice_get ls stall.shard ≡ Some lane → c.seat ≡ stall.seat → c.kept ≡ Bool.false → c.torn ≡ torn → AreSendersEnded d.channels.items stall.shard c.senders.items
+    → HaveClosed stall.shard (map sent_on stall.senders.items) (map said_on c.senders.items) → IsConsumed lane d stall.shard [] c
+leaves lane ls d stall torn c on so here seat kept is_torn ended closed =
+    record {
+      seat = subst (λ s. IsConsumer lane s) (sym seat) (on.seat lane here);
+      senders = ended;
+      kept = λ keeps. no_kept c.kept kept keeps;
+      torn = is_torn ∙ so.torn ∙ ap (λ s. list_any (is_nobodys (length d.mailboxes.items) (length d.channels.items)) (got s)) (sym seat);
+      said = subst (λ s. Said (got s)) (sym seat)
+          (answers_close (length d.mailboxes.items) stall.shard (got stall.seat) d.channels.items stall.senders.items [] (map said_on c.senders.items) so.senders closed so.answered);
+    } where
+      no_kept : {P : Type 0} (b : Bool) → b ≡ Bool.false → b ≡ Bool.true → P
+      no_kept b e f = cc (e, f)
+
+      Said : List (Entry Job) → Type 0
+      Said took = (p : ℕ) → p < length d.channels.items → (told : List (Entry Noted)) × WereAnswered (length d.mailboxes.items) stall.shard p took told
+          × (slice_index_or (map said_on c.senders.items) p [] ≡ (slice_index_or [] p [] ++ told) ++ End stall.shard ∷ [])

@@ -1,0 +1,3 @@
+mod KeepLaws
+mod StaffLaws
+mod RoundLaws

@@ -1,0 +1,23 @@
+use Rattle.lane_seats.proofs.SenderRowLaws.{ended_hand_length}
+use Rattle.std.proofs.Common.{◌≡◌, ◌∙◌, length, [], Some, ap, false, refl, slice_get, subst, sym}
+use Rattle.lane_work.specs.Consuming.{IsConsumed}
+use Rattle.lane_work.specs.Seats.{AreSendersEnded}
+use Rattle.clerks.specs.Service.{Service}
+use Rattle.clerks.proofs.KeepLaws.{leaves}
+use Rattle.clerks.proofs.clerk.Clerk.into_consumed.Goals as goal
+
+pub returns-clause-consumed : goal.returns-clause-consumed
+returns-clause-consumed g c lanes is lane here =
+    let stall = c.self.inside.stall in
+    let shard : stall.shard ≡ c.args.self.shard = ap (λ (s : Service). s.shard) c.self.view_is in
+    let ended = c.end_senders-senders.result.items in
+    subst (λ n. IsConsumed lane c.args.depot.now n [] (record { seat = stall.seat; senders = c.end_senders-senders.result; copies = c.new.result; kept = false; torn = c.self.inside.torn })) shard
+    (leaves lane lanes c.args.depot.now stall c.self.inside.torn (record { seat = stall.seat; senders = c.end_senders-senders.result; copies = c.new.result; kept = false; torn = c.self.inside.torn })
+    (c.self.invariant.on_lane lanes is) (c.self.invariant.answering c.args.depot.now c.requires.depot)
+    (subst (λ n. slice_get lanes n ≡ Some lane) (sym shard) here) refl refl refl
+    (subst (λ cs. AreSendersEnded cs stall.shard ended) c.deref.ensures.value c.end_senders-senders.ensures.ended) c.end_senders-senders.ensures.said)
+
+pub returns-clause-count : goal.returns-clause-count
+returns-clause-count g c =
+    let ended = c.end_senders-senders.result in
+    ended.ok.0 ∙ ended_hand_length c.deref.result.now c.self.inside.stall.shard ended.items c.end_senders-senders.ensures.ended ∙ ap length c.deref.ensures.value

@@ -1,0 +1,5 @@
+pub mod Turns
+pub mod Service
+pub mod Keeping
+pub mod Staff
+pub mod Rounds

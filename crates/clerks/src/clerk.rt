@@ -1,0 +1,204 @@
+//! A clerk: a shard's consumer whose type says of which hall its seats are, so that this is known
+//! again after it was under a lock. Whose thread makes its steps does not matter here.
+
+ghost use Rattle.std.specs.Prelude.{◌≡◌, ◌<◌, ◌≤◌, ◌++◌, ◌∷◌, [], All, List, Option, None, Some, length, slice_get, vec_len, vec_capacity, true, false};
+ghost use Rattle.delivery_token.specs.declared.Job.{Job};
+ghost use Rattle.shard_queue.specs.declared.lane.Entry.{Entry};
+ghost use Rattle.shard_queue.specs.declared.queue.ShardQueue.{ShardQueue};
+ghost use Rattle.shard_queue.specs.Reply.{sent_on};
+ghost use Rattle.shard_queue.specs.Seats.{WasEmpty, capacity_of, got, producers_of, take_seen};
+ghost use Rattle.shard_queue.specs.Shared.{IsStartOf};
+ghost use Rattle.lane_work.specs.declared.consumer.Depot.{Depot};
+ghost use Rattle.lane_work.specs.Consuming.{IsConsumed};
+ghost use Rattle.lane_work.specs.Ends.{ends_in};
+ghost use Rattle.lane_work.specs.Seats.{AreSenders};
+ghost use Rattle.clerks.specs.Keeping.{IsOnLane, counted};
+
+use crate::turn::{Turn, take_turn};
+use delivery_token::{Job, Noted};
+use lane_work::{Consumed, Depot, Stall, end_senders};
+use pace::{Gate, Pace};
+use shard_queue::{SenderEnded, ShardQueue};
+use std::alloc::Global;
+use std::marker::{Brand, Model, PhantomData};
+use std::sync::Wait;
+
+/// Which lanes and which depot the seats of clerks are of. Whoever calls a function over a hall picks
+/// them, by the name `Brand`.
+pub trait Hall {
+    ghost lanes: { Option (List (ShardQueue Job)) };
+
+    ghost depot: { Option Depot };
+}
+
+impl Hall for Brand {
+    ghost lanes = { None };
+
+    ghost depot = { None };
+}
+
+/// A shard's consumer: whoever holds its lock acts for it.
+pub struct Clerk<H: Hall> {
+    // Its bell is never waited on.
+    stall: Stall,
+    // So many ends were taken, or the last `usize`.
+    ends: usize,
+    // Whether it took a copy that was nobody's.
+    torn: bool,
+    of: PhantomData<H>,
+}
+
+impl<H: Hall> Model for Clerk<H> {
+    ghost use Rattle.clerks.specs.Service.{Service};
+
+    ghost Value = { Service };
+
+    ghost use Rattle.shard_queue.specs.Seats.{got, take_seen};
+    ghost use Rattle.clerks.specs.Keeping.{Keeps};
+
+    ghost view = { λ c. record { shard = c.stall.shard; took = got c.stall.seat; seen = take_seen c.stall.seat; ends = c.ends } };
+
+    ghost invariant = { λ c. Keeps H.lanes H.depot c.stall c.ends c.torn };
+}
+
+impl<H: Hall> Clerk<H> {
+    /// The clerk of a shard whose stall was dealt and never worked at.
+    pub fn new(stall: Stall) -> Clerk<H>
+        requires lane { (lanes : List (ShardQueue Job)) → H.lanes ≡ Some lanes → IsOnLane lanes stall }
+        requires senders { (depot : Depot) → H.depot ≡ Some depot → AreSenders depot.channels.items stall.shard stall.senders.items }
+        requires fresh { (got stall.seat ≡ []) × All (λ s. sent_on s ≡ []) stall.senders.items }
+        ensures { result ≡ record { shard = stall.shard; took = []; seen = take_seen stall.seat; ends = 0 } }
+    {
+        Clerk {
+            stall,
+            ends: 0,
+            torn: false,
+            of: PhantomData,
+        }
+    }
+
+    /// The number of its shard.
+    pub fn shard(&self) -> u8
+        ensures { result ≡ self.now.shard }
+    {
+        self.stall.shard
+    }
+
+    /// How many ends it took; where that doesn't fit, the last `usize`.
+    pub fn ends(&self) -> usize
+        ensures { result ≡ counted (ends_in self.now.took) }
+    {
+        self.ends
+    }
+
+    // Takes and serves what stands first on its lane. Whether anything did.
+    fn step<R: Wait, G: Gate>(
+        &mut self,
+        rt: &R,
+        pace: &mut Pace<'_, G>,
+        lanes: &[ShardQueue<Job>],
+        depot: &Depot,
+    ) -> bool
+        requires lanes { H.lanes ≡ Some lanes.now }
+        requires depot { H.depot ≡ Some depot.now }
+        ensures shard { self.new.shard ≡ self.old.shard }
+        ensures took { IsStartOf self.old.took self.new.took }
+        ensures empty { result ≡ false → (lane : ShardQueue Job) → slice_get lanes.now self.new.shard ≡ Some lane
+            → WasEmpty (producers_of lane) (capacity_of lane) self.new.took self.new.seen }
+    {
+        let lane = &lanes[usize::from(self.stall.shard)];
+        match take_turn(rt, pace, depot, lane, &mut self.stall) {
+            Turn::Copy(ours) => {
+                self.torn |= !ours;
+                true
+            }
+            Turn::End => {
+                self.ends = self.ends.saturating_add(1);
+                true
+            }
+            Turn::Empty => false,
+        }
+    }
+
+    /// Takes what waits on its lane until nothing does: each copy is delivered under its mailbox's lock,
+    /// and its producer is told. It was then empty at one moment of the call, behind all that had been
+    /// there when it last took.
+    pub fn clear<R: Wait, G: Gate>(
+        &mut self,
+        rt: &R,
+        pace: &mut Pace<'_, G>,
+        lanes: &[ShardQueue<Job>],
+        depot: &Depot,
+    )
+        requires lanes { H.lanes ≡ Some lanes.now }
+        requires depot { H.depot ≡ Some depot.now }
+        ensures shard { self.new.shard ≡ self.old.shard }
+        ensures took { IsStartOf self.old.took self.new.took }
+        ensures empty { (lane : ShardQueue Job) → slice_get lanes.now self.new.shard ≡ Some lane
+            → WasEmpty (producers_of lane) (capacity_of lane) self.new.took self.new.seen }
+    {
+        for _ in rt.forever() {
+            if !self.step(rt, pace, lanes, depot) {
+                return;
+            }
+        }
+        unreachable!()
+    }
+
+    /// Ends its seat on each reply channel, and leaves what a consumer leaves that has kept no copy.
+    /// `room`, which is empty, has room for all channels. Where a channel is full it tries again until
+    /// there is room.
+    pub fn into_consumed<R: Wait, G: Gate>(
+        self,
+        rt: &R,
+        pace: &mut Pace<'_, G>,
+        depot: &Depot,
+        room: Vec<SenderEnded<Noted>>,
+        alloc: Global,
+    ) -> Consumed
+        requires depot { H.depot ≡ Some depot.now }
+        requires room { (room.items ≡ []) × (length depot.now.channels.items ≤ vec_capacity room) }
+        ensures consumed { (lanes : List (ShardQueue Job)) → H.lanes ≡ Some lanes → (lane : ShardQueue Job) → slice_get lanes self.shard ≡ Some lane
+            → IsConsumed lane depot.now self.shard [] result }
+        ensures took { (got result.seat ≡ self.took) × (take_seen result.seat ≡ self.seen) }
+        ensures none { (result.copies.items ≡ []) × (result.kept ≡ false) }
+        ensures count { vec_len result.senders ≡ length depot.now.channels.items }
+    {
+        let Clerk {
+            stall,
+            ends: _,
+            torn,
+            of: _,
+        } = self;
+        let Stall {
+            shard,
+            seat,
+            senders,
+            bell: _,
+        } = stall;
+        let senders = end_senders(rt, pace, &depot.channels, shard, senders, room);
+        Consumed {
+            seat,
+            senders,
+            copies: Vec::new(alloc),
+            kept: false,
+            torn,
+        }
+    }
+
+    /// Its stall, as far as it has worked there.
+    pub fn into_stall(self) -> Stall
+        ensures shard { result.shard ≡ self.shard }
+        ensures took { (got result.seat ≡ self.took) × (take_seen result.seat ≡ self.seen) }
+        ensures lane { (lanes : List (ShardQueue Job)) → H.lanes ≡ Some lanes → IsOnLane lanes result }
+        ensures senders { (depot : Depot) → H.depot ≡ Some depot → AreSenders depot.channels.items self.shard result.senders.items }
+    {
+        let Clerk {
+            stall,
+            ends: _,
+            torn: _,
+            of: _,
+        } = self;
+        stall
+    }
+}

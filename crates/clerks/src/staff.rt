@@ -1,0 +1,198 @@
+//! The clerks of all shards: hired from the stands that were dealt, and dismissed when all is done, or
+//! stood down where a run comes to nothing. What one clerk does does not belong here.
+
+ghost use Rattle.std.specs.Prelude.{◌≡◌, ◌≤◌, ◌<◌, ℕ, List, [], All, IfOk, Some, true, false, length, map, vec_len, vec_capacity};
+ghost use Rattle.delivery_token.specs.declared.Job.{Job};
+ghost use Rattle.shard_queue.specs.declared.queue.ShardQueue.{ShardQueue};
+ghost use Rattle.lane_work.specs.declared.consumer.Depot.{Depot};
+ghost use Rattle.lane_seats.specs.Rooms.{AreRooms};
+ghost use Rattle.lane_seats.specs.Rows.{AreConsumers};
+ghost use Rattle.lane_seats.specs.SenderRows.{AreSenderEndedHands};
+ghost use Rattle.house_floor.specs.Crew.{AllAt, IsStand};
+ghost use Rattle.clerks.specs.Staff.{IsService};
+
+use crate::clerk::{Clerk, Hall};
+use delivery_token::{Job, Noted};
+use house_floor::{Floor, Stand};
+use lane_work::Consumed;
+use pace::{Actor, Gate, Pace};
+use shard_queue::SenderEnded;
+use std::alloc::{AllocError, Global};
+use std::sync::{Mutex, Wait};
+
+/// The clerks of all shards.
+pub struct Staff<H: Hall> {
+    /// Each behind its lock, at the place of its shard.
+    pub clerks: Vec<Mutex<Clerk<H>>>,
+    /// For each, room for what is left of its senders.
+    pub rooms: Vec<Vec<SenderEnded<Noted>>>,
+    /// Room for their stands, where they are stood down.
+    pub stands: Vec<Stand>,
+}
+
+/// What all clerks left.
+pub struct Dismissed {
+    /// What each left, in their order.
+    pub consumed: Vec<Consumed>,
+    /// Whether each clerk stood at the place of its shard. It always does, but a lock doesn't tell.
+    pub in_order: bool,
+}
+
+impl<H: Hall> Staff<H> {
+    /// Nobody, with room for so many. An error where memory is refused; nothing is left then.
+    pub fn with_room(alloc: Global, shards: usize) -> Result<Staff<H>, AllocError>
+        ensures clerks { IfOk result (λ s. (s.clerks.items ≡ []) × (shards ≤ vec_capacity s.clerks)) }
+        ensures rooms { IfOk result (λ s. (s.rooms.items ≡ []) × (shards ≤ vec_capacity s.rooms)) }
+        ensures stands { IfOk result (λ s. (s.stands.items ≡ []) × (shards ≤ vec_capacity s.stands)) }
+    {
+        let clerks = Vec::with_capacity(alloc, shards)?;
+        let Ok(rooms) = Vec::with_capacity(alloc, shards) else {
+            clerks.destroy_empty();
+            return Err(AllocError);
+        };
+        let Ok(stands) = Vec::with_capacity(alloc, shards) else {
+            clerks.destroy_empty();
+            rooms.destroy_empty();
+            return Err(AllocError);
+        };
+        Ok(Staff {
+            clerks,
+            rooms,
+            stands,
+        })
+    }
+}
+
+// The clerk of the stand at this place, behind a lock, and the room that was there.
+fn hire<H: Hall>(
+    floor: &Floor,
+    stand: Stand,
+    place: usize,
+) -> (Mutex<Clerk<H>>, Vec<SenderEnded<Noted>>)
+    requires lanes { H.lanes ≡ Some floor.now.office.lanes.items }
+    requires depot { H.depot ≡ Some floor.now.depot }
+    requires there { place < length floor.now.office.lanes.items }
+    requires stand { IsStand floor.now place stand }
+    ensures { (result.1.items ≡ []) × (length floor.now.depot.channels.items ≤ vec_capacity result.1) }
+{
+    let Stand { stall, room } = stand;
+    (Mutex::new(Clerk::new(stall)), room)
+}
+
+/// A clerk for each stand, in their order. `staff`, which is empty, has room for all.
+pub fn hire_all<H: Hall>(floor: &Floor, mut stands: Vec<Stand>, mut staff: Staff<H>) -> Staff<H>
+    requires lanes { H.lanes ≡ Some floor.now.office.lanes.items }
+    requires depot { H.depot ≡ Some floor.now.depot }
+    requires stands { AllAt (IsStand floor.now) 0 stands.items × (vec_len stands ≡ length floor.now.office.lanes.items) }
+    requires clerks { (staff.clerks.items ≡ []) × (length floor.now.office.lanes.items ≤ vec_capacity staff.clerks) }
+    requires rooms { (staff.rooms.items ≡ []) × (length floor.now.office.lanes.items ≤ vec_capacity staff.rooms) }
+    ensures clerks { vec_len result.clerks ≡ length floor.now.office.lanes.items }
+    ensures rooms { AreRooms (length floor.now.office.lanes.items) (length floor.now.depot.channels.items) result.rooms }
+    ensures stands { result.stands ≡ staff.stands }
+{
+    for place in 0..floor.office.lanes.len() {
+        let (clerk, room) = hire(floor, stands.remove(0), place);
+        staff.clerks.push_reserved(clerk);
+        staff.rooms.push_reserved(room);
+    }
+    stands.destroy_empty();
+    staff
+}
+
+// What the clerk behind a lock leaves, and the number of its shard.
+fn dismiss<H: Hall, R: Wait, G: Gate>(
+    rt: &R,
+    gate: &G,
+    floor: &Floor,
+    clerk: Mutex<Clerk<H>>,
+    room: Vec<SenderEnded<Noted>>,
+) -> (u8, Consumed)
+    requires lanes { H.lanes ≡ Some floor.now.office.lanes.items }
+    requires depot { H.depot ≡ Some floor.now.depot }
+    requires room { (room.items ≡ []) × (length floor.now.depot.channels.items ≤ vec_capacity room) }
+    ensures service { IsService floor.now.office.lanes.items floor.now.depot result.0 result.1 }
+    ensures count { vec_len result.1.senders ≡ length floor.now.depot.channels.items }
+    ensures none { (result.1.copies.items ≡ []) × (result.1.kept ≡ false) }
+{
+    let mut clerk = clerk.into_inner();
+    let shard = clerk.shard();
+    let mut pace = Pace::new(gate, Actor::Consumer(shard));
+    clerk.clear(rt, &mut pace, &floor.office.lanes, &floor.depot);
+    let consumed = clerk.into_consumed(rt, &mut pace, &floor.depot, room, floor.alloc);
+    (shard, consumed)
+}
+
+/// Clears each lane a last time, and ends each clerk's seat on each reply channel: what all of them
+/// leave. No copy was kept. `consumed`, which is empty, has room for all.
+pub fn dismiss_all<H: Hall, R: Wait, G: Gate>(
+    rt: &R,
+    gate: &G,
+    floor: &Floor,
+    staff: Staff<H>,
+    mut consumed: Vec<Consumed>,
+) -> Dismissed
+    requires lanes { H.lanes ≡ Some floor.now.office.lanes.items }
+    requires depot { H.depot ≡ Some floor.now.depot }
+    requires clerks { vec_len staff.clerks ≡ length floor.now.office.lanes.items }
+    requires rooms { AreRooms (length floor.now.office.lanes.items) (length floor.now.depot.channels.items) staff.rooms }
+    requires stands { staff.stands.items ≡ [] }
+    requires consumed { (consumed.items ≡ []) × (length floor.now.office.lanes.items ≤ vec_capacity consumed) }
+    ensures count { vec_len result.consumed ≡ length floor.now.office.lanes.items }
+    ensures services { result.in_order ≡ true → AllAt (IsService floor.now.office.lanes.items floor.now.depot) 0 result.consumed.items }
+    ensures seats { result.in_order ≡ true → AreConsumers floor.now.office.lanes.items (map (λ c. c.seat) result.consumed.items) }
+    ensures hands { result.in_order ≡ true → AreSenderEndedHands floor.now.depot.channels.items 0 (map (λ c. c.senders.items) result.consumed.items) }
+    ensures senders { All (λ c. vec_len c.senders ≡ length floor.now.depot.channels.items) result.consumed.items }
+    ensures none { All (λ c. (c.copies.items ≡ []) × (c.kept ≡ false)) result.consumed.items }
+{
+    let Staff {
+        mut clerks,
+        mut rooms,
+        stands,
+    } = staff;
+    stands.destroy_empty();
+    let mut in_order = true;
+    for place in 0..floor.office.lanes.len() {
+        let (shard, one) = dismiss(rt, gate, floor, clerks.remove(0), rooms.remove(0));
+        in_order &= usize::from(shard) == place;
+        consumed.push_reserved(one);
+    }
+    clerks.destroy_empty();
+    rooms.destroy_empty();
+    Dismissed { consumed, in_order }
+}
+
+// The stand of the clerk behind a lock, with the room that was there.
+fn leave_stand<H: Hall>(clerk: Mutex<Clerk<H>>, room: Vec<SenderEnded<Noted>>) -> Stand
+    requires room { room.items ≡ [] }
+    ensures senders { (depot : Depot) → H.depot ≡ Some depot → vec_len result.stall.senders ≡ length depot.channels.items }
+    ensures room { result.room.items ≡ [] }
+{
+    let clerk = clerk.into_inner();
+    Stand {
+        stall: clerk.into_stall(),
+        room,
+    }
+}
+
+/// Each clerk's stand, in their order, whether it has worked there or not: for a run that comes to
+/// nothing. None of its senders has ended.
+pub fn stand_down<H: Hall>(floor: &Floor, staff: Staff<H>) -> Vec<Stand>
+    requires depot { H.depot ≡ Some floor.now.depot }
+    requires clerks { vec_len staff.clerks ≡ length floor.now.office.lanes.items }
+    requires rooms { AreRooms (length floor.now.office.lanes.items) (length floor.now.depot.channels.items) staff.rooms }
+    requires stands { (staff.stands.items ≡ []) × (length floor.now.office.lanes.items ≤ vec_capacity staff.stands) }
+    ensures count { vec_len result ≡ length floor.now.office.lanes.items }
+    ensures stands { All (λ s. (vec_len s.stall.senders ≡ length floor.now.depot.channels.items) × (s.room.items ≡ [])) result.items }
+{
+    let Staff {
+        mut clerks,
+        mut rooms,
+        mut stands,
+    } = staff;
+    for done in 0..floor.office.lanes.len() {
+        stands.push_reserved(leave_stand(clerks.remove(0), rooms.remove(0)));
+    }
+    clerks.destroy_empty();
+    rooms.destroy_empty();
+    stands
+}

@@ -1,0 +1,55 @@
+//! One turn of a consumer over its stall: what stands first on its lane is taken and served. Whose the
+//! stall is, and how often it turns, does not belong here.
+
+ghost use Rattle.std.specs.Prelude.{◌≡◌, [], length, map};
+ghost use Rattle.shard_queue.specs.Reply.{sent_on};
+ghost use Rattle.shard_queue.specs.Seats.{IsConsumer, got};
+ghost use Rattle.lane_work.specs.Answering.{HaveAnswered};
+ghost use Rattle.lane_work.specs.Seats.{AreSenders};
+ghost use Rattle.clerks.specs.Turns.{Turned};
+
+use delivery_token::Job;
+use lane_work::{Depot, Stall, serve_copy};
+use pace::{Gate, Pace};
+use shard_queue::{ShardQueue, Taken};
+use std::sync::Wait;
+
+/// What one turn met.
+#[derive(Clone, Copy)]
+pub(crate) enum Turn {
+    /// A copy, and whether it was one of this house.
+    Copy(bool),
+    /// A producer's end.
+    End,
+    /// Nothing waited.
+    Empty,
+}
+
+/// Takes what stands first on the lane. A copy is delivered and its producer is told.
+pub(crate) fn take_turn<R: Wait, G: Gate>(
+    rt: &R,
+    pace: &mut Pace<'_, G>,
+    depot: &Depot,
+    lane: &ShardQueue<Job>,
+    stall: &mut Stall,
+) -> Turn
+    requires seat { IsConsumer lane.now stall.old.seat }
+    requires senders { AreSenders depot.now.channels.items stall.old.shard stall.old.senders.items }
+    requires answered { HaveAnswered (length depot.now.mailboxes.items) (length depot.now.channels.items) stall.old.shard (got stall.old.seat) [] (map sent_on stall.old.senders.items) }
+    ensures shard { stall.new.shard ≡ stall.old.shard }
+    ensures seat { IsConsumer lane.now stall.new.seat }
+    ensures senders { AreSenders depot.now.channels.items stall.old.shard stall.new.senders.items }
+    ensures answered { HaveAnswered (length depot.now.mailboxes.items) (length depot.now.channels.items) stall.old.shard (got stall.new.seat) [] (map sent_on stall.new.senders.items) }
+    ensures turned { Turned (length depot.now.mailboxes.items) (length depot.now.channels.items) lane.now stall.old.seat result stall.new.seat }
+{
+    pace.pass();
+    match lane.take_as(rt, &mut stall.seat) {
+        Taken::Item(producer, job) => {
+            let shard = stall.shard;
+            let senders = &mut stall.senders;
+            Turn::Copy(serve_copy(rt, pace, depot, shard, senders, producer, &job))
+        }
+        Taken::End(_) => Turn::End,
+        Taken::Empty => Turn::Empty,
+    }
+}

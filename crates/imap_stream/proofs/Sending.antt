@@ -1,0 +1,46 @@
+-- What was said is sent: from the parts of a visit to the visit.
+use Rattle.std.proofs.Common.{◌≡◌, ℕ, ◌<◌, ◌⊎◌, inl, inr, true, false, List, [], length, take, sym, subst}
+use Rattle.std.specs.Prelude.{OnErr, OnOk, Result, Ok, Err}
+use Rattle.std.specs.Io.KnownBytes.{Appends}
+use Rattle.imap_connection.specs.Dialogue.{Dialogue, StandsFor}
+use Rattle.session_thread.specs.Life.{Moment, moment}
+use Rattle.imap_stream.specs.Visits.{LeadsTo, SendsAll, SendsFirst, Tells, VisitState}
+
+-- each dialogue was led by P, behind what stood in the room before
+abbrev pub Led : (Moment → Moment → Type 0) → VisitState → List ℕ → List ℕ → VisitState → Type 0
+Led P old before said new = (d : Dialogue) → StandsFor old.link d → (next : Dialogue) × StandsFor new.link next × P (moment d old.place before) (moment next new.place said)
+
+-- the output took the first bytes
+abbrev pub TookFirst : VisitState → List ℕ → VisitState → Type 0
+TookFirst old said new = (sent : ℕ) × (sent < length said) × Appends old.taken new.taken (take sent said)
+
+led : (P : Moment → Moment → Type 0) (old new : VisitState) (before said : List ℕ) → before ≡ [] → Led P old before said new → LeadsTo P old said new
+led P old new before said empty h d s =
+    let t = h d s in (t.0, t.1, subst (λ (b : List ℕ). P (moment d old.place b) (moment t.0 new.place said)) empty t.2)
+
+pub tells_all : (P : Moment → Moment → Type 0) (old seen new : VisitState) (before said : List ℕ) → seen ≡ old → before ≡ [] → Led P seen before said new
+    → Appends seen.taken new.taken said → new.failed ≡ false → Tells P SendsAll old new
+tells_all P old seen new before said is empty h took live = subst (λ (o : VisitState). Tells P SendsAll o new) is
+    (record { said = said; leads = led P seen new before said empty h; sends = record { took = took; live = live } })
+
+-- the same where memory was refused, out of as many bytes as there is room for now
+pub tells_all_in_part : (P : ℕ → Moment → Moment → Type 0) (room now : ℕ) (old seen new : VisitState) (before said : List ℕ) → now ≡ room → seen ≡ old → before ≡ [] → Led (P room) seen before said new
+    → Appends seen.taken new.taken said → new.failed ≡ false → Tells (P now) SendsAll old new
+tells_all_in_part P room now old seen new before said same is empty h took live =
+    tells_all (P now) old seen new before said is empty (subst (λ (r : ℕ). Led (P r) seen before said new) (sym same) h) took live
+
+tells_first : (P : Moment → Moment → Type 0) (old seen new : VisitState) (before said : List ℕ) → seen ≡ old → before ≡ [] → Led P seen before said new
+    → TookFirst seen said new → new.failed ≡ true → new.closed ≡ true → Tells P SendsFirst old new
+tells_first P old seen new before said is empty h took failed over = subst (λ (o : VisitState). Tells P SendsFirst o new) is
+    (record { said = said; leads = led P seen new before said empty h; sends = record { sent = took.0; few = took.1; took = took.2; failed = failed; over = over } })
+
+-- the output failed, whatever was said
+pub tells_what_went : {A E : Type 0} (r : Result A E) (P : Moment → Moment → Type 0) (Q : ℕ → Moment → Moment → Type 0) (room now : ℕ) (old seen new : VisitState) (before said : List ℕ) → now ≡ room → seen ≡ old → before ≡ []
+    → OnOk r (Led P seen before said new) → OnErr r (Led (Q room) seen before said new) → TookFirst seen said new → new.failed ≡ true → new.closed ≡ true → Tells P SendsFirst old new ⊎ Tells (Q now) SendsFirst old new
+tells_what_went (Ok x) P Q room now old seen new before said same is empty h k took failed over = inl (tells_first P old seen new before said is empty h took failed over)
+tells_what_went (Err e) P Q room now old seen new before said same is empty h k took failed over =
+    inr (tells_first (Q now) old seen new before said is empty (subst (λ (r : ℕ). Led (Q r) seen before said new) (sym same) k) took failed over)
+
+pub sends_first : (old seen new : VisitState) (said : List ℕ) → seen ≡ old → TookFirst seen said new → new.failed ≡ true → new.closed ≡ true → SendsFirst old said new
+sends_first old seen new said is took failed over = subst (λ (o : VisitState). SendsFirst o said new) is
+    (record { sent = took.0; few = took.1; took = took.2; failed = failed; over = over })

@@ -1,0 +1,65 @@
+-- Turns of a session that idles, and what stands behind them.
+use Rattle.std.proofs.Common.{◌≡◌, ℕ, true, false, List, refl, sym, subst}
+use Rattle.imap_session.specs.Exchange.{Standing, is_idling}
+use Rattle.imap_session.specs.Store.{IdleTurns}
+use Rattle.imap_connection.specs.Dialogue as dialogue
+use Rattle.imap_connection.specs.Dialogue.{Dialogue, Link, StandsFor}
+use Rattle.session_thread.specs.Locks.{Holds, Place}
+use Rattle.session_thread.specs.Life.{IsShort, Moment, moment}
+use Rattle.std.specs.Prelude.{OnErr, OnOk, Result, Ok, Err}
+use Rattle.session_thread.specs.Life.{Says}
+use Rattle.imap_stream.specs.Visits.{GoesOnShowing, HasShown, Hears, HearsInPart, ShowsAll, ShowsInPart, nothing_left, within_turns}
+
+-- what the connection idles, its dialogue does
+pub idle_of : (d : Dialogue) (was : Link) → StandsFor was d → is_idling was.session ≡ true → is_idling d.standing ≡ true
+idle_of d was s idles = subst (λ (x : Standing). is_idling x ≡ true) s.session idles
+
+pub awake_of : (d : Dialogue) (was : Link) → StandsFor was d → is_idling was.session ≡ false → is_idling d.standing ≡ false
+awake_of d was s idles = subst (λ (x : Standing). is_idling x ≡ false) s.session idles
+
+pub has_shown : (count : ℕ) (d : Dialogue) (old new : Place) (before middle after : List ℕ) (was link : Link) → StandsFor was d → is_idling was.session ≡ true → middle ≡ before → dialogue.Turns Holds d old new middle after count link
+    → (next : Dialogue) × StandsFor link next × HasShown count (moment d old before) (moment next new after)
+has_shown count d old new before middle after was link s idles kept t = (
+  record { standing = t.next; begun = d.begun },
+  t.stands,
+  (
+    idle_of d was s idles,
+    (
+      record {
+        count = count;
+        turned = subst (λ (b : List ℕ). IdleTurns Holds d.standing old new b after count t.next) kept t.turned;
+        begun = refl;
+      },
+      refl,
+    ),
+  ),
+)
+
+pub shows_in_part : (room : ℕ) (first : Moment) (d : Dialogue) (old new : Place) (before after : List ℕ) (was : Link) → StandsFor was d → is_idling was.session ≡ true → GoesOnShowing first (moment d old before)
+    → moment d new after ≡ moment d old before → IsShort room (moment d new after) → ShowsInPart room first (moment d new after)
+shows_in_part room first d old new before after was s idles showed same short = record {
+  showed = subst (λ (m : Moment). GoesOnShowing first m) (sym same) showed;
+  idles = idle_of d was s idles;
+  short = short;
+}
+
+pub shows_all : (count : ℕ) (first now last : Moment) → GoesOnShowing first now → HasShown count now last → count ≡ 0 → ShowsAll first last
+shows_all count first now last showed had none = nothing_left now showed (subst (λ (k : ℕ). HasShown k now last) none had)
+
+-- ---- turns behind a piece
+
+pub heard : {A E : Type 0} (r : Result A E) (piece : List ℕ) (old middle new : Place) (before between after : List ℕ) (was link last : Link)
+    → ((d : Dialogue) → StandsFor was d → (next : Dialogue) × StandsFor link next × Says piece (moment d old before) (moment next middle between))
+    → OnOk r ((d : Dialogue) → StandsFor link d → (next : Dialogue) × StandsFor last next × ShowsAll (moment d middle between) (moment next new after))
+    → OnOk r ((d : Dialogue) → StandsFor was d → (next : Dialogue) × StandsFor last next × Hears piece (moment d old before) (moment next new after))
+heard (Ok x) piece old middle new before between after was link last said shown =
+    λ d s. let t = said d s in let n = shown t.0 t.1 in (n.0, n.1, record { between = moment t.0 middle between; says = t.2; shows = n.2 })
+heard (Err e) piece old middle new before between after was link last said shown = shown
+
+pub heard_in_part : {A E : Type 0} (r : Result A E) (room : ℕ) (piece : List ℕ) (old middle new : Place) (before between after : List ℕ) (was link last : Link)
+    → ((d : Dialogue) → StandsFor was d → (next : Dialogue) × StandsFor link next × Says piece (moment d old before) (moment next middle between))
+    → OnErr r ((d : Dialogue) → StandsFor link d → (next : Dialogue) × StandsFor last next × ShowsInPart room (moment d middle between) (moment next new after))
+    → OnErr r ((d : Dialogue) → StandsFor was d → (next : Dialogue) × StandsFor last next × HearsInPart room piece (moment d old before) (moment next new after))
+heard_in_part (Ok x) room piece old middle new before between after was link last said shown = shown
+heard_in_part (Err e) room piece old middle new before between after was link last said shown =
+    λ d s. let t = said d s in let n = shown t.0 t.1 in (n.0, n.1, within_turns (moment t.0 middle between) t.2 n.2)

@@ -1,0 +1,106 @@
+-- One client's visit over a stream: what its callers may know of it, what each call does, and what is sent.
+use Rattle.std.specs.Prelude.{◌≡◌, ℕ, ◌<◌, ◌||◌, Bool, true, false, List, [], codes, length, take, Option, None, if◌then◌else◌}
+use Rattle.std.specs.Io.KnownBytes.{Appends}
+use Rattle.imap_session.specs.declared.standing.After.{After}
+use Rattle.imap_session.specs.declared.standing.After.TheVariants.{Bye}
+use Rattle.imap_session.specs.Exchange.{Folder, bye, is_idling, may_send}
+use Rattle.imap_session.specs.Commands.{greeting}
+use Rattle.imap_connection.specs.Dialogue.{Dialogue, Link, StandsFor}
+use Rattle.session_thread.specs.Locks.{Place}
+use Rattle.session_thread.specs.Life.{HasTurn, IsShort, Moment, Says, SaysFirst, moment}
+
+-- What is known of a visit. Between two calls nothing that was said is left unsent.
+pub record VisitState : Type 0 where
+  pub link : Link
+  pub place : Place
+  -- the bytes that its output took, where that tells them
+  pub taken : Option (List ℕ)
+  -- the output failed
+  pub failed : Bool
+  -- nothing more is said or sent: the output failed, bytes of the client were lost, it was dismissed, or its session left
+  pub closed : Bool
+  -- for how many bytes there is room where what is said is written before it is sent
+  pub room : ℕ
+
+-- Nothing more is done for the client.
+abbrev pub is_over : VisitState → Bool
+is_over visit = visit.closed || visit.link.session.ended
+
+-- what the client may send next
+abbrev pub awaited : VisitState → After
+awaited visit = if visit.closed then Bye else may_send visit.link.session
+
+-- ---- turns
+
+-- The session idled, and had one turn, which showed so many changes.
+abbrev pub HasShown : ℕ → Moment → Moment → Type 0
+HasShown count before after = (is_idling before.dialogue.standing ≡ true) × ((turn : HasTurn before after) × (turn.count ≡ count))
+
+-- The session had turns, one after another, and each of them showed something.
+pub data GoesOnShowing (first : Moment) : Moment → Type 0 where
+  nothing_yet : GoesOnShowing first first
+  another : (count : ℕ) (now next : Moment) → GoesOnShowing first now → 0 < count → HasShown count now next → GoesOnShowing first next
+
+-- The client was shown what there is: the session had turns until it doesn't idle, or until one showed nothing.
+pub data ShowsAll (first last : Moment) : Type 0 where
+  awake : GoesOnShowing first last → is_idling last.dialogue.standing ≡ false → ShowsAll first last
+  nothing_left : (now : Moment) → GoesOnShowing first now → HasShown 0 now last → ShowsAll first last
+
+-- The session had turns, and memory was refused for the next, out of `room` bytes or by its mailbox.
+pub record ShowsInPart (room : ℕ) (first last : Moment) : Type 0 where
+  pub showed : GoesOnShowing first last
+  pub idles : is_idling last.dialogue.standing ≡ true
+  pub short : IsShort room last
+
+-- ---- a piece of the client's bytes
+
+-- The bytes were taken, to their end or to the line that ended the session, and each line that ended in them was answered. Where the session
+-- idled then, the client was shown what there is.
+pub record Hears (piece : List ℕ) (before after : Moment) : Type 0 where
+  pub between : Moment
+  pub says : Says piece before between
+  pub shows : ShowsAll between after
+
+-- So it went until memory was refused, within the bytes or within the turns behind them.
+pub data HearsInPart (room : ℕ) (piece : List ℕ) (before after : Moment) : Type 0 where
+  within_bytes : (used : ℕ) → SaysFirst piece used before after → IsShort room after → HearsInPart room piece before after
+  within_turns : (between : Moment) → Says piece before between → ShowsInPart room between after → HearsInPart room piece before after
+
+-- ---- what is sent
+
+-- Each dialogue for which the connection stood was led by P to one for which it stands, and this was said on the way.
+abbrev pub LeadsTo : (Moment → Moment → Type 0) → VisitState → List ℕ → VisitState → Type 0
+LeadsTo P old said new = (d : Dialogue) → StandsFor old.link d → (next : Dialogue) × StandsFor new.link next × P (moment d old.place []) (moment next new.place said)
+
+-- All that was said was sent.
+pub record SendsAll (old : VisitState) (said : List ℕ) (new : VisitState) : Type 0 where
+  pub took : Appends old.taken new.taken said
+  pub live : new.failed ≡ false
+
+-- The output failed. It took exactly the first bytes of what was said, fewer than all, and nothing more is sent.
+pub record SendsFirst (old : VisitState) (said : List ℕ) (new : VisitState) : Type 0 where
+  pub sent : ℕ
+  pub few : sent < length said
+  pub took : Appends old.taken new.taken (take sent said)
+  pub failed : new.failed ≡ true
+  pub over : new.closed ≡ true
+
+-- P was done, and what was said was sent: all of it where Sends is `SendsAll`.
+pub record Tells (P : Moment → Moment → Type 0) (Sends : VisitState → List ℕ → VisitState → Type 0) (old new : VisitState) : Type 0 where
+  pub said : List ℕ
+  pub leads : LeadsTo P old said new
+  pub sends : Sends old said new
+
+-- ---- the first and the last words
+
+-- The client was greeted (RFC 9051, 7.1.4), and nothing else was done: its session is in no mailbox, and its line has not begun.
+pub record IsGreeted (folders : List Folder) (place : Place) (taken : Option (List ℕ)) (visit : VisitState) : Type 0 where
+  pub stands : StandsFor visit.link (record { standing = record { folders = folders; selected = None; idling = None; ended = false }; begun = [] })
+  pub desk : visit.place ≡ place
+  pub took : Appends taken visit.taken greeting
+  pub live : visit.failed ≡ false
+  pub goes_on : visit.closed ≡ false
+
+-- what a client is told that is dismissed (RFC 9051, 7.1.5)
+abbrev pub farewell : List ℕ
+farewell = bye (codes "Shutting down")

@@ -1,0 +1,13 @@
+//! One IMAP client over a stream: its visit, whose answers are sent as they are made, and the place where
+//! it is served by two threads, one that reads and one that a bell wakes. What is answered stands in
+//! `imap_session`, what a call does to a mailbox in `session_thread`; sockets stand above.
+#![tactic(auto)]
+
+mod place;
+#[cfg(test)]
+mod tests;
+mod turns;
+mod visit;
+
+pub use place::Place;
+pub use visit::{Visit, VisitFault};

@@ -1,0 +1,168 @@
+//! The place where one client at a time is served, by two threads: one reads and answers, and one sleeps
+//! until a bell wakes it and shows what there is. What they do in one hold of the place's lock is one
+//! call of the visit, and no clause says more; who starts the threads stands above.
+
+ghost use Rattle.std.specs.Prelude.{◌≡◌, IfErr};
+
+use crate::visit::Visit;
+use crossbeam_utils::sync::{Parker, Unparker};
+use imap_session::After;
+use line_io::Sink;
+use pace::Gate;
+use std::alloc::Global;
+use std::io::{ErrorKind, Read};
+use std::sync::atomic::{AtomicBool, Ordering};
+use std::sync::{Mutex, Wait};
+
+/// Where one client at a time is served. Its visit stands under a lock, which is held while it is heard
+/// and while what it said is sent, and not while its bytes are awaited.
+#[derive(Drop)]
+pub struct Place<'a, R: Wait, G: Gate, W: Sink> {
+    visit: Mutex<Option<Visit<'a, R, G, W>>>,
+    // Whether the session idles, for those who log changes. It is set before the session's first turn.
+    idles: AtomicBool,
+}
+
+impl<'a, R: Wait, G: Gate, W: Sink + Drop> Place<'a, R, G, W> {
+    /// A place with no client.
+    pub fn new() -> Place<'a, R, G, W> {
+        Place {
+            visit: Mutex::new(None),
+            idles: AtomicBool::new(false),
+        }
+    }
+
+    /// For whoever logged a change: wakes the place's watch, where its session idles.
+    pub fn ring(&self, bell: &Unparker) {
+        if self.idles.load(Ordering::SeqCst) {
+            bell.unpark();
+        }
+    }
+
+    /// Reads what a client sends and answers it, until it goes or reading fails, its session ends, its
+    /// output fails, memory is refused, or `stop` is set: then it is dismissed. At the end its session
+    /// leaves its mailbox, and the place has no client. `stop` is looked at before each read and
+    /// behind it, so who sets it has to end a read that waits, as by shutting the stream down. `buffer`
+    /// is what a read may fill, and is not empty.
+    ///
+    /// Errors: the visit is given back where the place has a client, and nothing was done.
+    pub fn attend<I: Read>(
+        &self,
+        rt: &R,
+        alloc: Global,
+        visit: Visit<'a, R, G, W>,
+        input: &mut I,
+        buffer: &mut [u8],
+        stop: &AtomicBool,
+    ) -> Result<(), Visit<'a, R, G, W>>
+        ensures { IfErr result (λ back. back ≡ visit.entry) }
+    {
+        if let Err(back) = self.admit(rt, visit) {
+            return Err(back);
+        }
+        self.serve(rt, alloc, input, buffer, stop);
+        self.vacate(rt);
+        Ok(())
+    }
+
+    /// Sleeps until the bell is rung, and shows the client what there is, where there is one and its
+    /// session idles; so again and again, until it is rung and `over` is set.
+    pub fn keep_watch(&self, rt: &R, bell: &Parker, over: &AtomicBool) {
+        for _ in rt.forever() {
+            bell.park(rt);
+            if over.load(Ordering::SeqCst) {
+                return;
+            }
+            self.look(rt);
+        }
+        unreachable!()
+    }
+
+    // Gives the visit back where the place has a client.
+    fn admit(&self, rt: &R, visit: Visit<'a, R, G, W>) -> Result<(), Visit<'a, R, G, W>>
+        ensures { IfErr result (λ back. back ≡ visit.entry) }
+    {
+        let mut held = self.visit.lock(rt);
+        if held.is_some() {
+            return Err(visit);
+        }
+        *held = Some(visit);
+        Ok(())
+    }
+
+    fn serve<I: Read>(
+        &self,
+        rt: &R,
+        alloc: Global,
+        input: &mut I,
+        buffer: &mut [u8],
+        stop: &AtomicBool,
+    ) {
+        for _ in rt.forever() {
+            if self.is_stopped(rt, stop) {
+                return;
+            }
+            let read = input.read(buffer);
+            if self.is_stopped(rt, stop) {
+                return;
+            }
+            match read {
+                Ok(0) => return,
+                Ok(count) => {
+                    if !self.hear(rt, alloc, &buffer[..count]) {
+                        return;
+                    }
+                }
+                Err(fault) if fault.kind() == ErrorKind::Interrupted => {}
+                Err(_) => return,
+            }
+        }
+        unreachable!()
+    }
+
+    // Whether the house stops: then the client was dismissed.
+    fn is_stopped(&self, rt: &R, stop: &AtomicBool) -> bool {
+        if !stop.load(Ordering::SeqCst) {
+            return false;
+        }
+        let mut held = self.visit.lock(rt);
+        if let Some(visit) = &mut *held {
+            // A client that can't be told is gone.
+            let _ = visit.dismiss();
+        }
+        true
+    }
+
+    // Hears the client: whether it may send more.
+    fn hear(&self, rt: &R, alloc: Global, piece: &[u8]) -> bool {
+        let mut held = self.visit.lock(rt);
+        let Some(visit) = &mut *held else {
+            return false;
+        };
+        match visit.hear(alloc, piece, &self.idles) {
+            Ok(after) => after != After::Bye,
+            Err(_) => false,
+        }
+    }
+
+    fn look(&self, rt: &R) {
+        let mut held = self.visit.lock(rt);
+        let Some(visit) = &mut *held else {
+            return;
+        };
+        // Where the output failed the reader ends by itself; where memory was refused the session still
+        // idles, and the next bell tries again.
+        let _ = visit.look();
+        self.idles
+            .store(visit.awaited() == After::Idle, Ordering::SeqCst);
+    }
+
+    // The client's session leaves its mailbox, and the place has no client.
+    fn vacate(&self, rt: &R) {
+        let mut held = self.visit.lock(rt);
+        self.idles.store(false, Ordering::SeqCst);
+        if let Some(mut visit) = held.take() {
+            visit.leave();
+        }
+    }
+}

@@ -1,0 +1,582 @@
+//! Clients that are served over byte strings, by one thread and by three. What they are told is written
+//! in RFC 9051, 6.3.2, 6.4.5, 7.1.4, 7.1.5 and 7.4, and in RFC 2177.
+
+ghost use Rattle.std.specs.Prelude.{◌≡◌, false};
+
+use crate::place::Place;
+use crate::visit::{Visit, VisitFault};
+use crossbeam_utils::sync::{Parker, Unparker};
+use delivery_token::{CopyKey, Job, Text};
+use imap_session::{After, Folder};
+use line_io::{Sink, Watched};
+use mailbox::{Limits, Mailbox};
+use pace::{Actor, Gate};
+use session_thread::LockedDesk;
+use std::alloc::{AllocError, Global};
+use std::io::{self, Error, ErrorKind, Read};
+use std::sync::atomic::{AtomicBool, AtomicU64, Ordering};
+use std::sync::{Mutex, Wait};
+use std::thread::{self, Threads, join};
+
+const SMALL: Limits = Limits {
+    messages: 8,
+    ring: 16,
+    ring_max: 0,
+};
+
+// So many turns a thread waits for another at most.
+const PATIENCE: u64 = 10_000_000;
+
+// A gate that counts how often it was asked: once for each event of the session.
+#[derive(Drop)]
+struct Tally {
+    asked: AtomicU64,
+}
+
+impl Tally {
+    fn new() -> Tally {
+        Tally {
+            asked: AtomicU64::new(0),
+        }
+    }
+}
+
+impl Gate for Tally {
+    fn pass(&self, _who: Actor, _number: u64) {
+        self.asked.fetch_add(1, Ordering::SeqCst);
+    }
+}
+
+// What happens while a client is served.
+#[derive(Drop)]
+struct Marks {
+    // The client waits while it idles.
+    waits: AtomicBool,
+    // It was shown a message.
+    told: AtomicBool,
+    // The watch is over.
+    over: AtomicBool,
+}
+
+impl Marks {
+    fn new() -> Marks {
+        Marks {
+            waits: AtomicBool::new(false),
+            told: AtomicBool::new(false),
+            over: AtomicBool::new(false),
+        }
+    }
+}
+
+// Waits until the mark is set.
+fn wait_until(mark: &AtomicBool) {
+    for _ in 0..PATIENCE {
+        if mark.load(Ordering::SeqCst) {
+            return;
+        }
+        thread::yield_now();
+    }
+}
+
+// Takes what it is offered, and fails once its calls are used up. A struct with a `&mut` couldn't be handed on to
+// the visit, so the bytes stand under a lock.
+#[derive(Drop)]
+struct Wire<'a, R: Wait> {
+    rt: &'a R,
+    bytes: &'a Mutex<Vec<u8>>,
+    calls: usize,
+    has_failed: bool,
+    told: &'a AtomicBool,
+}
+
+impl<'a, R: Wait> Wire<'a, R> {
+    fn new(rt: &'a R, bytes: &'a Mutex<Vec<u8>>, calls: usize, told: &'a AtomicBool) -> Wire<'a, R>
+        ensures { result.has_failed ≡ false }
+    {
+        Wire {
+            rt,
+            bytes,
+            calls,
+            has_failed: false,
+            told,
+        }
+    }
+}
+
+impl<R: Wait> Sink for Wire<'_, R> {
+    ghost failed = { λ s. s.has_failed };
+
+    fn offer(&mut self, bytes: &[u8]) -> Option<usize> {
+        if self.calls == 0 || !keep(self.rt, self.bytes, bytes) {
+            self.has_failed = true;
+            return None;
+        }
+        self.calls -= 1;
+        if bytes.starts_with(b"* 1 EXISTS") {
+            self.told.store(true, Ordering::SeqCst);
+        }
+        Some(bytes.len())
+    }
+}
+
+fn keep<R: Wait>(rt: &R, all: &Mutex<Vec<u8>>, bytes: &[u8]) -> bool {
+    all.lock(rt).extend_from_slice(bytes).is_ok()
+}
+
+// A client that idles, and goes on once it was shown a message.
+#[derive(Drop)]
+struct Idler<'a> {
+    reads: u8,
+    marks: &'a Marks,
+}
+
+impl Read for Idler<'_> {
+    fn read(&mut self, buf: &mut [u8]) -> io::Result<usize> {
+        self.reads = self.reads.saturating_add(1);
+        let mut piece = match self.reads {
+            1 => b"a1 SELECT INBOX\r\na2 IDLE\r\n".as_slice(),
+            2 => {
+                self.marks.waits.store(true, Ordering::SeqCst);
+                wait_until(&self.marks.told);
+                b"DONE\r\na3 LOGOUT\r\na4 NOOP\r\n".as_slice()
+            }
+            _ => b"".as_slice(),
+        };
+        piece.read(buf)
+    }
+}
+
+// A client whose stream is interrupted, and fails in the end.
+#[derive(Drop)]
+struct Clumsy {
+    reads: u8,
+}
+
+impl Read for Clumsy {
+    fn read(&mut self, buf: &mut [u8]) -> io::Result<usize> {
+        self.reads = self.reads.saturating_add(1);
+        let mut piece = b"a1 NOOP\r\n".as_slice();
+        match self.reads {
+            2 => piece.read(buf),
+            1 | 3 => Err(Error::from(ErrorKind::Interrupted)),
+            _ => Err(Error::from(ErrorKind::ConnectionReset)),
+        }
+    }
+}
+
+// A client that says something as the house stops.
+#[derive(Drop)]
+struct Late<'a> {
+    stop: &'a AtomicBool,
+}
+
+impl Read for Late<'_> {
+    fn read(&mut self, buf: &mut [u8]) -> io::Result<usize> {
+        self.stop.store(true, Ordering::SeqCst);
+        let mut piece = b"a1 NOOP\r\n".as_slice();
+        piece.read(buf)
+    }
+}
+
+fn copy(alloc: Global) -> Result<Job, AllocError> {
+    Ok(Job {
+        key: CopyKey {
+            seat: 0,
+            serial: 0,
+            message: 0,
+            recipient: 0,
+        },
+        mailbox: 0,
+        text: Text::new(Vec::from_slice(alloc, b"Return-Path: <s@a.example>\r\nhi\r\n")?),
+    })
+}
+
+fn deliver<R: Wait>(rt: &R, mailboxes: &[Mutex<Mailbox>], job: &Job) -> bool {
+    match mailboxes.first() {
+        Some(lock) => lock.lock(rt).deliver(job).is_ok(),
+        None => false,
+    }
+}
+
+// One mailbox, with a message or without.
+fn a_mailbox<R: Wait>(
+    rt: &R,
+    alloc: Global,
+    has_message: bool,
+) -> Result<Vec<Mutex<Mailbox>>, AllocError> {
+    let mut mailboxes = Vec::new(alloc);
+    mailboxes.push(Mutex::new(Mailbox::new(alloc, 0, 7, 1, SMALL)?))?;
+    let job = copy(alloc)?;
+    if has_message && !deliver(rt, &mailboxes, &job) {
+        return Err(AllocError);
+    }
+    Ok(mailboxes)
+}
+
+fn folders(alloc: Global) -> Result<Vec<Folder>, AllocError> {
+    let name = Vec::from_slice(alloc, b"INBOX")?;
+    let mut folders = Vec::new(alloc);
+    folders.push(Folder::new(name, 0))?;
+    Ok(folders)
+}
+
+// A client is served by one thread: what it was told, before its output failed after so many sends, and how many
+// events its session made.
+fn served<R: Wait, I: Read>(
+    rt: &R,
+    alloc: Global,
+    input: &mut I,
+    stop: &AtomicBool,
+    calls: usize,
+) -> Result<(Vec<u8>, u64), AllocError> {
+    let mailboxes = a_mailbox(rt, alloc, true)?;
+    let (tally, marks) = (Tally::new(), Marks::new());
+    let bytes = Mutex::new(Vec::new(alloc));
+    let wire = Wire::new(rt, &bytes, calls, &marks.told);
+    if !serve_over(rt, alloc, &mailboxes, &tally, wire, input, stop) {
+        return Err(AllocError);
+    }
+    Ok((bytes.into_inner(), tally.asked.load(Ordering::SeqCst)))
+}
+
+// Whether the visit was opened and the place was free.
+fn serve_over<'x, R: Wait, I: Read>(
+    rt: &'x R,
+    alloc: Global,
+    mailboxes: &'x [Mutex<Mailbox>],
+    tally: &'x Tally,
+    wire: Wire<'x, R>,
+    input: &mut I,
+    stop: &AtomicBool,
+) -> bool
+    requires { wire.has_failed ≡ false }
+{
+    let Ok(folders) = folders(alloc) else {
+        return false;
+    };
+    let desk = LockedDesk::new(rt, tally, 0, mailboxes, &[]);
+    let place = Place::new();
+    let mut buffer = [0; 64];
+    match Visit::open(rt, alloc, desk, folders, wire) {
+        Ok(visit) => place
+            .attend(rt, alloc, visit, input, &mut buffer, stop)
+            .is_ok(),
+        Err(_) => false,
+    }
+}
+
+#[test]
+fn a_client_reads_a_message(rt: HostRuntime) -> Result<(), AllocError> {
+    let mut input = b"a1 SELECT INBOX\r\na2 FETCH 1 BODY.PEEK[]\r\na3 NO".as_slice();
+    let stop = AtomicBool::new(false);
+    let (told, events) = served(&rt, rt.alloc(), &mut input, &stop, 9)?;
+    let wanted = b"* PREAUTH IMAP4rev2 server ready\r\n\
+          * FLAGS (\\Answered \\Flagged \\Deleted \\Seen \\Draft)\r\n\
+          * 1 EXISTS\r\n\
+          * OK [UIDVALIDITY 7] UIDs valid\r\n\
+          * OK [UIDNEXT 2] Predicted next UID\r\n\
+          * OK [PERMANENTFLAGS (\\Answered \\Flagged \\Deleted \\Seen \\Draft)] Flags kept\r\n\
+          * LIST () \"/\" INBOX\r\n\
+          a1 OK [READ-WRITE] SELECT completed\r\n\
+          * 1 FETCH (BODY[] {32}\r\n\
+          Return-Path: <s@a.example>\r\n\
+          hi\r\n\
+          )\r\n\
+          a2 OK FETCH completed\r\n";
+    assert_eq!(rt; told.as_slice(), wanted.as_slice());
+    // It entered the mailbox, read a message, and left.
+    assert_eq!(rt; events, 3);
+    Ok(())
+}
+
+#[test]
+fn a_stream_that_fails_ends_the_visit(rt: HostRuntime) -> Result<(), AllocError> {
+    let stop = AtomicBool::new(false);
+    let (told, _events) = served(&rt, rt.alloc(), &mut Clumsy { reads: 0 }, &stop, 9)?;
+    let wanted = b"* PREAUTH IMAP4rev2 server ready\r\na1 OK NOOP completed\r\n";
+    assert_eq!(rt; told.as_slice(), wanted.as_slice());
+    Ok(())
+}
+
+#[test]
+fn a_house_that_stops_dismisses_its_clients(rt: HostRuntime) -> Result<(), AllocError> {
+    let stop = AtomicBool::new(false);
+    let (told, _events) = served(&rt, rt.alloc(), &mut Late { stop: &stop }, &stop, 9)?;
+    let wanted = b"* PREAUTH IMAP4rev2 server ready\r\n* BYE Shutting down\r\n";
+    assert_eq!(rt; told.as_slice(), wanted.as_slice());
+    // So does one that comes too late.
+    let mut input = b"a1 NOOP\r\n".as_slice();
+    let (told, _events) = served(&rt, rt.alloc(), &mut input, &stop, 9)?;
+    assert_eq!(rt; told.as_slice(), wanted.as_slice());
+    Ok(())
+}
+
+#[test]
+fn a_session_leaves_where_its_output_fails(rt: HostRuntime) -> Result<(), AllocError> {
+    let stop = AtomicBool::new(false);
+    let mut input = b"a1 SELECT INBOX\r\na2 NOOP\r\n".as_slice();
+    let (told, events) = served(&rt, rt.alloc(), &mut input, &stop, 1)?;
+    assert_eq!(rt;
+        told.as_slice(),
+        b"* PREAUTH IMAP4rev2 server ready\r\n".as_slice()
+    );
+    // It entered the mailbox, was shown what NOOP shows, and left.
+    assert_eq!(rt; events, 3);
+    Ok(())
+}
+
+// The thread that serves the client; then the watch is over.
+fn attend<'a, R: Wait>(
+    rt: &R,
+    alloc: Global,
+    place: &Place<'a, R, Tally, Wire<'a, R>>,
+    visit: Visit<'a, R, Tally, Wire<'a, R>>,
+    marks: &Marks,
+    bell: &Unparker,
+) -> bool {
+    let mut idler = Idler { reads: 0, marks };
+    let mut buffer = [0; 64];
+    let never = AtomicBool::new(false);
+    let is_done = place
+        .attend(rt, alloc, visit, &mut idler, &mut buffer, &never)
+        .is_ok();
+    marks.over.store(true, Ordering::SeqCst);
+    bell.unpark();
+    is_done
+}
+
+// The thread that delivers a message while the client waits, and rings.
+fn bring<R: Wait>(
+    rt: &R,
+    mailboxes: &[Mutex<Mailbox>],
+    job: &Job,
+    place: &Place<'_, R, Tally, Wire<'_, R>>,
+    marks: &Marks,
+    bell: &Unparker,
+) -> bool {
+    wait_until(&marks.waits);
+    let is_stored = deliver(rt, mailboxes, job);
+    place.ring(bell);
+    is_stored
+}
+
+// The three threads of a place whose client idles: whether the client was served, and a message brought.
+fn serve_idler<'a, R: Threads + Wait + Sync>(
+    rt: &'a R,
+    alloc: Global,
+    mailboxes: &'a [Mutex<Mailbox>],
+    visit: Visit<'a, R, Tally, Wire<'a, R>>,
+    marks: &'a Marks,
+) -> Result<bool, AllocError> {
+    let job = copy(alloc)?;
+    let parker = Parker::new(alloc)?;
+    let bell = parker.unparker().clone()?;
+    let place = Place::new();
+    let (shared, rung, brought) = (&place, &bell, &job);
+    let (_watched, (is_done, is_stored)) = join(
+        rt,
+        move || shared.keep_watch(rt, &parker, &marks.over),
+        move || {
+            join(
+                rt,
+                move || attend(rt, alloc, shared, visit, marks, rung),
+                move || bring(rt, mailboxes, brought, shared, marks, rung),
+            )
+        },
+    );
+    Ok(is_done && is_stored)
+}
+
+fn idle_through<R: Threads + Wait + Sync>(
+    rt: &R,
+    alloc: Global,
+    bytes: &Mutex<Vec<u8>>,
+) -> Result<bool, AllocError> {
+    let mailboxes = a_mailbox(rt, alloc, false)?;
+    let (tally, marks) = (Tally::new(), Marks::new());
+    let desk = LockedDesk::new(rt, &tally, 0, &mailboxes, &[]);
+    let wire = Wire::new(rt, bytes, 9, &marks.told);
+    match Visit::open(rt, alloc, desk, folders(alloc)?, wire) {
+        Ok(visit) => serve_idler(rt, alloc, &mailboxes, visit, &marks),
+        Err(_) => Ok(false),
+    }
+}
+
+#[test]
+fn an_idling_client_is_shown_a_message(rt: HostRuntime) -> Result<(), AllocError> {
+    let told = Mutex::new(Vec::new(rt.alloc()));
+    assert!(rt; idle_through(&rt, rt.alloc(), &told)?);
+    let wanted = b"* PREAUTH IMAP4rev2 server ready\r\n\
+          * FLAGS (\\Answered \\Flagged \\Deleted \\Seen \\Draft)\r\n\
+          * 0 EXISTS\r\n\
+          * OK [UIDVALIDITY 7] UIDs valid\r\n\
+          * OK [UIDNEXT 1] Predicted next UID\r\n\
+          * OK [PERMANENTFLAGS (\\Answered \\Flagged \\Deleted \\Seen \\Draft)] Flags kept\r\n\
+          * LIST () \"/\" INBOX\r\n\
+          a1 OK [READ-WRITE] SELECT completed\r\n\
+          + idling\r\n\
+          * 1 EXISTS\r\n\
+          a2 OK IDLE completed\r\n\
+          * BYE Logging out\r\n\
+          a3 OK LOGOUT completed\r\n";
+    assert_eq!(rt; told.into_inner().as_slice(), wanted.as_slice());
+    Ok(())
+}
+
+// What a visit answers to a piece, to a look behind it, and as it is dismissed; `None` where its client couldn't
+// be greeted.
+fn answers<'x, R: Wait>(
+    rt: &'x R,
+    alloc: Global,
+    mailboxes: &'x [Mutex<Mailbox>],
+    piece: &[u8],
+    wire: Wire<'x, R>,
+) -> Option<
+    (
+        Result<After, VisitFault>,
+        Result<After, VisitFault>,
+        Result<(), VisitFault>,
+    ),
+>
+    requires { wire.has_failed ≡ false }
+{
+    let Ok(folders) = folders(alloc) else {
+        return None;
+    };
+    let tally = Tally::new();
+    let desk = LockedDesk::new(rt, &tally, 0, mailboxes, &[]);
+    let Ok(mut visit) = Visit::open(rt, alloc, desk, folders, wire) else {
+        return None;
+    };
+    let idles = AtomicBool::new(false);
+    let heard = visit.hear(alloc, piece, &idles);
+    if idles.load(Ordering::SeqCst) != (heard == Ok(After::Idle)) {
+        return None;
+    }
+    let looked = visit.look();
+    let dismissed = visit.dismiss();
+    visit.leave();
+    Some((heard, looked, dismissed))
+}
+
+struct Case {
+    piece: &'static [u8],
+    // So many sends reach the client.
+    sends: usize,
+    wanted: Option<
+        (
+            Result<After, VisitFault>,
+            Result<After, VisitFault>,
+            Result<(), VisitFault>,
+        ),
+    >,
+    told: &'static [u8],
+}
+
+const CASES: &[Case] = &[
+    Case {
+        piece: b"",
+        sends: 0,
+        wanted: None,
+        told: b"",
+    },
+    Case {
+        piece: b"a1 NOOP\r\na2",
+        sends: 3,
+        wanted: Some((Ok(After::Go), Ok(After::Go), Ok(()))),
+        told: b"* PREAUTH IMAP4rev2 server ready\r\na1 OK NOOP completed\r\n* BYE Shutting down\r\n",
+    },
+    Case {
+        piece: b"a1 SELECT INBOX\r\na2 LOGOUT\r\na3 NOOP\r\n",
+        sends: 1,
+        wanted: Some((Err(VisitFault::Write), Ok(After::Bye), Ok(()))),
+        told: b"* PREAUTH IMAP4rev2 server ready\r\n",
+    },
+    Case {
+        piece: b"a1 LOGOUT\r\na2 NOOP\r\n",
+        sends: 3,
+        wanted: Some((Ok(After::Bye), Ok(After::Bye), Ok(()))),
+        told: b"* PREAUTH IMAP4rev2 server ready\r\n* BYE Logging out\r\na1 OK LOGOUT completed\r\n",
+    },
+    Case {
+        piece: b"a1 IDLE\r\n",
+        sends: 2,
+        wanted: Some((Ok(After::Idle), Ok(After::Idle), Err(VisitFault::Write))),
+        told: b"* PREAUTH IMAP4rev2 server ready\r\n+ idling\r\n",
+    },
+];
+
+fn is_as_wanted<R: Wait>(rt: &R, alloc: Global, mailboxes: &[Mutex<Mailbox>], case: &Case) -> bool {
+    let told = Mutex::new(Vec::new(alloc));
+    let marks = Marks::new();
+    let wire = Wire::new(rt, &told, case.sends, &marks.told);
+    let answered = answers(rt, alloc, mailboxes, case.piece, wire);
+    answered == case.wanted && told.into_inner().as_slice() == case.told
+}
+
+#[test]
+fn each_call_says_what_came_of_it(rt: HostRuntime) -> Result<(), AllocError> {
+    let mailboxes = a_mailbox(&rt, rt.alloc(), true)?;
+    for (number, case) in CASES.iter().enumerate() {
+        assert!(rt;
+            is_as_wanted(&rt, rt.alloc(), &mailboxes, case),
+            "case {number}"
+        );
+    }
+    Ok(())
+}
+
+// A writer is a sink too, which tells its bytes.
+fn greeted<R: Wait>(rt: &R, alloc: Global, told: &mut Vec<u8>) -> Result<bool, AllocError> {
+    let mailboxes = a_mailbox(rt, alloc, false)?;
+    let tally = Tally::new();
+    let desk = LockedDesk::new(rt, &tally, 0, &mailboxes, &[]);
+    let visit = Visit::open(rt, alloc, desk, folders(alloc)?, Watched::new(told));
+    Ok(visit.is_ok())
+}
+
+#[test]
+fn a_client_is_greeted(rt: HostRuntime) -> Result<(), AllocError> {
+    let mut told = Vec::new(rt.alloc());
+    assert!(rt; greeted(&rt, rt.alloc(), &mut told)?);
+    assert_eq!(rt;
+        told.as_slice(),
+        b"* PREAUTH IMAP4rev2 server ready\r\n".as_slice()
+    );
+    Ok(())
+}
+
+// Whether some client was told that its command was refused memory.
+fn tells_of_memory(told: &[u8]) -> bool {
+    for start in 0..told.len() {
+        if told[start..].starts_with(b" NO Out of memory\r\n") {
+            return true;
+        }
+    }
+    false
+}
+
+// To be tried with each allocation refused: what was told is a beginning of this, unless a command was refused
+// memory, which its client is told.
+#[test]
+fn memory_may_be_refused(rt: HostRuntime) {
+    let mut input = b"a1 NOOP\r\na2 EXAMINE INBOX\r\na3 FETCH 1 BODY.PEEK[]\r\n".as_slice();
+    let stop = AtomicBool::new(false);
+    let wanted = b"* PREAUTH IMAP4rev2 server ready\r\n\
+          a1 OK NOOP completed\r\n\
+          * FLAGS (\\Answered \\Flagged \\Deleted \\Seen \\Draft)\r\n\
+          * 1 EXISTS\r\n\
+          * OK [UIDVALIDITY 7] UIDs valid\r\n\
+          * OK [UIDNEXT 2] Predicted next UID\r\n\
+          * OK [PERMANENTFLAGS ()] Flags kept\r\n\
+          * LIST () \"/\" INBOX\r\n\
+          a2 OK [READ-ONLY] EXAMINE completed\r\n\
+          * 1 FETCH (BODY[] {32}\r\n\
+          Return-Path: <s@a.example>\r\n\
+          hi\r\n\
+          )\r\n\
+          a3 OK FETCH completed\r\n";
+    if let Ok((told, _events)) = served(&rt, rt.alloc(), &mut input, &stop, 9) {
+        assert!(rt; wanted.starts_with(told.as_slice()) || tells_of_memory(&told));
+    }
+}

@@ -1,0 +1,256 @@
+//! One client's visit: its session, and where its answers go. Nothing is left unsent between two calls.
+//! Whose threads make the calls stands in `place`.
+
+ghost use Rattle.std.specs.Prelude.{◌≡◌, ◌⊎◌, ℕ, ◌<◌, [], None, Ok, Err, false, true, length, take, IfOk, IfErr, OnErr, OnOk};
+ghost use Rattle.std.specs.Io.KnownBytes.{Appends};
+ghost use Rattle.std.specs.Vec.{vec_capacity};
+ghost use Rattle.session_thread.specs.Life.{Departs};
+ghost use Rattle.imap_session.specs.Commands.{greeting};
+ghost use Rattle.imap_stream.specs.Visits.{Hears, HearsInPart, IsGreeted, SendsAll, SendsFirst, ShowsAll, ShowsInPart, Tells, VisitState, awaited, farewell, is_over};
+
+use crate::turns::{answer_and_show, show_all};
+use imap_connection::ImapConnection;
+use imap_session::{After, Folder, Store};
+use line_io::{Sink, send};
+use pace::Gate;
+use session_thread::LockedDesk;
+use std::alloc::Global;
+use std::marker::Model;
+use std::sync::Wait;
+use std::sync::atomic::AtomicBool;
+
+/// What a client is told that is dismissed.
+const FAREWELL: &[u8] = b"* BYE Shutting down\r\n";
+
+/// Why a visit came to a stop.
+#[derive(Clone, Copy, Debug, PartialEq, Eq)]
+pub enum VisitFault {
+    /// Memory was refused.
+    NoMemory,
+    /// The output failed.
+    Write,
+}
+
+// Sends what was written, and lets go of it.
+fn flush<W: Sink>(output: &mut W, written: &mut Vec<u8>) -> Result<(), VisitFault>
+    requires { W.failed output.old ≡ false }
+    ensures ok { OnOk result (Appends (W.taken output.old) (W.taken output.new) written.old.items) }
+    ensures live { OnOk result (W.failed output.new ≡ false) }
+    ensures err { OnErr result ((sent : ℕ) × (sent < length written.old.items) × Appends (W.taken output.old) (W.taken output.new) (take sent written.old.items)) }
+    ensures failed { OnErr result (W.failed output.new ≡ true) }
+    ensures cleared { (written.new.items ≡ []) × (vec_capacity written.new ≡ vec_capacity written.old) }
+    ensures fault { IfErr result (λ fault. fault ≡ VisitFault.Write) }
+{
+    let sent = send(output, written);
+    written.clear();
+    match sent {
+        Ok(()) => Ok(()),
+        Err(_) => Err(VisitFault::Write),
+    }
+}
+
+/// One client's session, and where its answers go.
+#[derive(Drop)]
+pub struct Visit<'a, R: Wait, G: Gate, W: Sink> {
+    rt: &'a R,
+    connection: ImapConnection,
+    desk: LockedDesk<'a, R, G>,
+    // What is written before it is sent.
+    out: Vec<u8>,
+    output: W,
+    is_closed: bool,
+}
+
+impl<'a, R: Wait, G: Gate, W: Sink> Model for Visit<'a, R, G, W> {
+    ghost use Rattle.std.specs.Prelude.{◌≡◌, [], false};
+    ghost use Rattle.std.specs.Vec.{vec_capacity};
+    ghost use Rattle.imap_stream.specs.Visits.{VisitState};
+
+    ghost Value = { VisitState };
+
+    ghost view = { λ v. record {
+      link = v.connection;
+      place = v.desk;
+      taken = W.taken v.output;
+      failed = W.failed v.output;
+      closed = v.is_closed;
+      room = vec_capacity v.out;
+    } };
+
+    ghost invariant = { λ v. (v.out.items ≡ []) × (v.is_closed ≡ false → W.failed v.output ≡ false) };
+}
+
+impl<'a, R: Wait, G: Gate, W: Sink> Visit<'a, R, G, W> {
+    /// Opens the visit of a client, and greets it (RFC 9051, 7.1.4): the greeting was sent. `desk` is
+    /// its session's, which is in no mailbox, `folders` are its user's mailboxes, and its answers go to
+    /// `output`.
+    ///
+    /// Errors give the output back: `NoMemory` as it was, where memory was refused before anything was
+    /// sent; `Write` where it failed, behind the first bytes of the greeting.
+    pub fn open(
+        rt: &'a R,
+        alloc: Global,
+        desk: LockedDesk<'a, R, G>,
+        folders: Vec<Folder>,
+        mut output: W,
+    ) -> Result<Visit<'a, R, G, W>, (W, VisitFault)>
+        requires live { W.failed output ≡ false }
+        requires outside { desk.entered ≡ None }
+        ensures ok { IfOk result (λ visit. IsGreeted folders.items desk.entry (W.taken output) visit) }
+        ensures short { IfErr result (λ stop. stop.1 ≡ VisitFault.NoMemory → stop.0 ≡ output) }
+        ensures cut { IfErr result (λ stop. stop.1 ≡ VisitFault.Write → (sent : ℕ) × (sent < length greeting) × Appends (W.taken output) (W.taken stop.0) (take sent greeting)) }
+        ensures failed { IfErr result (λ stop. stop.1 ≡ VisitFault.Write → W.failed stop.0 ≡ true) }
+    {
+        let Ok(connection) = ImapConnection::new(alloc, folders) else {
+            return Err((output, VisitFault::NoMemory));
+        };
+        let mut out = Vec::new(alloc);
+        let Ok(()) = connection.greet(&mut out) else {
+            return Err((output, VisitFault::NoMemory));
+        };
+        let Ok(()) = flush(&mut output, &mut out) else {
+            return Err((output, VisitFault::Write));
+        };
+        Ok(Visit {
+            rt,
+            connection,
+            desk,
+            out,
+            output,
+            is_closed: false,
+        })
+    }
+
+    /// Nothing more is done for the client: its session has ended, the output failed, bytes of it were
+    /// lost for want of memory, it was dismissed, or its session left.
+    pub fn is_over(&self) -> bool
+        ensures { result ≡ is_over self.now }
+    {
+        self.is_closed || self.connection.has_ended()
+    }
+
+    /// What the client may send next: nothing where the visit is over.
+    pub fn awaited(&self) -> After
+        ensures { result ≡ awaited self.now }
+    {
+        if self.is_over() {
+            return After::Bye;
+        }
+        if self.connection.is_idling() {
+            return After::Idle;
+        }
+        After::Go
+    }
+
+    /// Takes a piece of the client's bytes: each line that ends in it is answered, up to the one that
+    /// ends the session. Where the session idles then, it has turns until one shows nothing. What was
+    /// said is sent, all at once, and no mailbox is held meanwhile. Answers what the client may send
+    /// next; a visit that is over does nothing.
+    ///
+    /// Whether the session idles is stored in `idles` before its first turn: a change that this turn
+    /// doesn't meet was logged by someone who can read there that it idles.
+    ///
+    /// Errors, after which the visit is over: `NoMemory` where memory was refused, within the piece or
+    /// within the turns. What was said by then was sent, and the rest of the piece is lost. `Write`
+    /// where the output failed: it took the first bytes of what was said.
+    pub fn hear(
+        &mut self,
+        alloc: Global,
+        piece: &[u8],
+        idles: &AtomicBool,
+    ) -> Result<After, VisitFault>
+        ensures over { is_over self.old ≡ true → (result ≡ Ok After.Bye) × (self.new ≡ self.old) }
+        ensures ok { OnOk result (is_over self.old ≡ false → Tells (Hears piece.now) SendsAll self.old self.new) }
+        ensures next { IfOk result (λ after. after ≡ awaited self.new) }
+        ensures goes_on { OnOk result (self.new.closed ≡ self.old.closed) }
+        ensures ends { OnErr result (self.new.closed ≡ true) }
+        ensures short { result ≡ Err VisitFault.NoMemory → Tells (HearsInPart self.new.room piece.now) SendsAll self.old self.new }
+        ensures cut { result ≡ Err VisitFault.Write → Tells (Hears piece.now) SendsFirst self.old self.new ⊎ Tells (HearsInPart self.new.room piece.now) SendsFirst self.old self.new }
+    {
+        if self.is_over() {
+            return Ok(After::Bye);
+        }
+        let heard = answer_and_show(
+            self.rt,
+            alloc,
+            &mut self.connection,
+            &mut self.desk,
+            piece,
+            idles,
+            &mut self.out,
+        );
+        let Ok(()) = flush(&mut self.output, &mut self.out) else {
+            self.is_closed = true;
+            return Err(VisitFault::Write);
+        };
+        let Ok(()) = heard else {
+            // What comes behind the bytes that are lost would be read as something else.
+            self.is_closed = true;
+            return Err(VisitFault::NoMemory);
+        };
+        Ok(self.awaited())
+    }
+
+    /// Shows the client what there is, where its session idles: turns until one shows nothing, and what
+    /// was said is sent, all at once, while no mailbox is held. Where it doesn't idle nothing is done.
+    /// Answers what the client may send next.
+    ///
+    /// Errors: `NoMemory` where memory was refused for a turn; what was said by then was sent, and the
+    /// session idles still. `Write`
+    /// where the output failed: it took the first bytes of what was said, and the visit is over.
+    pub fn look(&mut self) -> Result<After, VisitFault>
+        ensures over { is_over self.old ≡ true → (result ≡ Ok After.Bye) × (self.new ≡ self.old) }
+        ensures ok { OnOk result (is_over self.old ≡ false → Tells ShowsAll SendsAll self.old self.new) }
+        ensures next { IfOk result (λ after. after ≡ awaited self.new) }
+        ensures goes_on { OnOk result (self.new.closed ≡ self.old.closed) }
+        ensures waits { result ≡ Err VisitFault.NoMemory → self.new.closed ≡ self.old.closed }
+        ensures short { result ≡ Err VisitFault.NoMemory → Tells (ShowsInPart self.new.room) SendsAll self.old self.new }
+        ensures cut { result ≡ Err VisitFault.Write → Tells ShowsAll SendsFirst self.old self.new ⊎ Tells (ShowsInPart self.new.room) SendsFirst self.old self.new }
+    {
+        if self.is_over() {
+            return Ok(After::Bye);
+        }
+        let shown = show_all(self.rt, &mut self.connection, &mut self.desk, &mut self.out);
+        let Ok(()) = flush(&mut self.output, &mut self.out) else {
+            self.is_closed = true;
+            return Err(VisitFault::Write);
+        };
+        let Ok(()) = shown else {
+            return Err(VisitFault::NoMemory);
+        };
+        Ok(self.awaited())
+    }
+
+    /// Dismisses the client, unless the visit is over: `* BYE Shutting down` is sent (RFC 9051, 7.1.5),
+    /// and the visit is over. Nothing is left.
+    ///
+    /// Errors: `Write` where the output failed behind the first bytes of that line.
+    pub fn dismiss(&mut self) -> Result<(), VisitFault>
+        ensures over { is_over self.old ≡ true → (result ≡ Ok tt) × (self.new ≡ self.old) }
+        ensures ok { OnOk result (is_over self.old ≡ false → Appends self.old.taken self.new.taken farewell × (self.new.failed ≡ false)) }
+        ensures fault { IfErr result (λ fault. fault ≡ VisitFault.Write) }
+        ensures cut { OnErr result (SendsFirst self.old farewell self.new) }
+        ensures ends { is_over self.new ≡ true }
+        ensures rest { (self.new.link ≡ self.old.link) × (self.new.place ≡ self.old.place) × (self.new.room ≡ self.old.room) }
+    {
+        if self.is_over() {
+            return Ok(());
+        }
+        self.is_closed = true;
+        let Ok(()) = send(&mut self.output, FAREWELL) else {
+            return Err(VisitFault::Write);
+        };
+        Ok(())
+    }
+
+    /// Leaves the mailbox that the session is in, if any, without removal; the visit is over. Whoever
+    /// lets a visit go calls this before, whatever happened: else the mailbox keeps the session's
+    /// cursor.
+    pub fn leave(&mut self)
+        ensures departs { Departs self.old.place self.new.place }
+        ensures rest { self.new ≡ record self.old { place = self.new.place; closed = true } }
+    {
+        self.is_closed = true;
+        let _ = self.desk.leave(false);
+    }
+}

@@ -1,0 +1,647 @@
+//! Connections over readers and sinks of a test, with one lane and one channel: in one piece and byte by byte, pipelined, broken off on
+//! either side, and shut at each place where the house may stop.
+
+ghost use Rattle.std.specs.Prelude.{◌≡◌, ◌<◌, ◌≤◌, ◌∷◌, [], Some, IfSome, IfOk, length, vec_len, vec_capacity};
+ghost use Rattle.shard_queue.specs.Seats.{IsConsumer};
+ghost use Rattle.shard_queue.specs.Reply.{IsReceiver, IsSender};
+ghost use Rattle.lane_work.specs.Seats.{AreSeats};
+
+use crate::{Ending, TalkFault, converse};
+use delivery_token::{Job, Noted, Verdict};
+use envelope::Directory;
+use lane_work::{Desk, Office, Summons, Unkept};
+use line_io::Sink;
+use pace::{Actor, Gate, Pace};
+use shard_queue::{
+    ConsumerSeat, ProducerSeat, ReceiverSeat, ReplyChannel, SenderSeat, ShardQueue, Taken,
+};
+use std::alloc::{AllocError, Global};
+use std::io::{Error, ErrorKind, Read, Result as IoResult};
+use std::sync::atomic::{AtomicBool, Ordering};
+use std::sync::{Mutex, Wait};
+
+// No read and no copy has this number.
+const NEVER: usize = 1000;
+
+const GREETING: &[u8] = b"220 mx.example.org LMTP ready\r\n";
+
+const EXTENSIONS: &[u8] =
+    b"250-mx.example.org\r\n250-PIPELINING\r\n250-ENHANCEDSTATUSCODES\r\n250 8BITMIME\r\n";
+
+const SENDER: &[u8] = b"250 2.1.0 Sender OK\r\n";
+
+const RECIPIENT: &[u8] = b"250 2.1.5 Recipient OK\r\n";
+
+const START: &[u8] = b"354 Start mail input\r\n";
+
+const DELIVERED: &[u8] = b"250 2.1.5 Delivered\r\n";
+
+const BYE: &[u8] = b"221 2.0.0 Bye\r\n";
+
+const SHUTTING: &[u8] = b"421 4.3.2 Shutting down\r\n";
+
+const ENVELOPE: &[u8] =
+    b"LHLO c.example\r\nMAIL FROM:<s@a.example>\r\nRCPT TO:<alice@example.org>\r\nDATA\r\n";
+
+const MESSAGE: &[u8] =
+    b"LHLO c.example\r\nMAIL FROM:<s@a.example>\r\nRCPT TO:<alice@example.org>\r\nDATA\r\nhi\r\n.\r\n";
+
+const WHOLE: &[u8] =
+    b"LHLO c.example\r\nMAIL FROM:<s@a.example>\r\nRCPT TO:<alice@example.org>\r\nDATA\r\nhi\r\n.\r\nQUIT\r\nNOOP\r\n";
+
+const TWO: &[u8] =
+    b"LHLO c.example\r\nMAIL FROM:<s@a.example>\r\nRCPT TO:<alice@example.org>\r\nRCPT TO:<bob@example.org>\r\nDATA\r\nhi\r\n.\r\nMAIL FROM:<>\r\nRCPT TO:<bob@example.org>\r\nDATA\r\n..\r\n.\r\nQUIT\r\n";
+
+// A shard's consumer that serves where it is summoned: each copy is stored.
+struct Clerk<'a> {
+    lane: &'a ShardQueue<Job>,
+    channel: &'a ReplyChannel<Noted>,
+    seat: ConsumerSeat<Job>,
+    sender: SenderSeat<Noted>,
+    ghost takes: { IsConsumer lane.now seat },
+    ghost answers: { IsSender channel.now sender },
+}
+
+impl<'a> Clerk<'a> {
+    fn serve<R: Wait>(&mut self, rt: &R) {
+        for _ in rt.forever() {
+            match self.lane.take_as(rt, &mut self.seat) {
+                Taken::Item(_, job) => {
+                    let noted = Noted {
+                        key: job.key,
+                        mailbox: job.mailbox,
+                        verdict: Verdict::Stored { uid: 1 },
+                    };
+                    let _ = self.channel.send_as(rt, &mut self.sender, noted);
+                }
+                Taken::End(_) => {}
+                Taken::Empty => return,
+            }
+        }
+    }
+}
+
+// The clerk behind its lock, who may set the mark of the house's end as it is summoned.
+struct Counter<'a> {
+    clerk: Mutex<Clerk<'a>>,
+    stop: &'a AtomicBool,
+    stops: bool,
+}
+
+impl<'a> Summons for Counter<'a> {
+    fn summon<R: Wait>(&self, rt: &R, _shard: usize) {
+        if self.stops {
+            self.stop.store(true, Ordering::SeqCst);
+        }
+        let mut held = self.clerk.lock(rt);
+        held.serve(rt);
+    }
+}
+
+// All pass.
+#[derive(Drop)]
+struct Open;
+
+impl Gate for Open {
+    fn pass(&self, _who: Actor, _number: u64) {}
+}
+
+// Gives these pieces, one a read or in parts, and then ends or fails. The first read is interrupted.
+#[derive(Drop)]
+struct Pieces<'a> {
+    pieces: &'a [&'a [u8]],
+    piece: usize,
+    offset: usize,
+    reads: usize,
+    fails: bool,
+    stop: &'a AtomicBool,
+    stops_at: usize,
+}
+
+impl<'a> Read for Pieces<'a> {
+    fn read(&mut self, buf: &mut [u8]) -> IoResult<usize> {
+        self.reads = self.reads.saturating_add(1);
+        if self.reads == 1 {
+            return Err(Error::from(ErrorKind::Interrupted));
+        }
+        if self.reads == self.stops_at {
+            self.stop.store(true, Ordering::SeqCst);
+        }
+        let Some(piece) = self.pieces.get(self.piece) else {
+            if self.fails {
+                return Err(Error::from(ErrorKind::ConnectionReset));
+            }
+            return Ok(0);
+        };
+        let rest = piece.get(self.offset..).unwrap_or(b"");
+        let count = rest.len().min(buf.len());
+        buf[..count].copy_from_slice(&rest[..count]);
+        self.offset = self.offset.saturating_add(count);
+        if self.offset >= piece.len() {
+            self.piece = self.piece.saturating_add(1);
+            self.offset = 0;
+        }
+        Ok(count)
+    }
+}
+
+// Takes so many bytes, five at most a call, and then fails.
+#[derive(Drop)]
+struct Taking {
+    bytes: Vec<u8>,
+    room: usize,
+    has_failed: bool,
+}
+
+impl Sink for Taking {
+    ghost taken = { λ s. Some s.bytes.items };
+
+    ghost failed = { λ s. s.has_failed };
+
+    fn offer(&mut self, bytes: &[u8]) -> Option<usize> {
+        let n = bytes.len().min(self.room).min(5);
+        if n > 0 && self.bytes.extend_from_slice(&bytes[..n]).is_ok() {
+            self.room -= n;
+            Some(n)
+        } else {
+            self.has_failed = true;
+            None
+        }
+    }
+}
+
+// A connection, and what comes of it.
+struct Case {
+    pieces: &'static [&'static [u8]],
+    // how many bytes are read at once at most
+    buffer: usize,
+    // whether the reader fails behind the pieces
+    fails: bool,
+    // at which read the house stops; the first is interrupted
+    stops_at: usize,
+    // whether it stops as a copy is put
+    stops_at_put: bool,
+    // how many bytes the sink takes
+    room: usize,
+    want: Result<Ending, TalkFault>,
+    replies: &'static [&'static [u8]],
+}
+
+const PLAIN: Case = Case {
+    pieces: &[MESSAGE],
+    buffer: 64,
+    fails: false,
+    stops_at: NEVER,
+    stops_at_put: false,
+    room: 5000,
+    want: Ok(Ending::Gone),
+    replies: &[GREETING, EXTENSIONS, SENDER, RECIPIENT, START, DELIVERED],
+};
+
+const CASES: &[Case] = &[
+    PLAIN,
+    // byte by byte
+    Case { buffer: 1, ..PLAIN },
+    // an end between two pieces
+    Case {
+        pieces: &[ENVELOPE, b"hi\r\n.\r", b"\n"],
+        ..PLAIN
+    },
+    // nothing behind QUIT is taken
+    Case {
+        pieces: &[WHOLE],
+        buffer: 200,
+        want: Ok(Ending::Quit),
+        replies: &[
+            GREETING, EXTENSIONS, SENDER, RECIPIENT, START, DELIVERED, BYE,
+        ],
+        ..PLAIN
+    },
+    // two messages in one burst, the first for two recipients
+    Case {
+        pieces: &[TWO],
+        buffer: 300,
+        want: Ok(Ending::Quit),
+        replies: &[
+            GREETING, EXTENSIONS, SENDER, RECIPIENT, RECIPIENT, START, DELIVERED, DELIVERED,
+            SENDER, RECIPIENT, START, DELIVERED, BYE,
+        ],
+        ..PLAIN
+    },
+    // the same byte by byte
+    Case {
+        pieces: &[TWO],
+        buffer: 1,
+        want: Ok(Ending::Quit),
+        replies: &[
+            GREETING, EXTENSIONS, SENDER, RECIPIENT, RECIPIENT, START, DELIVERED, DELIVERED,
+            SENDER, RECIPIENT, START, DELIVERED, BYE,
+        ],
+        ..PLAIN
+    },
+    // a peer that says nothing
+    Case {
+        pieces: &[],
+        replies: &[GREETING],
+        ..PLAIN
+    },
+    // the reader fails behind a message, within data, and at once
+    Case {
+        fails: true,
+        want: Err(TalkFault::Read),
+        ..PLAIN
+    },
+    Case {
+        pieces: &[ENVELOPE, b"hi\r\n"],
+        fails: true,
+        want: Err(TalkFault::Read),
+        replies: &[GREETING, EXTENSIONS, SENDER, RECIPIENT, START],
+        ..PLAIN
+    },
+    Case {
+        pieces: &[],
+        fails: true,
+        want: Err(TalkFault::Read),
+        replies: &[GREETING],
+        ..PLAIN
+    },
+    // the sink fails in the greeting, in the middle of the replies, and at their last byte
+    Case {
+        room: 7,
+        want: Err(TalkFault::Write),
+        ..PLAIN
+    },
+    Case {
+        buffer: 200,
+        room: 150,
+        want: Err(TalkFault::Write),
+        ..PLAIN
+    },
+    Case {
+        pieces: &[],
+        room: 30,
+        want: Err(TalkFault::Write),
+        replies: &[GREETING],
+        ..PLAIN
+    },
+    // the house stops before the first bytes come, and then the sink fails
+    Case {
+        stops_at: 2,
+        want: Ok(Ending::Stopped),
+        replies: &[GREETING, SHUTTING],
+        ..PLAIN
+    },
+    Case {
+        stops_at: 2,
+        room: 40,
+        want: Err(TalkFault::Write),
+        replies: &[GREETING, SHUTTING],
+        ..PLAIN
+    },
+    // within a begun line
+    Case {
+        pieces: &[b"LHLO c.ex", b"ample\r\n"],
+        stops_at: 3,
+        want: Ok(Ending::Stopped),
+        replies: &[GREETING, SHUTTING],
+        ..PLAIN
+    },
+    // within data: no word and no copy
+    Case {
+        pieces: &[ENVELOPE, b"hi\r\n.\r\n"],
+        buffer: 200,
+        stops_at: 3,
+        want: Ok(Ending::Stopped),
+        replies: &[GREETING, EXTENSIONS, SENDER, RECIPIENT, START],
+        ..PLAIN
+    },
+    // behind a message that was put by then, whose verdicts are told; what stands behind it is dropped
+    Case {
+        pieces: &[TWO],
+        buffer: 300,
+        stops_at_put: true,
+        want: Ok(Ending::Stopped),
+        replies: &[
+            GREETING, EXTENSIONS, SENDER, RECIPIENT, RECIPIENT, START, DELIVERED, DELIVERED,
+            SHUTTING,
+        ],
+        ..PLAIN
+    },
+    Case {
+        buffer: 200,
+        stops_at_put: true,
+        want: Ok(Ending::Stopped),
+        replies: &[
+            GREETING, EXTENSIONS, SENDER, RECIPIENT, START, DELIVERED, SHUTTING,
+        ],
+        ..PLAIN
+    },
+    // the peer goes as the house stops
+    Case {
+        pieces: &[],
+        stops_at: 2,
+        replies: &[GREETING],
+        ..PLAIN
+    },
+];
+
+// Whether the sink has the front of the replies, as far as it had room.
+fn has_front(bytes: &[u8], replies: &[&[u8]], room: usize) -> bool {
+    let mut at = 0usize;
+    for reply in replies {
+        for byte in *reply {
+            if at == room {
+                return bytes.len() == at;
+            }
+            if bytes.get(at) != Some(byte) {
+                return false;
+            }
+            at = at.saturating_add(1);
+        }
+    }
+    bytes.len() == at
+}
+
+// Plays the connection of a case, and answers whether it came as it was to come.
+fn talk<R: Wait, S: Summons>(
+    rt: &R,
+    alloc: Global,
+    office: &Office,
+    summons: &S,
+    channel: &ReplyChannel<Noted>,
+    desk: &mut Desk,
+    stop: &AtomicBool,
+    case: &Case,
+) -> Result<bool, AllocError>
+    requires seats { AreSeats office.now.lanes.items desk.old.number desk.old.seats.items }
+    requires receiver { IsReceiver channel.now desk.old.receiver }
+    requires lanes { office.now.directory.shards ≡ length office.now.lanes.items }
+    requires host { length office.now.host.items < 256 }
+{
+    let mut input = Pieces {
+        pieces: case.pieces,
+        piece: 0,
+        offset: 0,
+        reads: 0,
+        fails: case.fails,
+        stop,
+        stops_at: case.stops_at,
+    };
+    let mut output = Taking {
+        bytes: Vec::new(alloc),
+        room: case.room,
+        has_failed: false,
+    };
+    let mut out = Vec::from_slice(alloc, b"what stood there before")?;
+    let mut buffer = [0u8; 300];
+    let most = case.buffer.clamp(1, 300);
+    let gate = Open;
+    let mut pace = Pace::new(&gate, Actor::Worker(0));
+    let mut book = Unkept;
+    let came = converse(
+        rt,
+        alloc,
+        &mut pace,
+        office,
+        summons,
+        channel,
+        desk,
+        &mut book,
+        7,
+        &mut input,
+        &mut output,
+        stop,
+        &mut buffer[..most],
+        &mut out,
+    );
+    Ok(came == case.want && has_front(output.bytes.as_slice(), case.replies, case.room))
+}
+
+// The same with a clerk who serves the lane.
+fn with_clerk<R: Wait>(
+    rt: &R,
+    alloc: Global,
+    office: &Office,
+    lane: &ShardQueue<Job>,
+    channel: &ReplyChannel<Noted>,
+    desk: &mut Desk,
+    seat: ConsumerSeat<Job>,
+    sender: SenderSeat<Noted>,
+    case: &Case,
+) -> (
+    ConsumerSeat<Job>,
+    SenderSeat<Noted>,
+    Result<bool, AllocError>,
+)
+    requires seats { AreSeats office.now.lanes.items desk.old.number desk.old.seats.items }
+    requires receiver { IsReceiver channel.now desk.old.receiver }
+    requires lanes { office.now.directory.shards ≡ length office.now.lanes.items }
+    requires host { length office.now.host.items < 256 }
+    requires takes { IsConsumer lane.now seat }
+    requires answers { IsSender channel.now sender }
+{
+    let stop = AtomicBool::new(false);
+    let counter = Counter {
+        clerk: Mutex::new(Clerk {
+            lane,
+            channel,
+            seat,
+            sender,
+        }),
+        stop: &stop,
+        stops: case.stops_at_put,
+    };
+    let told = talk(rt, alloc, office, &counter, channel, desk, &stop, case);
+    let Counter {
+        clerk,
+        stop: _,
+        stops: _,
+    } = counter;
+    let Clerk {
+        lane: _,
+        channel: _,
+        seat,
+        sender,
+    } = clerk.into_inner();
+    (seat, sender, told)
+}
+
+fn directory(alloc: Global) -> Option<Directory>
+    ensures { IfSome result (λ d. d.shards ≡ 1) }
+{
+    Directory::new(alloc, &[b"example.org"], &[b"alice", b"bob"], 1).ok()
+}
+
+// The seats of one lane and one channel, each with one that puts and one that takes.
+struct Seats {
+    lane: ShardQueue<Job>,
+    hand: Vec<ProducerSeat<Job>>,
+    seat: ConsumerSeat<Job>,
+    channel: ReplyChannel<Noted>,
+    sender: SenderSeat<Noted>,
+    receiver: ReceiverSeat<Noted>,
+}
+
+fn make_seats(alloc: Global) -> Result<Seats, AllocError>
+    ensures hand { IfOk result (λ s. AreSeats (s.lane ∷ []) 0 s.hand.items) }
+    ensures seat { IfOk result (λ s. IsConsumer s.lane s.seat) }
+    ensures sender { IfOk result (λ s. IsSender s.channel s.sender) }
+    ensures receiver { IfOk result (λ s. IsReceiver s.channel s.receiver) }
+{
+    let (lane, hand, seat) = ShardQueue::new(alloc, 4, 1)?;
+    let (channel, mut senders, receiver) = match ReplyChannel::new(alloc, 4, 1) {
+        Ok(made) => made,
+        Err(e) => {
+            lane.abandon(hand, Vec::new(alloc), seat);
+            return Err(e);
+        }
+    };
+    let sender = senders.remove(0);
+    senders.destroy_empty();
+    Ok(Seats {
+        lane,
+        hand,
+        seat,
+        channel,
+        sender,
+        receiver,
+    })
+}
+
+// Lists with room for one, of the lanes and of the seats that come back.
+struct Room {
+    lanes: Vec<ShardQueue<Job>>,
+    back: Vec<SenderSeat<Noted>>,
+}
+
+fn make_room(alloc: Global) -> Result<Room, AllocError>
+    ensures lanes { IfOk result (λ r. (r.lanes.items ≡ []) × (1 ≤ vec_capacity r.lanes)) }
+    ensures back { IfOk result (λ r. (r.back.items ≡ []) × (1 ≤ vec_capacity r.back)) }
+{
+    let lanes = Vec::with_capacity(alloc, 1)?;
+    let back = match Vec::with_capacity(alloc, 1) {
+        Ok(back) => back,
+        Err(e) => {
+            lanes.destroy_empty();
+            return Err(e);
+        }
+    };
+    Ok(Room { lanes, back })
+}
+
+// What is left goes.
+fn spend(
+    alloc: Global,
+    office: Office,
+    desk: Desk,
+    channel: ReplyChannel<Noted>,
+    seat: ConsumerSeat<Job>,
+    back: Vec<SenderSeat<Noted>>,
+)
+    requires { vec_len office.lanes ≡ 1 }
+{
+    let Office {
+        directory: _,
+        host: _,
+        max_message: _,
+        mut lanes,
+    } = office;
+    let Desk {
+        number: _,
+        seats,
+        receiver,
+        ends: _,
+    } = desk;
+    let lane = lanes.remove(0);
+    lanes.destroy_empty();
+    lane.abandon(seats, Vec::new(alloc), seat);
+    channel.abandon(back, Vec::new(alloc), receiver);
+}
+
+// A case is played in a house of these seats.
+fn play_in<R: Wait>(
+    rt: &R,
+    alloc: Global,
+    directory: Directory,
+    host: Vec<u8>,
+    room: Room,
+    seats: Seats,
+    case: &Case,
+) -> Result<bool, AllocError>
+    requires shards { directory.shards ≡ 1 }
+    requires host { vec_len host < 256 }
+    requires lanes { (room.lanes.items ≡ []) × (1 ≤ vec_capacity room.lanes) }
+    requires back { (room.back.items ≡ []) × (1 ≤ vec_capacity room.back) }
+    requires hand { AreSeats (seats.lane ∷ []) 0 seats.hand.items }
+    requires seat { IsConsumer seats.lane seats.seat }
+    requires sender { IsSender seats.channel seats.sender }
+    requires receiver { IsReceiver seats.channel seats.receiver }
+{
+    let Room {
+        mut lanes,
+        mut back,
+    } = room;
+    let Seats {
+        lane,
+        hand,
+        seat,
+        channel,
+        sender,
+        receiver,
+    } = seats;
+    lanes.push_reserved(lane);
+    let office = Office {
+        directory,
+        host,
+        max_message: 100,
+        lanes,
+    };
+    let mut desk = Desk {
+        number: 0,
+        seats: hand,
+        receiver,
+        ends: 0,
+    };
+    let served = &office.lanes[0];
+    let (seat, sender, told) = with_clerk(
+        rt, alloc, &office, served, &channel, &mut desk, seat, sender, case,
+    );
+    back.push_reserved(sender);
+    spend(alloc, office, desk, channel, seat, back);
+    told
+}
+
+// A case is played in a house of its own.
+fn play<R: Wait>(rt: &R, alloc: Global, case: &Case) -> Result<bool, AllocError> {
+    let Some(directory) = directory(alloc) else {
+        return Err(AllocError);
+    };
+    let host = Vec::from_slice(alloc, b"mx.example.org")?;
+    let room = make_room(alloc)?;
+    let seats = match make_seats(alloc) {
+        Ok(seats) => seats,
+        Err(e) => {
+            let Room { lanes, back } = room;
+            lanes.destroy_empty();
+            back.destroy_empty();
+            return Err(e);
+        }
+    };
+    play_in(rt, alloc, directory, host, room, seats, case)
+}
+
+// The first case that doesn't come as it is to come.
+fn first_other<R: Wait>(rt: &R, alloc: Global) -> Result<Option<usize>, AllocError> {
+    for place in 0..CASES.len() {
+        if !play(rt, alloc, &CASES[place])? {
+            return Ok(Some(place));
+        }
+    }
+    Ok(None)
+}
+
+#[test]
+fn each_connection_comes_as_it_is_to_come(rt: HostRuntime) -> Result<(), AllocError> {
+    assert_eq!(rt; first_other(&rt, rt.alloc())?, None);
+    Ok(())
+}
