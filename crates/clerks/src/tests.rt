@@ -166,7 +166,8 @@ fn labour<H: Hall, R: Wait + Abort>(
         ends: _,
     } = desk;
     let mut pace = Pace::new(&Unhindered, Actor::Worker(number));
-    let ended = end_all(rt, &mut pace, &floor.office, number, seats, room);
+    let help = Clerks::new(clerks, &floor.office.lanes, &floor.depot, &Unhindered);
+    let ended = end_all(rt, &mut pace, &floor.office, &help, number, seats, room);
     packed(Left {
         ended,
         receiver,
@@ -371,6 +372,7 @@ fn run_in<H: Hall + Send, T: Threads + Wait + Sync + Abort>(
     let Floor {
         office,
         depot,
+        bells: _,
         turns: _,
         alloc: _,
     } = floor;
@@ -379,7 +381,6 @@ fn run_in<H: Hall + Send, T: Threads + Wait + Sync + Abort>(
         host: _,
         max_message: _,
         lanes,
-        bells: _,
     } = office;
     let Depot {
         mailboxes,

@@ -336,11 +336,12 @@ const CASES: &[Case] = &[
         ],
         ..PLAIN
     },
-    // the peer goes as the house stops
+    // whoever stops the house shuts the side that is read
     Case {
         pieces: &[],
         stops_at: 2,
-        replies: &[GREETING],
+        want: Ok(Ending::Stopped),
+        replies: &[GREETING, SHUTTING],
         ..PLAIN
     },
 ];

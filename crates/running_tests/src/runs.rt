@@ -85,6 +85,24 @@ fn are_uids_in_range(config: &Config) -> bool
     true
 }
 
+// The same of what a server alone looks at.
+fn are_ports_in_range(config: &Config) -> bool
+    ensures workers { result ≡ true → IsFrom 1 8 config.now.workers }
+    ensures lmtp_port { result ≡ true → IsFrom 1 65535 config.now.lmtp_port }
+    ensures imap_port { result ≡ true → IsFrom 1024 65472 config.now.imap_port }
+{
+    if config.workers < 1 || config.workers > 8 {
+        return false;
+    }
+    if config.lmtp_port < 1 {
+        return false;
+    }
+    if config.imap_port < 1024 || config.imap_port > 65_472 {
+        return false;
+    }
+    true
+}
+
 // Whether the plan may be run.
 fn is_in_range(plan: &Plan) -> bool
     ensures range { result ≡ true → IsInRange plan.now.config }
@@ -97,6 +115,9 @@ fn is_in_range(plan: &Plan) -> bool
         return false;
     }
     if !are_uids_in_range(&plan.config) {
+        return false;
+    }
+    if !are_ports_in_range(&plan.config) {
         return false;
     }
     if plan.workers.is_empty() {
