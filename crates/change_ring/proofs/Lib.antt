@@ -1,4 +1,3 @@
-pub mod Around
 pub mod LogLaws
 pub mod RangeLaws
 pub mod WindowLaws

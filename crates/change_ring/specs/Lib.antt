@@ -1,4 +1,3 @@
 pub mod Log
 pub mod Logged
 pub mod Window
-pub mod Slots

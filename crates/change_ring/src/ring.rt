@@ -1,11 +1,11 @@
-//! A ring of the last changes of a log: it overwrites the oldest, or grows up to its most where
-//! they are still wanted. Who wants them is not told here.
+//! A ring of the last changes of a log: it drops the oldest, or grows up to its most where they are
+//! still wanted. Who wants them is not told here.
 
-ghost use Rattle.std.specs.Prelude.{◌≡◌, ℕ, ◌+◌, ◌-◌, ◌*◌, ◌^◌, ◌<◌, ◌≤◌, ◌↔◌, List, [], ◌∷◌, ◌++◌, length, IsOk, IfOk, OnOk, OnErr, IfSome, OnSome, IsSome, is_some, IsErr, option_to_list, min, ◌==◌, ◌⊎◌, vec_len};
+ghost use Rattle.std.specs.Prelude.{◌≡◌, ◌+◌, ◌*◌, ◌^◌, ◌<◌, ◌≤◌, ◌↔◌, [], ◌∷◌, ◌++◌, length, IfOk, OnOk, OnErr, IsSome, is_some, IsErr, option_to_list, min, ◌==◌, ◌⊎◌};
 ghost use Rattle.change_ring.specs.Window.{total, changes_from, capacity_after};
-ghost use Rattle.change_ring.specs.Slots.{around};
 
 use crate::change::Change;
+use circular_buffer::HeapCircularBuffer;
 use std::alloc::{AllocError, Global};
 use std::marker::Model;
 
@@ -17,51 +17,26 @@ pub struct Spent;
 #[derive(Clone, Copy, Debug, PartialEq, Eq)]
 pub struct Lapped;
 
-// The changes of these numbers in more slots.
-fn moved(
-    alloc: Global,
-    slots: &[Change],
-    base: u64,
-    total: u64,
-    capacity: usize,
-) -> Result<Vec<Change>, AllocError>
-    requires order { base ≤ total }
-    requires within { total - base ≤ length slots.now }
-    requires more { length slots.now ≤ capacity }
-    requires some { 0 < length slots.now }
-    ensures same { IfOk result (λ v. around v.items base (total - base) ≡ around slots.now base (total - base)) }
-    ensures len { IfOk result (λ v. vec_len v ≡ capacity) }
-{
-    let mut more = vec![in alloc; Change::Gone(0); capacity]?;
-    for i in base..total {
-        more[(i % (capacity as u64)) as usize] = slots[(i % (slots.len() as u64)) as usize];
-    }
-    Ok(more)
-}
-
 // So many changes can be numbered.
 const LAST: u64 = 1 << 62;
 
 /// The last changes of a log, each under its number, which counts from 0.
 #[derive(Drop)]
 pub struct ChangeRing {
-    slots: Vec<Change>,
+    changes: HeapCircularBuffer<Change>,
     base: u64,
-    total: u64,
     max: usize,
 }
 
 impl Model for ChangeRing {
-    ghost use Rattle.std.specs.Prelude.{◌-◌, ◌+◌, ◌<◌, ◌≤◌, ◌^◌, vec_len};
+    ghost use Rattle.std.specs.Prelude.{◌+◌, ◌<◌, ◌≤◌, ◌^◌, length};
     ghost use Rattle.change_ring.specs.Window.{Window};
 
     ghost Value = { Window };
 
-    ghost use Rattle.change_ring.specs.Slots.{around};
+    ghost view = { λ r. record { base = r.base; changes = r.changes.items; capacity = r.changes.capacity; max = r.max } };
 
-    ghost view = { λ r. record { base = r.base; changes = around r.slots.items r.base (r.total - r.base); capacity = vec_len r.slots; max = r.max } };
-
-    ghost invariant = { λ r. (r.base ≤ r.total) × (r.total ≤ 2 ^ 62) × (r.total - r.base ≤ vec_len r.slots) × (0 < vec_len r.slots) × (vec_len r.slots ≤ r.max) };
+    ghost invariant = { λ r. (r.base + length r.changes.items ≤ 2 ^ 62) × (length r.changes.items ≤ r.changes.capacity) × (0 < r.changes.capacity) × (r.changes.capacity ≤ r.max) };
 }
 
 impl ChangeRing {
@@ -75,7 +50,8 @@ impl ChangeRing {
         ChangeRing::starting_at(alloc, 0, capacity, max)
     }
 
-    /// The same after `base` changes, of which it has none.
+    /// The same after `base` changes, of which it has none. No place is written before a change
+    /// comes, so a large ring is made as soon as a small one.
     pub fn starting_at(
         alloc: Global,
         base: u64,
@@ -87,13 +63,8 @@ impl ChangeRing {
         requires small { base ≤ 2 ^ 62 }
         ensures { IfOk result (λ r. r ≡ record { base = base; changes = []; capacity = capacity; max = max }) }
     {
-        let slots = vec![in alloc; Change::Gone(0); capacity]?;
-        Ok(ChangeRing {
-            slots,
-            base,
-            total: base,
-            max,
-        })
+        let changes = HeapCircularBuffer::with_capacity(alloc, capacity)?;
+        Ok(ChangeRing { changes, base, max })
     }
 
     /// The number of the oldest change that is kept.
@@ -108,7 +79,7 @@ impl ChangeRing {
         ensures total { result ≡ total self.now }
         ensures small { result ≤ 2 ^ 62 }
     {
-        self.total
+        self.base + self.changes.len() as u64
     }
 
     /// How many changes fit now.
@@ -118,7 +89,7 @@ impl ChangeRing {
         ensures most { self.now.capacity ≤ self.now.max }
         ensures some { 0 < self.now.capacity }
     {
-        self.slots.len()
+        self.changes.capacity()
     }
 
     /// Logs a change. A full ring overwrites its oldest change and hands it back, unless that is
@@ -153,8 +124,8 @@ impl ChangeRing {
         ensures capacity { (self.new.capacity ≡ self.old.capacity)
             ⊎ ((length self.old.changes ≡ self.old.capacity) × (keep_from ≤ self.old.base) × (self.old.capacity < self.new.capacity) × (self.new.capacity ≡ min (2 * self.old.capacity) self.old.max)) }
     {
-        let held = (self.total - self.base) as usize;
-        let capacity = self.slots.len();
+        let held = self.changes.len();
+        let capacity = self.changes.capacity();
         if held == capacity && keep_from <= self.base && capacity < self.max {
             self.grow();
         }
@@ -170,17 +141,9 @@ impl ChangeRing {
         ensures full { is_some result ≡ (length self.old.changes == self.old.capacity) }
         ensures within { length self.new.changes ≤ self.new.capacity }
     {
-        let capacity = self.slots.len();
-        let held = (self.total - self.base) as usize;
-        let at = (self.total % (capacity as u64)) as usize;
-        if held < capacity {
-            self.slots[at] = change;
-            self.total += 1;
+        let Some(oldest) = self.changes.push_back(change) else {
             return None;
-        }
-        let oldest = self.slots[at];
-        self.slots[at] = change;
-        self.total += 1;
+        };
         self.base += 1;
         Some(oldest)
     }
@@ -191,16 +154,15 @@ impl ChangeRing {
         ensures same { self.new ≡ record self.old { capacity = self.new.capacity } }
         ensures capacity { (self.new.capacity ≡ self.old.capacity) ⊎ ((self.old.capacity < self.new.capacity) × (self.new.capacity ≡ min (2 * self.old.capacity) self.old.max)) }
     {
-        let held = self.slots.len();
+        let held = self.changes.capacity();
         let capacity = if held <= self.max - held {
             2 * held
         } else {
             self.max
         };
-        let alloc = *self.slots.allocator();
-        if let Ok(slots) = moved(alloc, &self.slots, self.base, self.total, capacity) {
-            self.slots = slots;
-        }
+        let Ok(()) = self.changes.resize(capacity) else {
+            return;
+        };
     }
 
     /// The changes from number `from` on, in two slices that follow one another. Lapped where the
@@ -213,16 +175,12 @@ impl ChangeRing {
         if from < self.base {
             return Err(Lapped);
         }
-        let capacity = self.slots.len();
-        let count = (self.total - from) as usize;
-        let start = (from % (capacity as u64)) as usize;
-        if count <= capacity - start {
-            Ok((&self.slots[start..start + count], &[]))
+        let skipped = (from - self.base) as usize;
+        let (older, newer) = self.changes.as_slices();
+        if skipped <= older.len() {
+            Ok((&older[skipped..], newer))
         } else {
-            Ok((
-                &self.slots[start..],
-                &self.slots[..count - (capacity - start)],
-            ))
+            Ok((&newer[skipped - older.len()..], &[]))
         }
     }
 }
