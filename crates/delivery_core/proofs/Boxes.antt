@@ -1,5 +1,5 @@
 -- A mailbox's delivery is the world's.
-use Rattle.std.proofs.Common.{◌≡◌, ℕ, suc, ◌-◌, ◌<◌, ◌≤◌, ◌⊎◌, inl, inr, Bool, true, false, ◌||◌, nat_le, [], ◌∷◌, ◌++◌, length, map, refl, sym, ap, ◌∙◌, arith, subst, Result, Ok, Err, OnOk, OnErr, IfOk, ◌≢◌, get_or, set, get_or-set_same, get_or-set_other, List}
+use Rattle.std.proofs.Common.{◌≡◌, ℕ, suc, ◌-◌, ◌<◌, ◌≤◌, ◌⊎◌, inl, inr, Bool, true, false, ◌||◌, nat_le, [], ◌∷◌, ◌++◌, length, map, refl, sym, ap, ◌∙◌, arith, subst, Result, Ok, Err, OnOk, OnErr, IfOk, ◌≢◌, get_or, set, length-set, get_or-set_same, get_or-set_other, List}
 use Rattle.std.specs.Prelude.{◌↔◌}
 use Rattle.std.proofs.lemmas.Bool.{cases_eq, leb-true, leb-false}
 use Rattle.delivery_core.proofs.Follow.{get_or-any}
@@ -11,14 +11,16 @@ use Rattle.delivery_token.specs.declared.Refusal.TheVariants.{Full, MailboxFull,
 use Rattle.change_ring.specs.declared.change.Change.TheVariants.{Add}
 use Rattle.change_ring.specs.Log.{rows_of, no_flags}
 use Rattle.change_ring.specs.Window.{Window, total}
-use Rattle.cursor_set.specs.Cursors.{Cursors}
+use Rattle.cursor_set.specs.Cursors.{Cursors, Seat}
 use Rattle.mailbox.specs.Mail.{Mail, Message, SameMailbox, next_uid as mail_uid, is_spent, is_full as mail_full, row_of}
 use Rattle.mailbox.specs.Events.{Logs as MailLogs, Moves}
 use Rattle.mailbox.specs.declared.mailbox.Receipt.{Receipt}
+use Rattle.mailbox.specs.declared.history.History.TheVariants.{Kept}
 use Rattle.mailbox.proofs.WindowMoves.{moves_base, moves_grows, moves_held, moves_max, moves_most}
 use Rattle.world.specs.World.{Config, Box, HasUid, IsSpent, is_full, next_uid}
 use Rattle.world.specs.Law.{IsPart, pair_of, pairs}
 use Rattle.world.proofs.Base.{part_append}
+use Rattle.delivery_core.specs.Held.{AreKept}
 use Rattle.delivery_core.specs.Stands.{StandsForBox, text_of, accepted_text}
 use Rattle.delivery_core.specs.Boxes.{verdict_of, BoxDelivers, stores, has_no_uid, has_no_place, has_no_memory}
 
@@ -118,7 +120,7 @@ box_delivers k old new w c (Err Full) S spends fills queued same logs accepts me
 
 pub same_mailbox : (r : Result Receipt Refusal) (old new : Mail) → OnOk r (SameMailbox old new) → OnErr r (new ≡ old) → SameMailbox old new
 same_mailbox (Ok x) old new same err = same
-same_mailbox (Err x) old new same err = rw err (record { number = refl; uidvalidity = refl; first_uid = refl; limit = refl })
+same_mailbox (Err x) old new same err = rw err (record { number = refl; uidvalidity = refl; first_uid = refl; limit = refl; history = refl })
 
 -- one mailbox of a list took a copy
 pub same_boxes : (boxes : List Mail) (i : ℕ) (old new : Mail) → i < length boxes → old ≡ get_or boxes i old → SameMailbox old new
@@ -126,7 +128,7 @@ pub same_boxes : (boxes : List Mail) (i : ℕ) (old new : Mail) → i < length b
 same_boxes boxes i old new l there same m d = go (cases_eq m i)
   where
     same_self : (b : Mail) → SameMailbox b b
-    same_self b = record { number = refl; uidvalidity = refl; first_uid = refl; limit = refl }
+    same_self b = record { number = refl; uidvalidity = refl; first_uid = refl; limit = refl; history = refl }
 
     was : get_or boxes i d ≡ old
     was = get_or-any boxes i d old l ∙ sym there
@@ -135,6 +137,20 @@ same_boxes boxes i old new l there same m d = go (cases_eq m i)
     go (inl e) = rw (e, get_or-set_same boxes i new d l, was) same
     go (inr e) = rw (get_or-set_other boxes i m new d e) (same_self (get_or boxes m d))
 
+-- one mailbox of a list became another, which keeps its copies as it did
+pub kept_set : (boxes : List Mail) (i : ℕ) (old new : Mail) → AreKept boxes → old ≡ get_or boxes i old → new.history ≡ old.history → AreKept (set boxes i new)
+kept_set boxes i old new kept there same m d l = go (cases_eq m i)
+  where
+    within : m < length boxes
+    within = omega (arith, l, length-set boxes i new)
+
+    go : (m ≡ i) ⊎ (m ≢ i) → (get_or (set boxes i new) m d).history ≡ Kept
+    go (inl e) =
+        let here : i < length boxes = omega (arith, within, e) in
+        ap (λ (j : ℕ). (get_or (set boxes i new) j d).history) e ∙ ap (λ (z : Mail). z.history) (get_or-set_same boxes i new d here)
+        ∙ same ∙ ap (λ (z : Mail). z.history) there ∙ kept i old here
+    go (inr other) = ap (λ (z : Mail). z.history) (get_or-set_other boxes i m new d other) ∙ kept m d within
+
 -- what a client's call may change of its mailbox
 pub same_rest : (b b2 : Mail) (ms : List Message) (w : Window) (s : Cursors) → b2 ≡ record b { messages = ms; window = w; cursors = s } → SameMailbox b b2
 same_rest b b2 ms w s is = record {
@@ -142,6 +158,7 @@ same_rest b b2 ms w s is = record {
   uidvalidity = ap (λ (z : Mail). z.uidvalidity) is;
   first_uid = ap (λ (z : Mail). z.first_uid) is;
   limit = ap (λ (z : Mail). z.limit) is;
+  history = ap (λ (z : Mail). z.history) is;
 }
 
 pub same_ok : {T E : Type 0} (r : Result T E) (boxes : List Mail) (i : ℕ) (b b2 : Mail) → i < length boxes → b ≡ get_or boxes i b → OnOk r (SameMailbox b b2)
@@ -152,6 +169,11 @@ same_ok (Err x) boxes i b b2 l there same = tt
 pub rest_always : {T E : Type 0} (r : Result T E) (b b2 : Mail) (ms : List Message) (w : Window) (s : Cursors) → b2 ≡ record b { messages = ms; window = w; cursors = s } → OnOk r (SameMailbox b b2)
 rest_always (Ok x) b b2 ms w s is = same_rest b b2 ms w s is
 rest_always (Err x) b b2 ms w s is = tt
+
+-- a call that changes a mailbox, or nothing, leaves how it keeps its copies
+pub history_stays : {T E : Type 0} (r : Result T E) (b b2 : Mail) (seat seat2 : Seat) (before after : List ℕ) → OnErr r ((b2 ≡ b) × (seat2 ≡ seat) × (after ≡ before)) → OnOk r (SameMailbox b b2) → b2.history ≡ b.history
+history_stays (Ok x) b b2 seat seat2 before after err same = same.history
+history_stays (Err x) b b2 seat seat2 before after err same = ap (λ (z : Mail). z.history) err.0
 
 pub rest_ok : {T E : Type 0} (r : Result T E) (b b2 : Mail) (ms : List Message) (w : Window) (s : Cursors) → OnOk r (b2 ≡ record b { messages = ms; window = w; cursors = s }) → OnOk r (SameMailbox b b2)
 rest_ok (Ok x) b b2 ms w s is = same_rest b b2 ms w s is

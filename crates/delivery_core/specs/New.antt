@@ -2,6 +2,7 @@
 use Rattle.std.specs.Prelude.{◌≡◌, ℕ, true, [], replicate}
 use Rattle.delivery_token.specs.declared.CopyKey.{CopyKey}
 use Rattle.shard_queue.specs.Waits.{Waits}
+use Rattle.mailbox.specs.declared.history.History.TheVariants.{Kept}
 use Rattle.mailbox.specs.Mail.{Mail}
 use Rattle.mailbox.specs.Stands.{Stands}
 
@@ -13,7 +14,7 @@ new_lane capacity producers = record { capacity = capacity; live = replicate pro
 abbrev pub first_key : ℕ → CopyKey
 first_key p = record { seat = p; serial = 0; message = 0; recipient = 0 }
 
--- a mailbox with nothing in it and no client, of this number and these settings; its window may grow up to `most`
+-- a mailbox with nothing in it and no client, of this number and these settings, which keeps the copies that it takes; its window may grow up to `most`
 pub record IsNewBox (number uidvalidity first_uid messages ring most : ℕ) (b : Mail) : Type 0 where
   pub at : b.number ≡ number
   pub validity : b.uidvalidity ≡ uidvalidity
@@ -22,5 +23,6 @@ pub record IsNewBox (number uidvalidity first_uid messages ring most : ℕ) (b :
   pub accepted : b.accepted ≡ []
   pub first : b.first_uid ≡ first_uid
   pub limit : b.limit ≡ messages
+  pub history : b.history ≡ Kept
   pub window : b.window ≡ record { base = 0; changes = []; capacity = ring; max = most }
   pub clients : b.cursors ≡ record { number = number; next = 0; slots = [] }

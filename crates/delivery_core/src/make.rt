@@ -8,7 +8,7 @@ ghost use Rattle.delivery_core.specs.New.{first_key, new_lane, IsNewBox};
 
 use crate::client::Client;
 use delivery_token::{CopyKey, WorkerLog};
-use mailbox::{Limits, Mailbox};
+use mailbox::{History, Limits, Mailbox};
 use shard_queue::PlainLane;
 use std::alloc::{AllocError, Global};
 use world::hand::Hand;
@@ -80,7 +80,8 @@ pub fn new_boxes(
 {
     let mut boxes = Vec::new(alloc);
     for number in 0..count {
-        boxes.push(Mailbox::new(alloc, number, uidvalidity, first_uid, limits)?)?;
+        let mailbox = Mailbox::new(alloc, number, uidvalidity, first_uid, limits, History::Kept)?;
+        boxes.push(mailbox)?;
     }
     Ok(boxes)
 }

@@ -56,14 +56,14 @@ pub struct DeliveryCore {
 
 impl Model for DeliveryCore {
     ghost use Rattle.std.specs.Prelude.{◌≡◌, length};
-    ghost use Rattle.delivery_core.specs.Held.{Held};
+    ghost use Rattle.delivery_core.specs.Held.{AreKept, Held};
     ghost use Rattle.delivery_core.specs.Seated.{AreSeated, cursors_of};
 
     ghost Value = { Held };
 
     ghost view = { λ p. record { lanes = p.lanes.items; hands = p.hands.items; replies = p.replies.items; heard = p.heard.items; boxes = p.boxes.items; next = p.next.items; clients = p.clients.items } };
 
-    ghost invariant = { λ p. (length p.hands.items ≡ length p.lanes.items) × (length p.heard.items ≡ length p.replies.items) × (length p.next.items ≡ length p.replies.items) × AreSeated (cursors_of p.boxes.items) p.clients.items };
+    ghost invariant = { λ p. (length p.hands.items ≡ length p.lanes.items) × (length p.heard.items ≡ length p.replies.items) × (length p.next.items ≡ length p.replies.items) × AreSeated (cursors_of p.boxes.items) p.clients.items × AreKept p.boxes.items };
 }
 
 // Whether a seat may put no more into this lane.

@@ -4,7 +4,7 @@
 use change_ring::{FlagOp, Flags};
 use cursor_set::CursorSeat;
 use delivery_token::{CopyKey, Job, Refusal, Text};
-use mailbox::{Limits, MailFault, Mailbox, Opening, Status};
+use mailbox::{History, Limits, MailFault, Mailbox, Opening, Status};
 use mailbox_holds::{alter, count, deliver, enter, expunge, feed, leave, read, view};
 use std::alloc::{AllocError, Global};
 
@@ -203,7 +203,7 @@ const ACTS: &[Act] = &[
 
 // Whether each call answers as the table tells, and one message goes as the client leaves.
 fn plays(alloc: Global) -> Result<bool, AllocError> {
-    let mut mailbox = Mailbox::new(alloc, 3, 7, 1, LIMITS)?;
+    let mut mailbox = Mailbox::new(alloc, 3, 7, 1, LIMITS, History::Kept)?;
     let mut seat = seated(&mut mailbox, EMPTY)?;
     let at = play(alloc, &mut mailbox, &mut seat, ACTS)?;
     Ok(at.is_none() && leaves(&mut mailbox, seat, true) == Ok(1))
@@ -228,8 +228,8 @@ const STRANGER: &[Act] = &[
 
 // Whether a mailbox of another number refuses each call of a client's seat.
 fn refuses(alloc: Global) -> Result<bool, AllocError> {
-    let mut own = Mailbox::new(alloc, 3, 7, 1, LIMITS)?;
-    let mut other = Mailbox::new(alloc, 4, 7, 1, LIMITS)?;
+    let mut own = Mailbox::new(alloc, 3, 7, 1, LIMITS, History::Kept)?;
+    let mut other = Mailbox::new(alloc, 4, 7, 1, LIMITS, History::Kept)?;
     let mut seat = seated(&mut own, EMPTY)?;
     let at = play(alloc, &mut other, &mut seat, STRANGER)?;
     Ok(at.is_none() && leaves(&mut other, seat, true) == Err(MailFault::Stranger))

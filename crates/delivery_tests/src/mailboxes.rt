@@ -6,7 +6,7 @@ ghost use Rattle.std.specs.Prelude.{◌<◌};
 use change_ring::{Change, FlagOp, Flags};
 use cursor_set::{CursorSeat, FeedFault, Stranger};
 use delivery_token::{CopyKey, Job, Refusal, Text};
-use mailbox::{Limits, MailFault, Mailbox, Opening, Status, every_mailbox_keeps};
+use mailbox::{History, Limits, MailFault, Mailbox, Opening, Status, every_mailbox_keeps};
 use std::alloc::{AllocError, Global};
 
 const NONE: Flags = Flags {
@@ -224,7 +224,7 @@ fn fill(alloc: Global, mailbox: &mut Mailbox, messages: u32) -> Result<(), Alloc
 fn filled(alloc: Global, number: u8, limits: Limits, messages: u32) -> Result<Mailbox, AllocError>
     requires { 0 < limits.ring }
 {
-    let mut mailbox = Mailbox::new(alloc, number, 7, 1, limits)?;
+    let mut mailbox = Mailbox::new(alloc, number, 7, 1, limits, History::Kept)?;
     fill(alloc, &mut mailbox, messages)?;
     Ok(mailbox)
 }
@@ -252,6 +252,7 @@ fn leaves(mailbox: &mut Mailbox, seat: CursorSeat, remove: bool) -> Result<usize
 struct Case {
     name: &'static str,
     limits: Limits,
+    history: History,
     first_uid: u32,
     messages: u32,
     opening: Opening,
@@ -270,6 +271,7 @@ const CASES: &[Case] = &[
             ring: 4,
             ring_max: 0,
         },
+        history: History::Kept,
         first_uid: 10,
         messages: 0,
         opening: Opening {
@@ -282,12 +284,28 @@ const CASES: &[Case] = &[
         left: (0, (0, 2)),
     },
     Case {
+        name: "copies that are not kept are none",
+        limits: SMALL,
+        history: History::Unkept,
+        first_uid: 10,
+        messages: 0,
+        opening: Opening {
+            count: 0,
+            uidnext: 10,
+            uidvalidity: 77,
+        },
+        acts: UNKEPT,
+        remove: false,
+        left: (0, (0, 2)),
+    },
+    Case {
         name: "a mailbox without UIDs refuses first for that",
         limits: Limits {
             messages: 0,
             ring: 1,
             ring_max: 0,
         },
+        history: History::Kept,
         first_uid: u32::MAX,
         messages: 0,
         opening: Opening {
@@ -302,6 +320,7 @@ const CASES: &[Case] = &[
     Case {
         name: "a client reads and sets flags",
         limits: SMALL,
+        history: History::Kept,
         first_uid: 1,
         messages: 2,
         opening: Opening {
@@ -316,6 +335,7 @@ const CASES: &[Case] = &[
     Case {
         name: "an expunge shows what was pending and not its own",
         limits: SMALL,
+        history: History::Kept,
         first_uid: 1,
         messages: 3,
         opening: Opening {
@@ -334,6 +354,7 @@ const CASES: &[Case] = &[
             ring: 65_536,
             ring_max: 0,
         },
+        history: History::Kept,
         first_uid: 1,
         messages: 32_768,
         opening: Opening {
@@ -348,6 +369,7 @@ const CASES: &[Case] = &[
     Case {
         name: "a client that leaves keeps nothing of what goes with it",
         limits: GROWING,
+        history: History::Kept,
         first_uid: 1,
         messages: 8,
         opening: Opening {
@@ -419,6 +441,12 @@ const EXPUNGES: &[Act] = &[
     Act::View(&[]),
 ];
 
+const UNKEPT: &[Act] = &[
+    Act::Deliver(0, b"hi\r\n", Ok((3, 10, 0))),
+    Act::Deliver(1, b"hi\r\n", Ok((3, 11, 1))),
+    Act::Accepted(&[]),
+];
+
 const HALF_GOES: &[Act] = &[
     Act::StoreEach(2, 16_384, FlagOp::Insert(DELETED), DELETED),
     Act::Expunge(None, Ok(16_384)),
@@ -441,7 +469,7 @@ fn plays(alloc: Global, case: &Case) -> Result<bool, AllocError> {
         return Ok(false);
     }
     let (uidvalidity, first_uid) = (case.opening.uidvalidity, case.first_uid);
-    let mut mailbox = Mailbox::new(alloc, 3, uidvalidity, first_uid, case.limits)?;
+    let mut mailbox = Mailbox::new(alloc, 3, uidvalidity, first_uid, case.limits, case.history)?;
     fill(alloc, &mut mailbox, case.messages)?;
     let (mut seat, opening) = seated(&mut mailbox)?;
     let at = play(alloc, &mut mailbox, &mut seat, case.acts)?;

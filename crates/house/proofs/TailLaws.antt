@@ -1,6 +1,7 @@
 -- What the delivery core tells of a mailbox's last changes is the window of the mailbox for which it stands.
 use Rattle.std.proofs.Common.{◌≡◌, ℕ, ◌+◌, ◌<◌, List, [], ◌++◌, length, drop, get_or, sym, ap, ◌∙◌, subst, Some}
 use Rattle.change_ring.specs.declared.change.Change.{Change}
+use Rattle.mailbox.specs.declared.history.History.TheVariants.{Kept}
 use Rattle.mailbox.specs.Mail.{Mail}
 use Rattle.delivery_core.specs.Held.{Held}
 use Rattle.envelope.specs.Directory.{Directory}
@@ -20,6 +21,7 @@ some_mail = record {
   limit = 0;
   messages = [];
   window = record { base = 0; changes = []; capacity = 0; max = 0 };
+  history = Kept;
   accepted = [];
   cursors = record { number = 0; next = 0; slots = [] };
 }

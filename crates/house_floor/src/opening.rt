@@ -11,10 +11,10 @@ use crate::fittings::make_fittings;
 use crate::floor::{Crew, Floor, Visit};
 use crate::joining::put_together;
 use crate::stock::{Spares, make_stock};
-use crossbeam_utils::sync::Parker;
 use delivery_token::{Job, Noted, WorkerLog};
 use envelope::Directory;
-use mailbox::Limits;
+use mailbox::{History, Limits};
+use session_bells::Sleeper;
 use shard_queue::{Closed, ConsumerSeat, Ended, ReceiverSeat, ReplyClosed, SenderEnded};
 use std::alloc::{AllocError, Global};
 
@@ -35,6 +35,8 @@ pub struct Sizes<'a> {
     pub first_uid: u32,
     /// How many messages and changes a mailbox has room for.
     pub limits: Limits,
+    /// Whether a mailbox keeps which copies it took.
+    pub history: History,
     /// So many turns a session has at most where it awaits changes.
     pub turns: u64,
 }
@@ -73,7 +75,7 @@ pub struct Opened {
     pub crew: Crew,
     pub baskets: Baskets,
     /// The sessions' own ends of their bells, on which none of them waits.
-    pub sleepers: Vec<Parker>,
+    pub sleepers: Vec<Sleeper>,
 }
 
 /// Makes all that a run needs, in a house with this directory and of these sizes. The bells of a

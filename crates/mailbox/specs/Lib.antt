@@ -1,3 +1,4 @@
+pub mod Copies
 pub mod Mail
 pub mod Stands
 pub mod Seen

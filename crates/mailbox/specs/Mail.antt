@@ -7,6 +7,7 @@ use Rattle.change_ring.specs.Logged.{flags_after}
 use Rattle.change_ring.specs.Window.{Window, total}
 use Rattle.cursor_set.specs.Cursors.{Cursors}
 use Rattle.delivery_token.specs.declared.CopyKey.{CopyKey}
+use Rattle.mailbox.specs.declared.history.History.{History}
 
 -- a message that is kept
 pub record Message : Type 0 where
@@ -15,7 +16,7 @@ pub record Message : Type 0 where
   pub text : List ℕ
 
 -- its number and UIDVALIDITY, the first UID, how many messages may be there, the messages, the last changes, the copies that were
--- accepted, each with its UID, and the clients' cursors
+-- accepted, each with its UID, whether these are kept, and the clients' cursors
 pub record Mail : Type 0 where
   pub number : ℕ
   pub uidvalidity : ℕ
@@ -23,6 +24,7 @@ pub record Mail : Type 0 where
   pub limit : ℕ
   pub messages : List Message
   pub window : Window
+  pub history : History
   pub accepted : List (CopyKey × ℕ)
   pub cursors : Cursors
 
@@ -44,6 +46,7 @@ pub record SameMailbox (old new : Mail) : Type 0 where
   pub uidvalidity : new.uidvalidity ≡ old.uidvalidity
   pub first_uid : new.first_uid ≡ old.first_uid
   pub limit : new.limit ≡ old.limit
+  pub history : new.history ≡ old.history
 
 -- a message as a client sees it
 abbrev pub row_of : Message → Row

@@ -3,11 +3,13 @@
 #![tactic(auto)]
 
 mod clients;
+mod history;
 mod laws;
 mod logging;
 mod mailbox;
 mod removal;
 
 pub use clients::{MailFault, Opening, Row};
+pub use history::History;
 pub use laws::every_mailbox_keeps;
 pub use mailbox::{Limits, Mailbox, Receipt, Status};

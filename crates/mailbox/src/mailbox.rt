@@ -3,6 +3,7 @@
 
 ghost use Rattle.std.specs.Prelude.{◌≡◌, ◌+◌, ◌<◌, ◌↔◌, [], ◌∷◌, ◌++◌, length, map, max, true, false, Err, OnOk, OnErr, IfOk};
 ghost use Rattle.change_ring.specs.Log.{no_flags};
+ghost use Rattle.mailbox.specs.Copies.{kept_of};
 ghost use Rattle.mailbox.specs.Counts.{unseen_count, deleted_count, bytes_in_all};
 ghost use Rattle.mailbox.specs.Events.{Logs, Moves};
 ghost use Rattle.mailbox.specs.Mail.{SameMailbox, next_uid, is_spent, is_full, texts_of};
@@ -10,6 +11,7 @@ ghost use Rattle.std.specs.List.Sorted.{IsStrictlyIncreasing};
 ghost use Rattle.mailbox.specs.Seen.{message_of};
 ghost use Rattle.mailbox.specs.Stands.{Stands};
 
+use crate::history::{Accepted, History};
 use crate::logging::log_change;
 use change_ring::{Change, ChangeRing, Flags};
 use cursor_set::CursorSet;
@@ -72,7 +74,7 @@ pub struct Mailbox {
     limit: usize,
     pub(crate) messages: Vec<Message>,
     pub(crate) ring: ChangeRing,
-    accepted: Vec<(CopyKey, u32)>,
+    accepted: Accepted,
     pub(crate) cursors: CursorSet,
 }
 
@@ -122,17 +124,19 @@ impl Receipt {
 
 impl Mailbox {
     /// The empty mailbox of this number, at the start of its log. Its messages get the UIDs from
-    /// `first_uid` on, and it has no client. An error where memory is refused.
+    /// `first_uid` on, it has no client, and it keeps the copies that it takes as `history` says. An
+    /// error where memory is refused.
     pub fn new(
         alloc: Global,
         number: u8,
         uidvalidity: u32,
         first_uid: u32,
         limits: Limits,
+        history: History,
     ) -> Result<Mailbox, AllocError>
         requires { 0 < limits.ring }
         ensures stands { IfOk result (λ m. Stands m []) }
-        ensures settings { IfOk result (λ m. (m.number ≡ number) × (m.uidvalidity ≡ uidvalidity) × (m.first_uid ≡ first_uid) × (m.limit ≡ limits.messages)) }
+        ensures settings { IfOk result (λ m. (m.number ≡ number) × (m.uidvalidity ≡ uidvalidity) × (m.first_uid ≡ first_uid) × (m.limit ≡ limits.messages) × (m.history ≡ history)) }
         ensures empty { IfOk result (λ m. (m.messages ≡ []) × (m.accepted ≡ []) × (m.cursors ≡ record { number = number; next = 0; slots = [] })) }
         ensures window { IfOk result (λ m. m.window ≡ record { base = 0; changes = []; capacity = limits.ring; max = max limits.ring limits.ring_max }) }
     {
@@ -146,7 +150,7 @@ impl Mailbox {
             limit: limits.messages,
             messages: Vec::new(alloc),
             ring,
-            accepted: Vec::new(alloc),
+            accepted: Accepted::new(alloc, history),
             cursors: CursorSet::new(alloc, number),
         })
     }
@@ -185,14 +189,14 @@ impl Mailbox {
             return Err(Refusal::MailboxFull);
         }
         let uid = self.next;
-        let place = self.accepted.len();
+        let place = (uid - self.first_uid) as usize;
         let Ok(text) = job.text.copy() else {
             return Err(Refusal::NoMemory);
         };
         let Ok(()) = self.messages.reserve(1) else {
             return Err(Refusal::NoMemory);
         };
-        let Ok(()) = self.accepted.reserve(1) else {
+        let Ok(()) = self.accepted.accept(job.key, uid) else {
             return Err(Refusal::NoMemory);
         };
         let Ok(()) = log_change(&mut self.ring, &self.cursors, Change::Add(uid)) else {
@@ -209,7 +213,6 @@ impl Mailbox {
             },
             text,
         });
-        self.accepted.push_reserved((job.key, uid));
         self.next += 1;
         Ok(Receipt {
             mailbox: self.number,
@@ -240,11 +243,12 @@ impl Mailbox {
         }
     }
 
-    /// The copies that were accepted, each with its UID, in the order of the deliveries.
+    /// The copies that were accepted, each with its UID, in the order of the deliveries; none where
+    /// the mailbox doesn't keep them.
     pub fn accepted(&self) -> &[(CopyKey, u32)]
-        ensures { result.now ≡ self.now.accepted }
+        ensures { result.now ≡ kept_of self.now.history self.now.accepted }
     {
-        &self.accepted
+        self.accepted.kept()
     }
 
     /// The UID and the text of each message that is there, by rising UIDs. An error where memory is

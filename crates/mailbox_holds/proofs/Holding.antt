@@ -64,8 +64,8 @@ refused r m n seat changes wants fault kept t e still = record { kept = kept; sa
 
 -- ---- what is the same
 
-same_mailbox : (m n : Mail) → n.number ≡ m.number → n.uidvalidity ≡ m.uidvalidity → n.first_uid ≡ m.first_uid → n.limit ≡ m.limit → SameMailbox m n
-same_mailbox m n a b c d = record { number = a; uidvalidity = b; first_uid = c; limit = d }
+same_mailbox : (m n : Mail) → n.number ≡ m.number → n.uidvalidity ≡ m.uidvalidity → n.first_uid ≡ m.first_uid → n.limit ≡ m.limit → n.history ≡ m.history → SameMailbox m n
+same_mailbox m n a b c d e = record { number = a; uidvalidity = b; first_uid = c; limit = d; history = e }
 
 -- messages, window and cursors may have changed, and the log went on
 event : (m n : Mail) (changes : List Change) → IsKept m → IsKept n → Logs m n changes → n ≡ record m { messages = n.messages; window = n.window; cursors = n.cursors } → IsEvent m n changes
@@ -73,7 +73,7 @@ event m n changes before after logs rest = record {
   found_kept = before;
   left_kept = after;
   logs = logs;
-  same = same_mailbox m n (ap (λ (z : Mail). z.number) rest) (ap (λ (z : Mail). z.uidvalidity) rest) (ap (λ (z : Mail). z.first_uid) rest) (ap (λ (z : Mail). z.limit) rest);
+  same = same_mailbox m n (ap (λ (z : Mail). z.number) rest) (ap (λ (z : Mail). z.uidvalidity) rest) (ap (λ (z : Mail). z.first_uid) rest) (ap (λ (z : Mail). z.limit) rest) (ap (λ (z : Mail). z.history) rest);
   accepted = ap (λ (z : Mail). z.accepted) rest;
 }
 

@@ -12,6 +12,7 @@ use Rattle.shard_queue.specs.Seats.{capacity_of, history, numbers, producers_of}
 use Rattle.lane_work.specs.Account.{Account}
 use Rattle.lane_work.specs.Consuming.{items_of}
 use Rattle.lane_work.specs.Speaking.{premises_of}
+use Rattle.mailbox.specs.declared.history.History.TheVariants.{Kept}
 use Rattle.house_floor.specs.Crew.{IsHouse}
 use Rattle.house_floor.specs.Opening.{reply_room}
 use Rattle.house_floor.specs.declared.floor.Floor.{Floor}
@@ -61,6 +62,8 @@ pub record AreSizesFor (plan : Plan) (sizes : Sizes) : Type 0 where
   pub workers : sizes.workers ≡ length plan.workers.items
   pub depth : sizes.depth ≡ plan.config.depth
   pub ring : 0 < sizes.limits.ring
+  -- what was accepted is compared, so it is kept
+  pub history : sizes.history ≡ Kept
   pub turns : sizes.turns ≡ plan.turns
 
 -- this is the floor of this plan's house

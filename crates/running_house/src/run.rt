@@ -9,7 +9,7 @@ use crate::plan::{Plan, Report, WorkFault, directory_for};
 use crate::report::report_of;
 use house_floor::{Opened, Sizes, open};
 use house_threads::{Started, run_threads};
-use mailbox::Limits;
+use mailbox::{History, Limits};
 use pace::Gate;
 use reckoning::abandon;
 use std::alloc::Global;
@@ -35,6 +35,7 @@ fn sizes_of(plan: &Plan) -> Sizes<'_>
             ring: config.ring,
             ring_max: config.ring_max,
         },
+        history: History::Kept,
         turns: plan.turns,
     }
 }

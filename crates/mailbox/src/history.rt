@@ -1,0 +1,75 @@
+//! The copies that a mailbox took. Contracts speak of all of them; where they are not kept, none is
+//! there at run time. Messages, which come and go, are not told here.
+
+ghost use Rattle.std.specs.Prelude.{◌≡◌, [], ◌∷◌, ◌++◌, OnOk, OnErr, IsOk};
+ghost use Rattle.mailbox.specs.Copies.{kept_of};
+
+use delivery_token::CopyKey;
+use http_server::Log;
+use std::alloc::{AllocError, Global};
+use std::marker::Model;
+
+/// Whether a mailbox keeps which copies it took. It stays as it was made.
+#[derive(Clone, Copy, Debug, PartialEq, Eq)]
+pub enum History {
+    /// Each copy can be read, with its UID, for as long as the mailbox is there.
+    Kept,
+    /// None can be read, and none takes memory.
+    Unkept,
+}
+
+// The copies that were accepted, each with its UID.
+#[derive(Drop)]
+pub(crate) struct Accepted {
+    history: History,
+    kept: Vec<(CopyKey, u32)>,
+    // All of them, for contracts alone.
+    all: Log<CopyKey, u32>,
+}
+
+impl Model for Accepted {
+    ghost use Rattle.std.specs.Prelude.{◌≡◌};
+    ghost use Rattle.mailbox.specs.Copies.{Copies, kept_of};
+
+    ghost Value = { Copies };
+
+    ghost view = { λ a. record { history = a.history; items = a.all.items } };
+
+    ghost invariant = { λ a. a.kept.items ≡ kept_of a.history a.all.items };
+}
+
+impl Accepted {
+    // None was accepted.
+    pub(crate) fn new(alloc: Global, history: History) -> Accepted
+        ensures { result ≡ record { history = history; items = [] } }
+    {
+        Accepted {
+            history,
+            kept: Vec::new(alloc),
+            all: Log::new(),
+        }
+    }
+
+    // One more, under this UID. An error where memory is refused, which is wanted only where they are
+    // kept; nothing is then changed.
+    pub(crate) fn accept(&mut self, key: CopyKey, uid: u32) -> Result<(), AllocError>
+        ensures ok { OnOk result (self.new ≡ record self.old { items = self.old.items ++ (key, uid) ∷ [] }) }
+        ensures err { OnErr result (self.new ≡ self.old) }
+        ensures unkept { self.old.history ≡ History.Unkept → IsOk result }
+    {
+        if let History::Kept = self.history {
+            let Ok(()) = self.kept.push((key, uid)) else {
+                return Err(AllocError);
+            };
+        }
+        self.all = self.all.and(&key, &uid);
+        Ok(())
+    }
+
+    // Those that are kept.
+    pub(crate) fn kept(&self) -> &[(CopyKey, u32)]
+        ensures { result.now ≡ kept_of self.now.history self.now.items }
+    {
+        &self.kept
+    }
+}
