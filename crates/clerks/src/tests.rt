@@ -20,7 +20,7 @@ use envelope::Directory;
 use house_floor::{Baskets, Crew, Floor, Opened, Post, Sizes, Stand, open};
 use lane_seats::{close_lanes, collect, spend_lists};
 use lane_work::{Consumed, Depot, Desk, Office, end_all};
-use mailbox::{Limits, Mailbox};
+use mailbox::{History, Limits, Mailbox};
 use pace::{Actor, Pace};
 use shard_queue::{
     ConsumerSeat, Ended, Entry, Full, ProducerSeat, ReceiverSeat, ReplyChannel, SenderEnded,
@@ -421,6 +421,7 @@ const SIZES: Sizes<'static> = Sizes {
     uidvalidity: 7,
     first_uid: 1,
     limits: LIMITS,
+    history: History::Kept,
     turns: 10,
 };
 

@@ -8,6 +8,7 @@ use crate::floor::Visit;
 use crate::users::inbox_numbered;
 use crossbeam_utils::sync::{Parker, Unparker};
 use envelope::Directory;
+use session_bells::{SessionBell, Sleeper};
 use std::alloc::{AllocError, Global};
 
 /// All bells of a house.
@@ -18,12 +19,12 @@ pub(crate) struct Bells {
     /// What rings it.
     pub(crate) consumers: Vec<Unparker>,
     /// Each session's own end of its bell.
-    pub(crate) sleepers: Vec<Parker>,
+    pub(crate) sleepers: Vec<Sleeper>,
     /// For each mailbox, what rings the sessions of its user.
-    pub(crate) sessions: Vec<Vec<Unparker>>,
+    pub(crate) sessions: Vec<Vec<SessionBell>>,
 }
 
-// So many new bells, their sleepers' ends.
+// So many new bells of consumers, their own ends.
 fn make_parkers(alloc: Global, count: usize) -> Result<Vec<Parker>, AllocError>
     ensures count { IfOk result (λ v. vec_len v ≡ count) }
 {
@@ -34,7 +35,18 @@ fn make_parkers(alloc: Global, count: usize) -> Result<Vec<Parker>, AllocError>
     Ok(parkers)
 }
 
-// What rings each of them.
+// So many new bells of sessions, their own ends.
+fn make_sleepers(alloc: Global, count: usize) -> Result<Vec<Sleeper>, AllocError>
+    ensures count { IfOk result (λ v. vec_len v ≡ count) }
+{
+    let mut sleepers = Vec::with_capacity(alloc, count)?;
+    for _ in 0..count {
+        sleepers.push_reserved(Sleeper::new(alloc)?);
+    }
+    Ok(sleepers)
+}
+
+// What rings each consumer's.
 fn make_bells(alloc: Global, parkers: &[Parker]) -> Result<Vec<Unparker>, AllocError>
     ensures count { IfOk result (λ v. vec_len v ≡ length parkers.now) }
 {
@@ -61,15 +73,15 @@ fn bells_of(
     directory: &Directory,
     mailbox: u8,
     visits: &[Visit],
-    sleepers: &[Parker],
-) -> Result<Vec<Unparker>, AllocError>
+    sleepers: &[Sleeper],
+) -> Result<Vec<SessionBell>, AllocError>
     requires mailbox { mailbox < length directory.now.homes }
     requires sleepers { length sleepers.now ≡ length visits.now }
 {
     let mut bells = Vec::new(alloc);
     for session in 0..visits.len() {
         if is_of(directory, mailbox, visits[session].user) {
-            bells.push(sleepers[session].unparker().clone()?)?;
+            bells.push(sleepers[session].bell()?)?;
         }
     }
     Ok(bells)
@@ -80,8 +92,8 @@ fn make_session_bells(
     alloc: Global,
     directory: &Directory,
     visits: &[Visit],
-    sleepers: &[Parker],
-) -> Result<Vec<Vec<Unparker>>, AllocError>
+    sleepers: &[Sleeper],
+) -> Result<Vec<Vec<SessionBell>>, AllocError>
     requires sleepers { length sleepers.now ≡ length visits.now }
     ensures count { IfOk result (λ v. vec_len v ≡ length directory.now.homes) }
 {
@@ -105,7 +117,7 @@ pub(crate) fn hang_bells(
 {
     let parkers = make_parkers(alloc, usize::from(directory.shards()))?;
     let consumers = make_bells(alloc, &parkers)?;
-    let sleepers = make_parkers(alloc, visits.len())?;
+    let sleepers = make_sleepers(alloc, visits.len())?;
     let sessions = make_session_bells(alloc, directory, visits, &sleepers)?;
     Ok(Bells {
         parkers,

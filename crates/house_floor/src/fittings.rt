@@ -11,6 +11,7 @@ use crossbeam_utils::sync::{Parker, Unparker};
 use delivery_token::{Job, Noted, WorkerLog};
 use envelope::Directory;
 use mailbox::Mailbox;
+use session_bells::{SessionBell, Sleeper};
 use shard_queue::{Closed, ReplyClosed};
 use std::alloc::{AllocError, Global};
 use std::sync::Mutex;
@@ -40,7 +41,7 @@ pub(crate) struct Hall {
     /// What rings each consumer.
     pub(crate) consumers: Vec<Unparker>,
     /// For each mailbox, what rings the sessions of its user.
-    pub(crate) sessions: Vec<Vec<Unparker>>,
+    pub(crate) sessions: Vec<Vec<SessionBell>>,
 }
 
 /// All of a house that may be let go.
@@ -50,10 +51,26 @@ pub(crate) struct Fittings {
     /// Each consumer's own end of its bell.
     pub(crate) parkers: Vec<Parker>,
     /// Each session's own end of its bell.
-    pub(crate) sleepers: Vec<Parker>,
+    pub(crate) sleepers: Vec<Sleeper>,
     /// Room for what each session will have said.
     pub(crate) said: Vec<Result<Vec<u8>, AllocError>>,
     pub(crate) papers: Papers,
+}
+
+// The empty mailbox of this number.
+fn make_mailbox(alloc: Global, number: u8, sizes: Sizes<'_>) -> Result<Mailbox, AllocError>
+    requires ring { 0 < sizes.limits.ring }
+    ensures numbers { IfOk result (λ m. (m.number ≡ number) × (m.uidvalidity ≡ sizes.entry.uidvalidity) × (m.first_uid ≡ sizes.entry.first_uid)) }
+    ensures keeps { IfOk result (λ m. (m.limit ≡ sizes.entry.limits.messages) × (m.history ≡ sizes.entry.history)) }
+{
+    let Sizes {
+        uidvalidity,
+        first_uid,
+        limits,
+        history,
+        ..
+    } = sizes;
+    Mailbox::new(alloc, number, uidvalidity, first_uid, limits, history)
 }
 
 // So many empty mailboxes, each behind a lock.
@@ -66,16 +83,9 @@ fn make_mailboxes(
     requires ring { 0 < sizes.limits.ring }
     ensures count { IfOk result (λ v. vec_len v ≡ count) }
 {
-    let Sizes {
-        uidvalidity,
-        first_uid,
-        limits,
-        ..
-    } = sizes;
     let mut mailboxes = Vec::with_capacity(alloc, count)?;
     for number in 0..count {
-        let mailbox = Mailbox::new(alloc, number as u8, uidvalidity, first_uid, limits)?;
-        mailboxes.push_reserved(Mutex::new(mailbox));
+        mailboxes.push_reserved(Mutex::new(make_mailbox(alloc, number as u8, sizes)?));
     }
     Ok(mailboxes)
 }

@@ -3,7 +3,7 @@
 use crate::fittings::make_fittings;
 use crate::{Opened, Sizes, Visit, inbox_numbered, open};
 use envelope::Directory;
-use mailbox::Limits;
+use mailbox::{History, Limits};
 use std::alloc::Global;
 use std::mem::ManuallyDrop;
 use std::test::Fail;
@@ -61,6 +61,7 @@ fn each_mailbox_has_the_bells_of_its_user(rt: HostRuntime) -> Result<(), Fail> {
         uidvalidity: 7,
         first_uid: 1,
         limits: LIMITS,
+        history: History::Kept,
         turns: 10,
     };
     let fittings = make_fittings(alloc, &directory, sizes, &visits)?;
@@ -84,6 +85,7 @@ fn a_house_has_all_its_parts(rt: HostRuntime) -> Result<(), Fail> {
         uidvalidity: 7,
         first_uid: 1,
         limits: LIMITS,
+        history: History::Kept,
         turns: 10,
     };
     let opened = open(alloc, directory, sizes, &[])?;

@@ -5,14 +5,14 @@
 ghost use Rattle.std.specs.Prelude.{◌≡◌, IfErr};
 
 use crate::visit::Visit;
-use crossbeam_utils::sync::{Parker, Unparker};
 use imap_session::After;
 use line_io::Sink;
 use pace::Gate;
+use session_bells::Sleeper;
 use std::alloc::Global;
 use std::io::{ErrorKind, Read};
 use std::sync::atomic::{AtomicBool, Ordering};
-use std::sync::{Mutex, Wait};
+use std::sync::{Arc, Mutex, Wait};
 
 /// Where one client at a time is served. Its visit stands under a lock, which is held while it is heard
 /// and while what it said is sent, and not while its bytes are awaited.
@@ -20,22 +20,16 @@ use std::sync::{Mutex, Wait};
 pub struct Place<'a, R: Wait, G: Gate, W: Sink> {
     visit: Mutex<Option<Visit<'a, R, G, W>>>,
     // Whether the session idles, for those who log changes. It is set before the session's first turn.
-    idles: AtomicBool,
+    idles: Arc<AtomicBool>,
 }
 
 impl<'a, R: Wait, G: Gate, W: Sink + Drop> Place<'a, R, G, W> {
-    /// A place with no client.
-    pub fn new() -> Place<'a, R, G, W> {
+    /// A place with no client. `idles` is the mark of its bell, which wakes the place's watch while it
+    /// is set.
+    pub fn new(idles: Arc<AtomicBool>) -> Place<'a, R, G, W> {
         Place {
             visit: Mutex::new(None),
-            idles: AtomicBool::new(false),
-        }
-    }
-
-    /// For whoever logged a change: wakes the place's watch, where its session idles.
-    pub fn ring(&self, bell: &Unparker) {
-        if self.idles.load(Ordering::SeqCst) {
-            bell.unpark();
+            idles,
         }
     }
 
@@ -67,9 +61,9 @@ impl<'a, R: Wait, G: Gate, W: Sink + Drop> Place<'a, R, G, W> {
 
     /// Sleeps until the bell is rung, and shows the client what there is, where there is one and its
     /// session idles; so again and again, until it is rung and `over` is set.
-    pub fn keep_watch(&self, rt: &R, bell: &Parker, over: &AtomicBool) {
+    pub fn keep_watch(&self, rt: &R, bell: &Sleeper, over: &AtomicBool) {
         for _ in rt.forever() {
-            bell.park(rt);
+            bell.sleep(rt);
             if over.load(Ordering::SeqCst) {
                 return;
             }
@@ -139,7 +133,7 @@ impl<'a, R: Wait, G: Gate, W: Sink + Drop> Place<'a, R, G, W> {
         let Some(visit) = &mut *held else {
             return false;
         };
-        match visit.hear(alloc, piece, &self.idles) {
+        match visit.hear(alloc, piece, &*self.idles) {
             Ok(after) => after != After::Bye,
             Err(_) => false,
         }

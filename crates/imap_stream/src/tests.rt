@@ -5,12 +5,12 @@ ghost use Rattle.std.specs.Prelude.{◌≡◌, false};
 
 use crate::place::Place;
 use crate::visit::{Visit, VisitFault};
-use crossbeam_utils::sync::{Parker, Unparker};
 use delivery_token::{CopyKey, Job, Text};
 use imap_session::{After, Folder};
 use line_io::{Sink, Watched};
-use mailbox::{Limits, Mailbox};
+use mailbox::{History, Limits, Mailbox};
 use pace::{Actor, Gate};
+use session_bells::{SessionBell, Sleeper};
 use session_thread::LockedDesk;
 use std::alloc::{AllocError, Global};
 use std::io::{self, Error, ErrorKind, Read};
@@ -205,7 +205,7 @@ fn a_mailbox<R: Wait>(
     has_message: bool,
 ) -> Result<Vec<Mutex<Mailbox>>, AllocError> {
     let mut mailboxes = Vec::new(alloc);
-    mailboxes.push(Mutex::new(Mailbox::new(alloc, 0, 7, 1, SMALL)?))?;
+    mailboxes.push(Mutex::new(Mailbox::new(alloc, 0, 7, 1, SMALL, History::Kept)?))?;
     let job = copy(alloc)?;
     if has_message && !deliver(rt, &mailboxes, &job) {
         return Err(AllocError);
@@ -332,7 +332,7 @@ fn attend<'a, R: Wait>(
     place: &Place<'a, R, Tally, Wire<'a, R>>,
     visit: Visit<'a, R, Tally, Wire<'a, R>>,
     marks: &Marks,
-    bell: &Unparker,
+    bell: &SessionBell,
 ) -> bool {
     let mut idler = Idler { reads: 0, marks };
     let mut buffer = [0; 64];
@@ -341,7 +341,7 @@ fn attend<'a, R: Wait>(
         .attend(rt, alloc, visit, &mut idler, &mut buffer, &never)
         .is_ok();
     marks.over.store(true, Ordering::SeqCst);
-    bell.unpark();
+    bell.wake();
     is_done
 }
 
@@ -350,13 +350,12 @@ fn bring<R: Wait>(
     rt: &R,
     mailboxes: &[Mutex<Mailbox>],
     job: &Job,
-    place: &Place<'_, R, Tally, Wire<'_, R>>,
     marks: &Marks,
-    bell: &Unparker,
+    bell: &SessionBell,
 ) -> bool {
     wait_until(&marks.waits);
     let is_stored = deliver(rt, mailboxes, job);
-    place.ring(bell);
+    bell.ring();
     is_stored
 }
 
@@ -369,18 +368,18 @@ fn serve_idler<'a, R: Threads + Wait + Sync>(
     marks: &'a Marks,
 ) -> Result<bool, AllocError> {
     let job = copy(alloc)?;
-    let parker = Parker::new(alloc)?;
-    let bell = parker.unparker().clone()?;
-    let place = Place::new();
+    let sleeper = Sleeper::new(alloc)?;
+    let bell = sleeper.bell()?;
+    let place = Place::new(sleeper.idling()?);
     let (shared, rung, brought) = (&place, &bell, &job);
     let (_watched, (is_done, is_stored)) = join(
         rt,
-        move || shared.keep_watch(rt, &parker, &marks.over),
+        move || shared.keep_watch(rt, &sleeper, &marks.over),
         move || {
             join(
                 rt,
                 move || attend(rt, alloc, shared, visit, marks, rung),
-                move || bring(rt, mailboxes, brought, shared, marks, rung),
+                move || bring(rt, mailboxes, brought, marks, rung),
             )
         },
     );

@@ -2,6 +2,7 @@
 //! heard, so none is lost, and one too many costs a look. Nothing is proved of them.
 
 use crossbeam_utils::sync::{Parker, Unparker};
+use session_bells::{SessionBell, ring_each};
 use std::hint;
 use std::sync::Wait;
 
@@ -24,16 +25,11 @@ impl Summons for Vec<Unparker> {
     }
 }
 
-/// Wakes all sessions of the user to whom a mailbox belongs. Where there is none it does nothing.
-pub(crate) fn ring_sessions(sessions: &[Vec<Unparker>], mailbox: u8) {
+/// Wakes the sessions that idle, of the user to whom a mailbox belongs. Where there is none it does
+/// nothing.
+pub(crate) fn ring_sessions(sessions: &[Vec<SessionBell>], mailbox: u8) {
     if let Some(bells) = sessions.get(usize::from(mailbox)) {
-        ring_all(bells);
-    }
-}
-
-fn ring_all(bells: &[Unparker]) {
-    for bell in bells {
-        bell.unpark();
+        ring_each(bells);
     }
 }
 

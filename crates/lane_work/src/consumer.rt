@@ -13,10 +13,11 @@ ghost use Rattle.lane_work.specs.Ends.{ends_in};
 use crate::answering::serve_copy;
 use crate::bells::wait_for;
 use crate::ending::end_senders;
-use crossbeam_utils::sync::{Parker, Unparker};
+use crossbeam_utils::sync::Parker;
 use delivery_token::{Job, Noted};
 use mailbox::Mailbox;
 use pace::{Gate, Pace};
+use session_bells::SessionBell;
 use shard_queue::{ConsumerSeat, ReplyChannel, SenderEnded, SenderSeat, ShardQueue, Taken};
 use std::sync::{Mutex, Wait};
 
@@ -28,7 +29,7 @@ pub struct Depot {
     pub channels: Vec<ReplyChannel<Noted>>,
     /// The bells of the sessions that may look at a mailbox, by its number: they are rung after a
     /// delivery to it. Where a mailbox has none nothing is rung.
-    pub sessions: Vec<Vec<Unparker>>,
+    pub sessions: Vec<Vec<SessionBell>>,
 }
 
 /// What one consumer holds.

@@ -4,14 +4,13 @@
 ghost use Rattle.std.specs.Prelude.{◌≡◌, None, length};
 ghost use Rattle.session_thread.specs.Locks.{Holds, shown_in};
 
-use crate::bells::ring;
 use crate::locked;
 use change_ring::{FlagOp, Flags};
-use crossbeam_utils::sync::Unparker;
 use cursor_set::CursorSeat;
 use imap_session::Store;
 use mailbox::{MailFault, Mailbox, Opening, Row, Status};
 use pace::{Actor, Gate, Pace};
+use session_bells::{SessionBell, ring_each};
 use std::alloc::Global;
 use std::marker::Model;
 use std::sync::{Mutex, Wait};
@@ -62,7 +61,7 @@ pub struct LockedDesk<'a, R: Wait, G: Gate> {
     pace: Pace<'a, G>,
     mailboxes: &'a [Mutex<Mailbox>],
     // Those of its user's sessions.
-    bells: &'a [Unparker],
+    bells: &'a [SessionBell],
     entered: Option<Entry>,
 }
 
@@ -86,7 +85,7 @@ impl<'a, R: Wait, G: Gate> LockedDesk<'a, R, G> {
         gate: &'a G,
         session: u8,
         mailboxes: &'a [Mutex<Mailbox>],
-        bells: &'a [Unparker],
+        bells: &'a [SessionBell],
     ) -> LockedDesk<'a, R, G>
         ensures { result ≡ record { mailboxes = length mailboxes.now; entered = None } }
     {
@@ -151,7 +150,7 @@ impl<'a, R: Wait, G: Gate> Store for LockedDesk<'a, R, G> {
         let lock = &mailboxes[usize::from(here.mailbox)];
         let row = locked::read(self.rt, lock, &here.seat, uid, mark_seen);
         if has_marked(&row) {
-            ring(self.bells);
+            ring_each(self.bells);
         }
         row
     }
@@ -176,7 +175,7 @@ impl<'a, R: Wait, G: Gate> Store for LockedDesk<'a, R, G> {
         // Also where the flags were so before: the mailbox doesn't tell, and a ring too many costs
         // a turn.
         if has_stored(&flags) {
-            ring(self.bells);
+            ring_each(self.bells);
         }
         flags
     }
@@ -190,7 +189,7 @@ impl<'a, R: Wait, G: Gate> Store for LockedDesk<'a, R, G> {
         let gone = locked::expunge(self.rt, lock, &mut here.seat, uids, out);
         self.entered = Some(here);
         if has_removed(&gone) {
-            ring(self.bells);
+            ring_each(self.bells);
         }
         gone
     }
@@ -215,7 +214,7 @@ impl<'a, R: Wait, G: Gate> Store for LockedDesk<'a, R, G> {
         match locked::leave(self.rt, lock, here.seat, remove) {
             Ok(gone) => {
                 if gone > 0 {
-                    ring(self.bells);
+                    ring_each(self.bells);
                 }
                 Ok(gone)
             }

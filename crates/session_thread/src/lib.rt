@@ -3,7 +3,6 @@
 //! client is answered in `imap_session`; who starts the threads stands above.
 #![tactic(auto)]
 
-mod bells;
 mod desk;
 mod laws;
 mod life;
@@ -11,7 +10,6 @@ mod locked;
 #[cfg(test)]
 mod tests;
 
-pub use bells::ring;
 pub use desk::LockedDesk;
 pub use laws::pieces_abut;
 pub use life::{Step, live};

@@ -1,15 +1,14 @@
 //! Sessions that read what another thread delivers, their gate and their bells. What they are shown is
 //! written in RFC 9051, 6.3.2, 6.4.5 and 7.4.
 
-use crate::bells::ring;
 use crate::desk::LockedDesk;
 use crate::life::{Step, live};
 use change_ring::{FlagOp, Flags};
-use crossbeam_utils::sync::{Parker, Unparker};
 use delivery_token::{CopyKey, Job, Text};
 use imap_session::{Folder, Store};
-use mailbox::{Limits, MailFault, Mailbox};
+use mailbox::{History, Limits, MailFault, Mailbox};
 use pace::{Actor, Gate};
+use session_bells::{SessionBell, Sleeper, ring_each};
 use std::alloc::{AllocError, Global};
 use std::sync::atomic::{AtomicBool, AtomicU64, Ordering};
 use std::sync::{Mutex, Wait};
@@ -71,8 +70,8 @@ impl Gate for Order {
 
 fn two_mailboxes(alloc: Global) -> Result<Vec<Mutex<Mailbox>>, AllocError> {
     let mut mailboxes = Vec::new(alloc);
-    mailboxes.push(Mutex::new(Mailbox::new(alloc, 0, 7, 1, SMALL)?))?;
-    mailboxes.push(Mutex::new(Mailbox::new(alloc, 1, 8, 1, SMALL)?))?;
+    mailboxes.push(Mutex::new(Mailbox::new(alloc, 0, 7, 1, SMALL, History::Kept)?))?;
+    mailboxes.push(Mutex::new(Mailbox::new(alloc, 1, 8, 1, SMALL, History::Kept)?))?;
     Ok(mailboxes)
 }
 
@@ -106,7 +105,7 @@ fn deliver<R: Wait>(
     rt: &R,
     mailboxes: &[Mutex<Mailbox>],
     order: &Order,
-    bells: &[Unparker],
+    bells: &[SessionBell],
     job: &Job,
 ) -> bool {
     order.pass(Actor::Consumer(0), 0);
@@ -115,7 +114,7 @@ fn deliver<R: Wait>(
     };
     let is_stored = mailbox.lock(rt).deliver(job).is_ok();
     order.delivered.store(true, Ordering::SeqCst);
-    ring(bells);
+    ring_each(bells);
     is_stored
 }
 
@@ -124,7 +123,7 @@ fn session<R: Wait>(
     alloc: Global,
     mailboxes: &[Mutex<Mailbox>],
     order: &Order,
-    bells: &[Unparker],
+    bells: &[SessionBell],
     steps: &[Step],
 ) -> Option<Vec<u8>> {
     let Ok(folders) = folders(alloc) else {
@@ -146,9 +145,10 @@ fn run_both<R: Threads + Wait + Sync>(
 ) -> Result<Vec<u8>, AllocError> {
     let mailboxes = two_mailboxes(alloc)?;
     let job = copy(alloc)?;
-    let bell = Parker::new(alloc)?;
+    let bell = Sleeper::new(alloc)?;
+    bell.idling()?.store(true, Ordering::SeqCst);
     let mut bells = Vec::new(alloc);
-    bells.push(bell.unparker().clone()?)?;
+    bells.push(bell.bell()?)?;
     let (is_stored, said) = join(
         rt,
         || deliver(rt, &mailboxes, order, &bells, &job),
@@ -220,15 +220,15 @@ fn sleep_and_look<R: Wait>(
     alloc: Global,
     mailboxes: &[Mutex<Mailbox>],
     order: &Order,
-    bells: &[Unparker],
-    bell: Parker,
+    bells: &[SessionBell],
+    bell: Sleeper,
 ) -> Option<Vec<u8>> {
     let mut said = Vec::new(alloc);
     let mut desk = LockedDesk::new(rt, order, 0, mailboxes, bells);
     if desk.enter(0).is_err() || desk.feed(64, &mut said).is_err() {
         return None;
     }
-    bell.park(rt);
+    bell.sleep(rt);
     let fed = desk.feed(64, &mut said);
     if fed.is_err() || desk.shown() != 1 {
         return None;
@@ -240,9 +240,10 @@ fn ring_once<R: Threads + Wait + Sync>(rt: &R, alloc: Global) -> Result<Vec<u8>,
     let order = Order::new(Actor::Session(0));
     let mailboxes = two_mailboxes(alloc)?;
     let job = copy(alloc)?;
-    let bell = Parker::new(alloc)?;
+    let bell = Sleeper::new(alloc)?;
+    bell.idling()?.store(true, Ordering::SeqCst);
     let mut bells = Vec::new(alloc);
-    bells.push(bell.unparker().clone()?)?;
+    bells.push(bell.bell()?)?;
     let (boxes, held, rung) = (mailboxes.as_slice(), &order, bells.as_slice());
     let (said, is_stored) = join(
         rt,
@@ -424,8 +425,8 @@ fn wakes_each_time<R: Wait>(
     rt: &R,
     alloc: Global,
     mailboxes: &[Mutex<Mailbox>],
-    bells: &[Unparker],
-    bell: &Parker,
+    bells: &[SessionBell],
+    bell: &Sleeper,
 ) -> bool {
     let tally = Tally::new();
     let mut out = Vec::new(alloc);
@@ -433,13 +434,13 @@ fn wakes_each_time<R: Wait>(
     if desk.enter(0).is_err() || desk.read(1, true).is_err() {
         return false;
     }
-    bell.park(rt);
+    bell.sleep(rt);
     if desk.store(1, FlagOp::Insert(DELETED)).is_err() {
         return false;
     }
-    bell.park(rt);
+    bell.sleep(rt);
     let gone = desk.expunge(None, &mut out);
-    bell.park(rt);
+    bell.sleep(rt);
     gone == Ok(1)
 }
 
@@ -447,9 +448,10 @@ fn wakes_each_time<R: Wait>(
 fn a_change_rings_the_users_bells(rt: HostRuntime) -> Result<(), AllocError> {
     let alloc = rt.alloc();
     let mailboxes = with_a_message(&rt, alloc)?;
-    let bell = Parker::new(alloc)?;
+    let bell = Sleeper::new(alloc)?;
+    bell.idling()?.store(true, Ordering::SeqCst);
     let mut bells = Vec::new(alloc);
-    bells.push(bell.unparker().clone()?)?;
+    bells.push(bell.bell()?)?;
     assert!(rt; wakes_each_time(&rt, alloc, &mailboxes, &bells, &bell));
     Ok(())
 }
