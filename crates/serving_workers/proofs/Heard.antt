@@ -1,0 +1,38 @@
+-- What the workers leave, said of its parts in lists of their own.
+use Rattle.std.proofs.Common.{◌≡◌, ◌<◌, ◌+◌, ◌∙◌, ℕ, suc, List, [], ◌∷◌, All, length, map, drop, sym, ap, refl, subst, vec_len, arith}
+use Rattle.std.proofs.lemmas.List.Elements.{All-cons, All-nil}
+use Rattle.shard_queue.specs.declared.queue.Ended.{Ended}
+use Rattle.shard_queue.specs.declared.queue.ShardQueue.{ShardQueue}
+use Rattle.delivery_token.specs.declared.Job.{Job}
+use Rattle.lane_work.specs.Seats.{AreEnded}
+use Rattle.lane_work.specs.declared.worker.Worked.{Worked}
+use Rattle.lane_seats.specs.Rows.{AreEndedHands}
+use Rattle.lane_seats.specs.SenderRows.{AreReceivers}
+use Rattle.house_floor.specs.Crew.{AllAt}
+use Rattle.house_floor.specs.declared.floor.Floor.{Floor}
+use Rattle.reckoning.proofs.Parts.{from_here, past_all, some_at}
+use Rattle.serving_workers.specs.Leaving.{HasHeard}
+
+ended_length : (qs : List (ShardQueue Job)) (p : ℕ) (es : List (Ended Job)) → AreEnded qs p es → length es ≡ length qs
+ended_length [] p [] h = refl
+ended_length [] p (e ∷ es) h = absurd h
+ended_length (q ∷ qs) p [] h = absurd h
+ended_length (q ∷ qs) p (e ∷ es) h = ap suc (ended_length qs p es h.1)
+
+module _ (floor : Floor) where
+  pub ended_of : (n : ℕ) (ws : List Worked) → AllAt (HasHeard floor) n ws → AreEndedHands floor.office.lanes.items n (map (λ w. w.ended.items) ws)
+  ended_of n [] all = tt
+  ended_of n (w ∷ ws) all = (all.0.ended, ended_of (suc n) ws all.1)
+
+  pub receivers_of : (n : ℕ) (ws : List Worked) → AllAt (HasHeard floor) n ws → n + length ws ≡ length floor.depot.channels.items → AreReceivers (drop n floor.depot.channels.items) (map (λ w. w.receiver) ws)
+  receivers_of n [] all count = subst (λ cs. AreReceivers cs []) (sym (past_all floor.depot.channels.items n (omega (arith, count)))) tt
+  receivers_of n (w ∷ ws) all count =
+      let channel = some_at floor.depot.channels.items n (omega (arith, count)) in
+      subst (λ cs. AreReceivers cs (w.receiver ∷ map (λ v. v.receiver) ws)) (sym (from_here floor.depot.channels.items n channel.0 channel.1))
+      (all.0.receiver channel.0 channel.1, receivers_of (suc n) ws all.1 (omega (arith, count)))
+
+  pub lengths_of : (n : ℕ) (ws : List Worked) → AllAt (HasHeard floor) n ws → All (λ (w : Worked). vec_len w.ended ≡ length floor.office.lanes.items) ws
+  lengths_of n [] all = All-nil (λ (w : Worked). vec_len w.ended ≡ length floor.office.lanes.items)
+  lengths_of n (w ∷ ws) all =
+      let count = ended_length floor.office.lanes.items n w.ended.items all.0.ended in
+      All-cons (λ (v : Worked). vec_len v.ended ≡ length floor.office.lanes.items) w ws (omega (arith, count, w.ended.ok.0)) (lengths_of (suc n) ws all.1)

@@ -1,0 +1,2 @@
+mod Lives
+mod Heard

@@ -1,0 +1,9 @@
+use Rattle.std.proofs.Common.{◌≡◌, ◌≤◌, ◌+◌, vec_len, vec_capacity}
+use Rattle.house_floor.specs.Crew.{AllAt}
+use Rattle.serving_workers.specs.Leaving.{HasHeard, IsServed}
+use Rattle.serving_workers.proofs.closing.hear_all_out.Given as goal
+
+abbrev pub invariant-loop-number : goal.invariant-loop-number
+invariant-loop-number g l =
+    AllAt (IsServed l.floor) l.number l.left.items × (vec_len l.left + l.number ≡ vec_len l.fn.served)
+    × AllAt (HasHeard l.floor) 0 l.worked.items × (vec_len l.worked ≡ l.number) × (vec_len l.fn.served ≤ vec_capacity l.worked)

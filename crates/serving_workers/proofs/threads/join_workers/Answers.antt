@@ -1,0 +1,18 @@
+use Rattle.std.proofs.Common.{rules, ◌≡◌, ◌∷◌, sym, subst, vec_len, arith}
+use Rattle.std.specs.Vec.Iter.{into_iter_items}
+use Rattle.house_floor.specs.Crew.{AllAt}
+use Rattle.house_floor.proofs.Places.{head_at, more_at}
+use Rattle.serving_workers.specs.Leaving.{IsHired, IsServed}
+use Rattle.serving_workers.proofs.threads.join_workers.Goals as goal
+
+pub loop-one-preserved : goal.loop-one-preserved
+loop-one-preserved g c =
+    let v = c.loop-one.invariant in
+    let floor = c.args.floor.now in
+    let first : into_iter_items c.loop-one.one-iterator ≡ c.in-Some.one ∷ into_iter_items c.next.new.self = search rules in
+    let f = head_at (IsHired floor) (vec_len c.loop-one.served) (into_iter_items c.loop-one.one-iterator) (into_iter_items c.next.new.self) c.in-Some.one first v.0 in (
+      subst (λ n. AllAt (IsHired floor) n (into_iter_items c.next.new.self)) (sym c.push_reserved.ensures.len) f.1,
+      search rules,
+      search rules,
+      more_at (IsServed floor) 0 c.loop-one.served.items c.push_reserved.new.self.items c.join_worker.result (vec_len c.loop-one.served) c.push_reserved.ensures.items v.3 (omega (arith, c.loop-one.served.ok.0)) (c.join_worker.ensures (vec_len c.loop-one.served) f.0),
+    )

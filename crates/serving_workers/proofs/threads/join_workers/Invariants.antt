@@ -1,0 +1,11 @@
+use Rattle.std.proofs.Common.{◌≡◌, ◌≤◌, ◌+◌, vec_len, vec_capacity}
+use Rattle.std.specs.Vec.Iter.{into_iter_items, into_iter_len}
+use Rattle.house_floor.specs.Crew.{AllAt}
+use Rattle.serving_workers.specs.Leaving.{IsHired, IsServed}
+use Rattle.serving_workers.proofs.threads.join_workers.Given as goal
+
+abbrev pub invariant-loop-one : goal.invariant-loop-one
+invariant-loop-one g l =
+    AllAt (IsHired l.floor) (vec_len l.served) (into_iter_items l.one-iterator)
+    × (into_iter_len l.one-iterator + vec_len l.served ≡ vec_len l.fn.hired) × (vec_len l.fn.hired ≤ vec_capacity l.served)
+    × AllAt (IsServed l.floor) 0 l.served.items

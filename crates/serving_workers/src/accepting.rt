@@ -1,0 +1,222 @@
+//! A worker's life in a server: one connection after another, until the house stops, and then the end of its seat on each lane. What is
+//! said on a connection stands in `lmtp_stream`.
+
+ghost use Rattle.std.specs.Prelude.{◌≡◌, ◌≤◌, ◌<◌, [], length, vec_capacity};
+ghost use Rattle.delivery_token.specs.declared.log.Noted.{Noted};
+ghost use Rattle.shard_queue.specs.declared.ends.ReplyChannel.{ReplyChannel};
+ghost use Rattle.shard_queue.specs.Reply.{IsReceiver};
+ghost use Rattle.lane_work.specs.Seats.{AreEnded, AreSeats};
+
+use crate::door::Door;
+use delivery_token::{Job, Noted};
+use house_floor::Post;
+use lane_work::{Desk, Office, Summons, Unkept, end_all};
+use line_io::Watched;
+use lmtp_stream::{TalkFault, converse};
+use loopback::{Patience, Slot, prepare};
+use pace::{Gate, Pace};
+use shard_queue::{Ended, ReceiverSeat, ReplyChannel};
+use std::alloc::Global;
+use std::net::TcpStream;
+use std::sync::Wait;
+
+/// What a worker of a server leaves.
+pub struct Served {
+    /// What is left of its seat on each lane.
+    pub ended: Vec<Ended<Job>>,
+    /// Its end of its reply channel.
+    pub receiver: ReceiverSeat<Noted>,
+    /// How many shards' ends it has heard there.
+    pub ends: usize,
+    /// Whether it heard a verdict that it didn't await, after which it served nobody.
+    pub torn: bool,
+}
+
+/// Room that a worker uses for each connection anew.
+#[derive(Drop)]
+pub struct Buffers {
+    /// For what comes; not empty.
+    pub input: Vec<u8>,
+    /// For what is said.
+    pub output: Vec<u8>,
+}
+
+// One connection, from its greeting to its end, and whether a verdict came that the worker didn't await.
+fn serve_one<R: Wait, G: Gate, S: Summons>(
+    rt: &R,
+    alloc: Global,
+    pace: &mut Pace<'_, G>,
+    office: &Office,
+    summons: &S,
+    channel: &ReplyChannel<Noted>,
+    desk: &mut Desk,
+    serial: u64,
+    door: &Door<'_>,
+    stream: &TcpStream,
+    buffers: &mut Buffers,
+) -> bool
+    requires seats { AreSeats office.now.lanes.items desk.old.number desk.old.seats.items }
+    requires receiver { IsReceiver channel.now desk.old.receiver }
+    requires lanes { office.now.directory.shards ≡ length office.now.lanes.items }
+    requires host { length office.now.host.items < 256 }
+    requires room { 0 < length buffers.old.input.items }
+    ensures seats { AreSeats office.now.lanes.items desk.old.number desk.new.seats.items }
+    ensures receiver { IsReceiver channel.now desk.new.receiver }
+    ensures number { desk.new.number ≡ desk.old.number }
+    ensures room { length buffers.new.input.items ≡ length buffers.old.input.items }
+{
+    if prepare(stream, Patience::Limited).is_err() {
+        return false;
+    }
+    let mut input = stream;
+    let mut output = Watched::new(stream);
+    let ending = converse(
+        rt,
+        alloc,
+        pace,
+        office,
+        summons,
+        channel,
+        desk,
+        &mut Unkept,
+        serial,
+        &mut input,
+        &mut output,
+        door.stop,
+        buffers.input.as_mut_slice(),
+        &mut buffers.output,
+    );
+    matches!(ending, Err(TalkFault::Torn))
+}
+
+// The connection that was accepted is at hand while it is served. Whoever stops the house sets its mark first and then looks for what is
+// at hand, so a thread has to look at the mark behind that.
+fn attend<R: Wait, G: Gate, S: Summons>(
+    rt: &R,
+    alloc: Global,
+    pace: &mut Pace<'_, G>,
+    office: &Office,
+    summons: &S,
+    channel: &ReplyChannel<Noted>,
+    desk: &mut Desk,
+    serial: u64,
+    door: &Door<'_>,
+    slot: &Slot,
+    stream: &TcpStream,
+    buffers: &mut Buffers,
+) -> bool
+    requires seats { AreSeats office.now.lanes.items desk.old.number desk.old.seats.items }
+    requires receiver { IsReceiver channel.now desk.old.receiver }
+    requires lanes { office.now.directory.shards ≡ length office.now.lanes.items }
+    requires host { length office.now.host.items < 256 }
+    requires room { 0 < length buffers.old.input.items }
+    ensures seats { AreSeats office.now.lanes.items desk.old.number desk.new.seats.items }
+    ensures receiver { IsReceiver channel.now desk.new.receiver }
+    ensures number { desk.new.number ≡ desk.old.number }
+    ensures room { length buffers.new.input.items ≡ length buffers.old.input.items }
+{
+    if !slot.hold(rt, stream) {
+        return false;
+    }
+    let mut torn = false;
+    if !door.is_shut() {
+        torn = serve_one(
+            rt, alloc, pace, office, summons, channel, desk, serial, door, stream, buffers,
+        );
+        door.part(stream, buffers.input.as_mut_slice());
+    }
+    slot.clear(rt);
+    torn
+}
+
+// Serves one connection after another until the house stops, and answers whether a verdict came that it didn't await: then it serves
+// nobody any more.
+fn serve_all<R: Wait, G: Gate, S: Summons>(
+    rt: &R,
+    alloc: Global,
+    pace: &mut Pace<'_, G>,
+    office: &Office,
+    summons: &S,
+    channel: &ReplyChannel<Noted>,
+    desk: &mut Desk,
+    door: &Door<'_>,
+    slot: &Slot,
+    buffers: &mut Buffers,
+) -> bool
+    requires seats { AreSeats office.now.lanes.items desk.old.number desk.old.seats.items }
+    requires receiver { IsReceiver channel.now desk.old.receiver }
+    requires lanes { office.now.directory.shards ≡ length office.now.lanes.items }
+    requires host { length office.now.host.items < 256 }
+    requires room { 0 < length buffers.old.input.items }
+    ensures seats { AreSeats office.now.lanes.items desk.old.number desk.new.seats.items }
+    ensures receiver { IsReceiver channel.now desk.new.receiver }
+    ensures number { desk.new.number ≡ desk.old.number }
+{
+    let mut serial = 0u64;
+    for _ in rt.forever() {
+        let Some(stream) = door.next(rt) else {
+            return false;
+        };
+        if attend(
+            rt, alloc, pace, office, summons, channel, desk, serial, door, slot, &stream, buffers,
+        ) {
+            return true;
+        }
+        serial = serial.saturating_add(1);
+    }
+    unreachable!()
+}
+
+/// A worker's whole life in a server: one connection after another until the house stops, each with the worker's number for its seat and
+/// with the next serial from 0 on; then its end on each lane, from shard 0 on. What it leaves has heard no end of its channel: those come
+/// when all workers have ended.
+///
+/// `room`, which is empty, has room for what is left of each seat.
+pub(crate) fn serve_until_stopped<R: Wait, G: Gate, S: Summons>(
+    rt: &R,
+    alloc: Global,
+    pace: &mut Pace<'_, G>,
+    office: &Office,
+    summons: &S,
+    channel: &ReplyChannel<Noted>,
+    mut desk: Desk,
+    room: Vec<Ended<Job>>,
+    door: &Door<'_>,
+    slot: &Slot,
+    mut buffers: Buffers,
+) -> Served
+    requires seats { AreSeats office.now.lanes.items desk.number desk.seats.items }
+    requires receiver { IsReceiver channel.now desk.receiver }
+    requires lanes { office.now.directory.shards ≡ length office.now.lanes.items }
+    requires host { length office.now.host.items < 256 }
+    requires room { (room.items ≡ []) × (length office.now.lanes.items ≤ vec_capacity room) }
+    requires input { 0 < length buffers.input.items }
+    ensures ended { AreEnded office.now.lanes.items desk.number result.ended.items }
+    ensures receiver { IsReceiver channel.now result.receiver }
+{
+    let torn = serve_all(
+        rt,
+        alloc,
+        pace,
+        office,
+        summons,
+        channel,
+        &mut desk,
+        door,
+        slot,
+        &mut buffers,
+    );
+    let Desk {
+        number,
+        seats,
+        receiver,
+        ends,
+    } = desk;
+    let ended = end_all(rt, pace, office, summons, number, seats, room);
+    Served {
+        ended,
+        receiver,
+        ends,
+        torn,
+    }
+}

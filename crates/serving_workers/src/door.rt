@@ -1,0 +1,50 @@
+//! What a thread that accepts connections needs beside the house: where they come, the mark that the house stops, and a pause. What is
+//! done with a connection stands elsewhere.
+
+use loopback::{Listening, Pause, farewell};
+use std::net::TcpStream;
+use std::sync::Wait;
+use std::sync::atomic::{AtomicBool, Ordering};
+
+/// Where connections come in.
+#[derive(Clone, Copy)]
+pub struct Door<'a> {
+    pub listening: &'a Listening,
+    /// Set once the house stops: before the listener is shut.
+    pub stop: &'a AtomicBool,
+    pub pause: &'a Pause,
+}
+
+impl<'a> Door<'a> {
+    /// Whether the house stops.
+    pub fn is_shut(&self) -> bool {
+        self.stop.load(Ordering::SeqCst)
+    }
+
+    /// Waits for the next connection; None once the house stops. Where the system has no place for one more it is tried again after a
+    /// pause.
+    pub fn next<R: Wait>(&self, rt: &R) -> Option<TcpStream> {
+        for _ in rt.forever() {
+            if self.is_shut() {
+                return None;
+            }
+            if let Ok(stream) = self.listening.accept() {
+                return Some(stream);
+            }
+            if !self.is_shut() {
+                self.pause.wait();
+            }
+        }
+        unreachable!()
+    }
+
+    /// Leaves a connection so that its peer can read what was said last. As the house stops the peer has a pause first: what it was
+    /// sending comes in meanwhile and is dropped, where behind the connection's end it would be answered by a reset, which takes from the
+    /// peer what it has not read yet.
+    pub fn part(&self, stream: &TcpStream, buffer: &mut [u8]) {
+        if self.is_shut() {
+            self.pause.wait();
+        }
+        farewell(stream, buffer);
+    }
+}

@@ -1,0 +1,14 @@
+//! The workers of a server: each accepts one LMTP connection after another until the house stops, hands its copies over to the clerks of
+//! the shards, and ends its seats; and the house that they leave is closed. Sessions, and who starts and stops all of it, stand above.
+#![tactic(auto)]
+
+mod accepting;
+mod closing;
+mod door;
+mod parcels;
+mod threads;
+
+pub use accepting::{Buffers, Served};
+pub use closing::close_house;
+pub use door::Door;
+pub use threads::{Hired, join_workers, start_workers};

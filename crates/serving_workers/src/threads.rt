@@ -1,0 +1,199 @@
+//! The workers' threads: started in order, and joined. What a worker does stands in `accepting`.
+
+ghost use Rattle.std.specs.Prelude.{ℕ, ◌≡◌, ◌≤◌, ◌<◌, ◌+◌, All, Some, List, [], length, vec_len, vec_capacity};
+ghost use Rattle.std.specs.Mem.{manually_drop_value};
+ghost use Rattle.house_floor.specs.Crew.{AllAt, IsHouse, IsPost};
+ghost use Rattle.serving_workers.specs.Leaving.{IsHired, IsServed};
+
+use crate::accepting::{Buffers, Served, serve_until_stopped};
+use crate::door::Door;
+use crate::parcels::packed;
+use clerks::{Clerk, Clerks, Hall, Unhindered};
+use house_floor::{Floor, Post};
+use loopback::{Listening, Pause, Slot};
+use pace::{Actor, Pace};
+use std::mem::ManuallyDrop;
+use std::sync::atomic::{AtomicBool, Ordering};
+use std::sync::{Mutex, Wait};
+use std::thread;
+use std::thread::{Promise, Threads};
+
+/// What the thread of this worker is to return: what is left of its seats.
+#[derive(Clone, Copy)]
+pub struct Serves<'a> {
+    pub floor: &'a Floor,
+    pub number: u8,
+}
+
+impl<'a> Promise<ManuallyDrop<Served>> for Serves<'a> {
+    ghost use Rattle.std.specs.Mem.{manually_drop_value};
+    ghost use Rattle.serving_workers.specs.Leaving.{IsServed};
+
+    ghost kept_by = { λ p r. IsServed p.floor.now p.number (manually_drop_value r) };
+}
+
+/// A worker's thread, or what came of its worker where there is none.
+#[derive(Drop)]
+pub enum Hired<'a> {
+    There(thread::PromisedHandle<ManuallyDrop<Served>, Serves<'a>>),
+    Here(ManuallyDrop<Served>),
+}
+
+// A worker's life.
+fn serve_there<H: Hall, R: Wait>(
+    rt: &R,
+    floor: &Floor,
+    clerks: &[Mutex<Clerk<H>>],
+    listening: &Listening,
+    stop: &AtomicBool,
+    pause: &Pause,
+    slot: &Slot,
+    number: u8,
+    post: ManuallyDrop<Post>,
+    buffers: Buffers,
+) -> ManuallyDrop<Served>
+    requires lanes { H.lanes ≡ Some floor.now.office.lanes.items }
+    requires depot { H.depot ≡ Some floor.now.depot }
+    requires house { IsHouse floor.now (length floor.now.depot.channels.items) }
+    requires number { number < length floor.now.depot.channels.items }
+    requires post { IsPost floor.now number (manually_drop_value post) }
+    requires input { 0 < length buffers.input.items }
+    ensures { IsServed floor.now number (manually_drop_value result) }
+{
+    let Post { desk, room } = ManuallyDrop::into_inner(post);
+    let gate = Unhindered;
+    let mut pace = Pace::new(&gate, Actor::Worker(number));
+    let summons = Clerks::new(clerks, &floor.office.lanes, &floor.depot, &gate);
+    let door = Door {
+        listening,
+        stop,
+        pause,
+    };
+    packed(serve_until_stopped(
+        rt,
+        floor.alloc,
+        &mut pace,
+        &floor.office,
+        &summons,
+        &floor.depot.channels[usize::from(number)],
+        desk,
+        room,
+        &door,
+        slot,
+        buffers,
+    ))
+}
+
+// Starts a worker's thread. Where none can be made the house's mark has to be set before what came of it can be had: so the worker serves
+// nobody, and its seats are ended here.
+fn start_worker<'s, E, H: Hall + Send, R: Threads + Wait + Sync>(
+    scope: &thread::Scope<'s, E>,
+    rt: &'s R,
+    floor: &'s Floor,
+    clerks: &'s [Mutex<Clerk<H>>],
+    listening: &'s Listening,
+    stop: &'s AtomicBool,
+    pause: &'s Pause,
+    slot: &'s Slot,
+    number: u8,
+    post: Post,
+    buffers: Buffers,
+) -> Hired<'s>
+    requires lanes { H.lanes ≡ Some floor.now.office.lanes.items }
+    requires depot { H.depot ≡ Some floor.now.depot }
+    requires house { IsHouse floor.now (length floor.now.depot.channels.items) }
+    requires number { number < length floor.now.depot.channels.items }
+    requires post { IsPost floor.now number post }
+    requires input { 0 < length buffers.input.items }
+    ensures { IsHired floor.now number result }
+{
+    let parcel = packed(post);
+    match scope.spawn_with(Serves { floor, number }, move || {
+        serve_there::<H, R>(
+            rt, floor, clerks, listening, stop, pause, slot, number, parcel, buffers,
+        )
+    }) {
+        Ok(child) => Hired::There(child),
+        Err(refused) => {
+            stop.store(true, Ordering::SeqCst);
+            Hired::Here((refused.value)())
+        }
+    }
+}
+
+/// Starts a thread for each worker, in their order, and says whether all could be made. Where one can't be made the house's mark is set,
+/// and no worker from there on serves anybody.
+pub fn start_workers<'s, E, H: Hall + Send, R: Threads + Wait + Sync>(
+    scope: &thread::Scope<'s, E>,
+    rt: &'s R,
+    floor: &'s Floor,
+    clerks: &'s [Mutex<Clerk<H>>],
+    listening: &'s Listening,
+    stop: &'s AtomicBool,
+    pause: &'s Pause,
+    slots: &'s [Slot],
+    mut posts: Vec<Post>,
+    mut buffers: Vec<Buffers>,
+    mut hired: Vec<Hired<'s>>,
+) -> (Vec<Hired<'s>>, bool)
+    requires lanes { H.lanes ≡ Some floor.now.office.lanes.items }
+    requires depot { H.depot ≡ Some floor.now.depot }
+    requires house { IsHouse floor.now (length floor.now.depot.channels.items) }
+    requires slots { length slots.now ≡ length floor.now.depot.channels.items }
+    requires posts { AllAt (IsPost floor.now) 0 posts.items × (vec_len posts ≡ length floor.now.depot.channels.items) }
+    requires buffers { All (λ b. 0 < length b.input.items) buffers.items × (vec_len buffers ≡ length floor.now.depot.channels.items) }
+    requires room { (hired.items ≡ []) × (length floor.now.depot.channels.items ≤ vec_capacity hired) }
+    ensures hired { AllAt (IsHired floor.now) 0 result.0.items }
+    ensures count { vec_len result.0 ≡ length floor.now.depot.channels.items }
+{
+    let mut all = true;
+    for place in 0..slots.len() {
+        let post = posts.remove(0);
+        let own = buffers.remove(0);
+        let slot = &slots[place];
+        let one = start_worker(
+            scope,
+            rt,
+            floor,
+            clerks,
+            listening,
+            stop,
+            pause,
+            slot,
+            place as u8,
+            post,
+            own,
+        );
+        all = all && matches!(one, Hired::There(_));
+        hired.push_reserved(one);
+    }
+    posts.destroy_empty();
+    (hired, all)
+}
+
+fn join_worker<R: Threads>(rt: &R, floor: &Floor, hired: Hired<'_>) -> Served
+    ensures { (n : ℕ) → IsHired floor.now n hired.entry → IsServed floor.now n result }
+{
+    match hired {
+        Hired::There(child) => ManuallyDrop::into_inner(child.join(rt)),
+        Hired::Here(served) => ManuallyDrop::into_inner(served),
+    }
+}
+
+/// Waits for each worker's end. `served`, which is empty, has room for all.
+pub fn join_workers<R: Threads>(
+    rt: &R,
+    floor: &Floor,
+    hired: Vec<Hired<'_>>,
+    mut served: Vec<Served>,
+) -> Vec<Served>
+    requires hired { AllAt (IsHired floor.now) 0 hired.items }
+    requires room { (served.items ≡ []) × (vec_len hired ≤ vec_capacity served) }
+    ensures served { AllAt (IsServed floor.now) 0 result.items }
+    ensures count { vec_len result ≡ vec_len hired.entry }
+{
+    for one in hired {
+        served.push_reserved(join_worker(rt, floor, one));
+    }
+    served
+}
