@@ -1,0 +1,2 @@
+mod AnnouncingLaws
+mod Serving

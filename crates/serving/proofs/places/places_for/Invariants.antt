@@ -1,0 +1,6 @@
+use Rattle.std.proofs.Common.{◌≢◌, ◌≤◌, ◌*◌, All, None, vec_len}
+use Rattle.house_floor.specs.Users.{user_numbered}
+use Rattle.serving.proofs.places.places_for.Given as goal
+
+abbrev pub invariant-loop-user : goal.invariant-loop-user
+invariant-loop-user l = All (λ v. user_numbered v.user l.directory.homes ≢ None) l.visits.items × (vec_len l.visits ≤ 4 * l.user)

@@ -1,0 +1,138 @@
+//! What the threads of a server use, made before the first of them. What they do with it stands elsewhere.
+
+ghost use Rattle.std.specs.Prelude.{◌≡◌, ◌≤◌, ◌<◌, [], All, IfOk, length, vec_len, vec_capacity};
+
+use crate::sessions::ClientPlace;
+use loopback::Slot;
+use serving_workers::{Buffers, Hired};
+use session_bells::Sleeper;
+use std::alloc::{AllocError, Global};
+use std::sync::{Arc, Wait};
+
+/// So many bytes of a mail connection are read at once.
+const MAIL_BUFFER: usize = 65_536;
+
+/// So many bytes of a mail client are read at once.
+const CLIENT_BUFFER: usize = 16_384;
+
+// Room for a connection: so many bytes are read at once. The number is a parameter, since a proof would count up to a constant.
+fn buffer_of(alloc: Global, size: usize) -> Result<Buffers, AllocError>
+    requires { 0 < size }
+    ensures { IfOk result (λ b. 0 < length b.input.items) }
+{
+    Ok(Buffers {
+        input: vec![in alloc; 0; size]?,
+        output: Vec::new(alloc),
+    })
+}
+
+// The same for each of so many workers' connections.
+fn buffers_for(alloc: Global, workers: usize) -> Result<Vec<Buffers>, AllocError>
+    ensures count { IfOk result (λ bs. vec_len bs ≡ workers) }
+    ensures room { IfOk result (λ bs. All (λ b. 0 < length b.input.items) bs.items) }
+{
+    let mut all = Vec::with_capacity(alloc, workers)?;
+    for _ in 0..workers {
+        all.push_reserved(buffer_of(alloc, MAIL_BUFFER)?);
+    }
+    Ok(all)
+}
+
+// So many slots with no connection.
+fn slots_for(alloc: Global, count: usize) -> Result<Vec<Slot>, AllocError>
+    ensures { IfOk result (λ slots. vec_len slots ≡ count) }
+{
+    let mut all = Vec::with_capacity(alloc, count)?;
+    for _ in 0..count {
+        all.push_reserved(Slot::new());
+    }
+    Ok(all)
+}
+
+/// What the threads use.
+#[derive(Drop)]
+pub(crate) struct Equipment {
+    /// For each worker's connections.
+    pub(crate) buffers: Vec<Buffers>,
+    pub(crate) mail_slots: Vec<Slot>,
+    pub(crate) client_slots: Vec<Slot>,
+    /// For each place's clients.
+    pub(crate) client_buffers: Vec<Vec<u8>>,
+}
+
+// The same for each place's clients.
+fn client_buffers_for(alloc: Global, places: usize) -> Result<Vec<Vec<u8>>, AllocError>
+    ensures { IfOk result (λ bs. vec_len bs ≡ places) }
+{
+    let mut all = Vec::with_capacity(alloc, places)?;
+    for _ in 0..places {
+        all.push_reserved(vec![in alloc; 0; CLIENT_BUFFER]?);
+    }
+    Ok(all)
+}
+
+/// What so many workers and places use. An error where memory is refused.
+pub(crate) fn equip(alloc: Global, workers: usize, places: usize) -> Result<Equipment, AllocError>
+    ensures buffers { IfOk result (λ e. All (λ b. 0 < length b.input.items) e.buffers.items × (vec_len e.buffers ≡ workers)) }
+    ensures slots { IfOk result (λ e. (vec_len e.mail_slots ≡ workers) × (vec_len e.client_slots ≡ places)) }
+    ensures clients { IfOk result (λ e. vec_len e.client_buffers ≡ places) }
+{
+    Ok(Equipment {
+        buffers: buffers_for(alloc, workers)?,
+        mail_slots: slots_for(alloc, workers)?,
+        client_slots: slots_for(alloc, places)?,
+        client_buffers: client_buffers_for(alloc, places)?,
+    })
+}
+
+/// A place with no client, for its two threads.
+#[derive(Drop)]
+pub(crate) struct SharedPlace<'a, R: Wait> {
+    pub(crate) reader: Arc<ClientPlace<'a, R>>,
+    pub(crate) watch: Arc<ClientPlace<'a, R>>,
+}
+
+// A place with no client, whose watch sleeps on this bell.
+fn shared_place<'a, R: Wait>(
+    alloc: Global,
+    bell: &Sleeper,
+) -> Result<SharedPlace<'a, R>, AllocError> {
+    let reader = Arc::new(alloc, ClientPlace::new(bell.idling()?))?;
+    let watch = reader.clone()?;
+    Ok(SharedPlace { reader, watch })
+}
+
+// A place with no client for each of these bells.
+fn shared_places<'a, R: Wait>(
+    alloc: Global,
+    bells: &[Sleeper],
+) -> Result<Vec<SharedPlace<'a, R>>, AllocError>
+    ensures { IfOk result (λ places. vec_len places ≡ length bells.now) }
+{
+    let mut all = Vec::with_capacity(alloc, bells.len())?;
+    for bell in bells {
+        all.push_reserved(shared_place(alloc, bell)?);
+    }
+    Ok(all)
+}
+
+/// Room for the workers' threads, and the places.
+#[derive(Drop)]
+pub(crate) struct Crowd<'a, R: Wait> {
+    pub(crate) hired: Vec<Hired<'a>>,
+    pub(crate) places: Vec<SharedPlace<'a, R>>,
+}
+
+/// Room for so many workers' threads, and a place for each of these bells. An error where memory is refused.
+pub(crate) fn crowd_for<'a, R: Wait>(
+    alloc: Global,
+    workers: usize,
+    bells: &[Sleeper],
+) -> Result<Crowd<'a, R>, AllocError>
+    ensures hired { IfOk result (λ c. (c.hired.items ≡ []) × (workers ≤ vec_capacity c.hired)) }
+    ensures places { IfOk result (λ c. vec_len c.places ≡ length bells.now) }
+{
+    let hired = Vec::with_capacity(alloc, workers)?;
+    let places = shared_places(alloc, bells)?;
+    Ok(Crowd { hired, places })
+}

@@ -1,0 +1,17 @@
+//! A house that serves over sockets of the loopback address: mail on one port, each user's sessions on a port of their own, until it is
+//! stopped. How a connection is talked to stands in `lmtp_stream` and `imap_stream`, what workers leave in `serving_workers`; here
+//! threads are started, stopped and joined.
+#![tactic(auto)]
+
+mod announcing;
+mod equipment;
+mod fault;
+mod places;
+mod run;
+mod server;
+mod sessions;
+mod sockets;
+mod stopping;
+
+pub use fault::ServeFault;
+pub use server::{Uidvalidity, serve};

@@ -1,0 +1,113 @@
+//! The whole of a server: settings, sockets, what is said of them, the house, and the end. What runs in between stands in `run`.
+
+ghost use Rattle.std.specs.Prelude.{ℕ, ◌≡◌, ◌≤◌, ◌<◌, Err, None, OnOk, Some, false, length, take};
+ghost use Rattle.std.specs.Io.KnownBytes.{Appends};
+ghost use Rattle.house.specs.Settings.{IsInRange, config_fault, setup_of};
+ghost use Rattle.mailbox.specs.declared.history.History.{History};
+ghost use Rattle.house.specs.declared.config.ConfigFault.{ConfigFault};
+ghost use Rattle.serving.specs.Announcing.{announcement};
+
+use crate::announcing::announce;
+use crate::fault::ServeFault;
+use crate::places::{count_users, places_for};
+use crate::run::run_house_in;
+use crate::sockets::open_sockets;
+use house::{Config, directory_of};
+use house_floor::{Opened, Sizes, open};
+use line_io::{Sink, send};
+use mailbox::{History, Limits};
+use std::alloc::Global;
+use std::io::Read;
+use std::marker::Brand;
+use std::net::{Net, TcpListener, TcpStream};
+use std::sync::Wait;
+use std::thread::Threads;
+
+/// Whether whoever starts the server said which UIDVALIDITY its mailboxes have.
+#[derive(Clone, Copy, Debug, PartialEq, Eq)]
+pub enum Uidvalidity {
+    Given,
+    /// It is the one that stands where none is given.
+    Standing,
+}
+
+// How large the parts of a house of these settings are.
+fn sizes_of(config: &Config) -> Sizes<'_>
+    ensures host { result.host.now ≡ config.now.host.items }
+    ensures depth { result.depth ≡ config.now.depth }
+    ensures ring { result.limits.ring ≡ config.now.ring }
+    ensures workers { result.workers ≡ config.now.workers }
+    ensures history { result.history ≡ History.Unkept }
+{
+    Sizes {
+        host: &config.host,
+        max_message: config.max_message,
+        workers: config.workers,
+        depth: config.depth,
+        uidvalidity: config.uidvalidity,
+        first_uid: config.first_uid,
+        limits: Limits {
+            messages: config.messages,
+            ring: config.ring,
+            ring_max: config.ring_max,
+        },
+        // Nobody compares what was accepted, and a server runs for months.
+        history: History::Unkept,
+        turns: 0,
+    }
+}
+
+/// Serves a house of these settings on the loopback address until `stop` is at its end: mail on `lmtp_port` to so many connections at a
+/// time as there are `workers`, and each user's sessions on a port of its own, from `imap_port` on, so many at a time as `sessions` says.
+/// Once all listens it says so on `output`, in a line for each.
+///
+/// At the end nothing is accepted any more: a mail connection between commands is told `421 4.3.2 Shutting down`, one within a message's
+/// data is closed and no copy of it is made, one that awaits verdicts is told these first; a session is told `* BYE Shutting down`.
+/// What is not through five seconds later is cut. What fails on one connection ends that connection alone.
+///
+/// Errors, the first that holds: `Config`, of the first fault of the settings in the order of `House::new`; `Device` where a listener
+/// can't be made or the lines can't be written; `Spawn` where a thread can't be made; `NoMemory` where memory is refused before the first
+/// thread runs; `Torn` where a worker heard a verdict that it didn't await, or a queue could not be closed.
+pub fn serve<
+    R: Net<Listener = TcpListener, Stream = TcpStream> + Threads + Wait + Sync,
+    I: Read,
+    W: Sink,
+>(
+    rt: &R,
+    alloc: Global,
+    config: &Config,
+    uidvalidity: Uidvalidity,
+    stop: &mut I,
+    output: &mut W,
+) -> Result<(), ServeFault>
+    requires range { IsInRange config.now }
+    requires live { W.failed output.old ≡ false }
+    ensures wrong { (fault : ConfigFault) → result ≡ Err (ServeFault.Config fault) → config_fault config.now ≡ Some fault }
+    ensures not_set { (fault : ConfigFault) → result ≡ Err (ServeFault.Config fault) → output.new ≡ output.old }
+    ensures right { OnOk result (config_fault config.now ≡ None) }
+    // Nothing but a beginning of the lines was written, and all of them where it served.
+    ensures told { (n : ℕ) × Appends (W.taken output.old) (W.taken output.new) (take n (announcement config.now.lmtp_port config.now.imap_port (setup_of config.now).directory.homes uidvalidity)) }
+    ensures all { OnOk result (Appends (W.taken output.old) (W.taken output.new) (announcement config.now.lmtp_port config.now.imap_port (setup_of config.now).directory.homes uidvalidity)) }
+{
+    let directory = directory_of(alloc, config)?;
+    let visits = places_for(alloc, &directory, config.sessions)?;
+    let users = count_users(&directory);
+    let lines = announce(
+        alloc,
+        &directory,
+        config.lmtp_port,
+        config.imap_port,
+        uidvalidity,
+    )?;
+    let sockets = open_sockets(rt, alloc, config.lmtp_port, config.imap_port, users)?;
+    if send(output, &lines).is_err() {
+        return Err(ServeFault::Device);
+    }
+    let Opened {
+        floor,
+        crew,
+        baskets,
+        sleepers,
+    } = open(alloc, directory, sizes_of(config), visits.as_slice())?;
+    run_house_in::<Brand, R, &mut I>(rt, floor, crew, baskets, sleepers, &visits, &sockets, stop)
+}

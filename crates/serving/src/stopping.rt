@@ -1,0 +1,94 @@
+//! How a house that serves is stopped: what stops it is waited for, then it is marked, and each thread that waits for a peer is woken.
+//! What a thread does then is its own matter.
+
+use crate::sockets::Sockets;
+use loopback::{Pause, Slot};
+use session_bells::SessionBell;
+use std::io::{ErrorKind, Read};
+use std::sync::Wait;
+use std::sync::atomic::{AtomicBool, Ordering};
+
+/// So many pauses, of a tenth of a second each, all connections together have for their last words. What is done before and behind them
+/// is to fit into six seconds with them.
+const GRACE: u32 = 48;
+
+/// Reads to the end; what is read is dropped. A reader that fails is at its end.
+pub(crate) fn await_end<R: Wait, I: Read + Drop>(rt: &R, mut input: I) {
+    let mut dropped = [0u8; 256];
+    for _ in rt.forever() {
+        match input.read(&mut dropped) {
+            Ok(0) => return,
+            Ok(_) => {}
+            Err(fault) if fault.kind() == ErrorKind::Interrupted => {}
+            Err(_) => return,
+        }
+    }
+}
+
+fn wake_each(bells: &[SessionBell]) {
+    for bell in bells {
+        bell.wake();
+    }
+}
+
+// Wakes each watch: a session's bells stand at each of its user's mailboxes.
+fn wake_all(rows: &[Vec<SessionBell>]) {
+    for bells in rows {
+        wake_each(bells);
+    }
+}
+
+// Nothing is accepted any more.
+fn shut_listeners(sockets: &Sockets) {
+    sockets.lmtp.shut();
+    for listening in &sockets.imap {
+        listening.shut();
+    }
+}
+
+// No thread hears its peer any more.
+fn hush_all<R: Wait>(rt: &R, slots: &[Slot]) {
+    for slot in slots {
+        slot.hush(rt);
+    }
+}
+
+fn cut_all<R: Wait>(rt: &R, slots: &[Slot]) {
+    for slot in slots {
+        slot.cut(rt);
+    }
+}
+
+fn are_empty<R: Wait>(rt: &R, slots: &[Slot]) -> bool {
+    slots.iter().all(|slot| slot.is_empty(rt))
+}
+
+// Waits until no connection is at hand, or the grace is over.
+fn give_grace<R: Wait>(rt: &R, pause: &Pause, workers: &[Slot], places: &[Slot]) {
+    for _ in 0..GRACE {
+        if are_empty(rt, workers) && are_empty(rt, places) {
+            return;
+        }
+        pause.wait();
+    }
+}
+
+/// Stops the house: it is marked, nothing is accepted any more, no thread hears its peer any more, each watch is woken; and what is at
+/// hand some five seconds later is cut.
+pub(crate) fn stop_all<R: Wait>(
+    rt: &R,
+    mark: &AtomicBool,
+    sockets: &Sockets,
+    workers: &[Slot],
+    places: &[Slot],
+    bells: &[Vec<SessionBell>],
+) {
+    mark.store(true, Ordering::SeqCst);
+    shut_listeners(sockets);
+    hush_all(rt, workers);
+    hush_all(rt, places);
+    wake_all(bells);
+    give_grace(rt, &sockets.pause, workers, places);
+    cut_all(rt, workers);
+    cut_all(rt, places);
+}
