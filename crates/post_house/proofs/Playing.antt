@@ -1,5 +1,5 @@
 -- From what a run promises to what the program does.
-use Rattle.std.proofs.Common.{◌≡◌, ◌⊎◌, ◌∙◌, ap, ℕ, Bool, true, List, inl, inr, refl, sym, subst, Option, Some, None, Result, Ok, Err}
+use Rattle.std.proofs.Common.{lit<, ◌≡◌, ◌⊎◌, ◌∙◌, ap, ℕ, Bool, true, List, inl, inr, refl, sym, subst, Option, Some, None, Result, Ok, Err, arith}
 use Rattle.std.specs.Prelude.{IfSome}
 use Rattle.house.specs.Settings.{setup_of}
 use Rattle.house.specs.State.{State}
@@ -13,8 +13,10 @@ use Rattle.script.specs.declared.run.RunFault.{RunFault}
 use Rattle.script.specs.declared.run.RunFault.TheVariants as run_faults
 use Rattle.script.proofs.Once.{wrote_beginning}
 use Rattle.script.proofs.RunLaws.{run_unbegun}
+use Rattle.serving.specs.declared.fault.ServeFault.{ServeFault}
+use Rattle.serving.specs.declared.fault.ServeFault.TheVariants as serve_faults
 use Rattle.post_house.specs.Playing.{Played}
-use Rattle.post_house.specs.Status.{config_failure, run_failure}
+use Rattle.post_house.specs.Status.{IsStatus, config_failure, run_failure, serve_failure, status_of}
 use Rattle.post_house.specs.declared.failure.Failure.{Failure}
 use Rattle.post_house.specs.declared.failure.Failure.TheVariants as failures
 
@@ -70,3 +72,30 @@ fault_named A (Some y) f r x (inl s) none is e =
     ap (λ (z : ConfigFault). Some z) (sym (same_fault A f y s) ∙ told_fault f x (sym is ∙ same_failure r (failures.Config x) e))
 fault_named A (Some y) f r x (inr s) none is e =
     absurd (no_config x (ap config_failure (sym (same_fault A f config_faults.NoMemory s)) ∙ sym is ∙ same_failure r (failures.Config x) e))
+
+-- ---- a server
+
+-- each failure has a status of its own
+pub has_status : (r : Failure) (n : ℕ) → n ≡ status_of r → IsStatus n
+has_status (failures.Config fault) n e = subst IsStatus (sym e) (2, lit< tt, refl)
+has_status failures.Device n e = subst IsStatus (sym e) (3, lit< tt, refl)
+has_status failures.NoMemory n e = subst IsStatus (sym e) (4, lit< tt, refl)
+has_status failures.Torn n e = subst IsStatus (sym e) (5, lit< tt, refl)
+
+no_four : (n : ℕ) → n ≡ 4 → n ≡ 3 → ⊥
+no_four n e f = (let z : ⊥ = omega (arith, e, f) in z)
+
+no_five : (n : ℕ) → n ≡ 5 → n ≡ 3 → ⊥
+no_five n e f = (let z : ⊥ = omega (arith, e, f) in z)
+
+no_six : (n : ℕ) → n ≡ 6 → n ≡ 3 → ⊥
+no_six n e f = (let z : ⊥ = omega (arith, e, f) in z)
+
+-- wrong settings alone have this status
+pub server_not_set : {A : Type 0} (old new : A) (f : ServeFault) (n : ℕ) → n ≡ status_of (serve_failure f)
+    → ((x : ConfigFault) → ◌≡◌ {A = Result (Unit {0}) ServeFault} (Err f) (Err (serve_faults.Config x)) → new ≡ old) → n ≡ 3 → new ≡ old
+server_not_set old new (serve_faults.Config x) n is same e = same x refl
+server_not_set old new serve_faults.Device n is same e = absurd (no_four n is e)
+server_not_set old new serve_faults.Spawn n is same e = absurd (no_four n is e)
+server_not_set old new serve_faults.NoMemory n is same e = absurd (no_five n is e)
+server_not_set old new serve_faults.Torn n is same e = absurd (no_six n is e)

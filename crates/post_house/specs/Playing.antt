@@ -1,14 +1,23 @@
--- What the program does with a script, by how it went.
-use Rattle.std.specs.Prelude.{◌≡◌, ℕ, ◌⊎◌, Bool, true, List, Option, Result, Ok, Err}
-use Rattle.house.specs.Settings.{IsInRange, setup_of}
+-- What the program does with a script, and as a server, by how it went.
+use Rattle.std.specs.Prelude.{◌≡◌, ℕ, ◌⊎◌, Bool, true, List, Option, Some, None, Result, Ok, Err, OnOk, take}
+use Rattle.std.specs.Io.KnownBytes.{Appends}
+use Rattle.house.specs.Settings.{config_fault, setup_of}
 use Rattle.house.specs.State.{State}
 use Rattle.house.specs.declared.config.Config.{Config}
-use Rattle.post_house.specs.Status.{status_for}
+use Rattle.house.specs.declared.config.ConfigFault.{ConfigFault}
+use Rattle.post_house.specs.Asking.{IsAskedInRange}
+use Rattle.post_house.specs.Status.{status_for, status_served}
+use Rattle.post_house.specs.declared.arguments.Asked.{Asked}
+use Rattle.post_house.specs.declared.arguments.Asked.TheVariants.{Script, Serve}
 use Rattle.post_house.specs.declared.failure.Failure.{Failure}
 use Rattle.post_house.specs.declared.failure.Failure.TheVariants as failures
 use Rattle.script.specs.Promise.{WroteOnce}
 use Rattle.script.specs.Script.{ScriptLine, script_of}
 use Rattle.script.specs.Leaving.{IsLeft, IsLeftWanting, Writes, WritesBeginning, WritesFirst}
+use Rattle.serving.specs.Announcing.{announcement}
+use Rattle.serving.specs.declared.server.Uidvalidity.{Uidvalidity}
+use Rattle.serving.specs.declared.fault.ServeFault.{ServeFault}
+use Rattle.serving.specs.declared.fault.ServeFault.TheVariants as serve_faults
 
 -- The input failed: what some of the first lines print was written. Or the output failed: not all of that.
 abbrev pub StoppedByDevice : Config → List ScriptLine → (failed : Bool) → (old new : Option (List ℕ)) → Type 0
@@ -22,12 +31,36 @@ Played config lines failed (Ok done) old new = (h : State) × Writes (setup_of c
 Played config lines failed (Err (failures.Config fault)) old new = new ≡ old
 Played config lines failed (Err failures.Device) old new = StoppedByDevice config lines failed old new
 Played config lines failed (Err failures.NoMemory) old new = (new ≡ old) ⊎ ((h : State) × WritesBeginning (setup_of config) lines (IsLeftWanting (setup_of config) h) old new)
+Played config lines failed (Err failures.Torn) old new = ⊥
 
--- These bytes were played as a script, with settings that are in their ranges, and ended with this status; what was written delivers exactly once.
-pub record RanScript (bytes : List ℕ) (failed : Bool) (status : ℕ) (old new : Option (List ℕ)) : Type 0 where
-  pub config : Config
-  pub range : IsInRange config
+-- These bytes were played as a script with these settings, and ended with this status; what was written delivers exactly once.
+pub record RanScript (config : Config) (bytes : List ℕ) (failed : Bool) (status : ℕ) (old new : Option (List ℕ)) : Type 0 where
   pub result : Result (Unit {0}) Failure
   pub status_is : status ≡ status_for result
+  pub wrong : (fault : ConfigFault) → result ≡ Err (failures.Config fault) → config_fault config ≡ Some fault
   pub played : Played config (script_of bytes) failed result old new
   pub once : WroteOnce (setup_of config) (script_of bytes) old new
+
+-- what is said of the listeners of a server with these settings
+abbrev pub lines_of : Config → Uidvalidity → List ℕ
+lines_of config uidvalidity = announcement config.lmtp_port config.imap_port (setup_of config).directory.homes uidvalidity
+
+-- A server with these settings ended with this status; a beginning of its lines was written, and all of them where all went well.
+pub record HasServed (config : Config) (uidvalidity : Uidvalidity) (status : ℕ) (old new : Option (List ℕ)) : Type 0 where
+  pub result : Result (Unit {0}) ServeFault
+  pub status_is : status ≡ status_served result
+  pub wrong : (fault : ConfigFault) → result ≡ Err (serve_faults.Config fault) → config_fault config ≡ Some fault
+  pub right : OnOk result (config_fault config ≡ None)
+  pub told : (n : ℕ) × Appends old new (take n (lines_of config uidvalidity))
+  pub all : OnOk result (Appends old new (lines_of config uidvalidity))
+
+-- What was asked for was done: a script from an input of which this remained, if that is known, or a server.
+abbrev pub HasDone : Asked → (remaining : Option (List ℕ)) → (failed : Bool) → (status : ℕ) → (old new : Option (List ℕ)) → Type 0
+HasDone (Script config) remaining failed status old new = (bytes : List ℕ) → remaining ≡ Some bytes → RanScript config bytes failed status old new
+HasDone (Serve config uidvalidity) remaining failed status old new = HasServed config uidvalidity status old new
+
+-- Something was asked for, with settings that are in their ranges, and it was done.
+pub record HasDoneAsked (remaining : Option (List ℕ)) (failed : Bool) (status : ℕ) (old new : Option (List ℕ)) : Type 0 where
+  pub asked : Asked
+  pub range : IsAskedInRange asked
+  pub done : HasDone asked remaining failed status old new

@@ -3,18 +3,21 @@ use Rattle.std.specs.Prelude.{ℕ, [], ◌∷◌, Contains, Result, Ok, Err}
 use Rattle.house.specs.declared.config.ConfigFault.{ConfigFault}
 use Rattle.house.specs.declared.config.ConfigFault.TheVariants as config_faults
 use Rattle.post_house.specs.declared.failure.Failure.{Failure}
-use Rattle.post_house.specs.declared.failure.Failure.TheVariants.{Config, Device, NoMemory}
+use Rattle.post_house.specs.declared.failure.Failure.TheVariants.{Config, Device, NoMemory, Torn}
 use Rattle.script.specs.declared.run.RunFault.{RunFault}
 use Rattle.script.specs.declared.run.RunFault.TheVariants as run_faults
+use Rattle.serving.specs.declared.fault.ServeFault.{ServeFault}
+use Rattle.serving.specs.declared.fault.ServeFault.TheVariants as serve_faults
 
--- all went well, the command line, the settings, a device, memory
+-- all went well, the command line, the settings, a device, memory, a server that was torn
 abbrev pub IsStatus : ℕ → Type 0
-IsStatus n = Contains (0 ∷ 2 ∷ 3 ∷ 4 ∷ 5 ∷ []) n
+IsStatus n = Contains (0 ∷ 2 ∷ 3 ∷ 4 ∷ 5 ∷ 6 ∷ []) n
 
 abbrev pub status_of : Failure → ℕ
 status_of (Config fault) = 3
 status_of Device = 4
 status_of NoMemory = 5
+status_of Torn = 6
 
 -- settings are wrong, or they couldn't be looked at for want of memory
 abbrev pub config_failure : ConfigFault → Failure
@@ -30,7 +33,19 @@ run_failure run_faults.Read = Device
 run_failure (run_faults.Write sent) = Device
 run_failure run_faults.NoMemory = NoMemory
 
+abbrev pub serve_failure : ServeFault → Failure
+serve_failure (serve_faults.Config fault) = config_failure fault
+serve_failure serve_faults.Device = Device
+serve_failure serve_faults.Spawn = Device
+serve_failure serve_faults.NoMemory = NoMemory
+serve_failure serve_faults.Torn = Torn
+
 -- the exit status of a script that was played, or of why it wasn't, or not to its end
 abbrev pub status_for : Result (Unit {0}) Failure → ℕ
 status_for (Ok done) = 0
 status_for (Err failure) = status_of failure
+
+-- the exit status of a server that was stopped, or of why it didn't serve
+abbrev pub status_served : Result (Unit {0}) ServeFault → ℕ
+status_served (Ok done) = 0
+status_served (Err fault) = status_of (serve_failure fault)

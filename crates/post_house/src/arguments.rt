@@ -1,12 +1,15 @@
-//! The command line: which words the program takes, and the settings that they come to. Nothing is run and nothing is printed here.
+//! The command line: which words the program takes, what they ask for, and the settings that they come to. Nothing is run and nothing
+//! is printed here.
 
 ghost use Rattle.std.specs.Prelude.{◌<◌, length, IfOk};
 ghost use Rattle.house.specs.Settings.{IsFrom, IsInRange};
+ghost use Rattle.post_house.specs.Asking.{IsAskedInRange};
 
 use clap::builder::ValueParser;
 use clap::error::ErrorKind;
 use clap::{Arg, ArgAction, ArgMatches, Command, Error};
 use house::Config;
+use serving::Uidvalidity;
 use std::alloc::{AllocError, Global};
 use std::convert::AsStr;
 
@@ -75,6 +78,46 @@ const UIDVALIDITY: Number = Number {
     most: 4_294_967_295,
 };
 
+const LMTP_PORT: Number = Number {
+    name: "lmtp-port",
+    help: "The port that mail comes to",
+    least: 1,
+    most: 65_535,
+};
+
+const IMAP_PORT: Number = Number {
+    name: "imap-port",
+    help: "The port of the first user's sessions; the others' follow",
+    least: 1024,
+    most: 65_472,
+};
+
+const WORKERS: Number = Number {
+    name: "workers",
+    help: "Mail connections that are served at a time",
+    least: 1,
+    most: 8,
+};
+
+const SESSIONS: Number = Number {
+    name: "sessions",
+    help: "Sessions of each user that are served at a time",
+    least: 1,
+    most: 4,
+};
+
+/// What the words ask for.
+#[derive(Drop)]
+pub enum Asked {
+    /// A script from the input, on a house of these settings.
+    Script(Config),
+    /// A server with these settings.
+    Serve {
+        config: Config,
+        uidvalidity: Uidvalidity,
+    },
+}
+
 /// What clap takes, and the program doesn't.
 #[derive(Drop)]
 enum Refused<'a> {
@@ -82,6 +125,8 @@ enum Refused<'a> {
     Spelling(&'static str, &'a str),
     /// There is no mailbox.
     NoMailbox,
+    /// There is no subcommand.
+    NothingToDo,
     /// Memory was refused.
     NoMemory,
 }
@@ -108,15 +153,14 @@ fn name<'a>(alloc: Global, name: &'static str, help: &'static str) -> Arg<'a> {
         .action(ArgAction::Set)
 }
 
-// What the program takes: `script`, its options, and its mailboxes.
-fn command_line<'a>(alloc: Global) -> Result<Command<'a>, AllocError> {
+// A subcommand with what both have: the options of a house, and its mailboxes.
+fn with_house<'a>(alloc: Global, subcommand: Command<'a>) -> Result<Command<'a>, AllocError> {
     let mailboxes = Arg::new(alloc, "MAILBOX")
         .help("A mailbox, `user` or `user/folder`")
         .action(ArgAction::Append)
         .num_args(1..)
         .required(true);
-    let script = Command::new(alloc, "script")
-        .about("Runs a script from standard input on a house of its own")
+    subcommand
         .arg(name(alloc, "host", "The name that the house greets with"))?
         .arg(name(alloc, "domain", "The domain that mail comes for"))?
         .arg(option(alloc, SHARDS))?
@@ -127,11 +171,36 @@ fn command_line<'a>(alloc: Global) -> Result<Command<'a>, AllocError> {
         .arg(option(alloc, MAX_MESSAGE))?
         .arg(option(alloc, UIDVALIDITY))?
         .arg(option(alloc, FIRST_UID))?
-        .arg(mailboxes)?;
+        .arg(mailboxes)
+}
+
+// `script`, with its options and its mailboxes.
+fn script_line<'a>(alloc: Global) -> Result<Command<'a>, AllocError> {
+    let script = Command::new(alloc, "script").about(
+        "Runs a script from standard input on a house of its own",
+    );
+    with_house(alloc, script)
+}
+
+// `serve`, with its options and its mailboxes.
+fn serve_line<'a>(alloc: Global) -> Result<Command<'a>, AllocError> {
+    let serve = Command::new(alloc, "serve").about(
+        "Serves on the loopback address until standard input is at its end",
+    );
+    with_house(alloc, serve)?
+        .arg(option(alloc, LMTP_PORT))?
+        .arg(option(alloc, IMAP_PORT))?
+        .arg(option(alloc, WORKERS))?
+        .arg(option(alloc, SESSIONS))
+}
+
+// What the program takes: one of two subcommands.
+fn command_line<'a>(alloc: Global) -> Result<Command<'a>, AllocError> {
     Command::new(alloc, "post_house")
         .about("Takes in mail for a few mailboxes")
         .subcommand_required(true)
-        .subcommand(script)
+        .subcommand(script_line(alloc)?)?
+        .subcommand(serve_line(alloc)?)
 }
 
 fn are_digits(text: &str) -> bool {
@@ -235,7 +304,7 @@ fn standing<'a>(alloc: Global, matches: &ArgMatches<'a>) -> Result<Config, Refus
     Ok(Config::new(alloc, &words)?)
 }
 
-// The settings that the options and words of `script` come to.
+// The settings that the options and words of either subcommand come to.
 fn settings_of<'a>(alloc: Global, matches: &ArgMatches<'a>) -> Result<Config, Refused<'a>>
     ensures { IfOk result IsInRange }
 {
@@ -246,22 +315,63 @@ fn settings_of<'a>(alloc: Global, matches: &ArgMatches<'a>) -> Result<Config, Re
     with_uids(matches, windowed)
 }
 
-/// The settings that these words ask for, the first of which is the program's name: `script`, options, mailboxes. Each number is in
-/// its range, and there is a mailbox; names are not looked at.
+// The settings with those of a server that were given.
+fn with_server<'a>(matches: &ArgMatches<'a>, mut config: Config) -> Result<Config, Refused<'a>>
+    requires { IsInRange config }
+    ensures { IfOk result IsInRange }
+{
+    config.lmtp_port = given(matches, LMTP_PORT, 2424)? as u16;
+    config.imap_port = given(matches, IMAP_PORT, 14_300)? as u16;
+    config.workers = given(matches, WORKERS, 4)? as u8;
+    config.sessions = given(matches, SESSIONS, 2)? as u8;
+    Ok(config)
+}
+
+// Whether a UIDVALIDITY was given.
+fn uidvalidity_of<'a>(matches: &ArgMatches<'a>) -> Uidvalidity {
+    match matches.get_str(UIDVALIDITY.name) {
+        Some(_) => Uidvalidity::Given,
+        None => Uidvalidity::Standing,
+    }
+}
+
+// What the options and words of `serve` ask for.
+fn server_of<'a>(alloc: Global, matches: &ArgMatches<'a>) -> Result<Asked, Refused<'a>>
+    ensures { IfOk result IsAskedInRange }
+{
+    let config = settings_of(alloc, matches)?;
+    let config = with_server(matches, config)?;
+    Ok(Asked::Serve {
+        config,
+        uidvalidity: uidvalidity_of(matches),
+    })
+}
+
+// What the words ask for, by their subcommand.
+fn asked_in<'a>(alloc: Global, matches: &ArgMatches<'a>) -> Result<Asked, Refused<'a>>
+    ensures { IfOk result IsAskedInRange }
+{
+    if let Some(script) = matches.subcommand_matches("script") {
+        return Ok(Asked::Script(settings_of(alloc, script)?));
+    }
+    let Some(serve) = matches.subcommand_matches("serve") else {
+        return Err(Refused::NothingToDo);
+    };
+    server_of(alloc, serve)
+}
+
+/// What these words ask for, the first of which is the program's name: `script` or `serve`, options, mailboxes. Each number is in its
+/// range, and there is a mailbox; names are not looked at, nor whether the ports are right.
 ///
 /// The error is clap's: a mistake in the words, a number that is out of its range or has other than digits, or a request for help; of
 /// kind `OutOfMemory` where memory is refused.
-pub fn config_of<'a, S: AsStr>(alloc: Global, words: &'a [S]) -> Result<Config, Error>
-    ensures { IfOk result IsInRange }
+pub fn asked_of<'a, S: AsStr>(alloc: Global, words: &'a [S]) -> Result<Asked, Error>
+    ensures { IfOk result IsAskedInRange }
 {
     let mut command = command_line(alloc)?;
     let matches = command.try_get_matches_from_mut(words)?;
-    let Some(script) = matches.subcommand_matches("script") else {
-        let text = "there is nothing to do";
-        return Err(command.error(ErrorKind::MissingSubcommand, text)?);
-    };
-    match settings_of(alloc, script) {
-        Ok(config) => Ok(config),
+    match asked_in(alloc, &matches) {
+        Ok(asked) => Ok(asked),
         Err(Refused::Spelling(name, text)) => {
             let text = format!(in alloc;
                 "invalid value '{text}' for '--{name}': only digits are read"
@@ -271,6 +381,10 @@ pub fn config_of<'a, S: AsStr>(alloc: Global, words: &'a [S]) -> Result<Config, 
         Err(Refused::NoMailbox) => {
             let text = "there is no mailbox";
             Err(command.error(ErrorKind::MissingRequiredArgument, text)?)
+        }
+        Err(Refused::NothingToDo) => {
+            let text = "there is nothing to do";
+            Err(command.error(ErrorKind::MissingSubcommand, text)?)
         }
         Err(Refused::NoMemory) => Err(Error::from(AllocError)),
     }

@@ -1,10 +1,11 @@
 //! How the program may fail, with the exit status of each and the text that is said of it. Mistakes of the command line are clap's.
 
 ghost use Rattle.std.specs.Prelude.{◌≡◌};
-ghost use Rattle.post_house.specs.Status.{config_failure, run_failure, status_of};
+ghost use Rattle.post_house.specs.Status.{config_failure, run_failure, serve_failure, status_of};
 
 use house::ConfigFault;
 use script::RunFault;
+use serving::ServeFault;
 use thiserror::Error;
 
 /// Why the program fails.
@@ -13,12 +14,15 @@ pub enum Failure {
     /// The settings are wrong.
     #[error("bad configuration: {0}")]
     Config(ConfigFault),
-    /// The input or the output failed.
+    /// The input or the output failed, a listener could not be made, or a thread.
     #[error("device fault")]
     Device,
     /// Memory was refused.
     #[error("out of memory")]
     NoMemory,
+    /// A server's house could not be closed as it should, or a worker heard what it didn't await.
+    #[error("torn")]
+    Torn,
 }
 
 // Want of memory is no fault of the settings.
@@ -29,6 +33,19 @@ impl From<ConfigFault> for Failure {
         match fault {
             ConfigFault::NoMemory => Failure::NoMemory,
             fault => Failure::Config(fault),
+        }
+    }
+}
+
+impl From<ServeFault> for Failure {
+    ghost from_gives = { λ fault failure. failure ≡ serve_failure fault };
+
+    fn from(fault: ServeFault) -> Failure {
+        match fault {
+            ServeFault::Config(fault) => Failure::from(fault),
+            ServeFault::Device | ServeFault::Spawn => Failure::Device,
+            ServeFault::NoMemory => Failure::NoMemory,
+            ServeFault::Torn => Failure::Torn,
         }
     }
 }
@@ -44,7 +61,7 @@ pub fn device_or_memory(fault: RunFault) -> Failure
 }
 
 impl Failure {
-    /// The exit status: 3 for wrong settings, 4 for a device, 5 for memory.
+    /// The exit status: 3 for wrong settings, 4 for a device, 5 for memory, 6 for a server that was torn.
     pub fn status(self) -> u8
         ensures { result ≡ status_of self }
     {
@@ -52,6 +69,7 @@ impl Failure {
             Failure::Config(_) => 3,
             Failure::Device => 4,
             Failure::NoMemory => 5,
+            Failure::Torn => 6,
         }
     }
 }

@@ -12,21 +12,26 @@ ghost use Rattle.script.specs.Script.{script_of};
 ghost use Rattle.script.specs.Promise.{WroteOnce};
 ghost use Rattle.house.specs.Settings.{IsInRange, config_fault, setup_of};
 ghost use Rattle.house.specs.declared.config.ConfigFault.{ConfigFault};
-ghost use Rattle.post_house.specs.Playing.{Played, RanScript};
+ghost use Rattle.post_house.specs.Asking.{IsAskedInRange};
+ghost use Rattle.post_house.specs.Playing.{HasDone, HasDoneAsked, HasServed, Played, RanScript};
 ghost use Rattle.post_house.specs.Status.{IsStatus, status_of};
 
-use crate::arguments::config_of;
+use crate::arguments::{Asked, asked_of};
 use crate::failure::{Failure, device_or_memory};
 use clap::Error;
 use clap::error::ErrorKind;
 use house::{Config, House};
 use line_io::{Sink, Watched, send};
 use script::drive;
+use serving::{Uidvalidity, serve};
 use std::alloc::Global;
 use std::convert::AsStr;
-use std::io::{BufRead, BufReader, Write};
+use std::env::{self, Env};
+use std::io::{self, BufRead, BufReader, Input, Write};
+use std::net::{Net, TcpListener, TcpStream};
 use std::process::ExitCode;
-use std::{env, io};
+use std::sync::Wait;
+use std::thread::Threads;
 
 /// The exit status where all went well.
 const DONE: u8 = 0;
@@ -90,32 +95,102 @@ fn play<R: BufRead, W: Sink>(
     }
 }
 
-/// Does what the words ask for, the first of which is the program's name, and gives the exit status: 0 where all was done, also where
-/// only the help was asked for; 2 for a command line that is refused, with clap's text on `faults`; 3 for settings that are wrong,
-/// only the help was asked for; 2 for a command line that is refused, with clap's text on `faults`; 3 for settings that are wrong,
-/// 4 for a device that fails and 5 for want of memory, each with a line of its own on `faults`. At 2 and 3 nothing is written to `output`.
-/// Where the input was touched it was played as a script, and all that was written is what that prints, or a beginning of it.
-fn command<S: AsStr, R: BufRead, W: Sink, F: Write>(
+// Runs a script as `play` does, and gives the exit status; a failure is said on standard error.
+fn run_script<I: BufRead, W: Sink, F: Write>(
     alloc: Global,
-    words: &[S],
-    input: &mut R,
+    config: &Config,
+    input: &mut I,
     output: &mut W,
     faults: &mut F,
 ) -> u8
+    requires range { IsInRange config.now }
+    requires live { W.failed output.old ≡ false }
+    ensures status { IsStatus result }
+    ensures not_asked { result ≡ NOT_ASKED_RIGHT → ⊥ }
+    ensures not_set { result ≡ 3 → output.new ≡ output.old }
+    ensures ran { (bytes : List ℕ) → I.remaining input.old ≡ Some bytes → RanScript config.now bytes (W.failed output.new) result (W.taken output.old) (W.taken output.new) }
+{
+    match play(alloc, config, input, output) {
+        Ok(()) => DONE,
+        Err(failure) => fail(failure, faults),
+    }
+}
+
+// Serves a house of these settings until the input is at its end, and gives the exit status; a failure is said on standard error.
+fn run_server<
+    R: Net<Listener = TcpListener, Stream = TcpStream> + Threads + Wait + Sync,
+    I: BufRead,
+    W: Sink,
+    F: Write,
+>(
+    rt: &R,
+    alloc: Global,
+    config: &Config,
+    uidvalidity: Uidvalidity,
+    input: &mut I,
+    output: &mut W,
+    faults: &mut F,
+) -> u8
+    requires range { IsInRange config.now }
+    requires live { W.failed output.old ≡ false }
+    ensures status { IsStatus result }
+    ensures not_asked { result ≡ NOT_ASKED_RIGHT → ⊥ }
+    ensures not_set { result ≡ 3 → output.new ≡ output.old }
+    ensures served { HasServed config.now uidvalidity result (W.taken output.old) (W.taken output.new) }
+{
+    match serve(rt, alloc, config, uidvalidity, input, output) {
+        Ok(()) => DONE,
+        Err(fault) => fail(Failure::from(fault), faults),
+    }
+}
+
+// Does what is asked for, and gives the exit status; a failure is said on standard error.
+fn carry_out<
+    R: Net<Listener = TcpListener, Stream = TcpStream> + Threads + Wait + Sync,
+    I: BufRead,
+    W: Sink,
+    F: Write,
+>(rt: &R, alloc: Global, asked: &Asked, input: &mut I, output: &mut W, faults: &mut F) -> u8
+    requires range { IsAskedInRange asked.now }
+    requires live { W.failed output.old ≡ false }
+    ensures status { IsStatus result }
+    ensures not_asked { result ≡ NOT_ASKED_RIGHT → ⊥ }
+    ensures not_set { result ≡ 3 → output.new ≡ output.old }
+    ensures done { HasDone asked.now (I.remaining input.old) (W.failed output.new) result (W.taken output.old) (W.taken output.new) }
+{
+    match asked {
+        Asked::Script(config) => run_script(alloc, config, input, output, faults),
+        Asked::Serve {
+            config,
+            uidvalidity,
+        } => run_server(rt, alloc, config, *uidvalidity, input, output, faults),
+    }
+}
+
+/// Does what the words ask for, the first of which is the program's name, and gives the exit status: 0 where all was done, also where
+/// only the help was asked for; 2 for a command line that is refused, with clap's text on `faults`; 3 for settings that are wrong,
+/// 4 for a device that fails, 5 for want of memory and 6 for a server that was torn, each with a line of its own on `faults`. At 2 and 3
+/// nothing is written to `output`. A script's bytes are played as they come, and what was written is what it prints, or after a failure a
+/// beginning of it. A server writes a line for each of its listeners, or after a failure a beginning of them, and ends with the input.
+fn command<
+    R: Net<Listener = TcpListener, Stream = TcpStream> + Threads + Wait + Sync,
+    S: AsStr,
+    I: BufRead,
+    W: Sink,
+    F: Write,
+>(rt: &R, alloc: Global, words: &[S], input: &mut I, output: &mut W, faults: &mut F) -> u8
     requires { W.failed output.old ≡ false }
     ensures status { IsStatus result }
     ensures not_asked { result ≡ NOT_ASKED_RIGHT → output.new ≡ output.old }
     ensures not_set { result ≡ 3 → output.new ≡ output.old }
-    ensures ran { (bytes : List ℕ) → R.remaining input.old ≡ Some bytes → (input.new ≡ input.old) ⊎ RanScript bytes (W.failed output.new) result (W.taken output.old) (W.taken output.new) }
+    // Where the input was touched, what the words asked for was done.
+    ensures ran { (input.new ≡ input.old) ⊎ HasDoneAsked (I.remaining input.old) (W.failed output.new) result (W.taken output.old) (W.taken output.new) }
 {
-    let config = match config_of(alloc, words) {
-        Ok(config) => config,
+    let asked = match asked_of(alloc, words) {
+        Ok(asked) => asked,
         Err(error) => return tell(alloc, &error, output, faults),
     };
-    match play(alloc, &config, input, output) {
-        Ok(()) => DONE,
-        Err(failure) => fail(failure, faults),
-    }
+    carry_out(rt, alloc, &asked, input, output, faults)
 }
 
 // Says why the process's words can't be had: they are no text, or memory was refused.
@@ -133,27 +208,37 @@ fn refuse_words<F: Write>(error: &io::Error, faults: &mut F) -> u8
 }
 
 // The program over the process's own words and streams.
-fn program(rt: &HostRuntime) -> u8
+fn program<
+    R: AllocGlobal
+        + Env
+        + Input
+        + Print
+        + Net<Listener = TcpListener, Stream = TcpStream>
+        + Threads
+        + Wait
+        + Sync,
+    F: Write,
+>(rt: &R, faults: &mut F) -> u8
     ensures { IsStatus result }
 {
     let alloc = rt.alloc();
-    let mut faults = rt.stderr();
     let words = match env::args(rt) {
         Ok(words) => words.collect::<Vec<String>>(alloc),
-        Err(error) => return refuse_words(&error, &mut faults),
+        Err(error) => return refuse_words(&error, faults),
     };
     let (Ok(words), Ok(mut input)) = (words, BufReader::new(alloc, rt.reader())) else {
-        return fail(Failure::NoMemory, &mut faults);
+        return fail(Failure::NoMemory, faults);
     };
     command(
+        rt,
         alloc,
         words.as_slice(),
         &mut input,
         &mut Watched::new(io::writer(rt)),
-        &mut faults,
+        faults,
     )
 }
 
 fn main(rt: HostRuntime) -> ExitCode {
-    ExitCode::from(program(&rt))
+    ExitCode::from(program(&rt, &mut rt.stderr()))
 }

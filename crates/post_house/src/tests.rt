@@ -1,10 +1,15 @@
-//! The program on command lines whose status is known without a run.
+//! The program on command lines whose status is known without a run, and a server that is stopped at once.
 
-use crate::arguments::config_of;
+use crate::arguments::{Asked, asked_of};
 use crate::command;
 use clap::Error;
 use line_io::Watched;
-use std::alloc::Global;
+use loopback::Listening;
+use serving::Uidvalidity;
+use std::alloc::{AllocError, Global};
+use std::net::{Net, TcpListener, TcpStream};
+use std::sync::Wait;
+use std::thread::Threads;
 
 // What a run comes to: its exit status, what it wrote, and what it said of faults.
 #[derive(Drop)]
@@ -15,11 +20,16 @@ struct Ended {
 }
 
 // The program on these words, the first of which is its name, and no input.
-fn run_of(alloc: Global, words: &[&str]) -> Ended {
+fn run_of<R: Net<Listener = TcpListener, Stream = TcpStream> + Threads + Wait + Sync>(
+    rt: &R,
+    alloc: Global,
+    words: &[&str],
+) -> Ended {
     let mut output = Vec::new(alloc);
     let mut faults = Vec::new(alloc);
     let mut input = b"".as_slice();
     let status = command(
+        rt,
         alloc,
         words,
         &mut input,
@@ -44,7 +54,7 @@ fn a_ring_that_is_short(rt: HostRuntime) {
         "9",
         "alice",
     ];
-    let ended = run_of(rt.alloc(), &words);
+    let ended = run_of(&rt, rt.alloc(), &words);
     assert_eq!(rt; ended.status, 3);
     assert!(rt; ended.output.is_empty());
     assert_eq!(rt;
@@ -58,7 +68,12 @@ fn command_lines_that_are_refused(rt: HostRuntime) {
     let refused = [
         ["post_house"].as_slice(),
         ["post_house", "script"].as_slice(),
-        ["post_house", "serve", "alice"].as_slice(),
+        ["post_house", "serve"].as_slice(),
+        ["post_house", "host", "alice"].as_slice(),
+        ["post_house", "script", "--shards", "9", "alice"].as_slice(),
+        ["post_house", "serve", "--sessions", "5", "alice"].as_slice(),
+        ["post_house", "serve", "--workers", "0", "alice"].as_slice(),
+        ["post_house", "serve", "--imap-port", "80", "alice"].as_slice(),
         ["post_house", "script", "--depth", "0", "alice"].as_slice(),
         ["post_house", "script", "--depth", "1025", "alice"].as_slice(),
         ["post_house", "script", "--depth", "+5", "alice"].as_slice(),
@@ -85,7 +100,7 @@ fn command_lines_that_are_refused(rt: HostRuntime) {
         .as_slice(),
     ];
     for words in refused {
-        let ended = run_of(rt.alloc(), words);
+        let ended = run_of(&rt, rt.alloc(), words);
         assert_eq!(rt; ended.status, 2);
         assert!(rt; ended.output.is_empty() && !ended.faults.is_empty());
     }
@@ -124,7 +139,7 @@ fn words_and_options_in_any_order(rt: HostRuntime) {
         .as_slice(),
     ];
     for words in short {
-        let ended = run_of(rt.alloc(), words);
+        let ended = run_of(&rt, rt.alloc(), words);
         assert_eq!(rt; ended.status, 3);
         assert_eq!(rt;
             ended.faults.as_slice(),
@@ -137,7 +152,7 @@ fn words_and_options_in_any_order(rt: HostRuntime) {
         ["post_house", "script", ""].as_slice(),
     ];
     for words in misspelled {
-        let ended = run_of(rt.alloc(), words);
+        let ended = run_of(&rt, rt.alloc(), words);
         assert_eq!(rt; ended.status, 3);
         assert_eq!(rt;
             ended.faults.as_slice(),
@@ -148,7 +163,7 @@ fn words_and_options_in_any_order(rt: HostRuntime) {
 
 #[test]
 fn help_is_no_fault(rt: HostRuntime) {
-    let ended = run_of(rt.alloc(), &["post_house", "script", "--help"]);
+    let ended = run_of(&rt, rt.alloc(), &["post_house", "script", "--help"]);
     assert_eq!(rt; ended.status, 0);
     assert!(rt; !ended.output.is_empty() && ended.faults.is_empty());
 }
@@ -171,7 +186,10 @@ fn each_option_reaches_its_setting(rt: HostRuntime) -> Result<(), Error> {
         "alice",
         "alice/Work",
     ];
-    let config = config_of(rt.alloc(), words.as_slice())?;
+    let Asked::Script(config) = asked_of(rt.alloc(), words.as_slice())? else {
+        assert!(rt; false);
+        return Ok(());
+    };
     assert_eq!(rt; config.host.as_slice(), b"mail.b.example".as_slice());
     assert_eq!(rt; config.domain.as_slice(), b"b.example".as_slice());
     assert_eq!(rt; config.shards, 3);
@@ -184,5 +202,109 @@ fn each_option_reaches_its_setting(rt: HostRuntime) -> Result<(), Error> {
     assert_eq!(rt; config.first_uid, 9);
     assert_eq!(rt; config.mailboxes.len(), 2);
     assert_eq!(rt; config.mailboxes[1].as_slice(), b"alice/Work".as_slice());
+    Ok(())
+}
+
+#[test]
+fn each_option_of_a_server_reaches_its_setting(rt: HostRuntime) -> Result<(), Error> {
+    let words = [
+        "post_house",
+        "serve",
+        "--lmtp-port=1",
+        "--imap-port=1024",
+        "--workers=8",
+        "--sessions=4",
+        "--uidvalidity=9",
+        "--depth=5",
+        "alice",
+    ];
+    let asked = asked_of(rt.alloc(), words.as_slice())?;
+    let Asked::Serve {
+        config,
+        uidvalidity,
+    } = asked
+    else {
+        assert!(rt; false);
+        return Ok(());
+    };
+    assert_eq!(rt; uidvalidity, Uidvalidity::Given);
+    assert_eq!(rt; config.lmtp_port, 1);
+    assert_eq!(rt; config.imap_port, 1024);
+    assert_eq!(rt; config.workers, 8);
+    assert_eq!(rt; config.sessions, 4);
+    assert_eq!(rt; config.uidvalidity, 9);
+    assert_eq!(rt; config.depth, 5);
+    Ok(())
+}
+
+#[test]
+fn mail_on_the_port_of_others(rt: HostRuntime) {
+    let words = ["post_house", "serve", "--lmtp-port", "25", "alice"];
+    let ended = run_of(&rt, rt.alloc(), &words);
+    assert_eq!(rt; ended.status, 3);
+    assert!(rt; ended.output.is_empty());
+    assert_eq!(rt;
+        ended.faults.as_slice(),
+        b"post_house: bad configuration: Ports\n".as_slice()
+    );
+}
+
+// Two ports that are free: the system chose them, and one that a server may have for its sessions.
+fn free_ports<R: Net<Listener = TcpListener, Stream = TcpStream>>(rt: &R) -> Option<(u16, u16)> {
+    let mail = Listening::bind(rt, 0).ok()?;
+    let sessions = Listening::bind(rt, 0).ok()?;
+    Some((mail.port(), sessions.port()))
+}
+
+// A server on free ports that is stopped at once, with these words more, and what it is to write before the line on its UIDVALIDITY.
+fn stopped_server<R: Net<Listener = TcpListener, Stream = TcpStream> + Threads + Wait + Sync>(
+    rt: &R,
+    alloc: Global,
+    more: &str,
+) -> Result<Option<(Ended, String)>, AllocError> {
+    let Some((mail, sessions)) = free_ports(rt) else {
+        return Ok(None);
+    };
+    let mail_word = format!(in alloc; "--lmtp-port={mail}")?;
+    let sessions_word = format!(in alloc; "--imap-port={sessions}")?;
+    let words = [
+        "post_house",
+        "serve",
+        mail_word.as_str(),
+        sessions_word.as_str(),
+        more,
+        "alice",
+    ];
+    let ended = run_of(rt, alloc, &words);
+    let lines = format!(in alloc; "LMTP 127.0.0.1:{mail}\nIMAP 127.0.0.1:{sessions} alice\n")?;
+    Ok(Some((ended, lines)))
+}
+
+const WARNING: &[u8] =
+    b"UIDVALIDITY is the same at each start: give --uidvalidity a number that grows, as the time in seconds\n";
+
+#[test]
+fn a_server_that_is_stopped_at_once(rt: HostRuntime) -> Result<(), AllocError> {
+    let Some((ended, lines)) = stopped_server(&rt, rt.alloc(), "--depth=4")? else {
+        assert!(rt; false);
+        return Ok(());
+    };
+    assert_eq!(rt; ended.status, 0);
+    assert!(rt; ended.faults.is_empty());
+    assert!(rt; ended.output.starts_with(lines.as_bytes()));
+    assert!(rt; ended.output.ends_with(WARNING));
+    assert_eq!(rt; ended.output.len(), lines.len() + WARNING.len());
+    Ok(())
+}
+
+#[test]
+fn a_uidvalidity_that_is_given(rt: HostRuntime) -> Result<(), AllocError> {
+    let Some((ended, lines)) = stopped_server(&rt, rt.alloc(), "--uidvalidity=9")? else {
+        assert!(rt; false);
+        return Ok(());
+    };
+    assert_eq!(rt; ended.status, 0);
+    assert!(rt; ended.faults.is_empty());
+    assert_eq!(rt; ended.output.as_slice(), lines.as_bytes());
     Ok(())
 }
