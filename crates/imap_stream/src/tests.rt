@@ -15,7 +15,7 @@ use session_thread::LockedDesk;
 use std::alloc::{AllocError, Global};
 use std::io::{self, Error, ErrorKind, Read};
 use std::sync::atomic::{AtomicBool, AtomicU64, Ordering};
-use std::sync::{Mutex, Wait};
+use std::sync::{Arc, Mutex, Wait};
 use std::thread::{self, Threads, join};
 
 const SMALL: Limits = Limits {
@@ -255,7 +255,10 @@ fn serve_over<'x, R: Wait, I: Read>(
         return false;
     };
     let desk = LockedDesk::new(rt, tally, 0, mailboxes, &[]);
-    let place = Place::new();
+    let Ok(idles) = Arc::new(alloc, AtomicBool::new(false)) else {
+        return false;
+    };
+    let place = Place::new(idles);
     let mut buffer = [0; 64];
     match Visit::open(rt, alloc, desk, folders, wire) {
         Ok(visit) => place
