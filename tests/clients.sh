@@ -180,8 +180,8 @@ configure_postfix() {
 compatibility_level = 3.6
 queue_directory = $room/queue
 data_directory = $room/data-of-postfix
-daemon_directory = $(postconf -h daemon_directory)
-command_directory = $(postconf -h command_directory)
+daemon_directory = $(postconf -d -h daemon_directory)
+command_directory = $(postconf -d -h command_directory)
 maillog_file = $room/mail.log
 maillog_file_prefixes = $room
 myhostname = relay.b.example
