@@ -94,7 +94,7 @@ fn key(seat: u8, message: u32) -> CopyKey {
 }
 
 fn text(alloc: Global, word: &str) -> Result<Text, AllocError> {
-    Ok(Text::new(Vec::from_slice(alloc, word.as_bytes())?))
+    Text::new(Vec::from_slice(alloc, word.as_bytes())?)
 }
 
 fn logs(alloc: Global, heard: &[(u32, u32)]) -> Result<Vec<WorkerLog>, AllocError> {

@@ -54,18 +54,18 @@ fn packed<T>(value: T) -> ManuallyDrop<T>
     unsafe { ManuallyDrop::new_unchecked(value) }
 }
 
-fn job_of(alloc: Global, seat: u8, serial: u8) -> Job {
+fn job_of(alloc: Global, seat: u8, serial: u8) -> Result<Job, AllocError> {
     let key = CopyKey {
         seat,
         serial: u64::from(serial),
         message: 0,
         recipient: 0,
     };
-    Job {
+    Ok(Job {
         key,
         mailbox: serial % MAILBOXES,
-        text: Text::new(Vec::new(alloc)),
-    }
+        text: Text::new(Vec::new(alloc))?,
+    })
 }
 
 // Puts a copy on a lane. Whether there was room.
@@ -94,6 +94,24 @@ fn put_copy<R: Wait>(
     let shard = office.directory.shard_of(job.mailbox);
     let was_put = put_on(rt, &office.lanes[shard], &mut seats[shard], job);
     if was_put { Some(shard) } else { None }
+}
+
+// Makes a copy, and puts it. The number of its shard, where there was memory and room.
+fn put_next<R: Wait>(
+    rt: &R,
+    floor: &Floor,
+    seats: &mut Vec<ProducerSeat<Job>>,
+    number: u8,
+    serial: u8,
+) -> Option<usize>
+    requires seats { AreSeats floor.now.office.lanes.items number seats.old.items }
+    requires lanes { floor.now.office.directory.shards ≡ length floor.now.office.lanes.items }
+    ensures { AreSeats floor.now.office.lanes.items number seats.new.items }
+{
+    let Ok(job) = job_of(floor.alloc, number, serial) else {
+        return None;
+    };
+    put_copy(rt, &floor.office, seats, number, job)
 }
 
 // Whether the next verdict that waits tells that a copy was stored.
@@ -131,8 +149,7 @@ fn put_all<H: Hall, R: Wait>(
     let number = desk.number;
     let mut stored = 0usize;
     for serial in 0..COPIES {
-        let job = job_of(floor.alloc, number, serial);
-        if let Some(shard) = put_copy(rt, &floor.office, &mut desk.seats, number, job) {
+        if let Some(shard) = put_next(rt, floor, &mut desk.seats, number, serial) {
             help.help(rt, shard);
             if hears_stored(rt, channel, &mut desk.receiver) {
                 stored = stored.saturating_add(1);

@@ -103,7 +103,7 @@ fn puts(
     mailbox: u8,
     wanted: Result<Option<Refusal>, Fault>,
 ) -> Result<bool, AllocError> {
-    let text = Text::new(Vec::from_slice(alloc, b"hi\r\n")?);
+    let text = Text::new(Vec::from_slice(alloc, b"hi\r\n")?)?;
     let key = CopyKey { recipient, ..KEY };
     Ok(core.may_put(key, mailbox) && core.put(key, mailbox, &text) == wanted)
 }

@@ -63,7 +63,7 @@ fn delivers(
     let copy = Job {
         key: CopyKey { recipient, ..KEY },
         mailbox: 3,
-        text: Text::new(Vec::from_slice(alloc, b"hi\r\n")?),
+        text: Text::new(Vec::from_slice(alloc, b"hi\r\n")?)?,
     };
     match deliver(mailbox, &copy) {
         Ok(r) => Ok(r.key() == copy.key && r.mailbox() == 3 && wanted == Ok((r.uid(), r.place()))),

@@ -76,7 +76,7 @@ fn job(alloc: Global, recipient: u8, bytes: &[u8]) -> Result<Job, AllocError> {
     Ok(Job {
         key: CopyKey { recipient, ..KEY },
         mailbox: 3,
-        text: Text::new(Vec::from_slice(alloc, bytes)?),
+        text: Text::new(Vec::from_slice(alloc, bytes)?)?,
     })
 }
 

@@ -11,6 +11,7 @@ ghost use Rattle.delivery_token.specs.Keys.{Precedes};
 pub use log::{Noted, WorkerLog};
 use std::alloc::AllocError;
 use std::marker::Model;
+use std::sync::Arc;
 
 /// Which copy it is: the connection's seat and serial, its message, and the place of the recipient
 /// among those accepted. Keys of one seat stand in the order of the fields.
@@ -29,26 +30,31 @@ pub fn precedes(a: &CopyKey, b: &CopyKey) -> bool
     a.seat == b.seat && a < b
 }
 
-/// The bytes of a message.
+/// The bytes of a message, which all copies of it share.
 #[derive(Drop)]
 pub struct Text {
-    bytes: Vec<u8>,
+    bytes: Arc<Vec<u8>>,
 }
 
 impl Model for Text {
     ghost use Rattle.std.specs.Prelude.{List, ℕ};
+    ghost use Rattle.std.specs.Arc.{arc_value};
 
     ghost Value = { List ℕ };
 
-    ghost view = { λ t. t.bytes.items };
+    ghost view = { λ t. (arc_value t.bytes).items };
 }
 
 impl Text {
-    /// The text that has these bytes.
-    pub fn new(bytes: Vec<u8>) -> Text
-        ensures { result ≡ bytes.items }
+    /// The text that has these bytes, which are not copied, or an error where memory is refused for
+    /// what its copies share.
+    pub fn new(bytes: Vec<u8>) -> Result<Text, AllocError>
+        ensures { IfOk result (λ t. t ≡ bytes.items) }
     {
-        Text { bytes }
+        let alloc = *bytes.allocator();
+        Ok(Text {
+            bytes: Arc::new(alloc, bytes)?,
+        })
     }
 
     /// Its bytes.
@@ -58,12 +64,12 @@ impl Text {
         self.bytes.as_slice()
     }
 
-    /// An equal text of its own, or an error where memory is refused.
+    /// An equal text, which shares its bytes, or an error where that is refused.
     pub fn copy(&self) -> Result<Text, AllocError>
         ensures { IfOk result (λ t. t ≡ self.now) }
     {
         Ok(Text {
-            bytes: Vec::from_slice(*self.bytes.allocator(), self.bytes.as_slice())?,
+            bytes: Arc::try_clone(&self.bytes)?,
         })
     }
 }
@@ -123,7 +129,7 @@ mod tests {
 
     #[test]
     fn a_copied_text_is_equal(rt: HostRuntime) -> Result<(), AllocError> {
-        let text = Text::new(Vec::from_slice(rt.alloc(), b"hi\r\n")?);
+        let text = Text::new(Vec::from_slice(rt.alloc(), b"hi\r\n")?)?;
         assert!(rt; text.copy()?.as_slice() == b"hi\r\n".as_slice());
         Ok(())
     }

@@ -187,7 +187,7 @@ fn copy(alloc: Global) -> Result<Job, AllocError> {
             recipient: 0,
         },
         mailbox: 0,
-        text: Text::new(Vec::from_slice(alloc, b"Return-Path: <s@a.example>\r\nhi\r\n")?),
+        text: Text::new(Vec::from_slice(alloc, b"Return-Path: <s@a.example>\r\nhi\r\n")?)?,
     })
 }
 

@@ -337,7 +337,7 @@ impl LmtpMachine {
         Ok(Submission {
             keys: keys_of(self.alloc, self.seat, self.serial, message, recipients)?,
             mailboxes: Vec::from_slice(self.alloc, recipients)?,
-            text: Text::new(text_of(self.alloc, self.commands.sender(), body)?),
+            text: Text::new(text_of(self.alloc, self.commands.sender(), body)?)?,
         })
     }
 

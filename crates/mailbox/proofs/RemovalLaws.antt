@@ -1,10 +1,8 @@
 -- What removing messages does to the messages, to the log and to the window.
-use Rattle.std.proofs.Common.{◌≡◌, ◌≢◌, ℕ, zero, suc, ◌+◌, ◌<◌, ◌≤◌, Bool, true, false, cond, ◌==◌, List, [], ◌∷◌, ◌++◌, length, get_or, map, filter, Contains, refl, sym, ap, ◌∙◌, inl, inr, subst, arith, eq-eqb, append_assoc, append-nil, length-append}
-use Rattle.std.specs.Prelude.{count_by, ◌&&◌}
+use Rattle.std.proofs.Common.{◌≡◌, ◌≢◌, ℕ, zero, suc, ◌+◌, ◌<◌, ◌≤◌, Bool, true, false, ◌==◌, List, [], ◌∷◌, ◌++◌, length, get_or, map, Contains, refl, sym, ap, ◌∙◌, inl, inr, subst, arith, eq-eqb, append_assoc, append-nil, length-append}
+use Rattle.std.specs.Prelude.{◌&&◌}
 use Rattle.std.specs.List.{AllByRecursion, list_any}
 use Rattle.std.proofs.lemmas.Bool.Decides.{eqb_tells}
-use Rattle.std.proofs.lemmas.List.{length-map}
-use Rattle.std.proofs.lemmas.List.Sums.{length-filter}
 use Rattle.change_ring.specs.declared.change.Change.{Change}
 use Rattle.change_ring.specs.declared.change.Change.TheVariants.{Gone}
 use Rattle.change_ring.specs.Log.{Row, FitsView, without, without_row, rows_after, added}
@@ -12,7 +10,6 @@ use Rattle.change_ring.specs.Logged.{removals}
 use Rattle.change_ring.specs.Window.{Window, IsWindowOf, total}
 use Rattle.cursor_set.specs.Cursors.{Cursors}
 use Rattle.cursor_set.proofs.Places.{Rises}
-use Rattle.mailbox.specs.Choices.{is_taken}
 use Rattle.mailbox.specs.Events.{GoesOn, Moves}
 use Rattle.mailbox.proofs.WindowMoves.{Moves-append, moves_logged}
 use Rattle.mailbox.specs.Mail.{Message, row_of, uids_of, remaining}
@@ -70,15 +67,19 @@ there_middle (k ∷ ks) r rs =
 
 -- ---- removing one message after another
 
+-- the message has \Deleted and passes the test
+abbrev is_taken : (ℕ → Bool) → Message → Bool
+is_taken test m = m.flags.deleted && test m.uid
+
 module _ (test : ℕ → Bool) where
   -- what is logged of some messages
-  abbrev pub gone_of : List Message → List Change
+  abbrev gone_of : List Message → List Change
   gone_of ms = removals test (map row_of ms)
 
-  pub gone_yes : (m : Message) (ms : List Message) → is_taken test m ≡ true → gone_of (m ∷ ms) ≡ Gone m.uid ∷ gone_of ms
+  gone_yes : (m : Message) (ms : List Message) → is_taken test m ≡ true → gone_of (m ∷ ms) ≡ Gone m.uid ∷ gone_of ms
   gone_yes m ms e = rw e refl
 
-  pub gone_no : (m : Message) (ms : List Message) → is_taken test m ≡ false → gone_of (m ∷ ms) ≡ gone_of ms
+  gone_no : (m : Message) (ms : List Message) → is_taken test m ≡ false → gone_of (m ∷ ms) ≡ gone_of ms
   gone_no m ms e = rw e refl
 
   left_yes : (m : Message) (ms : List Message) → is_taken test m ≡ true → remaining test (m ∷ ms) ≡ remaining test ms
@@ -123,21 +124,6 @@ module _ (test : ℕ → Bool) where
       by_case : (b : Bool) → is_taken test m ≡ b → added (gone_of ms) ≡ [] → added (gone_of (m ∷ ms)) ≡ []
       by_case true e h = ap added (gone_yes m ms e) ∙ h
       by_case false e h = ap added (gone_no m ms e) ∙ h
-
-  -- how many messages go
-  length_rows : (ms : List Message) → length (filter (λ (r : Row). r.flags.deleted && test r.uid) (map row_of ms)) ≡ length (filter (is_taken test) ms)
-  length_rows [] = refl
-  length_rows (m ∷ ms) = by_case (is_taken test m) (length_rows ms)
-    where
-      by_case : (b : Bool) → length (filter (λ (r : Row). r.flags.deleted && test r.uid) (map row_of ms)) ≡ length (filter (is_taken test) ms) →
-          length (cond b (row_of m ∷ filter (λ (r : Row). r.flags.deleted && test r.uid) (map row_of ms)) (filter (λ (r : Row). r.flags.deleted && test r.uid) (map row_of ms)))
-          ≡ length (cond b (m ∷ filter (is_taken test) ms) (filter (is_taken test) ms))
-      by_case true h = ap suc h
-      by_case false h = h
-
-  pub gone_count : (ms : List Message) → count_by (is_taken test) ms ≡ length (gone_of ms)
-  gone_count ms =
-      sym (length-filter (is_taken test) ms) ∙ sym (length_rows ms) ∙ sym (length-map (filter (λ (r : Row). r.flags.deleted && test r.uid) (map row_of ms)) (λ (r : Row). Gone r.uid))
 
 -- ---- changes on changes
 

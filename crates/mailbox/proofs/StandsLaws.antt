@@ -1,9 +1,10 @@
 -- What changes do to the logs for which a mailbox stands.
-use Rattle.std.proofs.Common.{◌≡◌, ℕ, zero, suc, ◌+◌, ◌-◌, ◌<◌, ◌≤◌, List, [], ◌∷◌, ◌++◌, length, map, take, drop, get_or, Option, Some, None, append-nil, refl, sym, ap, ap₂, ◌∙◌, inl, inr, subst, arith, length-append}
+use Rattle.std.proofs.Common.{◌≡◌, ℕ, zero, suc, ◌+◌, ◌-◌, ◌<◌, ◌≤◌, List, [], ◌∷◌, ◌++◌, length, map, take, drop, get_or, Option, Some, None, append-nil, refl, sym, ap, ap₂, ◌∙◌, inl, inr, subst, arith, length-append, All}
 use Rattle.std.specs.List.{range_with_len, AllByRecursion}
 use Rattle.std.specs.List.Sorted.{IsStrictlyIncreasing}
 use Rattle.std.proofs.lemmas.List.{take_all, take-append-le, map-append}
 use Rattle.std.proofs.lemmas.Bool.{cases_eq}
+use Rattle.std.proofs.lemmas.List.Elements.{All-from_recursion}
 use Rattle.std.proofs.Math.Seq.{take-add}
 use Rattle.change_ring.specs.declared.change.Change.{Change}
 use Rattle.change_ring.specs.declared.change.Change.TheVariants.{Add}
@@ -16,7 +17,7 @@ use Rattle.cursor_set.specs.Cursors.{Cursors, Open, Updates, after_showing, in_s
 use Rattle.cursor_set.specs.Legal.{IsLegalOn}
 use Rattle.cursor_set.specs.Lines.{lines}
 use Rattle.cursor_set.proofs.LegalLaws.{legal_log, legal_rises}
-use Rattle.cursor_set.proofs.Places.{Rises, Rises-to}
+use Rattle.cursor_set.proofs.Places.{Rises, Rises-from, Rises-to}
 use Rattle.delivery_token.specs.declared.CopyKey.{CopyKey}
 use Rattle.mailbox.specs.Events.{GoesOn, Logs}
 use Rattle.mailbox.specs.Mail.{Mail, Message, row_of, uids_of, accepted_uids, next_uid}
@@ -195,3 +196,32 @@ pending-legal m log slot o s found low =
 -- nothing was logged
 pub Logs-nothing : (m : Mail) (changes : List Change) → changes ≡ [] → Logs m m changes
 Logs-nothing m changes none = λ log s. subst (λ (cs : List Change). Stands m (log ++ cs)) (sym none) (subst (Stands m) (sym (append-nil log)) s)
+
+-- ---- the next UID is above all that are there
+
+below_last : (us : List ℕ) (n : ℕ) → Rises (us ++ n ∷ []) → AllByRecursion (λ u. u < n) us
+below_last [] n up = tt
+below_last (u ∷ us) n up = (last us up.0, below_last us n up.1)
+  where
+    last : (vs : List ℕ) → AllByRecursion (λ v. u < v) (vs ++ n ∷ []) → u < n
+    last [] h = h.0
+    last (v ∷ vs) h = last vs h.1
+
+drop_first : (log more : List Change) → drop (length log) (log ++ more) ≡ more
+drop_first [] more = refl
+drop_first (c ∷ cs) more = drop_first cs more
+
+pub Stands-below : (m : Mail) (log : List Change) → Stands m log → All (λ u. u < next_uid m) (uids_of m.messages)
+Stands-below m log s =
+    let n = next_uid m in
+    let one : List Change = Add n ∷ [] in
+    let more : added (log ++ one) ≡ range_with_len m.first_uid (length m.accepted + 1) =
+    added-append log one ∙ ap (λ (us : List ℕ). us ++ n ∷ []) (sym s.accepted ∙ s.numbered) ∙ range-push m.first_uid (length m.accepted) in
+    let long : IsLegalLog (log ++ one) = record {
+      rising = subst IsStrictlyIncreasing (sym more) (Rises-to (range_with_len m.first_uid (length m.accepted + 1)) (range_rises m.first_uid (length m.accepted + 1)));
+      there = FitsView-append [] log one s.there (tt, tt);
+    } in
+    let legal : IsLegalOn (view_at (log ++ one) (length log)) one = subst (IsLegalOn (view_at (log ++ one) (length log))) (drop_first log one) (legal_log (log ++ one) (length log) long) in
+    let view : view_at (log ++ one) (length log) ≡ uids_of m.messages = ap (replay []) (take-append-le (length log) log one (omega arith) ∙ take_all (length log) log (omega arith)) ∙ sym (view-all m log s) in
+    All-from_recursion (λ u. u < n) (uids_of m.messages)
+    (below_last (uids_of m.messages) n (Rises-from (uids_of m.messages ++ n ∷ []) (subst (λ (us : List ℕ). IsStrictlyIncreasing (us ++ n ∷ [])) view legal.rising)))

@@ -1,10 +1,9 @@
 -- Which messages go, as the code says it.
-use Rattle.std.specs.Prelude.{ℕ, ◌==◌, ◌&&◌, Bool, true}
+use Rattle.std.specs.Prelude.{ℕ, ◌==◌, Bool, true}
 use Rattle.std.specs.List.{list_any}
 use Rattle.std.specs.List.Sorted.{IsNonDecreasing}
-use Rattle.mailbox.specs.declared.removal.Choice.{Choice}
-use Rattle.mailbox.specs.declared.removal.Choice.TheVariants.{Any, Rising, Listed}
-use Rattle.mailbox.specs.Mail.{Message}
+use Rattle.mailbox.specs.declared.choice.Choice.{Choice}
+use Rattle.mailbox.specs.declared.choice.Choice.TheVariants.{Any, Rising, Listed}
 
 -- the choice has this UID
 abbrev pub passes : Choice → ℕ → Bool
@@ -17,7 +16,3 @@ abbrev pub IsFound : Choice → Type 0
 IsFound Any = Unit {0}
 IsFound (Rising uids) = IsNonDecreasing uids.now
 IsFound (Listed uids) = Unit {0}
-
--- the message has \Deleted and passes the test
-abbrev pub is_taken : (ℕ → Bool) → Message → Bool
-is_taken test m = m.flags.deleted && test m.uid

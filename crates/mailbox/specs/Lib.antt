@@ -5,3 +5,5 @@ pub mod Seen
 pub mod Events
 pub mod Counts
 pub mod Choices
+pub mod Letters
+pub mod Marks

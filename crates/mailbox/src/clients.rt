@@ -9,16 +9,16 @@ ghost use Rattle.change_ring.specs.Window.{total};
 ghost use Rattle.cursor_set.specs.Cursors.{Updates, after_showing, held, in_slot, next_changes};
 ghost use Rattle.cursor_set.specs.Lines.{lines};
 ghost use Rattle.mailbox.specs.Events.{IsCurrent, IsLapped, IsStranger, IsTooMany, KeepsLog, Logs, Moves, seen_after, was_logged};
+ghost use Rattle.mailbox.specs.Letters.{message_of};
 ghost use Rattle.mailbox.specs.Mail.{Message as Kept, flagged, message_with, next_uid, rows, uids_of};
-ghost use Rattle.mailbox.specs.Seen.{message_of};
 ghost use Rattle.mailbox.specs.Stands.{Stands, next_of};
 
+use crate::letters::Letter;
 use crate::logging::log_change;
-use crate::mailbox::{Mailbox, Message};
+use crate::mailbox::Mailbox;
 use change_ring::{Change, FlagOp, Flags, Spent};
 use cursor_set::{CursorSeat, FeedFault, NoMemory, Stranger};
 use delivery_token::Text;
-use std::alloc::{AllocError, Global};
 
 /// Why a client's call did nothing.
 #[derive(Clone, Copy, Debug, PartialEq, Eq)]
@@ -64,27 +64,6 @@ const MARK: FlagOp = FlagOp::Insert(Flags {
     draft: false,
 });
 
-// Where the message of a UID stands. The UIDs rise, so it is found by halving.
-fn find(messages: &[Message], uid: u32) -> Option<usize>
-    requires { IsStrictlyIncreasing (map (λ m. m.uid) messages.now) }
-    ensures found { IfSome result (λ k. IfSome (slice_get messages.now k) (λ m. m.uid ≡ uid)) }
-    ensures within { IfSome result (λ k. k < length messages.now) }
-    ensures none { IfNone result (All (λ m. m.uid ≢ uid) messages.now) }
-{
-    let place = messages.partition_point(|message| message.uid < uid);
-    match messages.get(place) {
-        Some(message) if message.uid == uid => Some(place),
-        _ => None,
-    }
-}
-
-// The UIDs of messages.
-fn uids_in(alloc: Global, messages: &[Message]) -> Result<Vec<u32>, AllocError>
-    ensures { IfOk result (λ uids. uids.items ≡ map (λ m. m.uid) messages.now) }
-{
-    messages.iter().map(|message| message.uid).collect(alloc)
-}
-
 impl Mailbox {
     /// Whether a cursor can be opened: a serial is left for it. It takes no memory.
     pub fn can_open(&self) -> bool
@@ -111,8 +90,7 @@ impl Mailbox {
         ensures next { OnOk result (self.new.cursors.next ≡ self.old.cursors.next + 1) }
         ensures opening { IfOk result (λ r. r.1 ≡ record { count = length self.old.messages; uidnext = next_uid self.old; uidvalidity = self.old.uidvalidity }) }
     {
-        let alloc = *self.messages.allocator();
-        let Ok(uids) = uids_in(alloc, &self.messages) else {
+        let Ok(uids) = self.messages.uids() else {
             return Err(NoMemory);
         };
         let at = self.ring.total();
@@ -191,29 +169,24 @@ impl Mailbox {
         Ok(())
     }
 
-    // Where the message of a UID stands.
-    fn place_of(&self, uid: u32) -> Option<usize>
-        ensures found { IfSome result (λ k. IfSome (slice_get self.now.messages k) (λ (m : Kept). m.uid ≡ uid)) }
-        ensures within { IfSome result (λ k. k < length self.now.messages) }
-        ensures none { IfNone result (All (λ (m : Kept). m.uid ≢ uid) self.now.messages) }
+    // The message of a UID.
+    fn letter(&self, uid: u32) -> Option<&Letter>
+        ensures { option_map (λ l. message_of (uid, l.now)) result ≡ message_with uid self.now.messages }
     {
-        find(&self.messages, uid)
+        self.messages.get(uid)
     }
 
-    // The message at a place, which has this UID.
-    fn message_at(&self, place: usize, uid: u32) -> &Message
-        requires within { place < length self.now.messages }
-        requires there { IfSome (slice_get self.now.messages place) (λ (m : Kept). m.uid ≡ uid) }
-        ensures { message_with uid self.now.messages ≡ Some (message_of result.now) }
+    // The flags of the message of a UID.
+    fn flags_of(&self, uid: u32) -> Option<Flags>
+        ensures { result ≡ option_map (λ (m : Kept). m.flags) (message_with uid self.now.messages) }
     {
-        &self.messages[place]
+        Some(self.letter(uid)?.flags)
     }
 
-    // Sets the flags of the message at a place, and logs that where they become others: answers
-    // whether they did. Spent where the log has no room for it; nothing is then changed.
-    fn set_flags(&mut self, place: usize, uid: u32, op: FlagOp) -> Result<bool, Spent>
-        requires within { place < length self.old.messages }
-        requires there { IfSome (slice_get self.old.messages place) (λ (m : Kept). m.uid ≡ uid) }
+    // Sets the flags of a message that has these flags, and logs that where they become others:
+    // answers whether they did. Spent where the log has no room for it; nothing is then changed.
+    fn set_flags(&mut self, uid: u32, old: Flags, op: FlagOp) -> Result<bool, Spent>
+        requires there { option_map (λ (m : Kept). m.flags) (message_with uid self.old.messages) ≡ Some old }
         requires small { total self.old.window ≤ 2 ^ 62 }
         ensures spent { IsErr result ↔ IsTooMany self.old (flags_logged (rows self.old) uid op) }
         ensures err { OnErr result (self.new ≡ self.old) }
@@ -222,9 +195,9 @@ impl Mailbox {
         ensures messages { OnOk result (self.new.messages ≡ flagged uid op self.old.messages) }
         ensures rest { self.new ≡ record self.old { messages = self.new.messages; window = self.new.window } }
         ensures changed { IfOk result (λ changed. was_logged (flags_logged (rows self.old) uid op) ≡ changed) }
-        ensures there { OnOk result ((place < length self.new.messages) × IfSome (slice_get self.new.messages place) (λ (m : Kept). m.uid ≡ uid)) }
     {
-        let old = self.messages[place].flags;
+        // What the type keeps is known where a field is used: the UIDs rise.
+        let _ = &self.messages;
         let flags = op.after(old);
         if !old.differ_from(flags) {
             return Ok(false);
@@ -232,7 +205,7 @@ impl Mailbox {
         let Ok(()) = log_change(&mut self.ring, &self.cursors, Change::Flags(uid, flags)) else {
             return Err(Spent);
         };
-        self.messages[place].flags = flags;
+        self.messages.set_flags(uid, flags);
         Ok(true)
     }
 
@@ -258,36 +231,33 @@ impl Mailbox {
         ensures flags { IfOk result (λ flags. flags ≡ option_map (λ m. m.flags) (message_with uid self.new.messages)) }
     {
         self.admit(seat)?;
-        let Some(place) = self.place_of(uid) else {
+        let Some(old) = self.flags_of(uid) else {
             return Ok(None);
         };
-        let Ok(_changed) = self.set_flags(place, uid, op) else {
+        let Ok(_changed) = self.set_flags(uid, old, op) else {
             return Err(MailFault::Spent);
         };
-        Ok(Some(self.message_at(place, uid).flags))
+        Ok(Some(op.after(old)))
     }
 
     // Whether setting \Seen, where that is asked for, is more than the log has room for.
-    fn cannot_mark(&self, place: usize, uid: u32, mark_seen: bool) -> bool
-        requires within { place < length self.now.messages }
-        requires there { IfSome (slice_get self.now.messages place) (λ (m : Kept). m.uid ≡ uid) }
+    fn cannot_mark(&self, uid: u32, old: Flags, mark_seen: bool) -> bool
+        requires there { option_map (λ (m : Kept). m.flags) (message_with uid self.now.messages) ≡ Some old }
         requires small { total self.now.window ≤ 2 ^ 62 }
         ensures { IsTrue result ↔ IsTooMany self.now (seen_logged mark_seen (rows self.now) uid) }
     {
         if !mark_seen {
             return false;
         }
-        let flags = self.message_at(place, uid).flags;
-        if !flags.differ_from(MARK.after(flags)) {
+        if !old.differ_from(MARK.after(old)) {
             return false;
         }
         self.ring.total() >= 1 << 62
     }
 
     // Sets \Seen, where that is asked for: answers whether that changed the flags.
-    fn mark(&mut self, place: usize, uid: u32, mark_seen: bool) -> Result<bool, Spent>
-        requires within { place < length self.old.messages }
-        requires there { IfSome (slice_get self.old.messages place) (λ (m : Kept). m.uid ≡ uid) }
+    fn mark(&mut self, uid: u32, old: Flags, mark_seen: bool) -> Result<bool, Spent>
+        requires there { option_map (λ (m : Kept). m.flags) (message_with uid self.old.messages) ≡ Some old }
         requires small { total self.old.window ≤ 2 ^ 62 }
         ensures spent { IsErr result ↔ IsTooMany self.old (seen_logged mark_seen (rows self.old) uid) }
         ensures err { OnErr result (self.new ≡ self.old) }
@@ -296,15 +266,14 @@ impl Mailbox {
         ensures messages { OnOk result (self.new.messages ≡ seen_after mark_seen uid self.old.messages) }
         ensures rest { self.new ≡ record self.old { messages = self.new.messages; window = self.new.window } }
         ensures changed { IfOk result (λ changed. was_logged (seen_logged mark_seen (rows self.old) uid) ≡ changed) }
-        ensures there { OnOk result ((place < length self.new.messages) × IfSome (slice_get self.new.messages place) (λ (m : Kept). m.uid ≡ uid)) }
     {
         if !mark_seen {
             return Ok(false);
         }
-        self.set_flags(place, uid, MARK)
+        self.set_flags(uid, old, MARK)
     }
 
-    /// Reads the message of a UID, with a copy of its text; where `mark_seen`, it has \Seen from now
+    /// Reads the message of a UID, with its text, which is shared; where `mark_seen`, it has \Seen from now
     /// on (RFC 9051, 6.4.5), which is logged where it had not. None where no message has the UID.
     /// Stranger, Lapped, Spent or NoMemory, in this order; nothing is then changed.
     pub fn read(
@@ -331,16 +300,17 @@ impl Mailbox {
         }) (message_with uid self.new.messages)) }
     {
         self.admit(seat)?;
-        let Some(place) = self.place_of(uid) else {
+        let Some(letter) = self.letter(uid) else {
             return Ok(None);
         };
-        let Ok(text) = self.message_at(place, uid).text.copy() else {
-            return Err(self.refuse_copy(place, uid, mark_seen));
+        let old = letter.flags;
+        let Ok(text) = letter.text.copy() else {
+            return Err(self.refuse_copy(uid, old, mark_seen));
         };
-        let Ok(newly_seen) = self.mark(place, uid, mark_seen) else {
+        let Ok(newly_seen) = self.mark(uid, old, mark_seen) else {
             return Err(MailFault::Spent);
         };
-        let flags = self.message_at(place, uid).flags;
+        let flags = if mark_seen { MARK.after(old) } else { old };
         Ok(Some(Row {
             uid,
             flags,
@@ -350,14 +320,13 @@ impl Mailbox {
     }
 
     // Why a message isn't read whose text could not be copied: a log without room comes first.
-    fn refuse_copy(&self, place: usize, uid: u32, mark_seen: bool) -> MailFault
-        requires within { place < length self.now.messages }
-        requires there { IfSome (slice_get self.now.messages place) (λ (m : Kept). m.uid ≡ uid) }
+    fn refuse_copy(&self, uid: u32, old: Flags, mark_seen: bool) -> MailFault
+        requires there { option_map (λ (m : Kept). m.flags) (message_with uid self.now.messages) ≡ Some old }
         requires small { total self.now.window ≤ 2 ^ 62 }
         ensures spent { (result ≡ MailFault.Spent) ↔ IsTooMany self.now (seen_logged mark_seen (rows self.now) uid) }
         ensures only { (result ≡ MailFault.Spent) ⊎ (result ≡ MailFault.NoMemory) }
     {
-        if self.cannot_mark(place, uid, mark_seen) {
+        if self.cannot_mark(uid, old, mark_seen) {
             MailFault::Spent
         } else {
             MailFault::NoMemory

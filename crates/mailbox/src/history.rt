@@ -1,8 +1,8 @@
 //! The copies that a mailbox took. Contracts speak of all of them; where they are not kept, none is
 //! there at run time. Messages, which come and go, are not told here.
 
-ghost use Rattle.std.specs.Prelude.{◌≡◌, [], ◌∷◌, ◌++◌, OnOk, OnErr, IsOk};
-ghost use Rattle.mailbox.specs.Copies.{kept_of};
+ghost use Rattle.std.specs.Prelude.{◌≡◌, [], ◌∷◌, ◌++◌, OnOk, IsOk};
+ghost use Rattle.mailbox.specs.Copies.{HasRoom, kept_of};
 
 use delivery_token::CopyKey;
 use http_server::Log;
@@ -28,12 +28,12 @@ pub(crate) struct Accepted {
 }
 
 impl Model for Accepted {
-    ghost use Rattle.std.specs.Prelude.{◌≡◌};
+    ghost use Rattle.std.specs.Prelude.{◌≡◌, ◌-◌, vec_capacity, vec_len};
     ghost use Rattle.mailbox.specs.Copies.{Copies, kept_of};
 
     ghost Value = { Copies };
 
-    ghost view = { λ a. record { history = a.history; items = a.all.items } };
+    ghost view = { λ a. record { history = a.history; items = a.all.items; spare = vec_capacity a.kept - vec_len a.kept } };
 
     ghost invariant = { λ a. a.kept.items ≡ kept_of a.history a.all.items };
 }
@@ -41,7 +41,8 @@ impl Model for Accepted {
 impl Accepted {
     // None was accepted.
     pub(crate) fn new(alloc: Global, history: History) -> Accepted
-        ensures { result ≡ record { history = history; items = [] } }
+        ensures history { result.history ≡ history }
+        ensures items { result.items ≡ [] }
     {
         Accepted {
             history,
@@ -50,20 +51,29 @@ impl Accepted {
         }
     }
 
-    // One more, under this UID. An error where memory is refused, which is wanted only where they are
-    // kept; nothing is then changed.
-    pub(crate) fn accept(&mut self, key: CopyKey, uid: u32) -> Result<(), AllocError>
-        ensures ok { OnOk result (self.new ≡ record self.old { items = self.old.items ++ (key, uid) ∷ [] }) }
-        ensures err { OnErr result (self.new ≡ self.old) }
+    // Makes room for one more. An error where memory is refused, which is wanted only where they are
+    // kept. What was accepted stays.
+    pub(crate) fn reserve(&mut self) -> Result<(), AllocError>
+        ensures same { (self.new.history ≡ self.old.history) × (self.new.items ≡ self.old.items) }
+        ensures room { OnOk result (HasRoom self.new) }
         ensures unkept { self.old.history ≡ History.Unkept → IsOk result }
     {
+        match self.history {
+            History::Kept => self.kept.reserve(1),
+            History::Unkept => Ok(()),
+        }
+    }
+
+    // One more, under this UID; there is room for it.
+    pub(crate) fn accept(&mut self, key: CopyKey, uid: u32)
+        requires { HasRoom self.old }
+        ensures history { self.new.history ≡ self.old.history }
+        ensures items { self.new.items ≡ self.old.items ++ (key, uid) ∷ [] }
+    {
         if let History::Kept = self.history {
-            let Ok(()) = self.kept.push((key, uid)) else {
-                return Err(AllocError);
-            };
+            self.kept.push_reserved((key, uid));
         }
         self.all = self.all.and(&key, &uid);
-        Ok(())
     }
 
     // Those that are kept.

@@ -2,11 +2,14 @@
 //! cursors. Lanes, verdicts and commands stand in other crates.
 #![tactic(auto)]
 
+mod choice;
 mod clients;
 mod history;
 mod laws;
+mod letters;
 mod logging;
 mod mailbox;
+mod messages;
 mod removal;
 
 pub use clients::{MailFault, Opening, Row};

@@ -8,12 +8,12 @@ ghost use Rattle.mailbox.specs.Counts.{unseen_count, deleted_count, bytes_in_all
 ghost use Rattle.mailbox.specs.Events.{Logs, Moves};
 ghost use Rattle.mailbox.specs.Mail.{SameMailbox, next_uid, is_spent, is_full, texts_of};
 ghost use Rattle.std.specs.List.Sorted.{IsStrictlyIncreasing};
-ghost use Rattle.mailbox.specs.Seen.{message_of};
 ghost use Rattle.mailbox.specs.Stands.{Stands};
 
 use crate::history::{Accepted, History};
 use crate::logging::log_change;
-use change_ring::{Change, ChangeRing, Flags};
+use crate::messages::Messages;
+use change_ring::{Change, ChangeRing};
 use cursor_set::CursorSet;
 use delivery_token::{CopyKey, Job, Refusal, Text};
 use std::alloc::{AllocError, Global};
@@ -57,13 +57,6 @@ pub struct Status {
     pub size: u128,
 }
 
-#[derive(Drop)]
-pub(crate) struct Message {
-    pub(crate) uid: u32,
-    pub(crate) flags: Flags,
-    pub(crate) text: Text,
-}
-
 /// A mailbox.
 #[derive(Drop)]
 pub struct Mailbox {
@@ -72,7 +65,7 @@ pub struct Mailbox {
     first_uid: u32,
     pub(crate) next: u32,
     limit: usize,
-    pub(crate) messages: Vec<Message>,
+    pub(crate) messages: Messages,
     pub(crate) ring: ChangeRing,
     accepted: Accepted,
     pub(crate) cursors: CursorSet,
@@ -89,7 +82,7 @@ impl Model for Mailbox {
 
     ghost view = { mail_of };
 
-    ghost invariant = { λ b. (b.next ≡ next_uid (mail_of b)) × (length b.messages.items ≤ b.limit) × IsSound (mail_of b) × (b.cursors.number ≡ b.number) };
+    ghost invariant = { λ b. (b.next ≡ next_uid (mail_of b)) × (length b.messages ≤ b.limit) × IsSound (mail_of b) × (b.cursors.number ≡ b.number) };
 }
 
 impl Receipt {
@@ -148,7 +141,7 @@ impl Mailbox {
             first_uid,
             next: first_uid,
             limit: limits.messages,
-            messages: Vec::new(alloc),
+            messages: Messages::new(alloc),
             ring,
             accepted: Accepted::new(alloc, history),
             cursors: CursorSet::new(alloc, number),
@@ -193,26 +186,16 @@ impl Mailbox {
         let Ok(text) = job.text.copy() else {
             return Err(Refusal::NoMemory);
         };
-        let Ok(()) = self.messages.reserve(1) else {
+        let Ok(()) = self.accepted.reserve() else {
             return Err(Refusal::NoMemory);
         };
-        let Ok(()) = self.accepted.accept(job.key, uid) else {
+        let Ok(()) = self.messages.add(uid, text) else {
             return Err(Refusal::NoMemory);
         };
         let Ok(()) = log_change(&mut self.ring, &self.cursors, Change::Add(uid)) else {
             return Err(Refusal::UidSpent);
         };
-        self.messages.push_reserved(Message {
-            uid,
-            flags: Flags {
-                answered: false,
-                flagged: false,
-                deleted: false,
-                seen: false,
-                draft: false,
-            },
-            text,
-        });
+        self.accepted.accept(job.key, uid);
         self.next += 1;
         Ok(Receipt {
             mailbox: self.number,
@@ -237,9 +220,9 @@ impl Mailbox {
             messages: self.messages.len(),
             uidnext: self.next,
             uidvalidity: self.uidvalidity,
-            unseen: unseen_in(&self.messages),
-            deleted: deleted_in(&self.messages),
-            size: bytes_of(&self.messages),
+            unseen: self.messages.unseen(),
+            deleted: self.messages.deleted(),
+            size: self.messages.bytes(),
         }
     }
 
@@ -257,7 +240,7 @@ impl Mailbox {
         ensures all { IfOk result (λ texts. texts.items ≡ texts_of self.now.messages) }
         ensures rising { IfOk result (λ texts. IsStrictlyIncreasing (map (λ t. t.0) texts.items)) }
     {
-        texts_of(alloc, &self.messages)
+        self.messages.texts(alloc)
     }
 
     /// The last changes: the number of the first of them, and the changes from that number to the
@@ -272,36 +255,4 @@ impl Mailbox {
             Err(_) => (base, &[], &[]),
         }
     }
-}
-
-fn unseen_in(messages: &[Message]) -> usize
-    ensures { result ≡ unseen_count (map message_of messages.now) }
-{
-    messages.iter().filter(|m| !m.flags.seen).count()
-}
-
-fn deleted_in(messages: &[Message]) -> usize
-    ensures { result ≡ deleted_count (map message_of messages.now) }
-{
-    messages.iter().filter(|m| m.flags.deleted).count()
-}
-
-fn bytes_of(messages: &[Message]) -> u128
-    ensures { result ≡ bytes_in_all (map message_of messages.now) }
-{
-    let mut bytes: u128 = 0;
-    for message in messages {
-        bytes += message.text.as_slice().len() as u128;
-    }
-    bytes
-}
-
-fn texts_of(alloc: Global, messages: &[Message]) -> Result<Vec<(u32, Text)>, AllocError>
-    ensures { IfOk result (λ texts. texts.items ≡ texts_of (map message_of messages.now)) }
-{
-    let mut texts = Vec::with_capacity(alloc, messages.len())?;
-    for message in messages {
-        texts.push_reserved((message.uid, message.text.copy()?));
-    }
-    Ok(texts)
 }

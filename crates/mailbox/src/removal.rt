@@ -1,5 +1,5 @@
 //! Which messages go: those with \Deleted, at an expunge or as a client leaves. All of a call's
-//! removals are one event: they are logged in the order of the UIDs, and taken out in one pass.
+//! removals are one event, logged in the order of the UIDs. Those with \Deleted alone are passed.
 
 ghost use Rattle.std.specs.Prelude.{◌≡◌, ◌≢◌, ◌+◌, ◌^◌, ◌≤◌, ◌<◌, ◌↔◌, ◌⊎◌, ◌==◌, not, ℕ, Bool, true, List, [], ◌∷◌, ◌++◌, length, map, filter, count_by, None, Some, Err, OnOk, OnErr, IfOk, IfErr, IsTrue, option_map, drop, IsSome, IfSome, if◌then◌else◌, vec_capacity};
 ghost use Rattle.std.specs.List.Sorted.{IsNonDecreasing};
@@ -9,87 +9,37 @@ ghost use Rattle.change_ring.specs.Logged.{removals, removals_if};
 ghost use Rattle.change_ring.specs.Window.{changes_from, total};
 ghost use Rattle.cursor_set.specs.Cursors.{Updates, after_showing, held};
 ghost use Rattle.cursor_set.specs.Lines.{lines};
-ghost use Rattle.mailbox.specs.Choices.{IsFound, passes, is_taken};
+ghost use Rattle.mailbox.specs.Choices.{IsFound, passes};
 ghost use Rattle.mailbox.specs.Events.{GoesOn, IsCurrent, IsLapped, IsStranger, IsTooMany, KeepsLog, Logs, Moves, in_set};
-ghost use Rattle.mailbox.specs.Mail.{Message as Kept, remaining, row_of, rows};
-ghost use Rattle.mailbox.specs.Seen.{message_of};
+ghost use Rattle.mailbox.specs.Mail.{remaining, rows};
+ghost use Rattle.mailbox.specs.Marks.{gone_of};
 ghost use Rattle.mailbox.specs.Stands.{Stands};
 
+use crate::choice::Choice;
 use crate::clients::MailFault;
 use crate::logging::log_change;
-use crate::mailbox::{Mailbox, Message};
+use crate::mailbox::Mailbox;
 use change_ring::{Change, ChangeRing};
 use cursor_set::{CursorSeat, CursorSet, FeedFault};
 
-// Which messages with \Deleted may go.
-#[derive(Clone, Copy)]
-enum Choice<'a> {
-    // all
-    Any,
-    // those with these UIDs, which do not fall, so that each is found by halving
-    Rising(&'a [u32]),
-    // those with these UIDs, in whatever order
-    Listed(&'a [u32]),
-}
-
-// A set's choice: a set that rises, as a resolved one does, is searched by halving.
-fn choice_of(set: Option<&[u32]>) -> Choice<'_>
-    ensures test { passes result ≡ in_set (option_map (λ uids. uids.now) set.entry) }
-    ensures found { IsFound result }
-{
-    match set {
-        None => Choice::Any,
-        Some(uids) => {
-            if uids.is_sorted() {
-                Choice::Rising(uids)
-            } else {
-                Choice::Listed(uids)
-            }
-        }
-    }
-}
-
-// Whether these UIDs, which do not fall, have one.
-fn has_rising(uids: &[u32], uid: u32) -> bool
-    requires { IsNonDecreasing uids.now }
-    ensures { result ≡ list_any (λ u. u == uid) uids.now }
-{
-    uids.binary_search(&uid).is_ok()
-}
-
-// Whether a message goes: it has \Deleted, and the choice has its UID.
-fn goes(message: &Message, choice: Choice) -> bool
+// How many of the UIDs the choice has.
+fn count_taken(uids: &[u32], choice: Choice) -> usize
     requires { IsFound choice }
-    ensures { result ≡ is_taken (passes choice.entry) (message_of message.now) }
+    ensures { result ≡ count_by (passes choice.entry) uids.now }
 {
-    if !message.flags.deleted {
-        return false;
-    }
-    match choice {
-        Choice::Any => true,
-        Choice::Rising(uids) => has_rising(uids, message.uid),
-        Choice::Listed(uids) => uids.contains(&message.uid),
-    }
+    uids.iter().filter(|uid| choice.has(**uid)).count()
 }
 
-// How many of the messages go.
-fn count_taken(messages: &[Message], choice: Choice) -> usize
-    requires { IsFound choice }
-    ensures { result ≡ count_by (is_taken (passes choice.entry)) (map message_of messages.now) }
-{
-    messages.iter().filter(|m| goes(m, choice)).count()
-}
-
-// Logs that messages are gone, those that go, in their order.
-fn log_removals(ring: &mut ChangeRing, cursors: &CursorSet, messages: &[Message], choice: Choice)
+// Logs that messages are gone, those of the UIDs that the choice has, in their order.
+fn log_removals(ring: &mut ChangeRing, cursors: &CursorSet, uids: &[u32], choice: Choice)
     requires found { IsFound choice }
-    requires room { total ring.old + length (removals (passes choice) (map row_of (map message_of messages.now))) ≤ 2 ^ 62 }
-    ensures goes_on { GoesOn ring.old ring.new (removals (passes choice.entry) (map row_of (map message_of messages.now))) }
-    ensures moves { Moves cursors.now ring.old ring.new (removals (passes choice.entry) (map row_of (map message_of messages.now))) }
+    requires room { total ring.old + length (gone_of (passes choice) uids.now) ≤ 2 ^ 62 }
+    ensures goes_on { GoesOn ring.old ring.new (gone_of (passes choice.entry) uids.now) }
+    ensures moves { Moves cursors.now ring.old ring.new (gone_of (passes choice.entry) uids.now) }
 {
-    for message in messages {
-        if goes(message, choice) {
-            let _ = log_change(ring, cursors, Change::Gone(message.uid));
+    for uid in uids {
+        if choice.has(*uid) {
+            let _ = log_change(ring, cursors, Change::Gone(*uid));
         }
     }
 }
@@ -108,7 +58,7 @@ impl Mailbox {
         requires { IsFound choice }
         ensures { result ≡ length (removals (passes choice.entry) (rows self.now)) }
     {
-        count_taken(&self.messages, choice)
+        count_taken(self.messages.marked(), choice)
     }
 
     // Takes out the messages that go.
@@ -120,8 +70,13 @@ impl Mailbox {
         ensures messages { self.new.messages ≡ remaining (passes choice.entry) self.old.messages }
         ensures rest { self.new ≡ record self.old { messages = self.new.messages; window = self.new.window } }
     {
-        log_removals(&mut self.ring, &self.cursors, &self.messages, choice);
-        self.messages.retain(|message| !goes(message, choice));
+        log_removals(
+            &mut self.ring,
+            &self.cursors,
+            self.messages.marked(),
+            choice,
+        );
+        self.messages.remove(choice);
     }
 
     /// Shows a client all that is pending, then removes the messages that have \Deleted, of a set
@@ -162,7 +117,7 @@ impl Mailbox {
         ensures room { vec_capacity out.old ≤ vec_capacity out.new }
     {
         self.admit(seat)?;
-        let choice = choice_of(set);
+        let choice = Choice::of(set);
         let count = self.count_removals(choice);
         if !self.has_room(count) {
             return Err(MailFault::Spent);

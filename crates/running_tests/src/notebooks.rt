@@ -25,7 +25,7 @@ fn message_for_two(alloc: Global) -> Result<Submission, AllocError>
     Ok(Submission {
         keys: Vec::from_slice(alloc, &[key(0), key(1)])?,
         mailboxes: Vec::from_slice(alloc, &[4, 5])?,
-        text: Text::new(Vec::from_slice(alloc, b"hi\r\n")?),
+        text: Text::new(Vec::from_slice(alloc, b"hi\r\n")?)?,
     })
 }
 

@@ -40,7 +40,7 @@ const DELETED: Flags = Flags {
 
 // A copy of "hi" goes the whole way to a mailbox.
 fn deliver(core: &mut DeliveryCore, alloc: Global, mailbox: u8) -> Result<(), AllocError> {
-    let text = Text::new(Vec::from_slice(alloc, b"hi\r\n")?);
+    let text = Text::new(Vec::from_slice(alloc, b"hi\r\n")?)?;
     let key = CopyKey {
         seat: 0,
         serial: 0,

@@ -21,7 +21,7 @@ fn small_row(alloc: Global) -> Result<Row, AllocError> {
             draft: false,
         },
         newly_seen: true,
-        text: Text::new(Vec::from_slice(alloc, b"A: b\r\n\r\nhello\r\n")?),
+        text: Text::new(Vec::from_slice(alloc, b"A: b\r\n\r\nhello\r\n")?)?,
     })
 }
 

@@ -45,6 +45,11 @@ fn place_among(letters: &[Letter], uid: u32) -> Option<usize>
     letters.iter().position(|letter| letter.uid == uid)
 }
 
+// The text that has these bytes.
+fn text_of(alloc: Global, bytes: &[u8]) -> Result<Text, AllocError> {
+    Text::new(Vec::from_slice(alloc, bytes)?)
+}
+
 // The place of a message, counted from 1; one past the last where it isn't there.
 fn place_of(view: &[u32], uid: u32) -> usize
     ensures { result ≡ place uid view.now }
@@ -290,7 +295,7 @@ impl Store for Shelf {
             return Ok(None);
         };
         let alloc = *self.letters.allocator();
-        let Ok(text) = Vec::from_slice(alloc, &self.letters[place].text) else {
+        let Ok(text) = text_of(alloc, &self.letters[place].text) else {
             return Err(MailFault::NoMemory);
         };
         let mut flags = self.letters[place].flags;
@@ -301,7 +306,7 @@ impl Store for Shelf {
             uid,
             flags,
             newly_seen,
-            text: Text::new(text),
+            text,
         }))
     }
 

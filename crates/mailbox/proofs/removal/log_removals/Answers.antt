@@ -1,41 +1,40 @@
-use Rattle.std.proofs.Common.{refl, ◌≡◌, ◌+◌, ◌∙◌, ◌∷◌, List, ap, sym, subst, map, drop, arith}
+use Rattle.std.proofs.Common.{refl, ◌≡◌, ◌+◌, ◌∙◌, ◌∷◌, ℕ, List, get_or, sym, subst, drop, arith}
 use Rattle.std.specs.Prelude.{Result, Ok, Err, IsErr, OnOk, ◌^◌}
 use Rattle.std.proofs.lemmas.List.{drop_more}
 use Rattle.change_ring.specs.declared.ring.Spent.{Spent}
-use Rattle.change_ring.specs.declared.change.Change.{Change}
 use Rattle.change_ring.specs.declared.change.Change.TheVariants.{Gone}
 use Rattle.change_ring.specs.Window.{Window}
-use Rattle.mailbox.specs.declared.mailbox.Message as kept
 use Rattle.mailbox.specs.Choices.{passes}
-use Rattle.mailbox.specs.Seen.{message_of}
-use Rattle.mailbox.proofs.RemovalLaws.{IsLogging, gone_of, gone_yes, gone_no, one_logged, room_left}
+use Rattle.mailbox.specs.Marks.{gone_of}
+use Rattle.mailbox.proofs.RemovalLaws.{IsLogging, one_logged, room_left}
+use Rattle.mailbox.proofs.TakenLaws.{told, untold}
 use Rattle.mailbox.proofs.removal.log_removals.Goals as goal
-use Rattle.mailbox.proofs.removal.log_removals.Goals.{then-goes, else-goes}
+use Rattle.mailbox.proofs.removal.log_removals.Goals.{then-has, else-has}
 
 on_ok : {P : Type 0} (r : Result (Unit {0}) Spent) → (IsErr r → ⊥) → OnOk r P → P
 on_ok (Ok u) err p = p
 on_ok (Err e) err p = absurd (err refl)
 
-pub loop-message-preserved : goal.loop-message-preserved
-loop-message-preserved c =
-    let ms = c.args.messages.now in
+pub loop-uid-preserved : goal.loop-uid-preserved
+loop-uid-preserved c =
+    let us = c.args.uids.now in
     let test = passes c.args.choice in
-    let x = c.message-item.result in
-    let gone : List kept.Message → List Change = λ (xs : List kept.Message). gone_of test (map message_of xs) in
-    let split : drop c.loop-message.message-index ms ≡ x ∷ drop (c.loop-message.message-index + 1) ms = drop_more ms c.loop-message.message-index x c.loop-message-test.true ∙ ap (λ (y : kept.Message). y ∷ drop (c.loop-message.message-index + 1) ms) (sym c.message-item.is) in
-    let left = drop (c.loop-message.message-index + 1) ms in
-    let before : IsLogging c.args.cursors.now c.args.ring.now c.loop-message.ring (gone ms) (gone (x ∷ left)) =
-    subst (λ (xs : List kept.Message). IsLogging c.args.cursors.now c.args.ring.now c.loop-message.ring (gone ms) (gone xs)) split c.loop-message.invariant in
-    let keep : Window → Type 0 = λ (w : Window). IsLogging c.args.cursors.now c.args.ring.now w (gone ms) (gone left) in
-    elim c.if-goes.branch [
-      | then-goes w ↦
-          let one : IsLogging c.args.cursors.now c.args.ring.now c.loop-message.ring (gone ms) (Gone x.uid ∷ gone left) =
-          subst (IsLogging c.args.cursors.now c.args.ring.now c.loop-message.ring (gone ms)) (gone_yes test (message_of x) (map message_of left) (sym c.goes.ensures ∙ w.if-goes.true)) before in
-          let room = room_left c.args.cursors.now c.args.ring.now c.loop-message.ring (gone ms) (gone left) (Gone x.uid) (2 ^ 62) one c.requires.room in
+    let u = get_or us c.loop-uid.uid-index 0 in
+    let split : drop c.loop-uid.uid-index us ≡ u ∷ drop (c.loop-uid.uid-index + 1) us = drop_more us c.loop-uid.uid-index 0 c.loop-uid-test.true in
+    let left = drop (c.loop-uid.uid-index + 1) us in
+    let all = gone_of test us in
+    let before : IsLogging c.args.cursors.now c.args.ring.now c.loop-uid.ring all (gone_of test (u ∷ left)) =
+    subst (λ (vs : List ℕ). IsLogging c.args.cursors.now c.args.ring.now c.loop-uid.ring all (gone_of test vs)) split c.loop-uid.invariant in
+    let keep : Window → Type 0 = λ (w : Window). IsLogging c.args.cursors.now c.args.ring.now w all (gone_of test left) in
+    elim c.if-has.branch [
+      | then-has w ↦
+          let one : IsLogging c.args.cursors.now c.args.ring.now c.loop-uid.ring all (Gone u ∷ gone_of test left) =
+          subst (IsLogging c.args.cursors.now c.args.ring.now c.loop-uid.ring all) (told test u left (sym c.has.ensures ∙ w.if-has.true)) before in
+          let room = room_left c.args.cursors.now c.args.ring.now c.loop-uid.ring all (gone_of test left) (Gone u) (2 ^ 62) one c.requires.room in
           let ok : IsErr w.log_change.result → ⊥ = λ err. omega (arith, room, w.log_change.ensures.spent.0 err) in
           subst keep (sym w.ring-is)
-          (one_logged c.args.cursors.now c.args.ring.now c.loop-message.ring w.log_change.new.ring (gone ms) (gone left) (Gone x.uid) one
+          (one_logged c.args.cursors.now c.args.ring.now c.loop-uid.ring w.log_change.new.ring all (gone_of test left) (Gone u) one
           (on_ok w.log_change.result ok w.log_change.ensures.goes_on) (on_ok w.log_change.result ok w.log_change.ensures.moves))
-      | else-goes w ↦ subst keep (sym w.ring-is)
-          (subst (IsLogging c.args.cursors.now c.args.ring.now c.loop-message.ring (gone ms)) (gone_no test (message_of x) (map message_of left) (sym c.goes.ensures ∙ w.if-goes.false)) before)
+      | else-has w ↦ subst keep (sym w.ring-is)
+          (subst (IsLogging c.args.cursors.now c.args.ring.now c.loop-uid.ring all) (untold test u left (sym c.has.ensures ∙ w.if-has.false)) before)
     ]

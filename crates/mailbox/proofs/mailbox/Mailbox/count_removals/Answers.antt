@@ -1,15 +1,15 @@
-use Rattle.std.proofs.Common.{ap, ◌∙◌, map, length, List}
+use Rattle.std.proofs.Common.{ap, sym, ◌∙◌, length, List, ℕ}
 use Rattle.std.specs.Prelude.{count_by}
 use Rattle.change_ring.specs.Logged.{removals}
-use Rattle.mailbox.specs.declared.mailbox.Message as kept
-use Rattle.mailbox.specs.Choices.{is_taken, passes}
+use Rattle.mailbox.specs.Choices.{passes}
 use Rattle.mailbox.specs.Mail.{Mail, rows}
-use Rattle.mailbox.specs.Seen.{message_of}
-use Rattle.mailbox.proofs.RemovalLaws.{gone_count}
+use Rattle.mailbox.specs.Marks.{marked_of}
+use Rattle.mailbox.proofs.TakenLaws.{gone_marked, gone_number}
 use Rattle.mailbox.proofs.mailbox.Mailbox.count_removals.Goals as goal
 
 pub returns : goal.returns
 returns c =
     let test = passes c.args.choice in
-    c.count_taken.ensures ∙ ap (λ (ms : List kept.Message). count_by (is_taken test) (map message_of ms)) c.deref.ensures.value
-    ∙ gone_count test (map message_of c.self.inside.messages.items) ∙ ap (λ (m : Mail). length (removals test (rows m))) c.self.view_is
+    let ms = c.self.inside.messages in
+    c.count_taken.ensures ∙ ap (λ (us : List ℕ). count_by test us) c.marked.ensures ∙ gone_number test (marked_of ms)
+    ∙ ap length (sym (gone_marked test ms)) ∙ ap (λ (m : Mail). length (removals test (rows m))) c.self.view_is

@@ -1,40 +1,40 @@
-use Rattle.std.proofs.Common.{◌≡◌, ◌+◌, ℕ, List, [], ◌∷◌, ◌++◌, ap, subst, ◌∙◌, length, arith, map, refl, length-append}
-use Rattle.std.proofs.lemmas.List.{map-append}
+use Rattle.std.proofs.Common.{◌≡◌, ◌+◌, ◌<◌, ℕ, List, [], ◌∷◌, ◌++◌, All, ap, sym, subst, ◌∙◌, length, arith, refl, length-append}
 use Rattle.change_ring.specs.declared.change.Change.{Change}
 use Rattle.change_ring.specs.declared.change.Change.TheVariants.{Add}
-use Rattle.change_ring.specs.Log.{no_flags}
-use Rattle.mailbox.specs.Copies.{Copies}
-use Rattle.mailbox.specs.Mail.{Mail, next_uid}
+use Rattle.delivery_token.specs.declared.CopyKey.{CopyKey}
+use Rattle.mailbox.specs.Mail.{Mail, next_uid, uids_of}
 use Rattle.mailbox.specs.Stands.{Stands}
-use Rattle.mailbox.specs.Seen.{message_of, mail_of}
-use Rattle.mailbox.proofs.StandsLaws.{Stands-deliver}
+use Rattle.mailbox.specs.Seen.{mail_of}
+use Rattle.mailbox.proofs.StandsLaws.{Stands-below, Stands-deliver}
 use Rattle.mailbox.proofs.mailbox.Mailbox.deliver.Goals as goal
+
+pub add-requires : goal.add-requires
+add-requires c =
+    let b = c.self.inside in
+    subst (λ (n : ℕ). All (λ u. u < n) (uids_of b.messages)) (sym c.self.invariant.0) (Stands-below (mail_of b) c.self.invariant.2.0 c.self.invariant.2.1)
 
 -- the mailbox as it is left
 abbrev after : goal.After-result-1 → Mail
-after c = mail_of (record c.self.inside { next = c.self.inside.next + 1; messages = c.push_reserved.new.self; ring = c.log_change.new.ring; accepted = c.accept.new.self })
+after c = mail_of (record c.self.inside { next = c.self.inside.next + 1; messages = c.add.new.self; ring = c.log_change.new.ring; accepted = c.accept.new.self })
 
 -- its copies are those that it had, and this one
 took : (c : goal.After-result-1) → c.accept.new.self.items ≡ c.self.inside.accepted.items ++ (c.args.job.now.key, c.self.inside.next) ∷ []
-took c = ap (λ (x : Copies). x.items) c.in-Ok-accept.ensures.ok
+took c = c.accept.ensures.items ∙ ap (λ (xs : List (CopyKey × ℕ)). xs ++ (c.args.job.now.key, c.self.inside.next) ∷ []) c.reserve.ensures.same.1
 
 -- it stands for the longer log
 delivered : (c : goal.After-result-1) (log : List Change) → Stands (mail_of c.self.inside) log → Stands (after c) (log ++ Add c.self.inside.next ∷ [])
 delivered c log s =
     let b = c.self.inside in
-    let one = ap (map message_of) (c.push_reserved.ensures.items ∙ ap (λ xs. xs ++ record { uid = b.next; flags = no_flags; text = c.in-Ok.text } ∷ []) c.reserve.ensures.items) ∙ map-append message_of b.messages.items _ in
     Stands-deliver (mail_of b) (after c) log c.args.job.now.key b.next c.in-Ok.text c.self.invariant.0
-    one c.in-Ok-log_change.ensures.goes_on
-    (took c) refl refl s
+    c.in-Ok-add.ensures.ok c.in-Ok-log_change.ensures.goes_on (took c) refl refl s
 
 pub invariant_of-self-2 : goal.invariant_of-self-2
 invariant_of-self-2 c =
     let b = c.self.inside in
     let longer = ap length (took c) ∙ length-append b.accepted.items ((c.args.job.now.key, b.next) ∷ []) in
-    let more = ap length c.push_reserved.ensures.items ∙ length-append c.reserve.new.self.items (_ ∷ []) in
-    let same = ap length c.reserve.ensures.items in (
+    let more = ap length c.in-Ok-add.ensures.ok ∙ length-append b.messages (_ ∷ []) in (
       omega (arith, c.self.invariant.0, longer),
-      omega (arith, more, same, b.messages.ok.0, c.len.ensures, c.if-len-self.false),
+      omega (arith, more, c.len.ensures, c.if-len-self.false),
       (c.self.invariant.2.0 ++ Add b.next ∷ [], delivered c c.self.invariant.2.0 c.self.invariant.2.1),
       c.self.invariant.3,
     )

@@ -29,36 +29,36 @@ has_room true most t n tells e = tells.0 refl
 has_room false most t n tells e = cc
 
 pub returns-clause-count : goal.returns-clause-count
-returns-clause-count c = c.count_removals-count.ensures ∙ ap (λ (f : ℕ → Bool). length (removals f (rows c.args.self.now))) c.choice_of-choice.ensures.test
+returns-clause-count c = c.count_removals-count.ensures ∙ ap (λ (f : ℕ → Bool). length (removals f (rows c.args.self.now))) c.of-choice.ensures.test
 
 pub returns-then-not-has_room-clause-spent : goal.returns-then-not-has_room-clause-spent
 returns-then-not-has_room-clause-spent c =
-    let count = c.count_removals-count.ensures ∙ ap (λ (f : ℕ → Bool). length (removals f (rows c.args.self.now))) c.choice_of-choice.ensures.test in
+    let count = c.count_removals-count.ensures ∙ ap (λ (f : ℕ → Bool). length (removals f (rows c.args.self.now))) c.of-choice.ensures.test in
     let more = no_room c.has_room.result (2 ^ 62) (total c.args.self.now.window) c.count_removals-count.result c.has_room.ensures c.if-not-has_room.true in
     (λ e. (c.in_ok-admit.ensures.admitted, omega (arith, more, count)), λ h. refl)
 
 pub returns-in_default-clause-spent : goal.returns-in_default-clause-spent
 returns-in_default-clause-spent c =
-    let count = c.count_removals-count.ensures ∙ ap (λ (f : ℕ → Bool). length (removals f (rows c.args.self.now))) c.choice_of-choice.ensures.test in
+    let count = c.count_removals-count.ensures ∙ ap (λ (f : ℕ → Bool). length (removals f (rows c.args.self.now))) c.of-choice.ensures.test in
     let fits = has_room c.has_room.result (2 ^ 62) (total c.args.self.now.window) c.count_removals-count.result c.has_room.ensures c.if-not-has_room.false in
     (λ e. cc, λ h. absurd (omega (arith, fits, count, h.1)))
 
 pub returns-clause-spent : goal.returns-clause-spent
 returns-clause-spent c =
-    let count = c.count_removals-count.ensures ∙ ap (λ (f : ℕ → Bool). length (removals f (rows c.args.self.now))) c.choice_of-choice.ensures.test in
+    let count = c.count_removals-count.ensures ∙ ap (λ (f : ℕ → Bool). length (removals f (rows c.args.self.now))) c.of-choice.ensures.test in
     let fits = has_room c.has_room.result (2 ^ 62) (total c.args.self.now.window) c.count_removals-count.result c.has_room.ensures c.if-not-has_room.false in
     (λ e. cc, λ h. absurd (omega (arith, fits, count, h.1)))
 
 pub remove-requires-clause-room : goal.remove-requires-clause-room
 remove-requires-clause-room c =
     let fits = has_room c.has_room.result (2 ^ 62) (total c.args.self.now.window) c.count_removals-count.result c.has_room.ensures c.if-not-has_room.false in
-    let same = ap (λ (m : Mail). total m.window + length (removals (passes c.choice_of-choice.result) (rows m))) c.in-Ok.ensures.rest in
+    let same = ap (λ (m : Mail). total m.window + length (removals (passes c.of-choice.result) (rows m))) c.in-Ok.ensures.rest in
     omega (arith, fits, c.count_removals-count.ensures, same)
 
 pub returns-clause-logged : goal.returns-clause-logged
 returns-clause-logged c = λ log s.
-    subst (λ (f : ℕ → Bool). Stands c.remove.new.self (log ++ removals f (rows c.args.self.now))) c.choice_of-choice.ensures.test
-    (subst (λ (m : Mail). Stands c.remove.new.self (log ++ removals (passes c.choice_of-choice.result) (rows m))) c.in-Ok.ensures.rest (c.remove.ensures.logged log (c.in-Ok.ensures.logged log s)))
+    subst (λ (f : ℕ → Bool). Stands c.remove.new.self (log ++ removals f (rows c.args.self.now))) c.of-choice.ensures.test
+    (subst (λ (m : Mail). Stands c.remove.new.self (log ++ removals (passes c.of-choice.result) (rows m))) c.in-Ok.ensures.rest (c.remove.ensures.logged log (c.in-Ok.ensures.logged log s)))
 
 pub returns-clause-moved : goal.returns-clause-moved
 returns-clause-moved c =

@@ -1,26 +1,23 @@
-use Rattle.std.proofs.Common.{rules, ◌≡◌, ℕ, List, Some, ap, subst, sym, ◌∙◌, map}
+use Rattle.std.proofs.Common.{rules, ◌≡◌, ℕ, List, Some, subst, sym, ◌∙◌}
 use Rattle.change_ring.specs.Window.{total}
 use Rattle.cursor_set.specs.Cursors.{Updates}
 use Rattle.mailbox.specs.Mail.{Mail, uids_of}
 use Rattle.mailbox.specs.Stands.{Stands}
-use Rattle.mailbox.specs.declared.mailbox.Message as kept
-use Rattle.mailbox.specs.Seen.{mail_of, message_of}
-use Rattle.mailbox.proofs.MessageLaws.{uids_kept}
+use Rattle.mailbox.specs.Seen.{mail_of}
 use Rattle.mailbox.proofs.Seats.{known_by}
 use Rattle.mailbox.proofs.StandsLaws.{Stands-enter}
 use Rattle.mailbox.proofs.mailbox.Mailbox.open_cursor.Goals as goal
 
 -- the cursor is at the end, and its client counts the messages that are there
 entered : (c : goal.After-drop-uids-2) → Updates c.self.inside.cursors c.enter.new.self c.in-Ok-enter.seat.slot
-    (Some (record { serial = c.self.inside.cursors.next; at = total c.self.inside.ring; view = uids_of (map message_of c.self.inside.messages.items) }))
+    (Some (record { serial = c.self.inside.cursors.next; at = total c.self.inside.ring; view = uids_of c.self.inside.messages }))
 entered c =
     let b = c.self.inside in
     let new = c.enter.new.self in
     let slot = c.in-Ok-enter.seat.slot in
-    let view : c.deref-2.result.now ≡ uids_of (map message_of b.messages.items) =
-    c.deref-2.ensures.value ∙ c.in-Ok.ensures ∙ ap (map (λ (m : kept.Message). m.uid)) c.deref.ensures.value ∙ uids_kept b.messages.items in
+    let view : c.deref.result.now ≡ uids_of b.messages = c.deref.ensures.value ∙ c.in-Ok.ensures in
     subst (λ (v : List ℕ). Updates b.cursors new slot (Some (record { serial = b.cursors.next; at = total b.ring; view = v }))) view
-    (subst (λ (k : ℕ). Updates b.cursors new slot (Some (record { serial = b.cursors.next; at = k; view = c.deref-2.result.now }))) c.total-at.ensures.total c.in-Ok-enter.ensures.opened)
+    (subst (λ (k : ℕ). Updates b.cursors new slot (Some (record { serial = b.cursors.next; at = k; view = c.deref.result.now }))) c.total-at.ensures.total c.in-Ok-enter.ensures.opened)
 
 pub invariant_of-self-2 : goal.invariant_of-self-2
 invariant_of-self-2 c =

@@ -2,7 +2,7 @@ use Rattle.std.proofs.Common.{◌≡◌, ◌∙◌, List, [], ◌∷◌, map, sy
 use Rattle.std.specs.List.Sorted.{IsStrictlyIncreasing}
 use Rattle.std.proofs.lemmas.Result.{IfOk-weaker}
 use Rattle.mailbox.specs.Mail.{Mail, Message, texts_of, uids_of}
-use Rattle.mailbox.specs.Seen.{mail_of, message_of}
+use Rattle.mailbox.specs.Seen.{mail_of}
 use Rattle.mailbox.proofs.StandsLaws.{Stands-rising}
 use Rattle.mailbox.proofs.mailbox.Mailbox.texts.Goals as goal
 
@@ -12,11 +12,10 @@ uids_told [] = refl
 uids_told (m ∷ ms) = ap (λ us. m.uid ∷ us) (uids_told ms)
 
 pub returns-clause-all : goal.returns-clause-all
-returns-clause-all c = IfOk-weaker c.texts_of.result _ _ (λ v h. h ∙ ap texts_of (ap (map message_of) c.deref.ensures.value ∙ ap (λ (m : Mail). m.messages) c.self.view_is)) c.texts_of.ensures
+returns-clause-all c = IfOk-weaker c.texts.result _ _ (λ v h. h ∙ ap texts_of (ap (λ (m : Mail). m.messages) c.self.view_is)) c.texts.ensures
 
 pub returns-clause-rising : goal.returns-clause-rising
 returns-clause-rising c =
     let b = c.self.inside in
     let rising = Stands-rising (mail_of b) c.self.invariant.2.0 c.self.invariant.2.1 in
-    let same : map message_of c.deref.result.now ≡ map message_of b.messages.items = ap (map message_of) c.deref.ensures.value in
-    IfOk-weaker c.texts_of.result _ _ (λ v h. subst IsStrictlyIncreasing (sym (ap (map (λ t. t.0)) h ∙ (uids_told (map message_of c.deref.result.now) ∙ ap uids_of same))) rising) c.texts_of.ensures
+    IfOk-weaker c.texts.result _ _ (λ v h. subst IsStrictlyIncreasing (sym (ap (map (λ t. t.0)) h ∙ uids_told b.messages)) rising) c.texts.ensures

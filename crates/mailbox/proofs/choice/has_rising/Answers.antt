@@ -4,7 +4,7 @@ use Rattle.std.specs.List.{list_any}
 use Rattle.std.proofs.lemmas.List.Sorted.{searched}
 use Rattle.std.proofs.lemmas.Bool.{cases_lt}
 use Rattle.mailbox.proofs.RemovalLaws.{any_at, any_none}
-use Rattle.mailbox.proofs.removal.has_rising.Goals as goal
+use Rattle.mailbox.proofs.choice.has_rising.Goals as goal
 
 -- what was searched for is there, or it is nowhere
 answer : (uid : ℕ) (xs : List ℕ) (r : Result ℕ ℕ) → MatchResult r (λ i. (i < length xs) × (get_or xs i 0 ≡ uid))
