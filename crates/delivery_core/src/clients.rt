@@ -2,6 +2,7 @@
 //! verdicts are told in `steps`.
 
 ghost use Rattle.std.specs.Prelude.{◌≡◌, ◌≢◌, ℕ, ◌+◌, ◌-◌, ◌^◌, ◌<◌, ◌≤◌, ◌⊎◌, ◌↔◌, [], length, Err, Some, None, IfErr, IfOk, IfSome, OnErr, OnOk, IsErr, IsSome, IsTrue, min, option_map, slice_index_or, take, true, vec_capacity};
+ghost use Rattle.std.specs.List.Sorted.{IsStrictlyIncreasing};
 ghost use Rattle.change_ring.specs.Log.{rows_of, view_at};
 ghost use Rattle.change_ring.specs.Window.{total};
 ghost use Rattle.change_ring.specs.Logged.{flags_logged, removals, seen_logged};
@@ -228,13 +229,14 @@ impl DeliveryCore {
         Err(fault)
     }
 
-    /// The UIDs that a session was shown of its mailbox, in their order, also where it fell behind the
-    /// window. It takes no memory.
+    /// The UIDs that a session was shown of its mailbox, in their order, which rise, also where it fell behind
+    /// the window. It takes no memory.
     /// Stranger where it has entered no mailbox.
     pub fn view(&self, session: u8) -> Result<&[u32], MailFault>
         ensures stranger { IsErr result ↔ (client_of self.now session ≡ None) }
         ensures faults { IfErr result (λ fault. fault ≡ MailFault.Stranger) }
         ensures shown { IfOk result (λ view. view.now ≡ view_of self.now session) }
+        ensures rising { IfOk result (λ view. IsStrictlyIncreasing view.now) }
         ensures log { IfOk result (λ view. (k : Config) (w : World) → StandsFor k self.now w →
             Selected w session (λ s. view.now ≡ view_at (w.box s.mailbox).log s.cursor)) }
     {

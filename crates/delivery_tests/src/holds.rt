@@ -2,7 +2,7 @@
 //! answer. One function owns the mailbox and its client's seat, and lends them to the others.
 
 use change_ring::{FlagOp, Flags};
-use cursor_set::CursorSeat;
+use cursor_set::{CursorSeat, Stranger};
 use delivery_token::{CopyKey, Job, Refusal, Text};
 use mailbox::{History, Limits, MailFault, Mailbox, Opening, Status};
 use mailbox_holds::{alter, count, deliver, enter, expunge, feed, leave, read, view};
@@ -76,18 +76,13 @@ fn same_uids(counted: &[u32], wanted: &[u32]) -> bool {
 }
 
 // Whether the client counts these UIDs.
-fn counts(
-    alloc: Global,
-    mailbox: &Mailbox,
-    seat: &CursorSeat,
-    wanted: Result<&[u32], MailFault>,
-) -> bool {
-    match view(alloc, mailbox, seat) {
+fn counts(mailbox: &Mailbox, seat: &CursorSeat, wanted: Result<&[u32], MailFault>) -> bool {
+    match view(mailbox, seat) {
         Ok(counted) => match wanted {
-            Ok(uids) => same_uids(&counted, uids),
+            Ok(uids) => same_uids(counted, uids),
             Err(_fault) => false,
         },
-        Err(fault) => wanted.err() == Some(fault),
+        Err(Stranger) => wanted.err() == Some(MailFault::Stranger),
     }
 }
 
@@ -124,7 +119,7 @@ fn step(
     match act {
         Act::Deliver(recipient, wanted) => delivers(alloc, mailbox, *recipient, *wanted),
         Act::Count(status) => Ok(count(mailbox) == *status),
-        Act::View(wanted) => Ok(counts(alloc, mailbox, seat, *wanted)),
+        Act::View(wanted) => Ok(counts(mailbox, seat, *wanted)),
         Act::Read(uid, mark, wanted) => Ok(reads(mailbox, seat, *uid, *mark) == *wanted),
         Act::Alter(uid, op, wanted) => Ok(alter(mailbox, seat, *uid, *op) == *wanted),
         Act::Feed(limit, wanted) => Ok(feed(mailbox, seat, *limit, out) == *wanted),

@@ -84,6 +84,18 @@ put_step f g bare after text word rest before new whole w n a h =
     ∙ ap (λ (l : List ℕ). before ++ l) (sym (told_step f g bare text word rest w))
     ∙ h
 
+-- the items of a text, one after the other
+pub items_end : {A : Type 0} (f : List ℕ → Option A) (text : List ℕ) → words text ≡ [] → filter_map f (words text) ≡ []
+items_end f text h = ap (filter_map f) h
+
+pub items_step : {A : Type 0} (f : List ℕ → Option A) (old new whole : List A) (text word rest : List ℕ) → words text ≡ word ∷ words rest → new ≡ old ++ option_to_list (f word)
+    → old ++ filter_map f (words text) ≡ whole → new ++ filter_map f (words rest) ≡ whole
+items_step f old new whole text word rest w n h =
+    ap (λ (l : List _). l ++ filter_map f (words rest)) n
+    ∙ append_assoc old (option_to_list (f word)) (filter_map f (words rest))
+    ∙ ap (λ (l : List _). old ++ l) (sym (ap (filter_map f) w ∙ option_joined (f word) (filter_map f (words rest))))
+    ∙ h
+
 none_map : {A : Type 0} (g : A → List ℕ) (xs : List A) → is_none (map g xs) ≡ is_none xs
 none_map g [] = refl
 none_map g (x ∷ xs) = refl

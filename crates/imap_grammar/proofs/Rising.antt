@@ -1,8 +1,10 @@
 -- What is chosen of rising UIDs rises.
-use Rattle.std.proofs.Common.{◌≡◌, ℕ, zero, suc, ◌+◌, ◌<◌, ◌≤◌, Bool, true, false, cond, List, [], ◌∷◌, length, get_or, arith, sym, subst}
-use Rattle.std.specs.List.Sorted.{IsStrictlyIncreasing}
-use Rattle.imap_grammar.specs.Sets.{is_named, at_places}
+use Rattle.std.proofs.Common.{◌≡◌, ℕ, zero, suc, ◌+◌, ◌-◌, ◌<◌, ◌≤◌, Bool, true, false, cond, List, [], ◌∷◌, length, map, get_or, refl, ap, arith, sym, subst}
+use Rattle.std.specs.List.Sorted.{IsNonDecreasing, IsStrictlyIncreasing}
+use Rattle.std.proofs.lemmas.List.{get_or_default}
+use Rattle.imap_grammar.specs.Sets.{is_named, at_places, named_at}
 use Rattle.imap_grammar.specs.declared.set.SeqRange.{SeqRange}
+use Rattle.imap_grammar.specs.declared.view.Named.{Named}
 
 -- each number is above the one before, and the first is not below this
 abbrev RisesFrom : ℕ → List ℕ → Type 0
@@ -46,3 +48,23 @@ places_rise test place a (x ∷ xs) h =
 pub named_rise : (set : List SeqRange) (view uids : List ℕ) → uids ≡ at_places (is_named set (length view)) 1 view → IsStrictlyIncreasing view → IsStrictlyIncreasing uids
 named_rise set view uids e h =
     subst IsStrictlyIncreasing (sym e) (increases 0 (at_places (is_named set (length view)) 1 view) (places_rise (is_named set (length view)) 1 0 view (rises view h)))
+
+-- messages at their places have the UIDs that they were found by
+pub uids_named : (view uids : List ℕ) → map (λ (m : Named). m.uid) (map (named_at view) uids) ≡ uids
+uids_named view [] = refl
+uids_named view (uid ∷ uids) = ap (λ (l : List ℕ). uid ∷ l) (uids_named view uids)
+
+-- ---- what rises doesn't fall
+
+some_later : (xs : List ℕ) → IsStrictlyIncreasing xs → (i n : ℕ) → i + n < length xs → get_or xs i 0 ≤ get_or xs (i + n) 0
+some_later xs h i zero l = let e : i + 0 ≡ i = omega arith in rw e (omega arith)
+some_later xs h i (suc n) l =
+    let e : i + n + 1 ≡ i + suc n = omega arith in
+    let last : get_or xs (i + n) 0 < get_or xs (i + suc n) 0 = subst (λ (j : ℕ). get_or xs (i + n) 0 < get_or xs j 0) e (h (i + n) (omega (arith, l))) in
+    omega (arith, last, some_later xs h i n (omega (arith, l)))
+
+pub never_falls : (xs : List ℕ) → IsStrictlyIncreasing xs → IsNonDecreasing xs
+never_falls xs h i j d le within =
+    let e : i + (j - i) ≡ j = omega (arith, le) in
+    let later : get_or xs i 0 ≤ get_or xs j 0 = subst (λ (k : ℕ). get_or xs i 0 ≤ get_or xs k 0) e (some_later xs h i (j - i) (omega (arith, le, within))) in
+    omega (arith, get_or_default xs i d 0 (omega (arith, le, within)), get_or_default xs j d 0 within, later)

@@ -1,7 +1,5 @@
 -- A message's place in a view, found by halving.
-use Rattle.std.proofs.Common.{◌≡◌, ◌≢◌, Bool, sym, true≢false, ℕ, zero, suc, ◌+◌, ◌<◌, ltb, true, false, ◌==◌, List, [], ◌∷◌, length, get_or, refl, inl, inr, arith, eq-eqb}
-use Rattle.std.specs.Prelude.{◌↔◌}
-use Rattle.std.specs.Bool.{MatchBool}
+use Rattle.std.proofs.Common.{◌≡◌, ◌≢◌, ℕ, zero, suc, ◌+◌, ◌<◌, ltb, true, false, ◌==◌, List, [], ◌∷◌, length, get_or, refl, inl, inr, arith, eq-eqb}
 use Rattle.std.specs.List.Sorted.{IsNonDecreasing, IsPartitionPoint}
 use Rattle.std.proofs.lemmas.Bool.{ltb-true, ltb-false, cases_lt}
 use Rattle.std.proofs.lemmas.Bool.Decides.{eqb_tells}
@@ -40,14 +38,3 @@ module _ (uid : ℕ) (view : List ℕ) (k : ℕ) (point : IsPartitionPoint (λ u
         let above = up k i 0 high l in
         other (omega arith) (omega (arith, least, above, same))
   ])
-
--- what the test of a view says both ways
-pub told_rising : (view : List ℕ) (rises : Bool) → MatchBool rises (IsNonDecreasing view) ((k : ℕ) × (k + 1 < length view) × ((d : ℕ) → get_or view (k + 1) d < get_or view k d)) → (rises ≡ true) ↔ IsNonDecreasing view
-told_rising view true up = (λ _. up, λ _. refl)
-told_rising view false down = (
-  λ e. absurd (true≢false (sym e)),
-  λ up.
-      let low = up down.0 (down.0 + 1) 0 (omega arith) down.1 in
-      let high = down.2 0 in
-      absurd (omega (arith, low, high)),
-)

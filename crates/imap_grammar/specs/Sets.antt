@@ -1,6 +1,7 @@
 -- Sets of messages: how they are spelled, and which messages they name (RFC 9051, 9: sequence-set).
-use Rattle.std.specs.Prelude.{ℕ, ◌+◌, ◌-◌, Bool, true, false, List, [], ◌∷◌, length, filter, Option, Some, None, min, max, nat_le, nat_lt, ◌==◌, ◌&&◌, ◌||◌, if◌then◌else◌, slice_index}
+use Rattle.std.specs.Prelude.{ℕ, ◌+◌, ◌-◌, Bool, true, false, List, [], ◌∷◌, length, filter, Option, Some, None, map, option_map, min, max, nat_le, nat_lt, ◌==◌, ◌&&◌, ◌||◌, if◌then◌else◌, slice_index}
 use Rattle.std.specs.List.{list_any, slice_split, filter_map}
+use Rattle.cursor_set.specs.Lines.{place}
 use Rattle.envelope.specs.Reading.{◌>>=◌, first_is}
 use Rattle.imap_grammar.specs.Bytes.{is_comma}
 use Rattle.imap_grammar.specs.Numbers.{number_up_to}
@@ -8,6 +9,7 @@ use Rattle.imap_grammar.specs.Cuts.{cut_at}
 use Rattle.imap_grammar.specs.declared.set.SeqNumber.{SeqNumber}
 use Rattle.imap_grammar.specs.declared.set.SeqNumber.TheVariants.{Number, Star}
 use Rattle.imap_grammar.specs.declared.set.SeqRange.{SeqRange}
+use Rattle.imap_grammar.specs.declared.view.Named.{Named}
 
 -- ---- spelling
 
@@ -80,3 +82,11 @@ by_place set view = if is_too_high set (length view) then None else Some (at_pla
 abbrev pub named_in : Bool → List SeqRange → List ℕ → Option (List ℕ)
 named_in true set view = Some (by_uid set view)
 named_in false set view = by_place set view
+
+-- a message of a view, at its place there
+abbrev pub named_at : List ℕ → ℕ → Named
+named_at view uid = record { place = place uid view; uid = uid }
+
+-- the same, each at its place
+abbrev pub messages_in : Bool → List SeqRange → List ℕ → Option (List Named)
+messages_in by_uid set view = option_map (map (named_at view)) (named_in by_uid set view)

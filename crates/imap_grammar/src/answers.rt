@@ -191,63 +191,47 @@ fn write_space(first: bool, out: &mut Vec<u8>) -> Result<(), AllocError>
     append_parts(&[b" ".as_slice()], out)
 }
 
-/// Appends the item that a word is, or a part of it; nothing where it is none. Says whether nothing
-/// stands there still.
-fn put_item(first: bool, row: &Row, word: &[u8], out: &mut Vec<u8>) -> Result<bool, AllocError>
-    ensures ok { OnOk result (out.new.items ≡ out.old.items ++ joined first (map (item_text row.now) (option_to_list (fetch_item_of word.now)))) }
-    ensures first { IfOk result (λ f. f ≡ (first && not (is_some (fetch_item_of word.now)))) }
+/// Appends an item behind others, or a part of it.
+fn put_item(first: bool, row: &Row, item: FetchItem, out: &mut Vec<u8>) -> Result<(), AllocError>
+    ensures ok { OnOk result (out.new.items ≡ out.old.items ++ lead first (item_text row.now item)) }
     ensures err { OnErr result (StartsWith out.new.items out.old.items) }
     ensures room { vec_capacity out.old ≤ vec_capacity out.new }
 {
-    let Some(item) = fetch_item(word) else {
-        return Ok(first);
-    };
     write_space(first, out)?;
     write_item(row, item, out)?;
-    Ok(false)
+    Ok(())
 }
 
-/// Appends the items that a text's words are, or a part of them. Says whether nothing stands there still.
-#[tactic(auto, using(crate::proofs::JoinedLaws::told_none))]
-fn put_items(first: bool, row: &Row, text: &[u8], out: &mut Vec<u8>) -> Result<bool, AllocError>
-    ensures ok { OnOk result (out.new.items ≡ out.old.items ++ joined first (map (item_text row.now) (fetch_items_of text.now))) }
-    ensures first { IfOk result (λ f. f ≡ (first && is_none (fetch_items_of text.now))) }
+/// Appends items, or a part of them. Says whether nothing stands there still.
+fn put_items(
+    first: bool,
+    row: &Row,
+    items: &[FetchItem],
+    out: &mut Vec<u8>,
+) -> Result<bool, AllocError>
+    ensures ok { OnOk result (out.new.items ≡ out.old.items ++ joined first (map (item_text row.now) items.now)) }
+    ensures first { IfOk result (λ f. f ≡ (first && is_none items.now)) }
     ensures err { OnErr result (StartsWith out.new.items out.old.items) }
     ensures room { vec_capacity out.old ≤ vec_capacity out.new }
 {
     let mut bare = first;
-    let mut rest = text;
-    while let Some((word, others)) = next_word(rest) {
-        bare = put_item(bare, row, word, out)?;
-        rest = others;
+    for item in items {
+        put_item(bare, row, *item, out)?;
+        bare = false;
     }
     Ok(bare)
 }
 
-fn has_uid(text: &[u8]) -> bool
-    ensures { result ≡ list_any is_uid (fetch_items_of text.now) }
+fn has_uid(items: &[FetchItem]) -> bool
+    ensures { result ≡ list_any is_uid items.now }
 {
-    let mut rest = text;
-    while let Some((word, others)) = next_word(rest) {
-        if let Some(FetchItem::Uid) = fetch_item(word) {
-            return true;
-        }
-        rest = others;
-    }
-    false
+    items.iter().any(|item| matches!(item, FetchItem::Uid))
 }
 
-fn has_flags(text: &[u8]) -> bool
-    ensures { result ≡ list_any is_flags (fetch_items_of text.now) }
+fn has_flags(items: &[FetchItem]) -> bool
+    ensures { result ≡ list_any is_flags items.now }
 {
-    let mut rest = text;
-    while let Some((word, others)) = next_word(rest) {
-        if let Some(FetchItem::Flags) = fetch_item(word) {
-            return true;
-        }
-        rest = others;
-    }
-    false
+    items.iter().any(|item| matches!(item, FetchItem::Flags))
 }
 
 fn marks_seen(item: FetchItem) -> bool
@@ -295,13 +279,18 @@ impl FetchItems<'_> {
 }
 
 /// Appends the UID where that is answered unasked. Says whether it isn't.
-fn put_uid(by_uid: bool, row: &Row, text: &[u8], out: &mut Vec<u8>) -> Result<bool, AllocError>
-    ensures ok { OnOk result (out.new.items ≡ out.old.items ++ joined true (map (item_text row.now) (uid_first by_uid (fetch_items_of text.now)))) }
-    ensures first { IfOk result (λ f. f ≡ is_none (uid_first by_uid (fetch_items_of text.now))) }
+fn put_uid(
+    by_uid: bool,
+    row: &Row,
+    items: &[FetchItem],
+    out: &mut Vec<u8>,
+) -> Result<bool, AllocError>
+    ensures ok { OnOk result (out.new.items ≡ out.old.items ++ joined true (map (item_text row.now) (uid_first by_uid items.now))) }
+    ensures first { IfOk result (λ f. f ≡ is_none (uid_first by_uid items.now)) }
     ensures err { OnErr result (out.new.items ≡ out.old.items) }
     ensures room { vec_capacity out.old ≤ vec_capacity out.new }
 {
-    if by_uid && !has_uid(text) {
+    if by_uid && !has_uid(items) {
         write_item(row, FetchItem::Uid, out)?;
         return Ok(false);
     }
@@ -309,13 +298,18 @@ fn put_uid(by_uid: bool, row: &Row, text: &[u8], out: &mut Vec<u8>) -> Result<bo
 }
 
 /// Appends the flags where they are answered unasked, or a part of them.
-fn put_flags(first: bool, row: &Row, text: &[u8], out: &mut Vec<u8>) -> Result<(), AllocError>
+fn put_flags(
+    first: bool,
+    row: &Row,
+    items: &[FetchItem],
+    out: &mut Vec<u8>,
+) -> Result<(), AllocError>
     ensures ok { OnOk result (out.new.items ≡ out.old.items
-        ++ joined first (map (item_text row.now) (flags_last row.now.newly_seen (fetch_items_of text.now)))) }
+        ++ joined first (map (item_text row.now) (flags_last row.now.newly_seen items.now))) }
     ensures err { OnErr result (StartsWith out.new.items out.old.items) }
     ensures room { vec_capacity out.old ≤ vec_capacity out.new }
 {
-    if row.newly_seen && !has_flags(text) {
+    if row.newly_seen && !has_flags(items) {
         write_space(first, out)?;
         return write_item(row, FetchItem::Flags, out);
     }
@@ -323,15 +317,20 @@ fn put_flags(first: bool, row: &Row, text: &[u8], out: &mut Vec<u8>) -> Result<(
 }
 
 /// Appends what stands between the parentheses of a FETCH, or a part of it.
-fn put_answered(by_uid: bool, row: &Row, text: &[u8], out: &mut Vec<u8>) -> Result<(), AllocError>
+fn put_answered(
+    by_uid: bool,
+    row: &Row,
+    items: &[FetchItem],
+    out: &mut Vec<u8>,
+) -> Result<(), AllocError>
     ensures ok { OnOk result (out.new.items ≡ out.old.items
-        ++ spaced (map (item_text row.now) (answered by_uid row.now.newly_seen (fetch_items_of text.now)))) }
+        ++ spaced (map (item_text row.now) (answered by_uid row.now.newly_seen items.now))) }
     ensures err { OnErr result (StartsWith out.new.items out.old.items) }
     ensures room { vec_capacity out.old ≤ vec_capacity out.new }
 {
-    let bare = put_uid(by_uid, row, text, out)?;
-    let bare = put_items(bare, row, text, out)?;
-    put_flags(bare, row, text, out)?;
+    let bare = put_uid(by_uid, row, items, out)?;
+    let bare = put_items(bare, row, items, out)?;
+    put_flags(bare, row, items, out)?;
     Ok(())
 }
 
@@ -339,18 +338,18 @@ fn put_answered(by_uid: bool, row: &Row, text: &[u8], out: &mut Vec<u8>) -> Resu
 fn put_row(
     place: usize,
     by_uid: bool,
-    text: &[u8],
+    items: &[FetchItem],
     row: &Row,
     out: &mut Vec<u8>,
 ) -> Result<(), AllocError>
-    ensures ok { OnOk result (out.new.items ≡ out.old.items ++ row_answer place by_uid (fetch_items_of text.now) row.now) }
+    ensures ok { OnOk result (out.new.items ≡ out.old.items ++ row_answer place by_uid items.now row.now) }
     ensures err { OnErr result (StartsWith out.new.items out.old.items) }
     ensures room { vec_capacity out.old ≤ vec_capacity out.new }
 {
     let mut digits = Buffer::new();
     let number = digits.format(place).as_bytes();
     append_parts(&[b"* ".as_slice(), number, b" FETCH (".as_slice()], out)?;
-    put_answered(by_uid, row, text, out)?;
+    put_answered(by_uid, row, items, out)?;
     append_parts(&[b")\r\n".as_slice()], out)
 }
 
@@ -362,7 +361,7 @@ fn put_row(
 pub fn write_row(
     place: usize,
     by_uid: bool,
-    items: &FetchItems<'_>,
+    items: &[FetchItem],
     row: &Row,
     out: &mut Vec<u8>,
 ) -> Result<(), AllocError>
@@ -371,7 +370,7 @@ pub fn write_row(
     ensures room { vec_capacity out.old ≤ vec_capacity out.new }
 {
     let before = out.len();
-    let Ok(()) = put_row(place, by_uid, items.spelled(), row, out) else {
+    let Ok(()) = put_row(place, by_uid, items, row, out) else {
         out.truncate(before);
         return Err(AllocError);
     };

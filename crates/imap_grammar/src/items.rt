@@ -1,16 +1,17 @@
 //! What FETCH and STATUS ask for (RFC 9051, 6.4.5 and 6.3.11): the items, and how their words are read.
 //! How they are answered is told in `answers`.
 
-ghost use Rattle.std.specs.Prelude.{◌≡◌, is_some};
+ghost use Rattle.std.specs.Prelude.{◌≡◌, ◌++◌, IfOk, OnOk, is_some, option_to_list};
 ghost use Rattle.std.specs.List.{list_all};
 ghost use Rattle.envelope.specs.Reading.{words};
-ghost use Rattle.imap_grammar.specs.Items.{section_of, span_between, span_of, partial_of, body_of, fetch_item_of, status_item_of};
+ghost use Rattle.imap_grammar.specs.Items.{section_of, span_between, span_of, partial_of, body_of, fetch_item_of, fetch_items_of, status_item_of};
 ghost use Rattle.imap_grammar.specs.Reading.{are_items};
 
 use crate::bytes::{past_byte, past_keyword};
 use crate::cut::cut_at;
 use crate::number::number_up_to;
-use crate::words::count_words;
+use crate::words::{count_words, next_word};
+use std::alloc::{AllocError, Global};
 use std::marker::Model;
 
 /// A part of a message's text.
@@ -216,7 +217,32 @@ fn all_status_items(text: &[u8]) -> bool
         .all(|word| status_item(word).is_some())
 }
 
+// Notes the item that a word is.
+fn push_item(word: &[u8], items: &mut Vec<FetchItem>) -> Result<(), AllocError>
+    ensures { OnOk result (items.new.items ≡ items.old.items ++ option_to_list (fetch_item_of word.now)) }
+{
+    if let Some(item) = fetch_item(word) {
+        items.push(item)?;
+    }
+    Ok(())
+}
+
+// The items that the words of a text are.
+#[tactic(auto, using(crate::proofs::JoinedLaws::items_end))]
+fn items_in(alloc: Global, text: &[u8]) -> Result<Vec<FetchItem>, AllocError>
+    ensures { IfOk result (λ items. items.items ≡ fetch_items_of text.now) }
+{
+    let mut items = Vec::new(alloc);
+    let mut rest = text;
+    while let Some((word, others)) = next_word(rest) {
+        push_item(word, &mut items)?;
+        rest = others;
+    }
+    Ok(items)
+}
+
 impl<'a> FetchItems<'a> {
+    ghost use Rattle.std.specs.Prelude.{IfOk};
     ghost use Rattle.imap_grammar.specs.Items.{fetch_items_of};
     ghost use Rattle.imap_grammar.specs.Reading.{fetch_items_in};
 
@@ -225,6 +251,13 @@ impl<'a> FetchItems<'a> {
         ensures { self.now ≡ fetch_items_of result.now }
     {
         self.spelled
+    }
+
+    /// The items, in the order in which they were asked. An error where memory is refused.
+    pub fn list(&self, alloc: Global) -> Result<Vec<FetchItem>, AllocError>
+        ensures { IfOk result (λ items. items.items ≡ self.now) }
+    {
+        items_in(alloc, self.spelled)
     }
 
     /// The items that the words of a text say, one at least.

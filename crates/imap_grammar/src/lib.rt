@@ -29,4 +29,4 @@ pub use list::write_list;
 pub use name::Name;
 pub use reading::{is_done, read_line};
 pub use set::{SeqNumber, SeqRange, SeqSet, SetFault};
-pub use view::View;
+pub use view::Named;

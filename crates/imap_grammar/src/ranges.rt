@@ -2,12 +2,12 @@
 //! messages are chosen by their places in `places`.
 
 ghost use Rattle.std.specs.Prelude.{◌≡◌, ℕ, ◌-◌, ◌++◌, List, IfOk, OnOk, OnErr, Some, None, length, slice_index, option_to_list};
-ghost use Rattle.imap_grammar.specs.Sets.{range_of, ranges_of, numeric, is_between, is_named, is_above, is_too_high, by_uid, at_places, last_uid};
+ghost use Rattle.std.specs.List.Sorted.{IsNonDecreasing};
+ghost use Rattle.imap_grammar.specs.Sets.{range_of, ranges_of, numeric, is_named, is_above, is_too_high, by_uid, at_places, last_uid};
 
 use crate::cut::cut_at;
 use crate::places::{chosen_at, named_places, places_of_named_uids};
 use crate::set::{SeqNumber, SeqRange, range_in};
-use crate::view::View;
 use std::alloc::{AllocError, Global};
 
 /// The number, where `*` is the greatest.
@@ -20,14 +20,6 @@ pub(crate) fn numeric_of(greatest: usize, n: SeqNumber) -> usize
     }
 }
 
-fn covers(range: &SeqRange, greatest: usize, n: usize) -> bool
-    ensures { result ≡ is_between (numeric greatest range.now.from) (numeric greatest range.now.to) n }
-{
-    let a = numeric_of(greatest, range.from);
-    let b = numeric_of(greatest, range.to);
-    a.min(b) <= n && n <= a.max(b)
-}
-
 fn is_one_above(count: usize, n: SeqNumber) -> bool
     ensures { result ≡ is_above count n }
 {
@@ -35,13 +27,6 @@ fn is_one_above(count: usize, n: SeqNumber) -> bool
         SeqNumber::Number(n) => count < n as usize,
         SeqNumber::Star => count == 0,
     }
-}
-
-/// Whether a range names the number, where `*` is the greatest.
-fn is_in(ranges: &[SeqRange], greatest: usize, n: usize) -> bool
-    ensures { result ≡ is_named ranges.now greatest n }
-{
-    ranges.iter().any(|range| covers(range, greatest, n))
 }
 
 fn names_one_above(part: &[u8], count: usize) -> bool
@@ -102,45 +87,27 @@ fn last_uid(view: &[u32]) -> usize
     }
 }
 
-// The UIDs that ranges of UIDs name in any view: each is tried.
-fn uids_one_by_one(alloc: Global, ranges: &[SeqRange], view: &[u32]) -> Result<Vec<u32>, AllocError>
-    ensures { IfOk result (λ v. v.items ≡ by_uid ranges.now view.now) }
-{
-    let mut chosen = Vec::new(alloc);
-    let greatest = last_uid(view);
-    for uid in view {
-        if is_in(ranges, greatest, *uid as usize) {
-            chosen.push(*uid)?;
-        }
-    }
-    Ok(chosen)
-}
-
-/// The UIDs of a view that ranges of UIDs name. In a view that rises they are found by halving.
+/// The UIDs of a view that ranges of UIDs name, found by halving.
 pub(crate) fn uids_in(
     alloc: Global,
     ranges: &[SeqRange],
-    view: &View,
+    view: &[u32],
 ) -> Result<Vec<u32>, AllocError>
+    requires { IsNonDecreasing view.now }
     ensures { IfOk result (λ v. v.items ≡ by_uid ranges.now view.now) }
 {
-    let uids = view.uids();
-    if !view.rises() {
-        return uids_one_by_one(alloc, ranges, uids);
-    }
-    let places = places_of_named_uids(alloc, ranges, last_uid(uids), uids)?;
-    Ok(chosen_at(alloc, &places, uids)?)
+    let places = places_of_named_uids(alloc, ranges, last_uid(view), view)?;
+    Ok(chosen_at(alloc, &places, view)?)
 }
 
 /// The UIDs of the messages that ranges of places in a view name.
 pub(crate) fn places_in(
     alloc: Global,
     ranges: &[SeqRange],
-    view: &View,
+    view: &[u32],
 ) -> Result<Vec<u32>, AllocError>
     ensures { IfOk result (λ v. v.items ≡ at_places (is_named ranges.now (length view.now)) 1 view.now) }
 {
-    let uids = view.uids();
-    let places = named_places(alloc, ranges, uids.len())?;
-    chosen_at(alloc, &places, uids)
+    let places = named_places(alloc, ranges, view.len())?;
+    chosen_at(alloc, &places, view)
 }

@@ -3,6 +3,7 @@
 
 ghost use Rattle.std.specs.Prelude.{◌≡◌, is_some};
 ghost use Rattle.std.specs.List.{list_all, slice_split};
+ghost use Rattle.std.specs.List.Sorted.{IsNonDecreasing};
 ghost use Rattle.imap_grammar.specs.Bytes.{is_comma};
 ghost use Rattle.imap_grammar.specs.Sets.{seq_number_of, range_of, ranges_of};
 
@@ -10,7 +11,7 @@ use crate::bytes::past_byte;
 use crate::cut::cut_at;
 use crate::number::number_up_to;
 use crate::ranges::{is_one_too_high, places_in, ranges_in, uids_in};
-use crate::view::View;
+use crate::view::{Named, placed};
 use std::alloc::{AllocError, Global};
 use std::marker::Model;
 
@@ -105,9 +106,9 @@ fn are_ranges(text: &[u8]) -> bool
 }
 
 impl<'a> SeqSet<'a> {
-    ghost use Rattle.std.specs.Prelude.{Some, None, IfOk, Err, ◌↔◌};
+    ghost use Rattle.std.specs.Prelude.{Some, None, IfOk, Err, map, ◌↔◌};
     ghost use Rattle.std.specs.List.Sorted.{IsStrictlyIncreasing};
-    ghost use Rattle.imap_grammar.specs.Sets.{named_in};
+    ghost use Rattle.imap_grammar.specs.Sets.{messages_in, named_in};
     ghost use Rattle.imap_grammar.specs.declared.set.SetFault.{SetFault};
     ghost use Rattle.imap_grammar.specs.Reading.{set_at};
 
@@ -122,27 +123,40 @@ impl<'a> SeqSet<'a> {
         }
     }
 
-    /// The UIDs of the messages of a view that the set names, each once, in the view's order. By
-    /// place a number is a message's place in the view, counted from 1, and `*` the last place; by UID
-    /// what isn't in the view is passed over, and `*` is the view's last UID (RFC 9051, 9: seq-number).
-    /// It costs the set's ranges and what they name; only a view that doesn't rise is passed, by UID, for each range.
-    ///
-    /// Errors, in this order: `TooHigh` exactly where a number by place is above the view's length, or
-    /// `*` is said of an empty view; `NoMemory` where memory was refused.
-    pub fn resolve(&self, alloc: Global, view: &View, by_uid: bool) -> Result<Vec<u32>, SetFault>
+    // The UIDs of the messages of a view that the set names, as `resolve` says.
+    fn uids(&self, alloc: Global, view: &[u32], by_uid: bool) -> Result<Vec<u32>, SetFault>
+        requires { IsNonDecreasing view.now }
         ensures found { IfOk result (λ uids. named_in by_uid self.now view.now ≡ Some uids.items) }
         ensures too_high { (result ≡ Err SetFault.TooHigh) ↔ (named_in by_uid self.now view.now ≡ None) }
-        // In a view whose UIDs rise.
         ensures rising { IsStrictlyIncreasing view.now → IfOk result (λ uids. IsStrictlyIncreasing uids.items) }
     {
         if by_uid {
             let ranges = ranges_in(alloc, self.spelled)?;
             return Ok(uids_in(alloc, &ranges, view)?);
         }
-        if is_one_too_high(self.spelled, view.uids().len()) {
+        if is_one_too_high(self.spelled, view.len()) {
             return Err(SetFault::TooHigh);
         }
         let ranges = ranges_in(alloc, self.spelled)?;
         Ok(places_in(alloc, &ranges, view)?)
+    }
+
+    /// The messages of a view that the set names, each once, in the view's order, with their places. By
+    /// place a number is a message's place in the view, counted from 1, and `*` the last place; by UID
+    /// what isn't in the view is passed over, and `*` is the view's last UID (RFC 9051, 9: seq-number).
+    /// The view's UIDs rise, as those of each mailbox do: so it costs the set's ranges, what they name, and the
+    /// logarithm of the view's length for each of both.
+    ///
+    /// Errors, in this order: `TooHigh` exactly where a number by place is above the view's length, or
+    /// `*` is said of an empty view; `NoMemory` where memory was refused.
+    pub fn resolve(&self, alloc: Global, view: &[u32], by_uid: bool) -> Result<Vec<Named>, SetFault>
+        requires { IsNonDecreasing view.now }
+        ensures found { IfOk result (λ named. messages_in by_uid self.now view.now ≡ Some named.items) }
+        ensures too_high { (result ≡ Err SetFault.TooHigh) ↔ (named_in by_uid self.now view.now ≡ None) }
+        // In a view whose UIDs are all different.
+        ensures rising { IsStrictlyIncreasing view.now → IfOk result (λ named. IsStrictlyIncreasing (map (λ m. m.uid) named.items)) }
+    {
+        let uids = self.uids(alloc, view, by_uid)?;
+        Ok(placed(alloc, &uids, view)?)
     }
 }

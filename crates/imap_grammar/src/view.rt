@@ -1,32 +1,23 @@
-//! The view of a session: the UIDs that it was shown, and each message's place among them.
+//! The messages of a view, which is the UIDs that a session was shown, in their order: each with its place there.
 //! Which of them a set names is told in `set`.
 
-ghost use Rattle.std.specs.Prelude.{◌≡◌};
+ghost use Rattle.std.specs.Prelude.{◌≡◌, IfOk, map};
 ghost use Rattle.std.specs.List.Sorted.{IsNonDecreasing};
 ghost use Rattle.cursor_set.specs.Lines.{place};
+ghost use Rattle.imap_grammar.specs.Sets.{named_at};
 
-use std::marker::Model;
+use std::alloc::{AllocError, Global};
 
-/// A view that was copied. In contracts it is the list of its UIDs.
-#[derive(Drop)]
-pub struct View {
-    uids: Vec<u32>,
-    // Whether each UID is at least the one before it, so that a message is found by halving. It is so in each view that a mailbox shows.
-    rises: bool,
+/// A message of a view.
+#[derive(Clone, Copy, Debug, PartialEq, Eq)]
+pub struct Named {
+    /// Its place in the view, counted from 1: the number by which the session knows it (RFC 9051, 2.3.1.2).
+    pub place: usize,
+    /// Its UID.
+    pub uid: u32,
 }
 
-impl Model for View {
-    ghost use Rattle.std.specs.Prelude.{◌≡◌, ◌↔◌, List, ℕ, true};
-    ghost use Rattle.std.specs.List.Sorted.{IsNonDecreasing};
-
-    ghost Value = { List ℕ };
-
-    ghost view = { λ v. v.uids.items };
-
-    ghost invariant = { λ v. (v.rises ≡ true) ↔ IsNonDecreasing v.uids.items };
-}
-
-// The place of a message in a view that rises, found by halving.
+// The place of a message in a view, found by halving; one past the last where it isn't there.
 fn place_by_halving(view: &[u32], uid: u32) -> usize
     requires { IsNonDecreasing view.now }
     ensures { result ≡ place uid view.now }
@@ -38,51 +29,17 @@ fn place_by_halving(view: &[u32], uid: u32) -> usize
     }
 }
 
-// The place of a message in any view.
-fn place_by_search(view: &[u32], uid: u32) -> usize
-    ensures { result ≡ place uid view.now }
+/// The messages of these UIDs in a view, each with its place.
+pub(crate) fn placed(alloc: Global, uids: &[u32], view: &[u32]) -> Result<Vec<Named>, AllocError>
+    requires { IsNonDecreasing view.now }
+    ensures { IfOk result (λ named. named.items ≡ map (named_at view.now) uids.now) }
 {
-    for (i, u) in view.iter().enumerate() {
-        if *u == uid {
-            return i + 1;
-        }
+    let mut named = Vec::with_capacity(alloc, uids.len())?;
+    for uid in uids {
+        named.push_reserved(Named {
+            place: place_by_halving(view, *uid),
+            uid: *uid,
+        });
     }
-    view.len() + 1
-}
-
-impl View {
-    ghost use Rattle.std.specs.Prelude.{◌↔◌, true};
-
-    /// The view of these UIDs. It reads them once.
-    pub fn new(uids: Vec<u32>) -> View
-        ensures { result ≡ uids.items }
-    {
-        let rises = uids.as_slice().is_sorted();
-        View { uids, rises }
-    }
-
-    /// The UIDs.
-    pub fn uids(&self) -> &[u32]
-        ensures { result.now ≡ self.now }
-    {
-        &self.uids
-    }
-
-    /// Whether each UID is at least the one before it.
-    pub(crate) fn rises(&self) -> bool
-        ensures { (result ≡ true) ↔ IsNonDecreasing self.now }
-    {
-        self.rises
-    }
-
-    /// The place of a message, counted from 1; one past the last where it isn't there.
-    pub fn place_of(&self, uid: u32) -> usize
-        ensures { result ≡ place uid self.now }
-    {
-        if self.rises {
-            place_by_halving(&self.uids, uid)
-        } else {
-            place_by_search(&self.uids, uid)
-        }
-    }
+    Ok(named)
 }

@@ -1,7 +1,10 @@
 -- Sets of messages, found in the view.
-use Rattle.std.proofs.Common.{◌≡◌, ℕ, Bool, codes, List, Option, Some, None, subst}
-use Rattle.imap_grammar.specs.Sets.{named_in}
+use Rattle.std.proofs.Common.{◌≡◌, ◌∙◌, ℕ, zero, suc, ◌<◌, Bool, codes, List, [], ◌∷◌, length, map, get_or, Option, Some, None, refl, ap, subst, arith}
+use Rattle.std.specs.Prelude.{option_map}
+use Rattle.std.proofs.lemmas.List.{length-map}
+use Rattle.imap_grammar.specs.Sets.{named_at, named_in}
 use Rattle.imap_grammar.specs.declared.set.SeqRange.{SeqRange}
+use Rattle.imap_grammar.specs.declared.view.Named.{Named}
 use Rattle.imap_session.specs.Exchange as ex
 use Rattle.imap_session.specs.Exchange.{Call, Answer, Looked, Exchange, Standing}
 use Rattle.imap_session.specs.Commands.{on_set, on_chosen, says}
@@ -21,3 +24,33 @@ pub reaches_too_high : {S : Type 0} (step : S → Call → Answer → S → Type
 reaches_too_high step by_uid set next view s text v h tag now =
     let P : Option (List ℕ) → Type 0 = λ o. Reaches step tag now now (on_set by_uid set next) (on_chosen o (next view)) s s text text in
     subst P h (reaches_look step tag now (λ w. on_chosen (named_in by_uid set w) (next w)) view s text v)
+
+-- ---- what a choice answers
+
+same_messages : {x y : List Named} → Some x ≡ Some y → x ≡ y
+same_messages e = cc
+
+pub chosen_some : (view : List ℕ) (x : Option (List ℕ)) (messages : List Named) → Some messages ≡ option_map (map (named_at view)) x → (uids : List ℕ) × (x ≡ Some uids) × (messages ≡ map (named_at view) uids)
+chosen_some view None messages e = cc
+chosen_some view (Some uids) messages e = (uids, refl, same_messages e)
+
+pub chosen_none : (view : List ℕ) (x : Option (List ℕ)) → None ≡ option_map (map (named_at view)) x → x ≡ None
+chosen_none view None e = refl
+chosen_none view (Some uids) e = cc
+
+-- messages at their places, by number
+pub message_there : (view uids : List ℕ) (i : ℕ) (d : Named) → i < length (map (named_at view) uids) → get_or (map (named_at view) uids) i d ≡ named_at view (get_or uids i 0)
+message_there view [] i d h = absurd (omega arith)
+message_there view (uid ∷ uids) zero d h = refl
+message_there view (uid ∷ uids) (suc i) d h = message_there view uids i d (omega arith)
+
+pub message_at : (view uids : List ℕ) (messages : List Named) (i : ℕ) (d : Named) → messages ≡ map (named_at view) uids → i < length messages → get_or messages i d ≡ named_at view (get_or uids i 0)
+message_at view uids messages i d e h = rw e (message_there view uids i d (subst (λ (ms : List Named). i < length ms) e h))
+
+pub as_many : (view uids : List ℕ) (messages : List Named) → messages ≡ map (named_at view) uids → length messages ≡ length uids
+as_many view uids messages e = ap (length {A = Named}) e ∙ length-map uids (named_at view)
+
+-- of messages with these UIDs
+pub uids_chosen : (view uids : List ℕ) → map (λ (m : Named). m.uid) (map (named_at view) uids) ≡ uids
+uids_chosen view [] = refl
+uids_chosen view (uid ∷ uids) = ap (λ (l : List ℕ). uid ∷ l) (uids_chosen view uids)

@@ -1,16 +1,15 @@
 -- How an exchange ends: the last words are written, and the whole answers a line.
-use Rattle.std.proofs.Common.{◌≡◌, ℕ, Bool, false, List, [], ◌++◌, Option, Some, None, Result, Ok, Err, OnOk, OnErr, IfOk, IfErr, refl, ap, sym, ◌∙◌, subst, append_assoc, append-nil}
+use Rattle.std.proofs.Common.{◌≡◌, ℕ, Bool, false, List, [], ◌++◌, Option, Some, None, Result, Ok, Err, refl, ap, sym, ◌∙◌, subst, append_assoc, append-nil}
 use Rattle.std.specs.Borrow.{Bor}
 use Rattle.mailbox.specs.declared.clients.MailFault.{MailFault}
-use Rattle.mailbox.specs.declared.clients.MailFault.TheVariants.{NoMemory}
 use Rattle.imap_grammar.specs.declared.command.Command.{Command}
 use Rattle.imap_session.specs.declared.standing.After.{After}
 use Rattle.imap_session.specs.declared.standing.After.TheVariants.{Go, Idle, Bye}
 use Rattle.imap_session.specs.declared.standing.Selected.{Selected}
 use Rattle.imap_session.specs.Exchange as ex
 use Rattle.imap_session.specs.Exchange.{Call, Answer, Exchange, Folder, Standing, Turn, Event, played, refused, saying, closed, tagged, refusal_text, refusal_after, nothing_more}
-use Rattle.imap_session.specs.Commands.{says, on_found, wrong_state, on_command}
-use Rattle.imap_session.specs.Store.{Met, Reaches, Stops, Does, Moves, Plays, after_command, ending, last, last_words, after_result, onward}
+use Rattle.imap_session.specs.Commands.{on_found, wrong_state, on_command}
+use Rattle.imap_session.specs.Store.{Met, Reaches, Stops, Does, Moves, Plays, after_command, ending, last_words, after_result, onward}
 use Rattle.imap_session.proofs.Runs.{Met-append, reaches_here, reaches_put}
 
 -- what is done where the selected mailbox stays

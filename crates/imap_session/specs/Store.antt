@@ -1,9 +1,13 @@
 -- What happens between a session and its store.
 use Rattle.std.specs.Borrow.{Bor}
+use Rattle.std.specs.Global.{Global}
 use Rattle.imap_session.specs.declared.standing.After.TheVariants.{Go, Bye}
+use Rattle.imap_grammar.specs.Sets.{messages_in}
+use Rattle.imap_grammar.specs.declared.set.SeqRange.{SeqRange}
+use Rattle.imap_grammar.specs.declared.view.Named.{Named}
 use Rattle.imap_grammar.specs.declared.command.Command.{Command}
 use Rattle.imap_grammar.specs.declared.command.Command.TheVariants as commands
-use Rattle.std.specs.Prelude.{◌≡◌, ◌≤◌, ◌⊎◌, ◌+◌, length, ℕ, Bool, true, false, List, [], ◌∷◌, ◌++◌, Option, Some, None, Result, Ok, Err}
+use Rattle.std.specs.Prelude.{◌≡◌, ◌≤◌, ◌⊎◌, ◌+◌, length, ℕ, Vec, Bool, true, false, List, [], ◌∷◌, ◌++◌, Option, Some, None, option_map, Result, Ok, Err}
 use Rattle.change_ring.specs.declared.change.Change.{Change}
 use Rattle.mailbox.specs.declared.clients.MailFault.{MailFault}
 use Rattle.mailbox.specs.declared.clients.MailFault.TheVariants.{NoMemory}
@@ -35,6 +39,11 @@ abbrev pub Feeds : (Answer → Type 0) → ℕ → List ℕ → List ℕ → Res
 Feeds step limit before after (Ok n) =
     (view : List ℕ) × (changes : List Change) × step (Fed view changes) × (length changes ≡ n) × (n ≤ limit) × (after ≡ before ++ lines view changes)
 Feeds step limit before after (Err fault) = step (Refused fault) × (after ≡ before)
+
+-- What a choice did: it looked at a view, and answered which of its messages the set names, or that it says a place that isn't there.
+abbrev pub Chooses : (Answer → Type 0) → Bool → List SeqRange → Result (Option (Vec Named Global)) MailFault → Type 0
+Chooses step by_uid set (Ok chosen) = (view : List ℕ) × step (Looked view) × (option_map (λ named. named.items) chosen ≡ messages_in by_uid set view)
+Chooses step by_uid set (Err fault) = step (Refused fault)
 
 -- What an Expunge did: it met a view, showed changes, and removed as many messages as it answers.
 abbrev pub Expunges : (Answer → Type 0) → List ℕ → List ℕ → Result ℕ MailFault → Type 0

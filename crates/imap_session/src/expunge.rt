@@ -1,6 +1,6 @@
 //! EXPUNGE and UID EXPUNGE (RFC 9051, 6.4.3 and 6.4.9), and what is pending, shown where a mailbox is selected.
 
-ghost use Rattle.std.specs.Prelude.{◌+◌, ◌≤◌, None, IfOk, length, vec_len};
+ghost use Rattle.std.specs.Prelude.{◌≡◌, ◌+◌, ◌≤◌, None, IfOk, length, map, vec_len};
 ghost use Rattle.std.specs.Option.{option_copied};
 ghost use Rattle.std.specs.Vec.{vec_capacity};
 ghost use Rattle.imap_grammar.specs.declared.command.Command.TheVariants as commands;
@@ -11,9 +11,9 @@ ghost use Rattle.imap_session.specs.Store.{Does, last};
 use crate::show::{purge, show};
 use crate::standing::Selected;
 use crate::store::Store;
-use imap_grammar::{SeqSet, SetFault, View};
+use imap_grammar::{Named, SeqSet};
 use mailbox::MailFault;
-use std::alloc::Global;
+use std::alloc::{AllocError, Global};
 
 // Shows what is pending, where a mailbox is selected.
 pub(crate) fn show_pending<S: Store>(
@@ -72,7 +72,14 @@ pub(crate) fn expunge_all<S: Store>(
     }
 }
 
-// UID EXPUNGE in the selected mailbox: the set is resolved first. Answers what the last line says.
+// The UIDs of these messages.
+fn uids_of(alloc: Global, messages: &[Named]) -> Result<Vec<u32>, AllocError>
+    ensures { IfOk result (λ uids. uids.items ≡ map (λ message. message.uid) messages.now) }
+{
+    messages.iter().map(|message| message.uid).collect(alloc)
+}
+
+// UID EXPUNGE in the selected mailbox: the set is looked up first. Answers what the last line says.
 pub(crate) fn expunge_set<S: Store>(
     alloc: Global,
     set: &SeqSet<'_>,
@@ -85,13 +92,13 @@ pub(crate) fn expunge_set<S: Store>(
     ensures short { IfOk result (λ words. length words.now ≤ 45) }
     ensures room { vec_len out.new + keep ≤ vec_capacity out.new }
 {
-    let view = match store.view(alloc) {
+    let messages = match store.choose(alloc, set, true) {
         Err(fault) => return Err(fault),
-        Ok(uids) => View::new(uids),
+        Ok(None) => return Ok(b"BAD Sequence number too high"),
+        Ok(Some(messages)) => messages,
     };
-    let uids = match set.resolve(alloc, &view, true) {
-        Err(SetFault::NoMemory) => return Err(MailFault::NoMemory),
-        Err(SetFault::TooHigh) => return Ok(b"BAD Sequence number too high"),
+    let uids = match uids_of(alloc, messages.as_slice()) {
+        Err(AllocError) => return Err(MailFault::NoMemory),
         Ok(uids) => uids,
     };
     match remove_and_show(Some(uids.as_slice()), store, keep, out) {

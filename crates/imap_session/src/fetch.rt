@@ -1,7 +1,9 @@
 //! FETCH and UID FETCH (RFC 9051, 6.4.5 and 6.4.9).
 
-ghost use Rattle.std.specs.Prelude.{◌≡◌, ◌+◌, ◌≤◌, Bool, false, List, ℕ, ◌++◌, OnOk, OnErr, IfOk, IfErr, if◌then◌else◌, length, vec_len};
+ghost use Rattle.std.specs.Prelude.{◌≡◌, ◌+◌, ◌≤◌, Bool, false, List, ℕ, ◌++◌, map, OnOk, OnErr, IfOk, IfErr, if◌then◌else◌, length, vec_len};
 ghost use Rattle.std.specs.Vec.{vec_capacity};
+ghost use Rattle.imap_grammar.specs.Answers.{row_answer};
+ghost use Rattle.imap_grammar.specs.Sets.{named_at};
 ghost use Rattle.imap_session.specs.Exchange.{Exchange, Read, Write};
 ghost use Rattle.imap_session.specs.Commands.{on_found, fetched, fetching, messages_done, on_set};
 ghost use Rattle.imap_session.specs.Store.{Does, last};
@@ -10,28 +12,27 @@ ghost use Rattle.imap_grammar.specs.declared.command.Command.TheVariants as comm
 use crate::say::hold_room;
 use crate::show::show;
 use crate::store::Store;
-use imap_grammar::{Fetch, SetFault, View, write_row};
+use imap_grammar::{Fetch, FetchItem, Named, write_row};
 use mailbox::{MailFault, Row};
-use std::alloc::Global;
+use std::alloc::{AllocError, Global};
 
-// Writes the answer for a message, with room for `keep` more bytes behind it.
+// Writes the answer for the message at this place, with room for `keep` more bytes behind it.
 fn write_fetched(
-    fetch: &Fetch<'_>,
-    view: &View,
-    uid: u32,
+    by_uid: bool,
+    items: &[FetchItem],
+    place: usize,
     row: &Row,
     keep: usize,
     out: &mut Vec<u8>,
 ) -> Result<(), MailFault>
     requires room { vec_len out.old + keep ≤ vec_capacity out.old }
-    ensures text { OnOk result (out.new.items ≡ out.old.items ++ fetched fetch.now view.now uid row.now) }
+    ensures text { OnOk result (out.new.items ≡ out.old.items ++ row_answer place by_uid items.now row.now) }
     ensures err { OnErr result (out.new.items ≡ out.old.items) }
     ensures fault { IfErr result (λ f. f ≡ MailFault.NoMemory) }
     ensures room { vec_len out.new + keep ≤ vec_capacity out.new }
 {
     let start = out.len();
-    let place = view.place_of(uid);
-    if write_row(place, fetch.by_uid, &fetch.items, row, out).is_err() {
+    if write_row(place, by_uid, items, row, out).is_err() {
         return Err(MailFault::NoMemory);
     }
     hold_room(start, keep, out)
@@ -40,23 +41,24 @@ fn write_fetched(
 // Answers for one message, and says whether it is there.
 fn fetch_one<S: Store>(
     fetch: &Fetch<'_>,
+    items: &[FetchItem],
     mark: bool,
-    view: &View,
-    uid: u32,
+    message: Named,
     store: &mut S,
     keep: usize,
     out: &mut Vec<u8>,
 ) -> Result<bool, MailFault>
+    requires items { items.now ≡ fetch.now.items }
     requires room { vec_len out.old + keep ≤ vec_capacity out.old }
-    ensures done { (x y : Exchange) → Does S.step
-        (Read uid mark (on_found (λ row. Write (fetched fetch.now view.now uid row) x) y))
+    ensures done { (view : List ℕ) (uid : ℕ) → message ≡ named_at view uid → (x y : Exchange) → Does S.step
+        (Read uid mark (on_found (λ row. Write (fetched fetch.now view uid row) x) y))
         (λ here. if here then x else y) store.old store.new out.old.items out.new.items result }
     ensures room { vec_len out.new + keep ≤ vec_capacity out.new }
 {
-    match store.read(uid, mark) {
+    match store.read(message.uid, mark) {
         Err(fault) => Err(fault),
         Ok(None) => Ok(false),
-        Ok(Some(row)) => match write_fetched(fetch, view, uid, &row, keep, out) {
+        Ok(Some(row)) => match write_fetched(fetch.by_uid, items, message.place, &row, keep, out) {
             Err(fault) => Err(fault),
             Ok(()) => Ok(true),
         },
@@ -66,21 +68,22 @@ fn fetch_one<S: Store>(
 // Answers for these messages, and says whether one of them is gone.
 fn fetch_all<S: Store>(
     fetch: &Fetch<'_>,
+    items: &[FetchItem],
     mark: bool,
-    view: &View,
-    uids: &[u32],
+    messages: &[Named],
     store: &mut S,
     keep: usize,
     out: &mut Vec<u8>,
 ) -> Result<bool, MailFault>
+    requires items { items.now ≡ fetch.now.items }
     requires room { vec_len out.old + keep ≤ vec_capacity out.old }
-    ensures done { (done : Bool → Exchange) → Does S.step
-        (fetching fetch.now mark view.now done uids.now false) done store.old store.new out.old.items out.new.items result }
+    ensures done { (view uids : List ℕ) → messages.now ≡ map (named_at view) uids → (done : Bool → Exchange) → Does S.step
+        (fetching fetch.now mark view done uids false) done store.old store.new out.old.items out.new.items result }
     ensures room { vec_len out.new + keep ≤ vec_capacity out.new }
 {
     let mut gone = false;
-    for uid in uids {
-        match fetch_one(fetch, mark, view, *uid, store, keep, out) {
+    for message in messages {
+        match fetch_one(fetch, items, mark, *message, store, keep, out) {
             Err(fault) => return Err(fault),
             Ok(here) => {
                 if !here {
@@ -133,16 +136,24 @@ pub(crate) fn fetch_messages<S: Store>(
     ensures short { IfOk result (λ words. length words.now ≤ 45) }
     ensures room { vec_len out.new + keep ≤ vec_capacity out.new }
 {
-    let view = match store.view(alloc) {
+    let items = match fetch.items.list(alloc) {
+        Err(AllocError) => return Err(MailFault::NoMemory),
+        Ok(items) => items,
+    };
+    let messages = match store.choose(alloc, &fetch.set, fetch.by_uid) {
         Err(fault) => return Err(fault),
-        Ok(uids) => View::new(uids),
+        Ok(None) => return Ok(b"BAD Sequence number too high"),
+        Ok(Some(messages)) => messages,
     };
-    let uids = match fetch.set.resolve(alloc, &view, fetch.by_uid) {
-        Err(SetFault::NoMemory) => return Err(MailFault::NoMemory),
-        Err(SetFault::TooHigh) => return Ok(b"BAD Sequence number too high"),
-        Ok(uids) => uids,
-    };
-    let gone = match fetch_all(fetch, mark, &view, uids.as_slice(), store, keep, out) {
+    let gone = match fetch_all(
+        fetch,
+        items.as_slice(),
+        mark,
+        messages.as_slice(),
+        store,
+        keep,
+        out,
+    ) {
         Err(fault) => return Err(fault),
         Ok(gone) => gone,
     };

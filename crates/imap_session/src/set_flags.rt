@@ -1,9 +1,10 @@
 //! STORE and UID STORE (RFC 9051, 6.4.6 and 6.4.9).
 
-ghost use Rattle.std.specs.Prelude.{◌≡◌, ◌+◌, ◌≤◌, Bool, false, List, [], codes, decimal, ℕ, ◌++◌, OnOk, OnErr, IfOk, IfErr, if◌then◌else◌, length, vec_len};
+ghost use Rattle.std.specs.Prelude.{◌≡◌, ◌+◌, ◌≤◌, Bool, false, List, [], codes, decimal, ℕ, ◌++◌, map, OnOk, OnErr, IfOk, IfErr, if◌then◌else◌, length, vec_len};
 ghost use Rattle.std.specs.Io.{StartsWith};
 ghost use Rattle.std.specs.Vec.{vec_capacity};
 ghost use Rattle.imap_grammar.specs.declared.command.Command.TheVariants as commands;
+ghost use Rattle.imap_grammar.specs.Sets.{named_at};
 ghost use Rattle.cursor_set.specs.Lines.{flag_words, spaced};
 ghost use Rattle.imap_session.specs.Exchange.{Exchange, Alter, Write};
 ghost use Rattle.imap_session.specs.Commands.{on_found, on_set, flags_answer, stored, storing, messages_done};
@@ -14,7 +15,7 @@ use crate::show::show;
 use crate::store::Store;
 use change_ring::Flags;
 use cursor_set::{FLAGS_ROOM, put_flags};
-use imap_grammar::{SetFault, Store as StoreCommand, View};
+use imap_grammar::{Named, Store as StoreCommand};
 use itoa::Buffer;
 use mailbox::MailFault;
 use std::alloc::{AllocError, Global};
@@ -72,14 +73,13 @@ fn append_answer(
 // Writes the answer for a message, unless the client asked for silence, with room for `keep` more bytes behind it.
 fn write_stored(
     command: &StoreCommand<'_>,
-    view: &View,
-    uid: u32,
+    message: Named,
     flags: Flags,
     keep: usize,
     out: &mut Vec<u8>,
 ) -> Result<(), MailFault>
     requires room { vec_len out.old + keep ≤ vec_capacity out.old }
-    ensures text { OnOk result (out.new.items ≡ out.old.items ++ stored command.now view.now uid flags) }
+    ensures text { OnOk result (out.new.items ≡ out.old.items ++ (if command.now.silent then [] else flags_answer command.now.by_uid message.place message.uid flags)) }
     ensures err { OnErr result (out.new.items ≡ out.old.items) }
     ensures fault { IfErr result (λ f. f ≡ MailFault.NoMemory) }
     ensures room { vec_len out.new + keep ≤ vec_capacity out.new }
@@ -88,8 +88,7 @@ fn write_stored(
         return Ok(());
     }
     let start = out.len();
-    let place = view.place_of(uid);
-    if append_answer(command.by_uid, place, uid, flags, out).is_err() {
+    if append_answer(command.by_uid, message.place, message.uid, flags, out).is_err() {
         out.truncate(start);
         return Err(MailFault::NoMemory);
     }
@@ -99,22 +98,21 @@ fn write_stored(
 // Changes the flags of one message, and says whether it is there.
 fn store_one<S: Store>(
     command: &StoreCommand<'_>,
-    view: &View,
-    uid: u32,
+    message: Named,
     store: &mut S,
     keep: usize,
     out: &mut Vec<u8>,
 ) -> Result<bool, MailFault>
     requires room { vec_len out.old + keep ≤ vec_capacity out.old }
-    ensures done { (x y : Exchange) → Does S.step
-        (Alter uid command.now.change (on_found (λ flags. Write (stored command.now view.now uid flags) x) y))
+    ensures done { (view : List ℕ) (uid : ℕ) → message ≡ named_at view uid → (x y : Exchange) → Does S.step
+        (Alter uid command.now.change (on_found (λ flags. Write (stored command.now view uid flags) x) y))
         (λ here. if here then x else y) store.old store.new out.old.items out.new.items result }
     ensures room { vec_len out.new + keep ≤ vec_capacity out.new }
 {
-    match store.store(uid, command.change) {
+    match store.store(message.uid, command.change) {
         Err(fault) => Err(fault),
         Ok(None) => Ok(false),
-        Ok(Some(flags)) => match write_stored(command, view, uid, flags, keep, out) {
+        Ok(Some(flags)) => match write_stored(command, message, flags, keep, out) {
             Err(fault) => Err(fault),
             Ok(()) => Ok(true),
         },
@@ -124,20 +122,19 @@ fn store_one<S: Store>(
 // Changes the flags of these messages, and says whether one of them is gone.
 fn store_all<S: Store>(
     command: &StoreCommand<'_>,
-    view: &View,
-    uids: &[u32],
+    messages: &[Named],
     store: &mut S,
     keep: usize,
     out: &mut Vec<u8>,
 ) -> Result<bool, MailFault>
     requires room { vec_len out.old + keep ≤ vec_capacity out.old }
-    ensures done { (done : Bool → Exchange) → Does S.step
-        (storing command.now view.now done uids.now false) done store.old store.new out.old.items out.new.items result }
+    ensures done { (view uids : List ℕ) → messages.now ≡ map (named_at view) uids → (done : Bool → Exchange) → Does S.step
+        (storing command.now view done uids false) done store.old store.new out.old.items out.new.items result }
     ensures room { vec_len out.new + keep ≤ vec_capacity out.new }
 {
     let mut gone = false;
-    for uid in uids {
-        match store_one(command, view, *uid, store, keep, out) {
+    for message in messages {
+        match store_one(command, *message, store, keep, out) {
             Err(fault) => return Err(fault),
             Ok(here) => {
                 if !here {
@@ -189,16 +186,12 @@ pub(crate) fn store_messages<S: Store>(
     ensures short { IfOk result (λ words. length words.now ≤ 45) }
     ensures room { vec_len out.new + keep ≤ vec_capacity out.new }
 {
-    let view = match store.view(alloc) {
+    let messages = match store.choose(alloc, &command.set, command.by_uid) {
         Err(fault) => return Err(fault),
-        Ok(uids) => View::new(uids),
+        Ok(None) => return Ok(b"BAD Sequence number too high"),
+        Ok(Some(messages)) => messages,
     };
-    let uids = match command.set.resolve(alloc, &view, command.by_uid) {
-        Err(SetFault::NoMemory) => return Err(MailFault::NoMemory),
-        Err(SetFault::TooHigh) => return Ok(b"BAD Sequence number too high"),
-        Ok(uids) => uids,
-    };
-    let gone = match store_all(command, &view, uids.as_slice(), store, keep, out) {
+    let gone = match store_all(command, messages.as_slice(), store, keep, out) {
         Err(fault) => return Err(fault),
         Ok(gone) => gone,
     };

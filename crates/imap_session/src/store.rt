@@ -5,27 +5,35 @@ ghost use Rattle.std.specs.Prelude.{◌≡◌, ◌≢◌, ◌≤◌, IfErr, ◌�
 ghost use Rattle.std.specs.Option.{option_copied};
 ghost use Rattle.std.specs.Vec.{vec_capacity};
 ghost use Rattle.imap_session.specs.Exchange.{Call, Enter, Look, Read, Count, Alter, Expunge, Feed, Leave, Answer, Entered, Looked, Found, Counted, Altered, Left};
-ghost use Rattle.imap_session.specs.Store.{answer, Feeds, Expunges};
+ghost use Rattle.imap_session.specs.Store.{answer, Chooses, Feeds, Expunges};
 
 use change_ring::{FlagOp, Flags};
+use imap_grammar::{Named, SeqSet};
 use mailbox::{MailFault, Opening, Row, Status};
 use std::alloc::Global;
 
-/// The mailboxes of one session, which may have entered one of them. Each call but `view` is one event of
+/// The mailboxes of one session, which may have entered one of them. Each call but `choose` is one event of
 /// one mailbox, as that call finds it: others may change the mailbox between two calls.
 ///
 /// Each may be refused with any `MailFault`, but for those that its clauses rule out; `out` is then as it was.
 pub trait Store {
-    // What a call may do: the store before it, the call, its answer and the store after it. A copy of the view leaves the store as it is.
+    // What a call may do: the store before it, the call, its answer and the store after it. A look at the view leaves the store as it is.
     ghost step: { Self → Call → Answer → Self → Type 0 };
 
     /// Enters the mailbox of this number, at the end of its log.
     fn enter(&mut self, mailbox: u8) -> Result<Opening, MailFault>
         ensures { step self.old (Enter mailbox) (answer Entered result) self.new };
 
-    /// Copies the view, the UIDs that the session was shown. It is no event.
-    fn view(&self, alloc: Global) -> Result<Vec<u32>, MailFault>
-        ensures event { step self.now Look (answer (λ v. Looked v.items) result) self.now }
+    /// Looks at the view, the UIDs that the session was shown, and answers which of its messages a set names
+    /// (RFC 9051, 9: sequence-set), in the view's order, with their places. None where the set says a place that
+    /// isn't there. It is no event.
+    fn choose(
+        &self,
+        alloc: Global,
+        set: &SeqSet<'_>,
+        by_uid: bool,
+    ) -> Result<Option<Vec<Named>>, MailFault>
+        ensures event { Chooses (λ a. step self.now Look a self.now) by_uid set.now result }
         ensures faults { IfErr result (λ f. (f ≡ MailFault.Stranger) ⊎ (f ≡ MailFault.NoMemory)) };
 
     /// Reads the message of a UID; where `mark_seen`, it has \Seen from now on. None where it isn't there.

@@ -49,6 +49,23 @@ with_lookup uid (e ∷ es) = elim (eqb_tells e.0 uid) [
       ∙ with_lookup uid es ∙ sym (ap (λ (b : Bool). if b then Some (message_of e) else message_with uid (messages_of es)) t.0)
 ]
 
+flags_through : (uid : ℕ) (x : Option Letter) → option_map (λ (l : Letter). l.flags) x ≡ option_map (λ (m : Message). m.flags) (option_map (λ (l : Letter). message_of (uid, l)) x)
+flags_through uid None = refl
+flags_through uid (Some l) = refl
+
+-- the flags of what is found
+pub flags_found : (uid : ℕ) (es : List (ℕ × Letter)) → option_map (λ (l : Letter). l.flags) (lookup (is_at (nat_cmp uid)) es) ≡ option_map (λ (m : Message). m.flags) (message_with uid (messages_of es))
+flags_found uid es = flags_through uid (lookup (is_at (nat_cmp uid)) es) ∙ ap (option_map (λ (m : Message). m.flags)) (with_lookup uid es)
+
+-- a message that has flags is there, and one that has none isn't
+pub flags_of_one : (x : Option Message) (flags : Flags) → Some flags ≡ option_map (λ (m : Message). m.flags) x → (m : Message) × (x ≡ Some m) × (m.flags ≡ flags)
+flags_of_one None flags e = cc
+flags_of_one (Some m) flags e = (m, refl, cc)
+
+pub flags_of_none : (x : Option Message) → None ≡ option_map (λ (m : Message). m.flags) x → x ≡ None
+flags_of_none None e = refl
+flags_of_none (Some m) e = cc
+
 -- none is found
 pub none_found : (uid : ℕ) (es : List (ℕ × Letter)) → None ≡ lookup (is_at (nat_cmp uid)) es → message_with uid (messages_of es) ≡ None
 none_found uid es none = sym (with_lookup uid es) ∙ ap (option_map (λ (l : Letter). message_of (uid, l))) (sym none)

@@ -1,6 +1,7 @@
 -- What changes do to the logs for which a mailbox stands.
 use Rattle.std.proofs.Common.{◌≡◌, ℕ, zero, suc, ◌+◌, ◌-◌, ◌<◌, ◌≤◌, List, [], ◌∷◌, ◌++◌, length, map, take, drop, get_or, Option, Some, None, append-nil, refl, sym, ap, ap₂, ◌∙◌, inl, inr, subst, arith, length-append, All}
 use Rattle.std.specs.List.{range_with_len, AllByRecursion}
+use Rattle.std.specs.Prelude.{option_map}
 use Rattle.std.specs.List.Sorted.{IsStrictlyIncreasing}
 use Rattle.std.proofs.lemmas.List.{take_all, take-append-le, map-append}
 use Rattle.std.proofs.lemmas.Bool.{cases_eq}
@@ -13,10 +14,11 @@ use Rattle.change_ring.specs.Window.{changes_from, total}
 use Rattle.change_ring.proofs.LogLaws.{FitsView-append, rows_after-append, added-append, replay-append, uids-rows_after}
 use Rattle.change_ring.proofs.RangeLaws.{range-push}
 use Rattle.change_ring.proofs.WindowLaws.{changes_from-log}
-use Rattle.cursor_set.specs.Cursors.{Cursors, Open, Updates, after_showing, in_slot, next_changes}
+use Rattle.cursor_set.specs.Cursors.{Cursors, Open, Seat, Updates, after_showing, held, in_slot, next_changes}
 use Rattle.cursor_set.specs.Legal.{IsLegalOn}
 use Rattle.cursor_set.specs.Lines.{lines}
 use Rattle.cursor_set.proofs.LegalLaws.{legal_log, legal_rises}
+use Rattle.cursor_set.proofs.OpenedLemmas.{held_in_slot}
 use Rattle.cursor_set.proofs.Places.{Rises, Rises-from, Rises-to}
 use Rattle.delivery_token.specs.declared.CopyKey.{CopyKey}
 use Rattle.mailbox.specs.Events.{GoesOn, Logs}
@@ -54,6 +56,20 @@ view-end m log is = view-all m log is ∙ ap (replay []) (sym (take_all (total m
 pub Stands-rising : (m : Mail) (log : List Change) → Stands m log → IsStrictlyIncreasing (uids_of m.messages)
 Stands-rising m log is =
     subst IsStrictlyIncreasing (sym (view-end m log is)) (legal_rises (view_at log (total m.window)) (drop (total m.window) log) (legal_log log (total m.window) (Stands-legal m log is)))
+
+same_view : {us vs : List ℕ} → Some us ≡ Some vs → us ≡ vs
+same_view e = cc
+
+viewed : (x : Option Open) (view : List ℕ) → option_map (λ (o : Open). o.view) x ≡ Some view → (o : Open) × (x ≡ Some o) × (o.view ≡ view)
+viewed None view e = cc
+viewed (Some o) view e = (o, refl, same_view e)
+
+-- and so do the UIDs that a client was shown
+pub Stands-shown_rises : (m : Mail) (log : List Change) → Stands m log → (seat : Seat) (view : List ℕ) → option_map (λ (o : Open). o.view) (held m.cursors seat) ≡ Some view → IsStrictlyIncreasing view
+Stands-shown_rises m log is seat view e =
+    let h = viewed (held m.cursors seat) view e in
+    let shown : IsShown log h.0 = is.cursors seat.slot h.0 (held_in_slot m.cursors seat h.0 h.1) in
+    subst IsStrictlyIncreasing (sym shown.view ∙ h.2) (legal_rises (view_at log h.0.at) (drop h.0.at log) (legal_log log h.0.at (Stands-legal m log is)))
 
 -- ---- changes are logged
 

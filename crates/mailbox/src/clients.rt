@@ -105,11 +105,12 @@ impl Mailbox {
         Ok((seat, opening))
     }
 
-    /// The UIDs that a client counts, in their order: what it was shown of the log. Stranger where
-    /// the seat has no cursor here. It takes no memory.
+    /// The UIDs that a client counts, in their order, which rise: what it was shown of the log.
+    /// Stranger where the seat has no cursor here. It takes no memory.
     pub fn view(&self, seat: &CursorSeat) -> Result<&[u32], Stranger>
         ensures stranger { IsErr result ↔ IsStranger self.now seat.now }
         ensures shown { IfOk result (λ view. option_map (λ o. o.view) (held self.now.cursors seat.now) ≡ Some view.now) }
+        ensures rising { IfOk result (λ view. IsStrictlyIncreasing view.now) }
     {
         self.cursors.view(seat)
     }

@@ -154,16 +154,18 @@ impl Letters {
         Ok(())
     }
 
-    // Sets the flags of the message of a UID, where there is one.
-    pub(crate) fn set_flags(&mut self, uid: u32, flags: Flags)
-        ensures { self.new ≡ reflagged uid flags self.old }
+    // Sets the flags of the message of a UID. None where there is none; else the flags that it had.
+    pub(crate) fn set_flags(&mut self, uid: u32, flags: Flags) -> Option<Flags>
+        ensures was { result ≡ option_map (λ m. m.flags) (message_with uid self.old) }
+        ensures messages { self.new ≡ reflagged uid flags self.old }
     {
         // Read for its bound: fewer than 2^63 are there.
         let _len = self.by_uid.len();
         let Some(old) = replace_flags(&mut self.by_uid, uid, flags) else {
-            return;
+            return None;
         };
         self.unseen = self.unseen + usize::from(!flags.seen) - usize::from(!old.seen);
+        Some(old)
     }
 
     // Takes out the message of a UID, where there is one.

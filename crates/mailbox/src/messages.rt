@@ -170,12 +170,10 @@ impl Messages {
     {
         // Read for its bound: the UIDs rise.
         let _len = self.letters.len();
-        let Some(letter) = self.letters.get(uid) else {
+        let Some(old) = self.letters.set_flags(uid, flags) else {
             return;
         };
-        let before = letter.flags.deleted;
-        self.letters.set_flags(uid, flags);
-        remark(&mut self.marked, uid, before, flags.deleted);
+        remark(&mut self.marked, uid, old.deleted, flags.deleted);
     }
 
     // Takes out those with \Deleted that the choice has.

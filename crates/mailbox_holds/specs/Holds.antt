@@ -1,6 +1,6 @@
 -- What a call does to the mailbox that it finds, as under a lock, and to a client's seat: what a client does is one event of the mailbox, and so is
 -- the delivery of a copy.
-use Rattle.std.specs.Prelude.{◌≡◌, ℕ, ◌+◌, ◌-◌, ◌^◌, ◌<◌, ◌≤◌, Vec, Bool, true, false, List, [], ◌∷◌, ◌++◌, length, drop, min, Option, Some, None, IsSome, Result, Ok, Err, option_map, if◌then◌else◌}
+use Rattle.std.specs.Prelude.{◌≡◌, ℕ, ◌+◌, ◌-◌, ◌^◌, ◌<◌, ◌≤◌, Bool, true, false, List, [], ◌∷◌, ◌++◌, length, drop, min, Option, Some, None, IsSome, Result, Ok, Err, option_map, if◌then◌else◌}
 use Rattle.change_ring.specs.declared.change.Change.{Change}
 use Rattle.change_ring.specs.declared.change.Flags.{Flags}
 use Rattle.change_ring.specs.declared.flag_op.FlagOp.{FlagOp}
@@ -12,7 +12,6 @@ use Rattle.cursor_set.specs.Cursors.{Seat, Updates, held, in_slot, next_changes}
 use Rattle.cursor_set.specs.Lines.{lines}
 use Rattle.cursor_set.specs.declared.set.FeedFault.{FeedFault}
 use Rattle.cursor_set.specs.declared.set.FeedFault.TheVariants as lapse
-use Rattle.std.specs.Global.{Global}
 use Rattle.delivery_token.specs.declared.CopyKey.{CopyKey}
 use Rattle.delivery_token.specs.declared.Job.{Job}
 use Rattle.delivery_token.specs.declared.Refusal.{Refusal}
@@ -246,9 +245,9 @@ abbrev pub DoesDeliver : Mail → Job → Result Receipt Refusal → Mail → Ty
 DoesDeliver found job (Ok receipt) left = Delivers found job receipt left
 DoesDeliver found job (Err refusal) left = IsKept found × (left ≡ found) × DeliversNot refusal found
 
--- A copy of the view was made, or was refused though there is one, or the seat is a stranger. It is no event.
-abbrev pub DoesLook : Mail → Seat → Result (Vec ℕ Global) MailFault → Type 0
-DoesLook found seat (Ok copied) = IsKept found × IsSeated found seat copied.items
+-- The view was looked at, or memory was refused though there is one, or the seat is a stranger. It is no event.
+abbrev pub DoesLook : Mail → Seat → Result (List ℕ) MailFault → Type 0
+DoesLook found seat (Ok view) = IsKept found × IsSeated found seat view
 DoesLook found seat (Err Stranger) = IsKept found × IsStranger found seat
 DoesLook found seat (Err Lapped) = ⊥
 DoesLook found seat (Err Spent) = ⊥

@@ -1,16 +1,16 @@
 //! The calls, on a mailbox that is held: each makes one call of the mailbox, and asks before and
 //! behind it for what every mailbox keeps.
 
-ghost use Rattle.std.specs.Prelude.{◌≡◌, ◌≢◌, ◌≤◌, IfErr, IfOk};
+ghost use Rattle.std.specs.Prelude.{◌≡◌, ◌≢◌, ◌≤◌, Ok, Err, IfErr, IfOk, OnErr};
+ghost use Rattle.std.specs.List.Sorted.{IsStrictlyIncreasing};
 ghost use Rattle.std.specs.Option.{option_copied};
 ghost use Rattle.std.specs.Vec.{vec_capacity};
 ghost use Rattle.mailbox_holds.specs.Holds.{Counts, DoesAlter, DoesDeliver, DoesEnter, DoesExpunge, DoesFeed, DoesLeave, DoesLook, DoesRead, answer_of};
 
 use change_ring::{FlagOp, Flags};
-use cursor_set::{CursorSeat, FeedFault, NoMemory};
+use cursor_set::{CursorSeat, FeedFault, NoMemory, Stranger};
 use delivery_token::{Job, Refusal};
 use mailbox::{MailFault, Mailbox, Opening, Receipt, Row, Status, every_mailbox_keeps};
-use std::alloc::Global;
 
 /// Delivers a copy: one change, which adds its message under the next UID (RFC 9051, 2.3.1.1). This
 /// copy alone is added to those that were accepted, and no client's cursor changes: clients are
@@ -49,20 +49,16 @@ pub fn enter(mailbox: &mut Mailbox) -> Result<(CursorSeat, Opening), MailFault>
     }
 }
 
-/// A copy of the UIDs that a client counts, in their order; it is no event.
+/// The UIDs that a client counts, in their order, which rise; it is no event, and takes no memory.
 ///
-/// Stranger where the seat has no cursor here, else NoMemory where memory is refused.
-pub fn view(alloc: Global, mailbox: &Mailbox, seat: &CursorSeat) -> Result<Vec<u32>, MailFault>
-    ensures { DoesLook mailbox.now seat.now result }
+/// Stranger where the seat has no cursor here.
+pub fn view<'a>(mailbox: &'a Mailbox, seat: &CursorSeat) -> Result<&'a [u32], Stranger>
+    ensures looks { IfOk result (λ view. DoesLook mailbox.now seat.now (Ok view.now)) }
+    ensures rising { IfOk result (λ view. IsStrictlyIncreasing view.now) }
+    ensures stranger { OnErr result (DoesLook mailbox.now seat.now (Err MailFault.Stranger)) }
 {
     every_mailbox_keeps(mailbox);
-    let Ok(view) = mailbox.view(seat) else {
-        return Err(MailFault::Stranger);
-    };
-    let Ok(copied) = Vec::from_slice(alloc, view) else {
-        return Err(MailFault::NoMemory);
-    };
-    Ok(copied)
+    mailbox.view(seat)
 }
 
 /// What STATUS tells of the mailbox (RFC 9051, 6.3.11); it is no event, and takes no memory.

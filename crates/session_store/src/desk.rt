@@ -4,6 +4,7 @@ ghost use Rattle.session_store.specs.Desk.{Serves};
 
 use change_ring::{FlagOp, Flags};
 use delivery_core::DeliveryCore;
+use imap_grammar::{Named, SeqSet, SetFault};
 use imap_session::Store;
 use mailbox::{MailFault, Opening, Row, Status};
 use std::alloc::Global;
@@ -26,14 +27,20 @@ impl Store for Desk {
         self.core.enter(self.session, mailbox)
     }
 
-    fn view(&self, alloc: Global) -> Result<Vec<u32>, MailFault> {
+    fn choose(
+        &self,
+        alloc: Global,
+        set: &SeqSet<'_>,
+        by_uid: bool,
+    ) -> Result<Option<Vec<Named>>, MailFault> {
         let view = match self.core.view(self.session) {
             Err(fault) => return Err(fault),
             Ok(view) => view,
         };
-        match Vec::from_slice(alloc, view) {
-            Err(_) => Err(MailFault::NoMemory),
-            Ok(copied) => Ok(copied),
+        match set.resolve(alloc, view, by_uid) {
+            Err(SetFault::TooHigh) => Ok(None),
+            Err(SetFault::NoMemory) => Err(MailFault::NoMemory),
+            Ok(messages) => Ok(Some(messages)),
         }
     }
 

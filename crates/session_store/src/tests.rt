@@ -4,6 +4,7 @@ use crate::desk::Desk;
 use change_ring::{FlagOp, Flags};
 use delivery_core::{DeliveryCore, Settings};
 use delivery_token::{CopyKey, Text};
+use imap_grammar::{Command, Named, SeqSet, read_line};
 use imap_session::Store;
 use mailbox::{Limits, MailFault, Opening, Row, Status};
 use std::alloc::{AllocError, Global};
@@ -66,7 +67,8 @@ fn deliver(core: &mut DeliveryCore, alloc: Global, mailbox: u8) -> Result<(), Al
 #[derive(Drop)]
 struct Found {
     shown: usize,
-    view: Vec<u32>,
+    // Those that it was shown.
+    messages: Vec<Named>,
     row: Row,
     flags: Flags,
     gone: usize,
@@ -76,6 +78,17 @@ fn enter<S: Store>(store: &mut S, mailbox: u8) -> Result<Opening, MailFault> {
     store.enter(mailbox)
 }
 
+// The set of a UID FETCH.
+fn set_of(line: &[u8]) -> Option<SeqSet<'_>> {
+    let Ok((_tag, command)) = read_line(line) else {
+        return None;
+    };
+    match command {
+        Command::Fetch(fetch) => Some(fetch.set),
+        _ => None,
+    }
+}
+
 // A session is shown what is new, and reads, marks and removes the first message.
 fn remove_first<S: Store>(
     store: &mut S,
@@ -83,7 +96,12 @@ fn remove_first<S: Store>(
     out: &mut Vec<u8>,
 ) -> Result<Found, MailFault> {
     let shown = store.feed(64, out)?;
-    let view = store.view(alloc)?;
+    let Some(set) = set_of(b"a UID FETCH 1:* UID") else {
+        return Err(MailFault::Stranger);
+    };
+    let Some(messages) = store.choose(alloc, &set, true)? else {
+        return Err(MailFault::Stranger);
+    };
     let Some(row) = store.read(1, true)? else {
         return Err(MailFault::Stranger);
     };
@@ -93,7 +111,7 @@ fn remove_first<S: Store>(
     let gone = store.expunge(Some(&[1]), out)?;
     Ok(Found {
         shown,
-        view,
+        messages,
         row,
         flags,
         gone,
@@ -133,7 +151,7 @@ fn two_sessions_are_in_one_mailbox(rt: HostRuntime) -> Result<(), AllocError> {
         return Err(AllocError);
     };
     assert_eq!(rt; (found.shown, found.flags, found.gone), (1, DELETED, 1));
-    assert!(rt; found.view.as_slice() == [1].as_slice());
+    assert!(rt; found.messages.as_slice() == [Named { place: 1, uid: 1 }].as_slice());
     assert_eq!(rt;
         (found.row.uid, found.row.flags, found.row.newly_seen),
         (1, SEEN, true)

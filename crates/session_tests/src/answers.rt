@@ -32,7 +32,8 @@ fn answered(alloc: Global, line: &[u8]) -> Result<Vec<u8>, AllocError> {
     };
     let row = small_row(alloc)?;
     let mut out = Vec::from_slice(alloc, b"before\r\n")?;
-    write_row(2, fetch.by_uid, &fetch.items, &row, &mut out)?;
+    let items = fetch.items.list(alloc)?;
+    write_row(2, fetch.by_uid, &items, &row, &mut out)?;
     Ok(out)
 }
 

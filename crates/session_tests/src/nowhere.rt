@@ -4,6 +4,7 @@ ghost use Rattle.std.specs.Prelude.{[]};
 ghost use Rattle.imap_session.specs.Store.{ViewAfter};
 
 use change_ring::{FlagOp, Flags};
+use imap_grammar::{Named, SeqSet};
 use imap_session::Store;
 use mailbox::{MailFault, Opening, Row, Status};
 use std::alloc::Global;
@@ -19,7 +20,12 @@ impl Store for Nowhere {
         Err(MailFault::Stranger)
     }
 
-    fn view(&self, _alloc: Global) -> Result<Vec<u32>, MailFault> {
+    fn choose(
+        &self,
+        _alloc: Global,
+        _set: &SeqSet<'_>,
+        _by_uid: bool,
+    ) -> Result<Option<Vec<Named>>, MailFault> {
         Err(MailFault::Stranger)
     }
 

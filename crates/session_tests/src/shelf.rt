@@ -3,6 +3,7 @@
 
 ghost use Rattle.std.specs.Prelude.{◌≡◌, ◌+◌, ◌<◌, ◌≤◌, ◌++◌, codes, decimal, length, OnOk, OnErr, IfErr, IfSome, if◌then◌else◌, vec_len, true};
 ghost use Rattle.std.specs.Io.{StartsWith};
+ghost use Rattle.std.specs.List.Sorted.{IsNonDecreasing};
 ghost use Rattle.std.specs.Vec.{vec_capacity};
 ghost use Rattle.change_ring.specs.Log.{shown};
 ghost use Rattle.cursor_set.specs.Lines.{fetch_line, line, place, spaced, flag_words};
@@ -11,6 +12,7 @@ ghost use Rattle.imap_session.specs.Store.{Feeds, ViewAfter};
 use change_ring::{Change, FlagOp, Flags};
 use cursor_set::{FLAGS_ROOM, put_flags};
 use delivery_token::Text;
+use imap_grammar::{Named, SeqSet, SetFault};
 use imap_session::Store;
 use itoa::Buffer;
 use mailbox::{MailFault, Opening, Row, Status};
@@ -48,6 +50,13 @@ fn place_among(letters: &[Letter], uid: u32) -> Option<usize>
 // The text that has these bytes.
 fn text_of(alloc: Global, bytes: &[u8]) -> Result<Text, AllocError> {
     Text::new(Vec::from_slice(alloc, bytes)?)
+}
+
+/// Whether no UID of a view is below the one before it.
+pub fn is_rising(view: &[u32]) -> bool
+    ensures { result ≡ true → IsNonDecreasing view.now }
+{
+    view.is_sorted()
 }
 
 // The place of a message, counted from 1; one past the last where it isn't there.
@@ -279,10 +288,20 @@ impl Store for Shelf {
         })
     }
 
-    fn view(&self, alloc: Global) -> Result<Vec<u32>, MailFault> {
-        match Vec::from_slice(alloc, &self.view) {
-            Err(_) => Err(MailFault::NoMemory),
-            Ok(view) => Ok(view),
+    fn choose(
+        &self,
+        alloc: Global,
+        set: &SeqSet<'_>,
+        by_uid: bool,
+    ) -> Result<Option<Vec<Named>>, MailFault> {
+        let view = self.view.as_slice();
+        if !is_rising(view) {
+            return Err(MailFault::Stranger);
+        }
+        match set.resolve(alloc, view, by_uid) {
+            Err(SetFault::TooHigh) => Ok(None),
+            Err(SetFault::NoMemory) => Err(MailFault::NoMemory),
+            Ok(messages) => Ok(Some(messages)),
         }
     }
 

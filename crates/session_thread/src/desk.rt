@@ -7,6 +7,7 @@ ghost use Rattle.session_thread.specs.Locks.{Holds, shown_in};
 use crate::locked;
 use change_ring::{FlagOp, Flags};
 use cursor_set::CursorSeat;
+use imap_grammar::{Named, SeqSet};
 use imap_session::Store;
 use mailbox::{MailFault, Mailbox, Opening, Row, Status};
 use pace::{Actor, Gate, Pace};
@@ -49,11 +50,11 @@ struct Entry {
 }
 
 /// The mailboxes of the house as one session gets at them: each call takes the lock of one mailbox,
-/// makes one event of it, or copies the view, and lets go. Between two calls nothing is known of a
+/// makes one event of it, or looks at the view, and lets go. Between two calls nothing is known of a
 /// mailbox, but the session's seat.
 ///
 /// The session asks its gate to pass before each hold that is an event, also one that is refused under
-/// the lock; a copy of the view is none, and a call that takes no lock doesn't ask. Behind a hold that
+/// the lock; a look at the view is none, and a call that takes no lock doesn't ask. Behind a hold that
 /// logged a change the bells of the user's sessions are rung.
 #[derive(Drop)]
 pub struct LockedDesk<'a, R: Wait, G: Gate> {
@@ -133,12 +134,17 @@ impl<'a, R: Wait, G: Gate> Store for LockedDesk<'a, R, G> {
         Ok(opening)
     }
 
-    fn view(&self, alloc: Global) -> Result<Vec<u32>, MailFault> {
+    fn choose(
+        &self,
+        alloc: Global,
+        set: &SeqSet<'_>,
+        by_uid: bool,
+    ) -> Result<Option<Vec<Named>>, MailFault> {
         let Some(here) = &self.entered else {
             return Err(MailFault::Stranger);
         };
         let lock = &self.mailboxes[usize::from(here.mailbox)];
-        locked::view(self.rt, alloc, lock, &here.seat)
+        locked::choose(self.rt, alloc, lock, &here.seat, set, by_uid)
     }
 
     fn read(&mut self, uid: u32, mark_seen: bool) -> Result<Option<Row>, MailFault> {

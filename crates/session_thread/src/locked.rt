@@ -1,7 +1,8 @@
 //! One hold of a mailbox's lock for each call: the lock is taken, one thing is done to the mailbox that
 //! is found, and the lock is let go. Which lock, and for whose seat, is told above.
 
-ghost use Rattle.std.specs.Prelude.{◌≡◌, ◌≢◌, ◌≤◌, ◌⊎◌, IfErr, IfOk};
+ghost use Rattle.std.specs.Prelude.{◌≡◌, ◌≢◌, ◌≤◌, ◌⊎◌, ℕ, List, Ok, Err, IfErr, IfOk, option_map};
+ghost use Rattle.imap_grammar.specs.Sets.{messages_in};
 ghost use Rattle.std.specs.Option.{option_copied};
 ghost use Rattle.std.specs.Vec.{vec_capacity};
 ghost use Rattle.mailbox.specs.Mail.{Mail};
@@ -10,6 +11,7 @@ ghost use Rattle.session_thread.specs.Locks.{UnderLock};
 
 use change_ring::{FlagOp, Flags};
 use cursor_set::CursorSeat;
+use imap_grammar::{Named, SeqSet, SetFault};
 use mailbox::{MailFault, Mailbox, Opening, Row, Status};
 use mailbox_holds as holds;
 use std::alloc::Global;
@@ -25,17 +27,28 @@ pub(crate) fn enter<R: Wait>(
     holds::enter(&mut held)
 }
 
-pub(crate) fn view<R: Wait>(
+pub(crate) fn choose<R: Wait>(
     rt: &R,
     alloc: Global,
     lock: &Mutex<Mailbox>,
     seat: &CursorSeat,
-) -> Result<Vec<u32>, MailFault>
-    ensures looks { (found : Mail) × DoesLook found seat.now result }
+    set: &SeqSet<'_>,
+    by_uid: bool,
+) -> Result<Option<Vec<Named>>, MailFault>
+    ensures chosen { IfOk result (λ chosen. (view : List ℕ) × (found : Mail) × DoesLook found seat.now (Ok view)
+        × (option_map (λ named. named.items) chosen ≡ messages_in by_uid set.now view)) }
+    ensures not { IfErr result (λ fault. (found : Mail) × DoesLook found seat.now (Err fault)) }
     ensures faults { IfErr result (λ f. (f ≡ MailFault.Stranger) ⊎ (f ≡ MailFault.NoMemory)) }
 {
     let held = lock.lock(rt);
-    holds::view(alloc, &held, seat)
+    let Ok(view) = holds::view(&held, seat) else {
+        return Err(MailFault::Stranger);
+    };
+    match set.resolve(alloc, view, by_uid) {
+        Err(SetFault::TooHigh) => Ok(None),
+        Err(SetFault::NoMemory) => Err(MailFault::NoMemory),
+        Ok(messages) => Ok(Some(messages)),
+    }
 }
 
 pub(crate) fn read<R: Wait>(

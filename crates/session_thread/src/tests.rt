@@ -5,6 +5,7 @@ use crate::desk::LockedDesk;
 use crate::life::{Step, live};
 use change_ring::{FlagOp, Flags};
 use delivery_token::{CopyKey, Job, Text};
+use imap_grammar::{Command, read_line};
 use imap_session::{Folder, Store};
 use mailbox::{History, Limits, MailFault, Mailbox};
 use pace::{Actor, Gate};
@@ -313,6 +314,17 @@ fn with_a_message<R: Wait>(rt: &R, alloc: Global) -> Result<Vec<Mutex<Mailbox>>,
     }
 }
 
+// Whether a session can look at its view.
+fn has_chosen<R: Wait>(desk: &LockedDesk<'_, R, Tally>, alloc: Global) -> Option<bool> {
+    let Ok((_tag, command)) = read_line(b"a UID FETCH 1:* UID") else {
+        return None;
+    };
+    match command {
+        Command::Fetch(fetch) => Some(desk.choose(alloc, &fetch.set, true).is_ok()),
+        _ => None,
+    }
+}
+
 // Each call of a session that is in no mailbox, or of one that isn't there: all are refused.
 fn calls_outside<R: Wait>(
     desk: &mut LockedDesk<'_, R, Tally>,
@@ -320,7 +332,7 @@ fn calls_outside<R: Wait>(
     out: &mut Vec<u8>,
 ) -> bool {
     desk.enter(2).is_err()
-        && desk.view(alloc).is_err()
+        && has_chosen(desk, alloc) == Some(false)
         && desk.read(1, false).is_err()
         && desk.status(2).is_err()
         && desk.store(1, FlagOp::Insert(FLAGGED)).is_err()
@@ -329,14 +341,14 @@ fn calls_outside<R: Wait>(
         && desk.leave(true).is_err()
 }
 
-// Each call of a session that enters a mailbox and leaves it: a view, and seven events.
+// Each call of a session that enters a mailbox and leaves it: a look, and seven events.
 fn calls_inside<R: Wait>(
     desk: &mut LockedDesk<'_, R, Tally>,
     alloc: Global,
     out: &mut Vec<u8>,
 ) -> bool {
     desk.enter(0).is_ok()
-        && desk.view(alloc).is_ok()
+        && has_chosen(desk, alloc) == Some(true)
         && desk.read(1, false).is_ok()
         && desk.status(0).is_ok()
         && desk.store(1, FlagOp::Insert(FLAGGED)).is_ok()

@@ -1,14 +1,15 @@
-use Rattle.std.proofs.Common.{ℕ, ◌+◌, ◌≤◌, Bool, false, List, drop, vec_len}
+use Rattle.std.proofs.Common.{◌≡◌, ℕ, ◌+◌, ◌≤◌, Bool, false, List, drop, map, vec_len}
 use Rattle.std.specs.Vec.{vec_capacity}
+use Rattle.imap_grammar.specs.Sets.{named_at}
 use Rattle.imap_session.specs.Exchange.{Exchange, Standing}
 use Rattle.imap_session.specs.Commands.{storing}
 use Rattle.imap_session.specs.Store.{Reaches}
 use Rattle.imap_session.proofs.set_flags.store_all.Given as goal
 
-abbrev pub invariant-loop-uid : goal.invariant-loop-uid
-invariant-loop-uid g l = record {
+abbrev pub invariant-loop-message : goal.invariant-loop-message
+invariant-loop-message g l = record {
   room : vec_len l.out + l.keep ≤ vec_capacity l.out;
-  reaches : (done : Bool → Exchange) (tag : List ℕ) (now : Standing) → Reaches g.S.Store.step tag now now
-      (storing l.command l.view done l.uids false) (storing l.command l.view done (drop l.uid-index l.uids) l.gone)
+  reaches : (view uids : List ℕ) → l.messages ≡ map (named_at view) uids → (done : Bool → Exchange) (tag : List ℕ) (now : Standing) → Reaches g.S.Store.step tag now now
+      (storing l.command view done uids false) (storing l.command view done (drop l.message-index uids) l.gone)
       l.fn.store l.store l.fn.out.items l.out.items;
 }

@@ -1,49 +1,47 @@
-use Rattle.std.proofs.Common.{◌≡◌, ℕ, Bool, false, List, ap, Err, None, Some}
-use Rattle.imap_grammar.specs.Sets.{named_in}
+use Rattle.std.proofs.Common.{◌≡◌, ℕ, Bool, false, List, map}
+use Rattle.imap_grammar.specs.Sets.{named_at, named_in}
 use Rattle.imap_grammar.specs.declared.command.Command.TheVariants as commands
-use Rattle.imap_session.specs.Exchange.{Exchange, Look, Looked}
+use Rattle.imap_session.specs.Exchange.{Exchange}
 use Rattle.imap_session.specs.Commands.{storing, messages_done}
 use Rattle.imap_session.specs.Store.{last}
-use Rattle.imap_session.proofs.Runs.{stops_look, starves_look, stops_then, reaches_then}
+use Rattle.imap_session.proofs.Runs.{stops_look, stops_then, reaches_then}
 use Rattle.imap_session.proofs.Saying.{does_then}
-use Rattle.imap_session.proofs.Choosing.{reaches_chosen, reaches_too_high}
+use Rattle.imap_session.proofs.Choosing.{chosen_none, chosen_some, reaches_chosen, reaches_too_high}
 use Rattle.imap_session.proofs.set_flags.store_messages.Goals as goal
 
 pub returns-in-Err-clause-done : goal.returns-in-Err-clause-done
 returns-in-Err-clause-done g c tag now = stops_look g.S.Store.step tag now _ c.in-Err.fault _ _ c.in-Err.ensures.event
 
-pub returns-in-Err-NoMemory-clause-done : goal.returns-in-Err-NoMemory-clause-done
-returns-in-Err-NoMemory-clause-done g c tag now = starves_look g.S.Store.step tag now _ _ _
-
-pub returns-in-Err-TooHigh-clause-done : goal.returns-in-Err-TooHigh-clause-done
-returns-in-Err-TooHigh-clause-done g c tag now =
-    let looked : g.S.Store.step c.args.store.now Look (Looked c.new-view.result) c.args.store.now = rw c.new-view.ensures c.in-Ok.ensures.event in
-    let none : named_in c.args.command.now.by_uid c.args.command.now.set c.new-view.result ≡ None =
-    (c.in-Err-TooHigh.ensures.too_high.0 (ap (λ f. Err f) c.in-Err-TooHigh.field-0-is)) in
+pub returns-in-Ok-None-clause-done : goal.returns-in-Ok-None-clause-done
+returns-in-Ok-None-clause-done g c tag now =
+    let looks = rw c.in-Ok-None.field-0-is at c.in-Ok-None.ensures.event in
+    let view : List ℕ = looks.0 in
     reaches_too_high g.S.Store.step c.args.command.now.by_uid c.args.command.now.set
     (λ v uids. storing c.args.command.now v (messages_done (commands.Store c.args.command.now) c.args.command.now.by_uid) uids false)
-    c.new-view.result _ _ looked none tag now
+    view _ _ looks.1 (chosen_none view (named_in c.args.command.now.by_uid c.args.command.now.set view) looks.2) tag now
 
 pub returns-in-Err-store_all-clause-done : goal.returns-in-Err-store_all-clause-done
 returns-in-Err-store_all-clause-done g c tag now =
+    let looks = rw c.in-Ok-Some.field-0-is at c.in-Ok-Some.ensures.event in
+    let view : List ℕ = looks.0 in
+    let found = chosen_some view (named_in c.args.command.now.by_uid c.args.command.now.set view) c.in-Ok-Some.messages.items looks.2 in
     let done : Bool → Exchange = messages_done (commands.Store c.args.command.now) c.args.command.now.by_uid in
     let next : List ℕ → List ℕ → Exchange = λ v uids. storing c.args.command.now v done uids false in
-    let looked : g.S.Store.step c.args.store.now Look (Looked c.new-view.result) c.args.store.now = rw c.new-view.ensures c.in-Ok.ensures.event in
-    let found : named_in c.args.command.now.by_uid c.args.command.now.set c.new-view.result ≡ Some c.as_slice.result.now =
-    rw c.as_slice.ensures.value c.in-Ok-resolve.ensures.found in
+    let are : c.as_slice.result.now ≡ map (named_at view) found.0 = rw c.as_slice.ensures.value found.2 in
     stops_then g.S.Store.step tag now now now _ _ c.in-Err-store_all.fault _ _ _ _ _ _
-    (reaches_chosen g.S.Store.step c.args.command.now.by_uid c.args.command.now.set next c.new-view.result c.as_slice.result.now _ _ looked found tag now)
-    (c.in-Err-store_all.ensures.done done tag now)
+    (reaches_chosen g.S.Store.step c.args.command.now.by_uid c.args.command.now.set next view found.0 _ _ looks.1 found.1 tag now)
+    (c.in-Err-store_all.ensures.done view found.0 are done tag now)
 
 pub returns-clause-done : goal.returns-clause-done
 returns-clause-done g c =
+    let looks = rw c.in-Ok-Some.field-0-is at c.in-Ok-Some.ensures.event in
+    let view : List ℕ = looks.0 in
+    let found = chosen_some view (named_in c.args.command.now.by_uid c.args.command.now.set view) c.in-Ok-Some.messages.items looks.2 in
     let done : Bool → Exchange = messages_done (commands.Store c.args.command.now) c.args.command.now.by_uid in
     let next : List ℕ → List ℕ → Exchange = λ v uids. storing c.args.command.now v done uids false in
-    let looked : g.S.Store.step c.args.store.now Look (Looked c.new-view.result) c.args.store.now = rw c.new-view.ensures c.in-Ok.ensures.event in
-    let found : named_in c.args.command.now.by_uid c.args.command.now.set c.new-view.result ≡ Some c.as_slice.result.now =
-    rw c.as_slice.ensures.value c.in-Ok-resolve.ensures.found in
-    does_then g.S.Store.step _ (done c.in-Ok-store_all.gone) last _ _ _ _ _ _ c.finish_store.result
+    let are : c.as_slice.result.now ≡ map (named_at view) found.0 = rw c.as_slice.ensures.value found.2 in
+    does_then g.S.Store.step _ (done c.in-Ok.gone) last _ _ _ _ _ _ c.finish_store.result
     (λ tag now. reaches_then g.S.Store.step tag now now now _ _ _ _ _ _ _ _ _
-    (reaches_chosen g.S.Store.step c.args.command.now.by_uid c.args.command.now.set next c.new-view.result c.as_slice.result.now _ _ looked found tag now)
-    (c.in-Ok-store_all.ensures.done done tag now))
+    (reaches_chosen g.S.Store.step c.args.command.now.by_uid c.args.command.now.set next view found.0 _ _ looks.1 found.1 tag now)
+    (c.in-Ok.ensures.done view found.0 are done tag now))
     c.finish_store.ensures.done

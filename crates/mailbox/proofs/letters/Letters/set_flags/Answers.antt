@@ -1,11 +1,22 @@
-use Rattle.std.proofs.Common.{◌+◌, ◌-◌, not, ap, ◌∙◌, arith}
+use Rattle.std.proofs.Common.{ℕ, ◌+◌, ◌-◌, not, ap, ◌∙◌, arith, List, Option}
+use Rattle.std.specs.Prelude.{option_map}
 use Rattle.std.specs.BTreeMap.{is_at}
 use Rattle.std.specs.Map.{lookup}
 use Rattle.std.specs.Ordering.{nat_cmp}
 use Rattle.change_ring.specs.declared.change.Flags.{Flags}
 use Rattle.mailbox.specs.Letters.{message_of, messages_of}
-use Rattle.mailbox.proofs.LetterLaws.{AreCounted-same, AreCounted-set, none_flagged, none_found, number_of, one_flagged, one_found, one_if, reflagged_none, unseen_there}
+use Rattle.mailbox.specs.Mail.{Message, message_with}
+use Rattle.mailbox.proofs.LetterLaws.{AreCounted-same, AreCounted-set, flags_found, none_flagged, none_found, number_of, one_flagged, one_found, one_if, reflagged_none, unseen_there}
 use Rattle.mailbox.proofs.letters.Letters.set_flags.Goals as goal
+
+abbrev told : ℕ → List Message → Option Flags
+told uid ms = option_map (λ (m : Message). m.flags) (message_with uid ms)
+
+pub returns-in_default-clause-was : goal.returns-in_default-clause-was
+returns-in_default-clause-was c = c.in_default.ensures.was ∙ flags_found c.args.uid c.self.inside.by_uid.entries ∙ ap (told c.args.uid) c.self.view_is
+
+pub returns-clause-was : goal.returns-clause-was
+returns-clause-was c = c.in-Some.ensures.was ∙ flags_found c.args.uid c.self.inside.by_uid.entries ∙ ap (told c.args.uid) c.self.view_is
 
 pub invariant_of-self : goal.invariant_of-self
 invariant_of-self c =

@@ -1,20 +1,18 @@
-use Rattle.std.proofs.Common.{ap, sym, subst, ◌∙◌, length, arith}
+use Rattle.std.proofs.Common.{◌≡◌, ap, sym, subst, ◌∙◌, length, arith, Bool, List}
 use Rattle.std.specs.List.Sorted.{IsStrictlyIncreasing}
+use Rattle.change_ring.specs.declared.change.Flags.{Flags}
 use Rattle.cursor_set.proofs.Places.{Rises-from, Rises-to}
-use Rattle.mailbox.specs.Letters.{message_of}
-use Rattle.mailbox.specs.Mail.{message_with, uids_of}
-use Rattle.mailbox.specs.Marks.{marked_of, remarked}
-use Rattle.mailbox.proofs.LetterLaws.{reflagged_none}
+use Rattle.mailbox.specs.Mail.{Message, message_with, uids_of}
+use Rattle.mailbox.specs.Marks.{AreMarked, marked_of, remarked}
+use Rattle.mailbox.proofs.LetterLaws.{flags_of_none, flags_of_one, reflagged_none}
 use Rattle.mailbox.proofs.MarkLaws.{length_reflagged, marked_less, marked_rises, marked_set}
 use Rattle.mailbox.proofs.messages.Messages.set_flags.Goals as goal
-
-pub returns-in_default : goal.returns-in_default
-returns-in_default c = sym (reflagged_none c.args.uid c.args.flags c.args.self.now (sym (c.in_default.ensures ∙ ap (message_with c.args.uid) c.self.view_is)))
 
 pub remark-requires-clause-room : goal.remark-requires-clause-room
 remark-requires-clause-room c = λ off.
     let ms = c.self.inside.letters in
-    let less = marked_less c.args.uid ms (message_of (c.args.uid, c.in-Some.letter.now)) (sym c.in-Some.ensures) off in
+    let f = flags_of_one (message_with c.args.uid ms) c.in-Some.old c.in-Some.ensures.was in
+    let less = marked_less c.args.uid ms f.0 f.1 (ap (λ (g : Flags). g.deleted) f.2 ∙ off) in
     omega (arith, less, ap length c.self.invariant.marked, c.self.invariant.room, c.self.inside.marked.ok.0)
 
 pub remark-requires-clause-rising : goal.remark-requires-clause-rising
@@ -25,9 +23,18 @@ remark-requires-clause-rising c =
 pub invariant_of-self : goal.invariant_of-self
 invariant_of-self c =
     let ms = c.self.inside.letters in
-    let x = message_of (c.args.uid, c.in-Some.letter.now) in
-    let set = marked_set c.args.uid c.args.flags ms x (Rises-from (uids_of ms) c.len-len.ensures.rising) (sym c.in-Some.ensures) in
+    let same : c.set_flags.new.self ≡ ms
+    = c.in_default.ensures.messages ∙ reflagged_none c.args.uid c.args.flags ms (flags_of_none (message_with c.args.uid ms) c.in_default.ensures.was) in
+    subst (λ (letters : List Message). AreMarked (record { letters = letters; marked = c.self.inside.marked })) (sym same) c.self.invariant
+
+pub invariant_of-self-2 : goal.invariant_of-self-2
+invariant_of-self-2 c =
+    let ms = c.self.inside.letters in
+    let f = flags_of_one (message_with c.args.uid ms) c.in-Some.old c.in-Some.ensures.was in
+    let set = marked_set c.args.uid c.args.flags ms f.0 (Rises-from (uids_of ms) c.len-len.ensures.rising) f.1 in
     record {
-      marked = c.remark.ensures.items ∙ ap (remarked c.args.uid x.flags.deleted c.args.flags.deleted) c.self.invariant.marked ∙ sym set ∙ ap marked_of (sym c.set_flags.ensures);
-      room = omega (arith, ap length c.set_flags.ensures, length_reflagged c.args.uid c.args.flags ms, c.self.invariant.room, c.remark.ensures.room);
+      marked = c.remark.ensures.items ∙ ap (remarked c.args.uid c.in-Some.old.deleted c.args.flags.deleted) c.self.invariant.marked
+          ∙ ap (λ (b : Bool). remarked c.args.uid b c.args.flags.deleted (marked_of ms)) (sym (ap (λ (g : Flags). g.deleted) f.2))
+          ∙ sym set ∙ ap marked_of (sym c.in-Some.ensures.messages);
+      room = omega (arith, ap length c.in-Some.ensures.messages, length_reflagged c.args.uid c.args.flags ms, c.self.invariant.room, c.remark.ensures.room);
     }
