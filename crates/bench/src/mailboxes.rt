@@ -1,7 +1,10 @@
 //! What is measured of mailboxes: mail for them, what a client asks of all the messages of one, and sessions that come and go.
 
 use crate::play::{large_house, play};
-use crate::scripts::{deliveries, odd_fetch, single_fetches, visits};
+use crate::mail::{Mail, deliver, message};
+use crate::scripts::{
+    deliveries, odd_fetch, scattered_removals, single_fetches, statuses, visits,
+};
 use house::House;
 use std::io;
 use std::time::{CpuClock, Duration};
@@ -29,8 +32,13 @@ const USERS: [&[u8]; 4] = [b"alice", b"bob", b"carol", b"dan"];
 pub enum Measure {
     /// A client asks for all that a mailbox with so many messages has, marks them and removes them.
     OneMailbox(usize),
-    /// A client asks for some messages of a mailbox that has so many: for those with odd UIDs up to 2,000, and for one a thousand times.
+    /// A client asks for some messages of a mailbox that has so many: for those with odd UIDs up to 2,000, for one a thousand times, and as often
+    /// for the mailbox's counts; then it removes one message after another.
     Parts(u32),
+    /// Messages of a size, so many of them, that come in one piece each.
+    Mail(Mail, usize),
+    /// A session removes half of a mailbox of so many messages, in no order, and another is shown it.
+    Scattered(u32),
     /// Mail for four mailboxes, so many messages each.
     FourMailboxes(usize),
     /// Sessions that come and go, in so many rounds of eight, at a mailbox of ten messages.
@@ -95,7 +103,54 @@ fn parts_of_mailbox<T: AllocGlobal + CpuClock + Print>(
     show(rt, shows, "the odd UIDs", output.len(), took)?;
     let script = single_fetches(rt.alloc(), 1_000)?;
     let took = play(rt, house, &script, &mut output)?;
-    show(rt, shows, "one UID, 1000 times", output.len(), took)
+    show(rt, shows, "one UID, 1000 times", output.len(), took)?;
+    let script = statuses(rt.alloc(), 1_000)?;
+    let took = play(rt, house, &script, &mut output)?;
+    show(rt, shows, "STATUS, 1000 times", output.len(), took)?;
+    let script = scattered_removals(rt.alloc(), messages.min(1_000) / 2, messages)?;
+    let took = play(rt, house, &script, &mut output)?;
+    show(rt, shows, "removed, one by one", output.len(), took)
+}
+
+fn sized_mail<T: AllocGlobal + CpuClock + Print>(
+    rt: &T,
+    house: &mut House,
+    mail: Mail,
+    times: usize,
+    shows: Shows,
+) -> io::Result<()> {
+    let wire = message(rt.alloc(), &USERS, mail)?;
+    let mut output = Vec::new(rt.alloc());
+    println!(rt;
+        "{times} messages of {} bytes for {} recipients each",
+        wire.len(),
+        mail.recipients
+    )?;
+    let took = deliver(rt, house, &wire, times, &mut output)?;
+    show(rt, shows, "delivered", output.len(), took)
+}
+
+fn scattered<T: AllocGlobal + CpuClock + Print>(
+    rt: &T,
+    house: &mut House,
+    messages: u32,
+    shows: Shows,
+) -> io::Result<()> {
+    let script = deliveries(rt.alloc(), &USERS[..1], messages as usize)?;
+    let mut output = Vec::new(rt.alloc());
+    play(rt, house, &script, &mut output)?;
+    play(
+        rt,
+        house,
+        b"I1=alice\nI1 a1 SELECT INBOX\nI2=alice\nI2 a1 SELECT INBOX\n",
+        &mut output,
+    )?;
+    println!(rt; "half of a mailbox of {messages} messages removed in no order")?;
+    let script = scattered_removals(rt.alloc(), messages / 2, messages)?;
+    let took = play(rt, house, &script, &mut output)?;
+    show(rt, shows, "removed", output.len(), took)?;
+    let took = play(rt, house, b"I2 a2 NOOP\n", &mut output)?;
+    show(rt, shows, "shown to another", output.len(), took)
 }
 
 fn four_mailboxes<T: AllocGlobal + CpuClock + Print>(
@@ -136,6 +191,8 @@ pub fn measure_once<T: AllocGlobal + CpuClock + Print>(
     match measure {
         Measure::OneMailbox(messages) => one_mailbox(rt, &mut house, messages, shows),
         Measure::Parts(messages) => parts_of_mailbox(rt, &mut house, messages, shows),
+        Measure::Mail(mail, times) => sized_mail(rt, &mut house, mail, times, shows),
+        Measure::Scattered(messages) => scattered(rt, &mut house, messages, shows),
         Measure::FourMailboxes(each) => four_mailboxes(rt, &mut house, each, shows),
         Measure::Visits(rounds) => short_sessions(rt, &mut house, rounds, shows),
     }

@@ -3,12 +3,14 @@
 //! vary. With the word `measure` it does each many times, or for many messages, and prints the rates and times.
 #![tactic(auto)]
 
+mod mail;
 mod mailboxes;
 mod play;
 mod sample;
 mod scripts;
 mod work;
 
+use crate::mail::Mail;
 use crate::mailboxes::{Measure, Shows, measure_once};
 use crate::sample::data;
 use crate::work::{line_count, text_len};
@@ -63,12 +65,42 @@ fn measure(rt: &HostRuntime, wire: &[u8], len: usize, lines: usize) -> io::Resul
     Ok(())
 }
 
+/// A message of 1 KB.
+const SMALL: Mail = Mail {
+    recipients: 1,
+    lines: 14,
+};
+
+/// The same for ten recipients.
+const SMALL_FOR_TEN: Mail = Mail {
+    recipients: 10,
+    lines: 14,
+};
+
+/// A message of 100 KB.
+const LARGE: Mail = Mail {
+    recipients: 1,
+    lines: 1_400,
+};
+
+/// The same for as many recipients as a message may have.
+const LARGE_FOR_ALL: Mail = Mail {
+    recipients: 100,
+    lines: 1_400,
+};
+
 /// What is measured of a house: few messages or sessions, and three or four times as many.
-const MEASURES: [Measure; 8] = [
+const MEASURES: [Measure; 14] = [
     Measure::OneMailbox(10_000),
     Measure::OneMailbox(30_000),
     Measure::Parts(10_000),
     Measure::Parts(30_000),
+    Measure::Scattered(30_000),
+    Measure::Mail(SMALL, 1_000),
+    Measure::Mail(SMALL, 30_000),
+    Measure::Mail(SMALL_FOR_TEN, 3_000),
+    Measure::Mail(LARGE, 1_000),
+    Measure::Mail(LARGE_FOR_ALL, 300),
     Measure::FourMailboxes(6_250),
     Measure::FourMailboxes(25_000),
     Measure::Visits(31),
@@ -76,9 +108,14 @@ const MEASURES: [Measure; 8] = [
 ];
 
 /// The same on a small scale.
-const TRIES: [Measure; 4] = [
+const TRIES: [Measure; 9] = [
     Measure::OneMailbox(100),
     Measure::Parts(100),
+    Measure::Scattered(100),
+    Measure::Mail(SMALL, 10),
+    Measure::Mail(SMALL_FOR_TEN, 10),
+    Measure::Mail(LARGE, 1),
+    Measure::Mail(LARGE_FOR_ALL, 1),
     Measure::FourMailboxes(10),
     Measure::Visits(2),
 ];

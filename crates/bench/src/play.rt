@@ -16,6 +16,9 @@ const MESSAGES: usize = 32_768;
 /// The most changes that it may keep: two for each message.
 const CHANGES: usize = 65_536;
 
+/// More entries than a message has recipients: no copy is refused.
+const DEPTH: usize = 128;
+
 /// A house in which each of these users has a mailbox, with as much room as one may have.
 /// An error where a name is no user's, or where memory is refused.
 pub fn large_house(alloc: Global, users: &[&[u8]]) -> io::Result<House>
@@ -24,6 +27,7 @@ pub fn large_house(alloc: Global, users: &[&[u8]]) -> io::Result<House>
     let mut config = Config::new(alloc, users)?;
     config.messages = MESSAGES;
     config.ring = CHANGES;
+    config.depth = DEPTH;
     match House::new(alloc, &config) {
         Ok(house) => Ok(house),
         Err(_) => Err(Error::from(ErrorKind::InvalidInput)),

@@ -8,6 +8,9 @@ use std::alloc::{AllocError, Global};
 // How many sessions a script may have at a time.
 const PLACES: u8 = 8;
 
+// From one removal to the next so many UIDs lie, round the end. It is a prime, so that none comes twice.
+const STRIDE: u64 = 7919;
+
 // A message for a user comes on connection 1, which is open.
 fn push_message(user: &[u8], script: &mut Vec<u8>) -> Result<(), AllocError> {
     script.extend_from_slice(b"L1 MAIL FROM:<s@a.example>\nL1 RCPT TO:<")?;
@@ -77,6 +80,36 @@ pub fn single_fetches(alloc: Global, count: usize) -> Result<Vec<u8>, AllocError
     let mut script = Vec::new(alloc);
     for _ in 0..count {
         script.extend_from_slice(b"I1 b2 UID FETCH 5 FLAGS\n")?;
+    }
+    Ok(script)
+}
+
+/// So many commands of a session, each for the counts of its mailbox.
+pub fn statuses(alloc: Global, count: usize) -> Result<Vec<u8>, AllocError> {
+    let mut script = Vec::new(alloc);
+    for _ in 0..count {
+        script.extend_from_slice(b"I1 b3 STATUS INBOX (MESSAGES UNSEEN DELETED SIZE)\n")?;
+    }
+    Ok(script)
+}
+
+// A session marks a message as deleted, and removes it.
+fn push_removal(uid: u32, script: &mut Vec<u8>) -> Result<(), AllocError> {
+    let mut digits = Buffer::new();
+    let uid = digits.format(uid).as_bytes();
+    script.extend_from_slice(b"I1 b4 UID STORE ")?;
+    script.extend_from_slice(uid)?;
+    script.extend_from_slice(b" +FLAGS.SILENT (\\Deleted)\nI1 b5 UID EXPUNGE ")?;
+    script.extend_from_slice(uid)?;
+    script.extend_from_slice(b"\n")
+}
+
+/// A session removes so many of the UIDs below a bound, each by commands of its own, in an order in which no two that follow one another are near.
+pub fn scattered_removals(alloc: Global, count: u32, bound: u32) -> Result<Vec<u8>, AllocError> {
+    let mut script = Vec::new(alloc);
+    for i in 0..count {
+        let scattered = u64::from(i) * STRIDE % u64::from(bound.max(1));
+        push_removal(scattered as u32, &mut script)?;
     }
     Ok(script)
 }

@@ -1,9 +1,10 @@
 //! The settings of a house, and what may be wrong with them. No house is made here, and no command line is read.
 
-ghost use Rattle.std.specs.Prelude.{◌≡◌, IfOk, map};
+ghost use Rattle.std.specs.Prelude.{◌≡◌, ◌<◌, IfOk, length, map, true, false};
 ghost use Rattle.envelope.specs.Names.{texts};
-ghost use Rattle.house.specs.Settings.{IsDefault, fault_named};
+ghost use Rattle.house.specs.Settings.{IsDefault, IsFrom, IsInRange, fault_named};
 
+use crate::numbers;
 use envelope::DirectoryFault;
 use std::alloc::{AllocError, Global};
 use thiserror::Error;
@@ -111,18 +112,109 @@ impl Config {
             host: Vec::from_slice(alloc, b"mx.example.org")?,
             domain: Vec::from_slice(alloc, b"example.org")?,
             mailboxes: own_words(alloc, mailboxes)?,
-            shards: 1,
-            depth: 64,
-            ring: 2048,
-            ring_max: 0,
-            messages: 1024,
-            max_message: 1_048_576,
-            uidvalidity: 1,
-            first_uid: 1,
-            sessions: 2,
-            workers: 4,
-            lmtp_port: 2424,
-            imap_port: 14300,
+            shards: numbers::SHARDS.standing as u8,
+            depth: numbers::DEPTH.standing as usize,
+            ring: numbers::RING.standing as usize,
+            ring_max: numbers::RING_MAX.standing as usize,
+            messages: numbers::MESSAGES.standing as usize,
+            max_message: numbers::MAX_MESSAGE.standing as usize,
+            uidvalidity: numbers::UIDVALIDITY.standing as u32,
+            first_uid: numbers::FIRST_UID.standing as u32,
+            sessions: numbers::SESSIONS.standing as u8,
+            workers: numbers::WORKERS.standing as u8,
+            lmtp_port: numbers::LMTP_PORT.standing as u16,
+            imap_port: numbers::IMAP_PORT.standing as u16,
         })
+    }
+
+    // Whether there is a mailbox, and a house may be made of so many parts.
+    fn are_parts_in_range(&self) -> bool
+        ensures mailboxes { result ≡ true → 0 < length self.now.mailboxes.items }
+        ensures shards { result ≡ true → IsFrom 1 8 self.now.shards }
+        ensures depth { result ≡ true → IsFrom 1 1024 self.now.depth }
+        ensures sessions { result ≡ true → IsFrom 1 4 self.now.sessions }
+        ensures beyond { result ≡ false → IsInRange self.now → ⊥ }
+    {
+        if self.mailboxes.is_empty() {
+            return false;
+        }
+        if !numbers::SHARDS.allows(u64::from(self.shards)) {
+            return false;
+        }
+        if !numbers::DEPTH.allows(self.depth as u64) {
+            return false;
+        }
+        if !numbers::SESSIONS.allows(u64::from(self.sessions)) {
+            return false;
+        }
+        true
+    }
+
+    // Whether a mailbox may hold so much, and a message have.
+    fn are_rooms_in_range(&self) -> bool
+        ensures ring { result ≡ true → IsFrom 16 65536 self.now.ring }
+        ensures ring_max { result ≡ true → IsFrom 0 65536 self.now.ring_max }
+        ensures messages { result ≡ true → IsFrom 1 32768 self.now.messages }
+        ensures max_message { result ≡ true → IsFrom 1 16777216 self.now.max_message }
+        ensures beyond { result ≡ false → IsInRange self.now → ⊥ }
+    {
+        if !numbers::RING.allows(self.ring as u64) {
+            return false;
+        }
+        if !numbers::RING_MAX.allows(self.ring_max as u64) {
+            return false;
+        }
+        if !numbers::MESSAGES.allows(self.messages as u64) {
+            return false;
+        }
+        if !numbers::MAX_MESSAGE.allows(self.max_message as u64) {
+            return false;
+        }
+        true
+    }
+
+    // Whether a mailbox may begin with these UIDs, and a server listen there.
+    fn are_names_in_range(&self) -> bool
+        ensures uidvalidity { result ≡ true → IsFrom 1 4294967295 self.now.uidvalidity }
+        ensures first_uid { result ≡ true → IsFrom 1 4294967294 self.now.first_uid }
+        ensures workers { result ≡ true → IsFrom 1 8 self.now.workers }
+        ensures lmtp_port { result ≡ true → IsFrom 1 65535 self.now.lmtp_port }
+        ensures imap_port { result ≡ true → IsFrom 1024 65472 self.now.imap_port }
+        ensures beyond { result ≡ false → IsInRange self.now → ⊥ }
+    {
+        if !numbers::UIDVALIDITY.allows(u64::from(self.uidvalidity)) {
+            return false;
+        }
+        if !numbers::FIRST_UID.allows(u64::from(self.first_uid)) {
+            return false;
+        }
+        if !numbers::WORKERS.allows(u64::from(self.workers)) {
+            return false;
+        }
+        if !numbers::LMTP_PORT.allows(u64::from(self.lmtp_port)) {
+            return false;
+        }
+        if !numbers::IMAP_PORT.allows(u64::from(self.imap_port)) {
+            return false;
+        }
+        true
+    }
+
+    /// Whether there is a mailbox, and each number is in its range: what `House::new`, and whoever else makes a house, asks of
+    /// its settings. Names are not looked at, nor the ring's and the ports' places beside others; these are faults that `House::new` tells.
+    pub fn is_in_range(&self) -> bool
+        ensures within { result ≡ true → IsInRange self.now }
+        ensures beyond { result ≡ false → IsInRange self.now → ⊥ }
+    {
+        if !self.are_parts_in_range() {
+            return false;
+        }
+        if !self.are_rooms_in_range() {
+            return false;
+        }
+        if !self.are_names_in_range() {
+            return false;
+        }
+        true
     }
 }

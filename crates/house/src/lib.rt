@@ -7,6 +7,7 @@ mod event;
 mod house;
 mod idling;
 mod make;
+pub mod numbers;
 mod sessions;
 mod settle;
 mod tail;

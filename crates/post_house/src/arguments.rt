@@ -9,101 +9,89 @@ use clap::builder::ValueParser;
 use clap::error::ErrorKind;
 use clap::{Arg, ArgAction, ArgMatches, Command, Error};
 use house::Config;
+use house::numbers::{self, Number};
 use serving::Uidvalidity;
 use std::alloc::{AllocError, Global};
 use std::convert::AsStr;
 
-/// A number that may be set, with its range.
+/// An option that sets a number. How far it may go, and what stands where it is not given, is the settings' to say.
 #[derive(Clone, Copy)]
-struct Number {
+struct NumberOption {
     name: &'static str,
     help: &'static str,
-    least: u64,
-    most: u64,
+    number: Number,
 }
 
-const SHARDS: Number = Number {
+const SHARDS: NumberOption = NumberOption {
     name: "shards",
     help: "Shards that keep the mailboxes",
-    least: 1,
-    most: 8,
+    number: numbers::SHARDS,
 };
 
-const DEPTH: Number = Number {
+const DEPTH: NumberOption = NumberOption {
     name: "depth",
     help: "Entries that each shard's lane has room for",
-    least: 1,
-    most: 1024,
+    number: numbers::DEPTH,
 };
 
-const RING: Number = Number {
+const RING: NumberOption = NumberOption {
     name: "ring",
     help: "Changes that each mailbox keeps, at least two for each message",
-    least: 16,
-    most: 65_536,
+    number: numbers::RING,
 };
 
-const RING_MAX: Number = Number {
+const RING_MAX: NumberOption = NumberOption {
     name: "ring-max",
     help: "Changes that each mailbox keeps at most, for clients that fall behind; 0 for no more than --ring",
-    least: 0,
-    most: 65_536,
+    number: numbers::RING_MAX,
 };
 
-const MESSAGES: Number = Number {
+const MESSAGES: NumberOption = NumberOption {
     name: "messages",
     help: "Messages that each mailbox may hold",
-    least: 1,
-    most: 32_768,
+    number: numbers::MESSAGES,
 };
 
-const MAX_MESSAGE: Number = Number {
+const MAX_MESSAGE: NumberOption = NumberOption {
     name: "max-message",
     help: "Bytes that a message's data may have",
-    least: 1,
-    most: 16_777_216,
+    number: numbers::MAX_MESSAGE,
 };
 
-const FIRST_UID: Number = Number {
+const FIRST_UID: NumberOption = NumberOption {
     name: "first-uid",
     help: "The UID of each mailbox's first message",
-    least: 1,
-    most: 4_294_967_294,
+    number: numbers::FIRST_UID,
 };
 
-const UIDVALIDITY: Number = Number {
+const UIDVALIDITY: NumberOption = NumberOption {
     name: "uidvalidity",
     help: "What each mailbox tells as its UIDVALIDITY",
-    least: 1,
-    most: 4_294_967_295,
+    number: numbers::UIDVALIDITY,
 };
 
-const LMTP_PORT: Number = Number {
+const LMTP_PORT: NumberOption = NumberOption {
     name: "lmtp-port",
     help: "The port that mail comes to",
-    least: 1,
-    most: 65_535,
+    number: numbers::LMTP_PORT,
 };
 
-const IMAP_PORT: Number = Number {
+const IMAP_PORT: NumberOption = NumberOption {
     name: "imap-port",
     help: "The port of the first user's sessions; the others' follow",
-    least: 1024,
-    most: 65_472,
+    number: numbers::IMAP_PORT,
 };
 
-const WORKERS: Number = Number {
+const WORKERS: NumberOption = NumberOption {
     name: "workers",
     help: "Mail connections that are served at a time",
-    least: 1,
-    most: 8,
+    number: numbers::WORKERS,
 };
 
-const SESSIONS: Number = Number {
+const SESSIONS: NumberOption = NumberOption {
     name: "sessions",
     help: "Sessions of each user that are served at a time",
-    least: 1,
-    most: 4,
+    number: numbers::SESSIONS,
 };
 
 /// What the words ask for.
@@ -137,12 +125,15 @@ impl<'a> From<AllocError> for Refused<'a> {
     }
 }
 
-fn option<'a>(alloc: Global, number: Number) -> Arg<'a> {
-    Arg::new(alloc, number.name)
-        .long(number.name)
-        .help(number.help)
+fn option<'a>(alloc: Global, option: NumberOption) -> Arg<'a> {
+    Arg::new(alloc, option.name)
+        .long(option.name)
+        .help(option.help)
         .action(ArgAction::Set)
-        .value_parser(ValueParser::unsigned(number.least, number.most))
+        .value_parser(ValueParser::unsigned(
+            option.number.least,
+            option.number.most,
+        ))
 }
 
 // A name that may be set. Which names are right is the settings' to say.
@@ -208,16 +199,20 @@ fn are_digits(text: &str) -> bool {
 }
 
 // The number that was given, or else the one that stands.
-fn given<'a>(matches: &ArgMatches<'a>, number: Number, standing: u64) -> Result<u64, Refused<'a>>
-    requires { IsFrom number.least number.most standing }
-    ensures { IfOk result (IsFrom number.least number.most) }
+fn given<'a>(
+    matches: &ArgMatches<'a>,
+    option: NumberOption,
+    standing: u64,
+) -> Result<u64, Refused<'a>>
+    requires { IsFrom option.number.least option.number.most standing }
+    ensures { IfOk result (IsFrom option.number.least option.number.most) }
 {
-    let Some(text) = matches.get_str(number.name) else {
+    let Some(text) = matches.get_str(option.name) else {
         return Ok(standing);
     };
     match text.parse::<u64>() {
-        Ok(value) if are_digits(text) && number.least <= value && value <= number.most => Ok(value),
-        _ => Err(Refused::Spelling(number.name, text)),
+        Ok(value) if are_digits(text) && option.number.allows(value) => Ok(value),
+        _ => Err(Refused::Spelling(option.name, text)),
     }
 }
 
@@ -269,10 +264,10 @@ fn with_sizes<'a>(matches: &ArgMatches<'a>, mut config: Config) -> Result<Config
     requires { IsInRange config }
     ensures { IfOk result IsInRange }
 {
-    config.shards = given(matches, SHARDS, 1)? as u8;
-    config.depth = given(matches, DEPTH, 64)? as usize;
-    config.messages = given(matches, MESSAGES, 1024)? as usize;
-    config.max_message = given(matches, MAX_MESSAGE, 1_048_576)? as usize;
+    config.shards = given(matches, SHARDS, u64::from(config.shards))? as u8;
+    config.depth = given(matches, DEPTH, config.depth as u64)? as usize;
+    config.messages = given(matches, MESSAGES, config.messages as u64)? as usize;
+    config.max_message = given(matches, MAX_MESSAGE, config.max_message as u64)? as usize;
     Ok(config)
 }
 
@@ -281,8 +276,8 @@ fn with_windows<'a>(matches: &ArgMatches<'a>, mut config: Config) -> Result<Conf
     requires { IsInRange config }
     ensures { IfOk result IsInRange }
 {
-    config.ring = given(matches, RING, 2048)? as usize;
-    config.ring_max = given(matches, RING_MAX, 0)? as usize;
+    config.ring = given(matches, RING, config.ring as u64)? as usize;
+    config.ring_max = given(matches, RING_MAX, config.ring_max as u64)? as usize;
     Ok(config)
 }
 
@@ -291,8 +286,8 @@ fn with_uids<'a>(matches: &ArgMatches<'a>, mut config: Config) -> Result<Config,
     requires { IsInRange config }
     ensures { IfOk result IsInRange }
 {
-    config.uidvalidity = given(matches, UIDVALIDITY, 1)? as u32;
-    config.first_uid = given(matches, FIRST_UID, 1)? as u32;
+    config.uidvalidity = given(matches, UIDVALIDITY, u64::from(config.uidvalidity))? as u32;
+    config.first_uid = given(matches, FIRST_UID, u64::from(config.first_uid))? as u32;
     Ok(config)
 }
 
@@ -320,10 +315,10 @@ fn with_server<'a>(matches: &ArgMatches<'a>, mut config: Config) -> Result<Confi
     requires { IsInRange config }
     ensures { IfOk result IsInRange }
 {
-    config.lmtp_port = given(matches, LMTP_PORT, 2424)? as u16;
-    config.imap_port = given(matches, IMAP_PORT, 14_300)? as u16;
-    config.workers = given(matches, WORKERS, 4)? as u8;
-    config.sessions = given(matches, SESSIONS, 2)? as u8;
+    config.lmtp_port = given(matches, LMTP_PORT, u64::from(config.lmtp_port))? as u16;
+    config.imap_port = given(matches, IMAP_PORT, u64::from(config.imap_port))? as u16;
+    config.workers = given(matches, WORKERS, u64::from(config.workers))? as u8;
+    config.sessions = given(matches, SESSIONS, u64::from(config.sessions))? as u8;
     Ok(config)
 }
 
