@@ -123,6 +123,12 @@ in_parts wire piece i n h =
     ∙ sym (append_assoc wire (take (i + n) piece) (get_or piece (i + n) 0 ∷ []))
     ∙ ap (λ t. t ++ get_or piece (i + n) 0 ∷ []) (ap (λ t. wire ++ t) (sym (take_two_of i n piece)) ∙ sym (append_assoc wire (take i piece) more))
 
+-- the first bytes of a piece, and so many of the rest
+pub run_in_parts : (u : Unstuffing) (wire piece : List ℕ) (i n : ℕ) → StandsFor u ((wire ++ take i piece) ++ take n (take (length piece - i) (drop i piece))) → StandsFor u (wire ++ take (i + n) piece)
+run_in_parts u wire piece i n s =
+    let more : List ℕ = take n (take (length piece - i) (drop i piece)) in
+    subst (λ (w : List ℕ). StandsFor u w) (append_assoc wire (take i piece) more ∙ ap (λ t. wire ++ t) (take_two_of i n piece)) s
+
 -- an answer about that byte, where none before it told anything, is one about all of them
 pub tells_in_parts : (what : Progress) (u : Unstuffing) (wire piece : List ℕ) (i n : ℕ) → i + n < length piece →
     Tells what u ((wire ++ take i piece) ++ take n (take (length piece - i) (drop i piece))) (get_or piece (i + n) 0 ∷ []) →

@@ -49,17 +49,28 @@ Leads place byte (AddsBoth next) wire =
     IsOpenAt next (wire ++ byte ∷ []) × (text_so_far next (wire ++ byte ∷ []) ≡ (text_so_far place wire ++ 13 ∷ []) ++ byte ∷ [])
 Leads place byte Ends wire = Plain (wire ++ byte ∷ []) (text_so_far place wire)
 
+-- what a `Buffer` holds: the text so far, and what stands before it
+pub record Buffered : Type 0 where
+  pub front : List ℕ
+  pub bytes : List ℕ
+
 -- what a `Collector` knows
 pub record Collected : Type 0 where
   -- the most bytes that a text may have
   pub max : ℕ
+  -- what stands before the text, and the text so far
+  pub front : List ℕ
   pub bytes : List ℕ
   -- how many bytes came, while they are at most max
   pub count : ℕ
   pub has_nul : Bool
   pub is_big : Bool
-  -- whether a growth was refused
+  -- whether memory was refused
   pub no_memory : Bool
+
+-- the text is to stand behind this, unless memory was refused
+abbrev pub IsBehind : Collected → List ℕ → Type 0
+IsBehind c front = c.no_memory ≡ false → c.front ≡ front
 
 -- this text came
 pub record Collects (c : Collected) (text : List ℕ) : Type 0 where

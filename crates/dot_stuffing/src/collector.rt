@@ -1,9 +1,10 @@
 //! The text of data as it comes: its bytes while they fit, and what is wrong with it. Nothing here
 //! knows lines or dots.
 
-ghost use Rattle.std.specs.Prelude.{◌≡◌, ℕ, List, [], ◌∷◌, ◌++◌, true, false, Contains};
-ghost use Rattle.dot_stuffing.specs.Unstuffing.{Collects, IsOutcome, Keeps};
+ghost use Rattle.std.specs.Prelude.{◌≡◌, ℕ, List, [], ◌∷◌, ◌++◌, true, false, Contains, flat_map};
+ghost use Rattle.dot_stuffing.specs.Unstuffing.{Collects, IsBehind, IsOutcome, Keeps};
 
+use crate::buffer::Buffer;
 use crate::{NUL, Outcome};
 use memchr::memchr;
 use std::alloc::Global;
@@ -21,7 +22,7 @@ fn has_nul(bytes: &[u8]) -> bool
 #[derive(Drop)]
 pub(crate) struct Collector {
     max: usize,
-    bytes: Vec<u8>,
+    buffer: Buffer,
     count: usize,
     has_nul: bool,
     is_big: bool,
@@ -36,7 +37,8 @@ impl Model for Collector {
 
     ghost view = { λ a. record {
       max = a.max;
-      bytes = a.bytes.items;
+      front = a.buffer.front;
+      bytes = a.buffer.bytes;
       count = a.count;
       has_nul = a.has_nul;
       is_big = a.is_big;
@@ -47,14 +49,15 @@ impl Model for Collector {
 }
 
 impl Collector {
-    /// No text yet, of at most `max` bytes. Takes no memory.
+    /// No text yet, of at most `max` bytes, with nothing before it. Takes no memory.
     pub(crate) fn new(alloc: Global, max: usize) -> Collector
         ensures max { result.max ≡ max }
         ensures collects { Collects result [] }
+        ensures behind { IsBehind result [] }
     {
         Collector {
             max,
-            bytes: Vec::new(alloc),
+            buffer: Buffer::new(alloc),
             count: 0,
             has_nul: false,
             is_big: false,
@@ -62,10 +65,23 @@ impl Collector {
         }
     }
 
+    /// No text yet, with these parts before it, or notes that memory for them was refused. They don't count as bytes of the text.
+    pub(crate) fn begin_behind(&mut self, parts: &[&[u8]])
+        ensures max { self.new.max ≡ self.old.max }
+        ensures collects { Collects self.new [] }
+        ensures behind { IsBehind self.new (flat_map (λ part. part.now) parts.now) }
+    {
+        self.count = 0;
+        self.has_nul = false;
+        self.is_big = false;
+        self.no_memory = self.buffer.begin_behind(parts).is_err();
+    }
+
     /// Adds a byte, or notes why it can't.
     pub(crate) fn add(&mut self, byte: u8)
         ensures max { self.new.max ≡ self.old.max }
         ensures collects { (text : List ℕ) → Collects self.old text → Collects self.new (text ++ byte ∷ []) }
+        ensures behind { (front : List ℕ) → IsBehind self.old front → IsBehind self.new front }
     {
         self.has_nul |= byte == 0;
         if self.count == self.max {
@@ -74,7 +90,7 @@ impl Collector {
         }
         self.count += 1;
         if !self.no_memory {
-            self.no_memory = self.bytes.push(byte).is_err();
+            self.no_memory = self.buffer.push(byte).is_err();
         }
     }
 
@@ -82,6 +98,7 @@ impl Collector {
     pub(crate) fn add_run(&mut self, run: &[u8])
         ensures max { self.new.max ≡ self.old.max }
         ensures collects { (text : List ℕ) → Collects self.old text → Collects self.new (text ++ run.now) }
+        ensures behind { (front : List ℕ) → IsBehind self.old front → IsBehind self.new front }
     {
         self.has_nul |= has_nul(run);
         self.keep(run);
@@ -92,6 +109,7 @@ impl Collector {
         ensures max { self.new.max ≡ self.old.max }
         ensures nul { self.new.has_nul ≡ self.old.has_nul }
         ensures keeps { (text : List ℕ) → Keeps self.old text → Keeps self.new (text ++ run.now) }
+        ensures behind { (front : List ℕ) → IsBehind self.old front → IsBehind self.new front }
     {
         if self.max - self.count < run.len() {
             self.is_big = true;
@@ -100,7 +118,7 @@ impl Collector {
         }
         self.count += run.len();
         if !self.no_memory {
-            self.no_memory = self.bytes.extend_from_slice(run).is_err();
+            self.no_memory = self.buffer.extend(run).is_err();
         }
     }
 
@@ -108,6 +126,7 @@ impl Collector {
     pub(crate) fn outcome(&self) -> Outcome
         ensures cases { (text : List ℕ) → Collects self.now text → IsOutcome result self.now.max text }
         ensures whole { result ≡ Outcome.Ok → (text : List ℕ) → Collects self.now text → self.now.bytes ≡ text }
+        ensures memory { result ≡ Outcome.Ok → self.now.no_memory ≡ false }
     {
         if self.has_nul {
             Outcome::Nul
@@ -120,10 +139,10 @@ impl Collector {
         }
     }
 
-    /// The bytes, which are the text where the outcome is `Ok`.
+    /// What stands before the text, and the bytes, which are the text where the outcome is `Ok`.
     pub(crate) fn into_bytes(self) -> Vec<u8>
-        ensures { result.items ≡ self.bytes }
+        ensures { result.items ≡ self.front ++ self.bytes }
     {
-        self.bytes
+        self.buffer.into_bytes()
     }
 }

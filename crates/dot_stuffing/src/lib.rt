@@ -3,6 +3,7 @@
 //! and what becomes of a text, is for the crates above.
 #![tactic(auto)]
 
+mod buffer;
 mod collector;
 mod dots;
 mod laws;

@@ -127,6 +127,30 @@ fn outcomes(rt: HostRuntime) {
     }
 }
 
+// The text of "a\r\n" behind two parts, where other data had begun behind another.
+fn behind_parts(alloc: Global, max: usize) -> Option<Vec<u8>> {
+    let mut unstuffer = Unstuffer::new(alloc, max);
+    unstuffer.begin_behind(&[b"other".as_slice()]);
+    let _ = unstuffer.take(b"\0, too big");
+    unstuffer.begin_behind(&[b"the front: ".as_slice(), b"<>".as_slice()]);
+    match unstuffer.take(b"a\r\n.\r\n").what {
+        Progress::Done(Outcome::Ok) => Some(unstuffer.text()),
+        _ => None,
+    }
+}
+
+// What stands before a text doesn't count as bytes of it, and a text that is done has little room that it doesn't need.
+#[test]
+fn a_front(rt: HostRuntime) {
+    let text = behind_parts(rt.alloc(), 3);
+    assert!(rt; text.is_some());
+    if let Some(text) = text {
+        assert_eq!(rt; text.as_slice(), b"the front: <>a\r\n".as_slice());
+        assert!(rt; text.capacity() <= 18);
+    }
+    assert!(rt; behind_parts(rt.alloc(), 2).is_none());
+}
+
 #[test]
 fn dots_go_on(rt: HostRuntime) -> Result<(), AllocError> {
     let mut wire = vec![in rt.alloc(); b'>']?;

@@ -1,8 +1,8 @@
 //! The unstuffer: it takes data from the wire in pieces of any sizes, and gives its text at the end.
 //! It reads from nowhere, and decides nothing before the end of the data.
 
-ghost use Rattle.std.specs.Prelude.{◌≡◌, ◌≢◌, ℕ, ◌<◌, ◌≤◌, ◌+◌, List, [], ◌∷◌, ◌++◌, length, take, slice_index, Some, None};
-ghost use Rattle.dot_stuffing.specs.Unstuffing.{StandsFor, outcome_of, Tells};
+ghost use Rattle.std.specs.Prelude.{◌≡◌, ◌≢◌, ℕ, ◌<◌, ◌≤◌, ◌+◌, List, [], ◌∷◌, ◌++◌, length, take, slice_index, flat_map, Some, None};
+ghost use Rattle.dot_stuffing.specs.Unstuffing.{IsBehind, StandsFor, outcome_of, Tells};
 
 use crate::collector::Collector;
 use crate::place::{Next, Place, place_behind, step_from};
@@ -32,25 +32,43 @@ pub struct Unstuffer {
 }
 
 impl Model for Unstuffer {
+    ghost use Rattle.std.specs.Prelude.{◌≡◌, Some, false};
     ghost use Rattle.dot_stuffing.specs.Unstuffing.{Unstuffing};
+    ghost use Rattle.dot_stuffing.specs.declared.Outcome.TheVariants as outcomes;
 
     ghost Value = { Unstuffing };
 
     ghost view = { λ a. record { place = a.place; collected = a.collector; outcome = a.outcome } };
+
+    ghost invariant = { λ a. a.outcome ≡ Some outcomes.Ok → a.collector.no_memory ≡ false };
 }
 
 impl Unstuffer {
-    /// An unstuffer at the start of data, for a text of at most `max` bytes. Takes no memory.
+    /// An unstuffer at the start of data, for a text of at most `max` bytes with nothing before it. Takes no memory.
     pub fn new(alloc: Global, max: usize) -> Unstuffer
         ensures max { result.collected.max ≡ max }
         ensures live { result.outcome ≡ None }
         ensures stands { StandsFor result [] }
+        ensures behind { IsBehind result.collected [] }
     {
         Unstuffer {
             place: Place::Start,
             collector: Collector::new(alloc, max),
             outcome: None,
         }
+    }
+
+    /// Goes to the start of other data, whose text is to stand behind these parts, in one buffer with them. They don't count as
+    /// bytes of the text. Where memory for them is refused, that is told with the outcome, as for the text.
+    pub fn begin_behind(&mut self, parts: &[&[u8]])
+        ensures max { self.new.collected.max ≡ self.old.collected.max }
+        ensures live { self.new.outcome ≡ None }
+        ensures stands { StandsFor self.new [] }
+        ensures behind { IsBehind self.new.collected (flat_map (λ part. part.now) parts.now) }
+    {
+        self.place = Place::Start;
+        self.outcome = None;
+        self.collector.begin_behind(parts);
     }
 
     /// Takes bytes of the piece up to the end of the data, or else all. What is wrong with the text
@@ -61,6 +79,8 @@ impl Unstuffer {
         ensures all_used { result.what ≡ Progress.More → result.used ≡ length piece.now }
         ensures some_used { result.what ≢ Progress.More → 0 < result.used }
         ensures max { self.new.collected.max ≡ self.old.collected.max }
+        // What the text is to stand behind stays.
+        ensures behind { (front : List ℕ) → IsBehind self.old.collected front → IsBehind self.new.collected front }
         ensures outcome { self.new.outcome ≡ outcome_of result.what }
         // Whatever came before the call, in whatever pieces.
         ensures data { (wire : List ℕ) → StandsFor self.old wire →
@@ -88,10 +108,11 @@ impl Unstuffer {
         }
     }
 
-    /// The text, each line without the dot that was put before it, once the outcome is `Ok`.
+    /// The text, each line without the dot that was put before it, once the outcome is `Ok`: in its buffer, behind what it was to
+    /// stand behind.
     pub fn text(self) -> Vec<u8>
         requires { self.outcome ≡ Some Outcome.Ok }
-        ensures { result.items ≡ self.collected.bytes }
+        ensures { (front : List ℕ) → IsBehind self.collected front → result.items ≡ front ++ self.collected.bytes }
     {
         self.collector.into_bytes()
     }
@@ -103,6 +124,7 @@ impl Unstuffer {
         ensures all_used { result.what ≡ Progress.More → result.used ≡ length piece.now }
         ensures some_used { result.what ≢ Progress.More → 0 < result.used }
         ensures max { self.new.collected.max ≡ self.old.collected.max }
+        ensures behind { (front : List ℕ) → IsBehind self.old.collected front → IsBehind self.new.collected front }
         ensures outcome { self.new.outcome ≡ outcome_of result.what }
         ensures data { (wire : List ℕ) → StandsFor self.old wire →
             Tells result.what self.new wire (take result.used piece.now) }
@@ -128,6 +150,7 @@ impl Unstuffer {
         requires finder { finder.now ≡ 13 ∷ 10 ∷ 46 ∷ [] }
         ensures within { result ≤ length piece.now }
         ensures max { self.new.collected.max ≡ self.old.collected.max }
+        ensures behind { (front : List ℕ) → IsBehind self.old.collected front → IsBehind self.new.collected front }
         ensures outcome { self.new.outcome ≡ None }
         ensures stands { (wire : List ℕ) → StandsFor self.old wire → StandsFor self.new (wire ++ take result piece.now) }
     {
@@ -144,6 +167,7 @@ impl Unstuffer {
     fn step(&mut self, byte: u8) -> Progress
         requires { self.old.outcome ≡ None }
         ensures max { self.new.collected.max ≡ self.old.collected.max }
+        ensures behind { (front : List ℕ) → IsBehind self.old.collected front → IsBehind self.new.collected front }
         ensures outcome { self.new.outcome ≡ outcome_of result }
         ensures data { (wire : List ℕ) → StandsFor self.old wire → Tells result self.new wire (byte ∷ []) }
     {

@@ -10,7 +10,7 @@ use Rattle.line_io.specs.WireLaws.{reading_cut, lines_are, wire_join, wire_joine
 use Rattle.line_io.specs.Cutting.{Cutter, EndsLine}
 use Rattle.line_io.specs.Cutting.{StandsFor as HasTaken}
 use Rattle.dot_stuffing.specs.Data.{dot, Plain}
-use Rattle.dot_stuffing.specs.Unstuffing.{Unstuffing, Tells as TellsData}
+use Rattle.dot_stuffing.specs.Unstuffing.{IsBehind, Unstuffing, Tells as TellsData}
 use Rattle.dot_stuffing.specs.Unstuffing.{StandsFor as HasUnstuffed}
 use Rattle.dot_stuffing.specs.declared.Outcome.{Outcome}
 use Rattle.dot_stuffing.specs.declared.Outcome.TheVariants as outcomes
@@ -23,7 +23,7 @@ use Rattle.lmtp_machine.specs.declared.connection.What.TheVariants.{More, Quit}
 use Rattle.lmtp_machine.specs.declared.reply.Reply.{Reply}
 use Rattle.lmtp_machine.specs.declared.reply.Reply.TheVariants.{LineTooLong, OutOfMemory, MessageTooBig, NulByte}
 use Rattle.lmtp_machine.specs.Replies.{wire}
-use Rattle.lmtp_machine.specs.Message.{plain, outcome}
+use Rattle.lmtp_machine.specs.Message.{plain, outcome, return_path}
 use Rattle.lmtp_machine.specs.Standing.{CommandState, standing_of, phase_of, IsOpen, Takes}
 use Rattle.lmtp_machine.specs.Dialogue.{Phase, Start, Ready, Transaction, Data, Waiting, Ended, Standing, Setting, Submission, Event, Line, Starved, Turn, turn, dialogue, on_event, on_line, on_command_line, on_outcome, at_end, is_dot}
 use Rattle.lmtp_machine.specs.Conversation.{Conversation, Heard, none, line, starved, IsListening, MayHear, EachMayBeHeard, ◌⨾◌}
@@ -165,11 +165,12 @@ before_none setting directory s (f ∷ events) last h = absurd (let k : ◌≡�
 -- ---- a command line
 
 after_line : (stage : Stage) (new : Machine) (t : Turn) → new.commands.stage ≡ stage → standing_of new.commands ≡ t.standing → IsGoing t.standing.phase → HasTaken new.cutter [] → HasUnstuffed new.unstuffer []
+    → (new.commands.stage ≡ stages.Data → IsBehind new.unstuffer.collected (return_path new.commands.sender))
     → IsHere stage new (record { standing = t.standing; unfinished = [] })
-after_line stages.Start new t e s g k u = record { standing = sym s; cutter = k; unstuffer = u }
-after_line stages.Ready new t e s g k u = record { standing = sym s; cutter = k; unstuffer = u }
-after_line stages.Transaction new t e s g k u = record { standing = sym s; cutter = k; unstuffer = u }
-after_line stages.Data new t e s g k u =
+after_line stages.Start new t e s g k u f = record { standing = sym s; cutter = k; unstuffer = u }
+after_line stages.Ready new t e s g k u f = record { standing = sym s; cutter = k; unstuffer = u }
+after_line stages.Transaction new t e s g k u f = record { standing = sym s; cutter = k; unstuffer = u }
+after_line stages.Data new t e s g k u f =
     let p : t.standing.phase ≡ Data new.commands.sender new.commands.recipients [] =
     ap (λ (x : Standing). x.phase) (sym s) ∙ ap (λ (x : Stage). phase_of x new.commands.sender new.commands.recipients) e in
     record {
@@ -180,16 +181,18 @@ after_line stages.Data new t e s g k u =
       submitted = ap (λ (x : Standing). x.submitted) (sym s);
       cutter = k;
       unstuffer = u;
+      behind = f e;
     }
-after_line stages.Waiting new t e s g k u = record { standing = sym s; cutter = k; unstuffer = u }
-after_line stages.Ended new t e s g k u = sym s
+after_line stages.Waiting new t e s g k u f = record { standing = sym s; cutter = k; unstuffer = u }
+after_line stages.Ended new t e s g k u f = sym s
 
 pub line_follows : (m new : Machine) (directory : Directory) (c : Conversation) (piece : List ℕ) (used : ℕ) (what : What) (old out l : List ℕ)
-    → IsOpen m.commands.stage → StandsFor m c → new.unstuffer ≡ m.unstuffer → HasTaken new.cutter (c.unfinished ++ take used piece)
+    → IsOpen m.commands.stage → StandsFor m c → (HasUnstuffed m.unstuffer [] → HasUnstuffed new.unstuffer [])
+    → (new.commands.stage ≡ stages.Data → IsBehind new.unstuffer.collected (return_path new.commands.sender)) → HasTaken new.cutter (c.unfinished ++ take used piece)
     → EndsLine c.unfinished (take used piece) l → Takes m.host (on_command_line directory (standing_of m.commands) l) new.commands old out
     → new.pending ≡ [] → what ≡ what_of new.commands.stage
     → Follows (StandsFor new) m.setting m.host directory c piece (record { used = used; what = what }) old out new.pending
-line_follows m new directory c piece used what old out l o s eu kt el tk ep ew =
+line_follows m new directory c piece used what old out l o s goes behind kt el tk ep ew =
     let b : BetweenLines m c = between_open m.commands.stage m c o s.here in
     let t : Turn = on_command_line directory (standing_of m.commands) l in
     let spoken : Spoken t = line_spoken directory (phase_of m.commands.stage m.commands.sender m.commands.recipients) m.commands.submitted l (open_going m.commands.stage m.commands.sender m.commands.recipients o) in
@@ -214,7 +217,7 @@ line_follows m new directory c piece used what old out l o s eu kt el tk ep ew =
       };
       stands = record {
         open_end = uncut_nil;
-        here = after_line new.commands.stage new t refl tk.standing spoken.going (taken_as new.cutter bytes [] el.rest kt) (subst (λ (u : Unstuffing). HasUnstuffed u []) (sym eu) b.unstuffer);
+        here = after_line new.commands.stage new t refl tk.standing spoken.going (taken_as new.cutter bytes [] el.rest kt) (goes b.unstuffer) behind;
       };
       said = tk.said;
       tells = subst (λ (w : What). Tells w t) (sym ew) (tells_of new.commands.stage new.commands.sender new.commands.recipients t (ap (λ (x : Standing). x.phase) tk.standing) spoken);
@@ -266,6 +269,11 @@ long_takes m new directory l old out ec h eo =
       standing = ap (λ (x : CommandState). standing_of x) ec ∙ ap (λ (t : Turn). t.standing) (sym e);
       said = eo ∙ ap (λ (t : Turn). old ++ wire m.host t.replies) (sym e);
     }
+
+-- where the commands stay, no data begins
+pub no_data_begins : (m new : Machine) → IsOpen m.commands.stage → new.commands ≡ m.commands
+    → new.commands.stage ≡ stages.Data → IsBehind new.unstuffer.collected (return_path new.commands.sender)
+no_data_begins m new o ec e = absurd (subst (λ (x : Stage). IsOpen x) (ap (λ (x : CommandState). x.stage) (sym ec) ∙ e) o)
 
 -- the same answer under other names
 pub takes_as : (directory : Directory) (host host' : List ℕ) (a a' b b' : CommandState) (l l' old old' out out' : List ℕ)
@@ -368,9 +376,10 @@ data_joined lines bytes h =
 pub data_more_follows : (m new : Machine) (directory : Directory) (c : Conversation) (piece : List ℕ) (used : ℕ) (old out : List ℕ)
     → m.commands.stage ≡ stages.Data → StandsFor m c → new.commands ≡ m.commands → new.cutter ≡ m.cutter
     → ((wire : List ℕ) → HasUnstuffed m.unstuffer wire → HasUnstuffed new.unstuffer (wire ++ take used piece))
+    → ((front : List ℕ) → IsBehind m.unstuffer.collected front → IsBehind new.unstuffer.collected front)
     → used ≡ length piece → out ≡ old → new.pending ≡ []
     → Follows (StandsFor new) m.setting m.host directory c piece (record { used = used; what = More }) old out new.pending
-data_more_follows m new directory c piece used old out es s ec ek goes all eo ep =
+data_more_follows m new directory c piece used old out es s ec ek goes stays all eo ep =
     let d : WithinData m c = within m c es s in
     let bytes : List ℕ = c.unfinished ++ take used piece in
     let u : HasUnstuffed new.unstuffer (joined d.lines ++ bytes) = subst (λ (w : List ℕ). HasUnstuffed new.unstuffer w) (append_assoc (joined d.lines) c.unfinished (take used piece)) (goes (joined d.lines ++ c.unfinished) d.unstuffer) in
@@ -394,6 +403,7 @@ data_more_follows m new directory c piece used old out es s ec ek goes all eo ep
       submitted = ap (λ (x : CommandState). x.submitted) (sym ec);
       cutter = subst (λ (k : Cutter). HasTaken k []) (sym ek) d.cutter;
       unstuffer = subst (λ (x : List ℕ). HasUnstuffed new.unstuffer x) whole u;
+      behind = stays (return_path new.commands.sender) (subst (λ (x : CommandState). IsBehind m.unstuffer.collected (return_path x.sender)) (sym ec) d.behind);
     } in
     record {
       turn = t;
@@ -467,11 +477,12 @@ end_found lines news lines' h e = elim (last_of_lines news) [
 pub data_done_follows : (m new : Machine) (fresh : Unstuffing) (directory : Directory) (c : Conversation) (piece : List ℕ) (used : ℕ) (what : What) (old out : List ℕ) (u : Unstuffing) (o : Outcome)
     → m.commands.stage ≡ stages.Data → StandsFor m c → HasUnstuffed fresh []
     → ((wire : List ℕ) → HasUnstuffed m.unstuffer wire → TellsData (Done o) u wire (take used piece))
+    → ((front : List ℕ) → IsBehind m.unstuffer.collected front → IsBehind u.collected front)
     → u.collected.max ≡ m.setting.max_message
-    → ((lines : List (List ℕ)) → (o ≡ outcomes.Ok → u.collected.bytes ≡ plain lines) → (final : Outcome) × Becomes o final
+    → ((lines : List (List ℕ)) → IsBehind u.collected (return_path m.commands.sender) → (o ≡ outcomes.Ok → u.collected.bytes ≡ plain lines) → (final : Outcome) × Becomes o final
     × Does (record m { unstuffer = fresh }) (on_outcome m.setting m.commands.submitted m.commands.sender m.commands.recipients lines final) new what old out)
     → Follows (StandsFor new) m.setting m.host directory c piece (record { used = used; what = what }) old out new.pending
-data_done_follows m new fresh directory c piece used what old out u o es s ef tells em does =
+data_done_follows m new fresh directory c piece used what old out u o es s ef tells stays em does =
     let d : WithinData m c = within m c es s in
     let bytes : List ℕ = c.unfinished ++ take used piece in
     let n : ℕ = m.commands.submitted in
@@ -487,7 +498,7 @@ data_done_follows m new fresh directory c piece used what old out u o es s ef te
     let f : EndedBy d.lines (wire_lines bytes) p.lines = end_found d.lines (wire_lines bytes) p.lines none_before (sym j.0 ∙ p.wire_is) in
     let lines : List (List ℕ) = d.lines ++ f.front in
     let text : told.0 ≡ plain lines = p.text_is ∙ ap (λ (x : List (List ℕ)). plain x) f.lines_are in
-    let did = does lines (λ e. told.3 e ∙ text) in
+    let did = does lines (stays (return_path sender) d.behind) (λ e. told.3 e ∙ text) in
     let final : Outcome = did.0 in
     let k : Does (record m { unstuffer = fresh }) (on_outcome m.setting n sender recipients lines final) new what old out = did.2 in
     let t : Turn = on_outcome m.setting n sender recipients lines final in

@@ -3,10 +3,11 @@ use Rattle.std.specs.Prelude.{◌≡◌, ℕ, Bool, true, false, ◌<◌, List, 
 use Rattle.line_io.specs.Wire.{IsUncut, joined}
 use Rattle.line_io.specs.Cutting.{Cutter}
 use Rattle.line_io.specs.Cutting.{StandsFor as HasTaken}
-use Rattle.dot_stuffing.specs.Unstuffing.{Unstuffing}
+use Rattle.dot_stuffing.specs.Unstuffing.{IsBehind, Unstuffing}
 use Rattle.dot_stuffing.specs.Unstuffing.{StandsFor as HasUnstuffed}
 use Rattle.lmtp_machine.specs.declared.commands.Stage.{Stage}
 use Rattle.lmtp_machine.specs.declared.commands.Stage.TheVariants as stages
+use Rattle.lmtp_machine.specs.Message.{return_path}
 use Rattle.lmtp_machine.specs.Standing.{CommandState, standing_of}
 use Rattle.lmtp_machine.specs.Dialogue.{Phase, Start, Ready, Transaction, Data, Waiting, Ended, Setting, Submission}
 use Rattle.lmtp_machine.specs.Conversation.{Conversation}
@@ -29,7 +30,7 @@ pub record BetweenLines (m : Machine) (c : Conversation) : Type 0 where
   pub cutter : HasTaken m.cutter c.unfinished
   pub unstuffer : HasUnstuffed m.unstuffer []
 
--- within data, all that has come of it is with the unstuffer, and nothing is with the cutter
+-- within data, all that has come of it is with the unstuffer, behind the line that says who sent it, and nothing is with the cutter
 pub record WithinData (m : Machine) (c : Conversation) : Type 0 where
   pub lines : List (List ℕ)
   pub each : All IsUncut lines
@@ -38,6 +39,7 @@ pub record WithinData (m : Machine) (c : Conversation) : Type 0 where
   pub submitted : c.standing.submitted ≡ m.commands.submitted
   pub cutter : HasTaken m.cutter []
   pub unstuffer : HasUnstuffed m.unstuffer (joined lines ++ c.unfinished)
+  pub behind : IsBehind m.unstuffer.collected (return_path m.commands.sender)
 
 abbrev pub IsHere : Stage → Machine → Conversation → Type 0
 IsHere stages.Data m c = WithinData m c

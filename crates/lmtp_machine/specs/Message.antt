@@ -17,9 +17,13 @@ sender_text Null = []
 sender_text Postmaster = []
 sender_text (To address) = address.local ++ codes "@" ++ address.domain
 
+-- the line that says who sent it (RFC 5321, section 4.4)
+abbrev pub return_path : List ℕ → List ℕ
+return_path sender = codes "Return-Path: <" ++ sender ++ codes ">" ++ crlf
+
 -- what is stored
 abbrev pub stored_text : List ℕ → List (List ℕ) → List ℕ
-stored_text sender lines = codes "Return-Path: <" ++ sender ++ codes ">" ++ crlf ++ plain lines
+stored_text sender lines = return_path sender ++ plain lines
 
 -- What becomes of a message's text, the first that holds: a NUL byte, more bytes than the limit, memory that was refused.
 abbrev pub outcome : ℕ → Bool → List ℕ → Outcome

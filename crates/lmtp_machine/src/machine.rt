@@ -8,16 +8,16 @@ ghost use Rattle.lmtp_machine.specs.Conversation.{Conversation, opened};
 ghost use Rattle.envelope.specs.Directory.{Directory};
 ghost use Rattle.lmtp_machine.specs.Machine.{StandsFor, is_data};
 ghost use Rattle.lmtp_machine.specs.Standing.{IsOpen};
-ghost use Rattle.lmtp_machine.specs.Message.{plain};
+ghost use Rattle.lmtp_machine.specs.Message.{plain, return_path};
+ghost use Rattle.dot_stuffing.specs.Unstuffing.{IsBehind};
 ghost use Rattle.lmtp_machine.specs.Dialogue.{keys_from, on_outcome};
 ghost use Rattle.lmtp_machine.specs.Replies.{wire, IsBrief};
 ghost use Rattle.lmtp_machine.specs.Ending.{Becomes, Does, what_of};
-ghost use Rattle.line_io.specs.Wire.{crlf};
 ghost use Rattle.lmtp_machine.specs.Calls.{Awaits, Follows, Happens, Moves, submission_of};
 
 use crate::commands::{Commands, Stage};
 use crate::connection::{Fed, Limits, Submission, What};
-use crate::message::{keys_of, say_to_each, say_verdicts, text_of};
+use crate::message::{begin_data, keys_of, say_to_each, say_verdicts};
 use crate::reply::{BRIEF_ROOM, NAMED_ROOM, Reply, say, say_any};
 use delivery_token::{Text, Verdict};
 use dot_stuffing::{Outcome, Progress, Unstuffer};
@@ -249,6 +249,7 @@ impl LmtpMachine {
             Found::Line => {
                 self.commands
                     .line(self.cutter.line(), directory, self.host.as_slice(), out);
+                begin_data(&self.commands, &mut self.unstuffer);
             }
         }
         Ok(Fed {
@@ -303,14 +304,14 @@ impl LmtpMachine {
         ensures most { All (λ s. length s.keys ≤ 100) self.new.pending }
         ensures paired { All (λ s. length s.mailboxes ≡ length s.keys) self.new.pending }
         ensures same { (self.new.setting ≡ self.old.setting) × (self.new.host ≡ self.old.host) }
-        ensures does { (lines : List (List ℕ)) → (outcome ≡ Outcome.Ok → ended.collected.bytes ≡ plain lines) → (final : Outcome) × Becomes outcome final
-            × Does self.old (on_outcome self.old.setting self.old.commands.submitted self.old.commands.sender self.old.commands.recipients lines final) self.new result out.old.items out.new.items }
+        ensures does { (lines : List (List ℕ)) → IsBehind ended.collected (return_path self.old.commands.sender) → (outcome ≡ Outcome.Ok → ended.collected.bytes ≡ plain lines)
+            → (final : Outcome) × Becomes outcome final × Does self.old (on_outcome self.old.setting self.old.commands.submitted self.old.commands.sender self.old.commands.recipients lines final) self.new result out.old.items out.new.items }
     {
         match outcome {
             Outcome::Nul => self.fail(Reply::NulByte, out),
             Outcome::TooBig => self.fail(Reply::MessageTooBig, out),
             Outcome::NoMemory => self.fail(Reply::OutOfMemory, out),
-            Outcome::Ok => match self.build(ended.text().as_slice()) {
+            Outcome::Ok => match self.build(ended.text()) {
                 Ok(submission) => {
                     self.submission = Some(submission);
                     self.commands.submit();
@@ -321,15 +322,15 @@ impl LmtpMachine {
         }
     }
 
-    /// Makes the message for the recipients.
+    /// Makes the message of this text for the recipients.
     ///
     /// Errors: `AllocError` where memory for it was refused.
-    fn build(&self, body: &[u8]) -> Result<Submission, AllocError>
+    fn build(&self, text: Vec<u8>) -> Result<Submission, AllocError>
         ensures few { length self.now.commands.recipients ≤ 100 }
         ensures made { IfOk result (λ s. submission_of s ≡ record {
           keys = keys_from self.now.setting self.now.commands.submitted 0 self.now.commands.recipients;
           mailboxes = self.now.commands.recipients;
-          text = codes "Return-Path: <" ++ self.now.commands.sender ++ codes ">" ++ crlf ++ body.now;
+          text = text.items;
         }) }
     {
         let recipients = self.commands.recipients();
@@ -337,7 +338,7 @@ impl LmtpMachine {
         Ok(Submission {
             keys: keys_of(self.alloc, self.seat, self.serial, message, recipients)?,
             mailboxes: Vec::from_slice(self.alloc, recipients)?,
-            text: Text::new(text_of(self.alloc, self.commands.sender(), body)?)?,
+            text: Text::new(text)?,
         })
     }
 

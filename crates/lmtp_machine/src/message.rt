@@ -1,13 +1,16 @@
-//! What a connection makes of a whole message: the keys and the text that are submitted, and a reply to each recipient. When a message
-//! is whole, and what it does to the connection, is for machine.rt.
+//! What a connection makes of a message: what its text begins with, the keys that are submitted, and a reply to each recipient. When a
+//! message begins and is whole, and what it does to the connection, is for machine.rt.
 
-ghost use Rattle.std.specs.Prelude.{◌≡◌, ◌+◌, ◌*◌, ◌++◌, ◌∷◌, [], ◌≤◌, ℕ, codes, length, map, replicate, IfOk, vec_len, vec_capacity};
-ghost use Rattle.line_io.specs.Wire.{crlf};
+ghost use Rattle.std.specs.Prelude.{◌≡◌, ◌+◌, ◌*◌, ◌++◌, [], ◌≤◌, ℕ, length, map, replicate, IfOk, None, vec_len, vec_capacity};
+ghost use Rattle.dot_stuffing.specs.Unstuffing.{IsBehind, StandsFor};
+ghost use Rattle.lmtp_machine.specs.Message.{return_path};
 ghost use Rattle.lmtp_machine.specs.Replies.{wire, IsBrief};
 ghost use Rattle.lmtp_machine.specs.Dialogue.{keys_from, verdict_reply, refusal_reply};
 
+use crate::commands::{Commands, Stage};
 use crate::reply::{Reply, say};
 use delivery_token::{CopyKey, Refusal, Verdict};
+use dot_stuffing::Unstuffer;
 use std::alloc::{AllocError, Global};
 
 /// The keys of a message's copies, one for each recipient.
@@ -35,19 +38,22 @@ pub fn keys_of(
     Ok(keys)
 }
 
-/// The text that is stored: who sent it (RFC 5321, section 4.4), and then the data.
-///
-/// Errors: `AllocError` where memory for it was refused.
-pub fn text_of(alloc: Global, sender: &[u8], body: &[u8]) -> Result<Vec<u8>, AllocError>
-    ensures { IfOk result (λ v. v.items ≡ codes "Return-Path: <" ++ sender.now ++ codes ">" ++ crlf ++ body.now) }
+/// Where DATA was accepted, what comes of the data is to stand behind the line that says who sent it (RFC 5321, section 4.4), and
+/// only there is memory taken for it.
+pub fn begin_data(commands: &Commands, unstuffer: &mut Unstuffer)
+    ensures stays { (commands.now.stage ≡ Stage.Data → ⊥) → unstuffer.new ≡ unstuffer.old }
+    ensures max { unstuffer.new.collected.max ≡ unstuffer.old.collected.max }
+    ensures live { unstuffer.old.outcome ≡ None → unstuffer.new.outcome ≡ None }
+    ensures stands { StandsFor unstuffer.old [] → StandsFor unstuffer.new [] }
+    ensures behind { commands.now.stage ≡ Stage.Data → IsBehind unstuffer.new.collected (return_path commands.now.sender) }
 {
-    let room = body.len().saturating_add(sender.len()).saturating_add(17);
-    let mut text = Vec::with_capacity(alloc, room)?;
-    text.extend_from_slice(b"Return-Path: <")?;
-    text.extend_from_slice(sender)?;
-    text.extend_from_slice(b">\r\n")?;
-    text.extend_from_slice(body)?;
-    Ok(text)
+    if let Stage::Data = commands.stage() {
+        unstuffer.begin_behind(&[
+            b"Return-Path: <".as_slice(),
+            commands.sender(),
+            b">\r\n".as_slice(),
+        ]);
+    }
 }
 
 fn refusal_reply(refusal: Refusal) -> Reply

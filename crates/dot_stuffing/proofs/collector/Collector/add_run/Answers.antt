@@ -1,7 +1,7 @@
-use Rattle.std.proofs.Common.{◌≡◌, ◌∙◌, ℕ, List, ◌++◌, Bool, true, false, ap, sym, refl, inl, inr}
+use Rattle.std.proofs.Common.{◌≡◌, ◌∙◌, ℕ, List, ◌++◌, Bool, true, false, ap, sym, subst, refl, inl, inr}
 use Rattle.std.specs.Prelude.{◌||◌, Contains}
 use Rattle.std.proofs.lemmas.List.Elements.{Contains-append_left, Contains-append_right, Contains-append_cases}
-use Rattle.dot_stuffing.specs.Unstuffing.{Collected, Collects, Keeps}
+use Rattle.dot_stuffing.specs.Unstuffing.{Collected, Collects, IsBehind, Keeps}
 use Rattle.dot_stuffing.proofs.collector.Collector.add_run.Goals as goal
 
 -- NULs of a text, and of bytes behind it
@@ -28,3 +28,6 @@ returns-clause-collects c text s =
     let s' = rw (← c.self.view_is) at s in
     collected c.args.self.now _ c.has_nul.result text c.args.run.now s (c.keep.ensures.nul ∙ ap (λ (x : Collected). x.has_nul || c.has_nul.result) c.self.view_is) c.has_nul.ensures.yes c.has_nul.ensures.no
     (c.keep.ensures.keeps text (record { big = s'.big; not_big = s'.not_big; bytes = s'.bytes }))
+
+pub returns-clause-behind : goal.returns-clause-behind
+returns-clause-behind c front h = c.keep.ensures.behind front (subst (λ (x : Collected). IsBehind x front) (sym c.self.view_is) h)

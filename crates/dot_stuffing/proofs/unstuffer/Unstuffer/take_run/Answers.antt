@@ -1,4 +1,5 @@
-use Rattle.std.proofs.Common.{◌≡◌}
+use Rattle.std.proofs.Common.{◌≡◌, sym, subst}
+use Rattle.dot_stuffing.specs.Unstuffing.{IsBehind, Unstuffing}
 use Rattle.dot_stuffing.proofs.Runs.{place_at_end, stands_run}
 use Rattle.dot_stuffing.specs.declared.place.Place.TheVariants.{Inside}
 use Rattle.dot_stuffing.proofs.unstuffer.Unstuffer.take_run.Goals as goal
@@ -9,3 +10,6 @@ returns-clause-stands c wire s =
     let place : c.self.inside.place ≡ Inside = c.in-Inside.is in
     stands_run _ _ wire c.args.piece.now c.before_dot-len.result s' place (place_at_end _ _ c.place_behind-self-inside.ensures.none c.place_behind-self-inside.ensures.one c.place_behind-self-inside.ensures.more)
     c.before_dot-len.ensures.within c.before_dot-len.ensures.none c.add_run.ensures.collects
+
+pub returns-clause-behind : goal.returns-clause-behind
+returns-clause-behind c front h = c.add_run.ensures.behind front (subst (λ (u : Unstuffing). IsBehind u.collected front) (sym c.self.view_is) h)

@@ -1,11 +1,9 @@
 use Rattle.std.proofs.Common.{◌≡◌, ℕ, ◌+◌, ◌++◌, List, [], ◌∷◌, length, refl, ap, sym, subst, ◌∙◌}
-use Rattle.std.specs.Prelude.{codes}
 use Rattle.std.proofs.Common.{arith, ◌≤◌}
 use Rattle.std.proofs.lemmas.List.Elements.{All-cons, All-nil}
 use Rattle.std.proofs.lemmas.List.{append-nil}
-use Rattle.line_io.specs.Wire.{crlf}
 use Rattle.dot_stuffing.specs.declared.Outcome.TheVariants as outcomes
-use Rattle.lmtp_machine.specs.Message.{plain}
+use Rattle.lmtp_machine.specs.Message.{return_path, stored_text}
 use Rattle.lmtp_machine.specs.Standing.{CommandState, standing_of}
 use Rattle.lmtp_machine.specs.Dialogue.{Waiting, Standing, Submission, keys_from}
 use Rattle.lmtp_machine.specs.Machine.{Machine, IsPending}
@@ -46,10 +44,11 @@ returns-in-Ok-build-clause-paired c =
     All-cons (λ (s : Submission). length s.mailboxes ≡ length s.keys) (submission_of c.in-Ok-build.submission) [] (mailboxes ∙ sym keys) (All-nil (λ (s : Submission). length s.mailboxes ≡ length s.keys))
 
 pub returns-in-Ok-build-clause-does : goal.returns-in-Ok-build-clause-does
-returns-in-Ok-build-clause-does c lines k =
+returns-in-Ok-build-clause-does c lines b k =
     let m : Machine = c.args.self.now in
     let n : ℕ = m.commands.submitted in
-    let text : c.as_slice.result.now ≡ plain lines = c.as_slice.ensures.value ∙ c.text.ensures ∙ k c.in-Ok.is in (
+    let text : c.text.result.items ≡ stored_text m.commands.sender lines =
+    c.text.ensures (return_path m.commands.sender) b ∙ ap (λ (x : List ℕ). return_path m.commands.sender ++ x) (k c.in-Ok.is) in (
       outcomes.Ok,
       so (sym c.in-Ok.is),
       record {
@@ -59,11 +58,11 @@ returns-in-Ok-build-clause-does c lines k =
         standing = ap (λ (x : CommandState). standing_of x) c.submit.ensures
             ∙ ap (λ (x : Machine). let s : Standing = record { phase = Waiting (length x.commands.recipients); submitted = x.commands.submitted + 1 } in s) c.self.view_is;
         pending = ap (λ (x : Submission). x ∷ []) (c.in-Ok-build.ensures.made
-            ∙ ap (λ (b : List ℕ). let x : Submission = record {
+            ∙ ap (λ (x : List ℕ). let s : Submission = record {
               keys = keys_from m.setting n 0 m.commands.recipients;
               mailboxes = m.commands.recipients;
-              text = codes "Return-Path: <" ++ m.commands.sender ++ codes ">" ++ crlf ++ b;
-            } in x) text);
+              text = x;
+            } in s) text);
         said = sym (append-nil c.args.out.now.items);
         tells = record {
           submission = _;

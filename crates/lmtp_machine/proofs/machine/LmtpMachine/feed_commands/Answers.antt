@@ -3,6 +3,8 @@ use Rattle.std.specs.Option.{option_map, option_to_list}
 use Rattle.line_io.specs.Cutting.{Tells}
 use Rattle.line_io.specs.Cutting.{StandsFor as HasTaken}
 use Rattle.line_io.specs.declared.What.{What as Found}
+use Rattle.dot_stuffing.specs.Unstuffing.{IsBehind, Unstuffing}
+use Rattle.dot_stuffing.specs.Unstuffing.{StandsFor as HasUnstuffed}
 use Rattle.lmtp_machine.specs.contracts.machine.LmtpMachine.{the_view}
 use Rattle.lmtp_machine.specs.declared.commands.Stage.{Stage}
 use Rattle.lmtp_machine.specs.declared.machine.LmtpMachine.TheInside.{Inside}
@@ -10,9 +12,10 @@ use Rattle.lmtp_machine.specs.declared.reply.Reply.TheVariants.{LineTooLong}
 use Rattle.lmtp_machine.specs.Replies.{wire}
 use Rattle.lmtp_machine.specs.Standing.{IsOpen}
 use Rattle.lmtp_machine.specs.Machine.{Machine}
+use Rattle.lmtp_machine.specs.Message.{return_path}
 use Rattle.lmtp_machine.specs.Calls.{submission_of}
 use Rattle.lmtp_machine.specs.Ending.{what_of}
-use Rattle.lmtp_machine.proofs.Follow.{line_follows, more_follows, open_pending, long_takes, takes_as, cutter_of}
+use Rattle.lmtp_machine.proofs.Follow.{line_follows, more_follows, no_data_begins, open_pending, long_takes, takes_as, cutter_of}
 use Rattle.lmtp_machine.proofs.machine.LmtpMachine.feed_commands.Goals as goal
 use Rattle.lmtp_machine.proofs.machine.LmtpMachine.feed_commands.Goals.{in-NeedMore, in-TooLong, in-Line}
 
@@ -42,7 +45,8 @@ returns-clause-ok c c' s =
           let cut = subst (λ (x : Found). Tells x c.take-cut.new.self c'.unfinished used) w.in-TooLong.is told in
           let long : 512 < length cut.0 + 2 = subst (λ (x : ℕ). x < length cut.0 + 2) (c.take-cut.ensures.max ∙ c.self.invariant.1) cut.2 in
           line_follows m new c.args.directory.now c' c.args.piece.now c.take-cut.result.used c.what_of.result c.args.out.now.items c.match-cut.out.items cut.0 c.requires s
-          (ap (λ (x : Inside). x.unstuffer) w.self-inside-is ∙ ap (λ (x : Machine). x.unstuffer) c.self.view_is)
+          (λ h. subst (λ (x : Unstuffing). HasUnstuffed x []) (sym (ap (λ (x : Inside). x.unstuffer) w.self-inside-is ∙ ap (λ (x : Machine). x.unstuffer) c.self.view_is)) h)
+          (no_data_begins m new c.requires (ap (λ (x : Inside). x.commands) w.self-inside-is ∙ ap (λ (x : Machine). x.commands) c.self.view_is))
           (subst (λ (x : Inside). HasTaken x.cutter (c'.unfinished ++ used)) (sym w.self-inside-is) taken)
           cut.1
           (long_takes m new c.args.directory.now cut.0 c.args.out.now.items c.match-cut.out.items
@@ -55,7 +59,10 @@ returns-clause-ok c c' s =
           let same : Some w.line.result.now ≡ Some cut.0 = sym w.line.ensures ∙ cut.3 in
           let line_is : w.line.result.now ≡ cut.0 = cc in
           line_follows m new c.args.directory.now c' c.args.piece.now c.take-cut.result.used c.what_of.result c.args.out.now.items c.match-cut.out.items cut.0 c.requires s
-          (ap (λ (x : Inside). x.unstuffer) w.self-inside-is ∙ ap (λ (x : Machine). x.unstuffer) c.self.view_is)
+          (λ h. subst (λ (x : Inside). HasUnstuffed x.unstuffer []) (sym w.self-inside-is)
+          (w.begin_data.ensures.stands (subst (λ (x : Machine). HasUnstuffed x.unstuffer []) (sym c.self.view_is) h)))
+          (λ e. subst (λ (x : Inside). IsBehind x.unstuffer.collected (return_path x.commands.sender)) (sym w.self-inside-is)
+          (w.begin_data.ensures.behind (ap (λ (x : Inside). x.commands.stage) (sym w.self-inside-is) ∙ e)))
           (subst (λ (x : Inside). HasTaken x.cutter (c'.unfinished ++ used)) (sym w.self-inside-is) taken)
           cut.1
           (takes_as c.args.directory.now w.as_slice-in-Line.result.now m.host c.self.inside.commands m.commands w.line-in-Line.new.self new.commands w.line.result.now cut.0
