@@ -1,3 +1,6 @@
+pub mod Crosses
 pub mod LogLaws
+pub mod Memory
 pub mod RangeLaws
+pub mod Sharing
 pub mod WindowLaws

@@ -1,3 +1,4 @@
 pub mod Log
 pub mod Logged
+pub mod Ownership
 pub mod Window
