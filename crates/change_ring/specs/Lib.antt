@@ -1,3 +1,4 @@
+pub mod Filled
 pub mod Log
 pub mod Logged
 pub mod Ownership

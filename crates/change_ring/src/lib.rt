@@ -6,6 +6,7 @@ pub use change::{Change, Flags};
 pub use flag_op::FlagOp;
 pub use ring::{ChangeRing, Lapped, Spent};
 
+mod block;
 mod cells;
 mod change;
 mod flag_op;
