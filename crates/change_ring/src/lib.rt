@@ -11,3 +11,5 @@ mod cells;
 mod change;
 mod flag_op;
 mod ring;
+#[cfg(test)]
+mod tests;

@@ -1,11 +1,15 @@
 //! A ring of the last changes of a log: it drops the oldest, or grows up to its most where they are
 //! still wanted. Who wants them is not told here.
+//!
+//! The ring's changes begin in the place `start` of its block, and go on in the first place: `start` is
+//! the first place until the block is full.
 
 ghost use Rattle.std.specs.Prelude.{◌≡◌, ◌+◌, ◌*◌, ◌^◌, ◌<◌, ◌≤◌, ◌↔◌, [], ◌∷◌, ◌++◌, length, IfOk, OnOk, OnErr, IsSome, is_some, IsErr, option_to_list, min, ◌==◌, ◌⊎◌};
+ghost use Rattle.change_ring.specs.Filled.{around};
 ghost use Rattle.change_ring.specs.Window.{total, changes_from, capacity_after};
 
+use crate::block::Block;
 use crate::change::Change;
-use circular_buffer::HeapCircularBuffer;
 use std::alloc::{AllocError, Global};
 use std::marker::Model;
 
@@ -23,20 +27,22 @@ const LAST: u64 = 1 << 62;
 /// The last changes of a log, each under its number, which counts from 0.
 #[derive(Drop)]
 pub struct ChangeRing {
-    changes: HeapCircularBuffer<Change>,
+    block: Block,
+    start: usize,
     base: u64,
     max: usize,
 }
 
 impl Model for ChangeRing {
-    ghost use Rattle.std.specs.Prelude.{◌+◌, ◌<◌, ◌≤◌, ◌^◌, length};
+    ghost use Rattle.std.specs.Prelude.{◌≡◌, ◌+◌, ◌<◌, ◌≤◌, ◌^◌, length};
+    ghost use Rattle.change_ring.specs.Filled.{around};
     ghost use Rattle.change_ring.specs.Window.{Window};
 
     ghost Value = { Window };
 
-    ghost view = { λ r. record { base = r.base; changes = r.changes.items; capacity = r.changes.capacity; max = r.max } };
+    ghost view = { λ r. record { base = r.base; changes = around r.start r.block.written; capacity = r.block.places; max = r.max } };
 
-    ghost invariant = { λ r. (r.base + length r.changes.items ≤ 2 ^ 62) × (length r.changes.items ≤ r.changes.capacity) × (0 < r.changes.capacity) × (r.changes.capacity ≤ r.max) };
+    ghost invariant = { λ r. (r.base + length r.block.written ≤ 2 ^ 62) × (length r.block.written ≤ r.block.places) × (r.start < r.block.places) × (0 < r.start → length r.block.written ≡ r.block.places) × (r.block.places ≤ r.max) };
 }
 
 impl ChangeRing {
@@ -63,8 +69,13 @@ impl ChangeRing {
         requires small { base ≤ 2 ^ 62 }
         ensures { IfOk result (λ r. r ≡ record { base = base; changes = []; capacity = capacity; max = max }) }
     {
-        let changes = HeapCircularBuffer::with_capacity(alloc, capacity)?;
-        Ok(ChangeRing { changes, base, max })
+        let block = Block::make(alloc, capacity)?;
+        Ok(ChangeRing {
+            block,
+            start: 0,
+            base,
+            max,
+        })
     }
 
     /// The number of the oldest change that is kept.
@@ -79,7 +90,7 @@ impl ChangeRing {
         ensures total { result ≡ total self.now }
         ensures small { result ≤ 2 ^ 62 }
     {
-        self.base + self.changes.len() as u64
+        self.base + self.block.used() as u64
     }
 
     /// How many changes fit now.
@@ -89,7 +100,7 @@ impl ChangeRing {
         ensures most { self.now.capacity ≤ self.now.max }
         ensures some { 0 < self.now.capacity }
     {
-        self.changes.capacity()
+        self.block.places()
     }
 
     /// Logs a change. A full ring overwrites its oldest change and hands it back, unless that is
@@ -124,8 +135,8 @@ impl ChangeRing {
         ensures capacity { (self.new.capacity ≡ self.old.capacity)
             ⊎ ((length self.old.changes ≡ self.old.capacity) × (keep_from ≤ self.old.base) × (self.old.capacity < self.new.capacity) × (self.new.capacity ≡ min (2 * self.old.capacity) self.old.max)) }
     {
-        let held = self.changes.len();
-        let capacity = self.changes.capacity();
+        let held = self.block.used();
+        let capacity = self.block.places();
         if held == capacity && keep_from <= self.base && capacity < self.max {
             self.grow();
         }
@@ -141,28 +152,52 @@ impl ChangeRing {
         ensures full { is_some result ≡ (length self.old.changes == self.old.capacity) }
         ensures within { length self.new.changes ≤ self.new.capacity }
     {
-        let Some(oldest) = self.changes.push_back(change) else {
+        let capacity = self.block.places();
+        if self.block.used() < capacity {
+            self.block.push(change);
             return None;
-        };
+        }
+        let start = self.start;
+        let oldest = self.block.get(start);
+        self.block.set(start, change);
+        self.start = if start + 1 < capacity { start + 1 } else { 0 };
         self.base += 1;
         Some(oldest)
     }
 
-    // Doubles the capacity, up to the most, or leaves it where memory is refused.
+    // Doubles the capacity, up to the most, or leaves it where memory is refused. What begins in the
+    // first place stays where it is in the block.
     fn grow(&mut self)
         requires { self.old.capacity < self.old.max }
         ensures same { self.new ≡ record self.old { capacity = self.new.capacity } }
         ensures capacity { (self.new.capacity ≡ self.old.capacity) ⊎ ((self.old.capacity < self.new.capacity) × (self.new.capacity ≡ min (2 * self.old.capacity) self.old.max)) }
     {
-        let held = self.changes.capacity();
+        let held = self.block.places();
         let capacity = if held <= self.max - held {
             2 * held
         } else {
             self.max
         };
-        let Ok(()) = self.changes.resize(capacity) else {
+        if self.start == 0 {
+            let _ = self.block.grow(capacity);
+        } else {
+            self.lay_anew(capacity);
+        }
+    }
+
+    // Lays the changes into a block of so many places, the oldest into the first, or leaves them where
+    // memory is refused.
+    fn lay_anew(&mut self, capacity: usize)
+        requires more { self.old.capacity < capacity }
+        requires most { capacity ≤ self.old.max }
+        ensures same { self.new ≡ record self.old { capacity = self.new.capacity } }
+        ensures capacity { (self.new.capacity ≡ self.old.capacity) ⊎ (self.new.capacity ≡ capacity) }
+    {
+        let Ok(block) = self.block.laid_from(self.start, capacity) else {
             return;
         };
+        self.block = block;
+        self.start = 0;
     }
 
     /// The changes from number `from` on, in two slices that follow one another. Lapped where the
@@ -176,70 +211,11 @@ impl ChangeRing {
             return Err(Lapped);
         }
         let skipped = (from - self.base) as usize;
-        let (older, newer) = self.changes.as_slices();
+        let (older, newer) = self.block.slices(self.start);
         if skipped <= older.len() {
             Ok((&older[skipped..], newer))
         } else {
             Ok((&newer[skipped - older.len()..], &[]))
         }
-    }
-}
-
-#[cfg(test)]
-mod tests {
-    use super::{ChangeRing, Lapped, Spent};
-    use crate::change::Change;
-    use std::alloc::{AllocError, Global};
-
-    // Adds the messages of UIDs 0 to `count - 1`.
-    fn add(ring: &mut ChangeRing, count: u32) {
-        for uid in 0..count {
-            let _ = ring.push(Change::Add(uid), 0);
-        }
-    }
-
-    #[test]
-    fn a_full_ring_grows_where_all_is_wanted(rt: HostRuntime) -> Result<(), AllocError> {
-        let mut ring = ChangeRing::new(rt.alloc(), 4, 8)?;
-        add(&mut ring, 4);
-        assert_eq!(rt; ring.push(Change::Add(4), 0), Ok(None));
-        assert_eq!(rt; ring.capacity(), 8);
-        assert_eq!(rt; ring.base(), 0);
-        let lent = ring.lend(0).map(|lent| (lent.0.len(), lent.1.len()));
-        assert_eq!(rt; lent, Ok((5, 0)));
-        Ok(())
-    }
-
-    #[test]
-    fn a_full_ring_drops_what_is_not_wanted(rt: HostRuntime) -> Result<(), AllocError> {
-        let mut ring = ChangeRing::new(rt.alloc(), 4, 8)?;
-        add(&mut ring, 4);
-        assert_eq!(rt; ring.push(Change::Add(4), 1), Ok(Some(Change::Add(0))));
-        assert_eq!(rt; ring.capacity(), 4);
-        assert_eq!(rt; ring.base(), 1);
-        Ok(())
-    }
-
-    #[test]
-    fn no_change_follows_the_last_number(rt: HostRuntime) -> Result<(), AllocError> {
-        let mut ring = ChangeRing::starting_at(rt.alloc(), 4_611_686_018_427_387_903, 16, 16)?;
-        assert_eq!(rt; ring.push(Change::Add(1), 0), Ok(None));
-        assert_eq!(rt; ring.push(Change::Add(2), 0), Err(Spent));
-        Ok(())
-    }
-
-    #[test]
-    fn a_ring_that_cannot_grow_overwrites(rt: HostRuntime) -> Result<(), AllocError> {
-        let mut ring = ChangeRing::new(rt.alloc(), 4, 4)?;
-        add(&mut ring, 4);
-        assert_eq!(rt; ring.push(Change::Add(4), 0), Ok(Some(Change::Add(0))));
-        let lent = ring.lend(0).map(|lent| (lent.0.len(), lent.1.len()));
-        assert_eq!(rt; lent, Err(Lapped));
-        assert_eq!(rt; ring.total(), 5);
-        if ring.total() >= 1 {
-            let lent = ring.lend(1).map(|lent| (lent.0.len(), lent.1.len()));
-            assert_eq!(rt; lent, Ok((3, 1)));
-        }
-        Ok(())
     }
 }
