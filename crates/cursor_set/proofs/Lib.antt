@@ -1,6 +1,7 @@
 pub mod GapLaws
 pub mod KnownLaws
 pub mod LeastLaws
+pub mod LeavingLaws
 pub mod LegalLaws
 pub mod Numbers
 pub mod OpenedLemmas

@@ -50,18 +50,13 @@ Rises-without uid [] zs h = h
 Rises-without uid (x ∷ xs) zs h = rises_if (x == uid) xs (x ∷ without uid xs) zs h.1 (all-without (λ y. x < y) uid xs zs h.0, Rises-without uid xs zs h.1)
 
 -- the first part of a rising list
-all-first : (P : ℕ → Type 0) (xs zs : List ℕ) → AllByRecursion P (xs ++ zs) → AllByRecursion P xs
+pub all-first : (P : ℕ → Type 0) (xs zs : List ℕ) → AllByRecursion P (xs ++ zs) → AllByRecursion P xs
 all-first P [] zs h = tt
 all-first P (x ∷ xs) zs h = (h.0, all-first P xs zs h.1)
 
 pub Rises-first : (xs zs : List ℕ) → Rises (xs ++ zs) → Rises xs
 Rises-first [] zs h = tt
 Rises-first (x ∷ xs) zs h = (all-first (λ y. x < y) xs zs h.0, Rises-first xs zs h.1)
-
--- and the last part
-pub Rises-last : (xs zs : List ℕ) → Rises (xs ++ zs) → Rises zs
-Rises-last [] zs h = h
-Rises-last (x ∷ xs) zs h = Rises-last xs zs h.1
 
 -- ---- places
 
@@ -104,7 +99,7 @@ pub remove_place : (uid : ℕ) (view : List ℕ) → remove view (place uid view
 remove_place uid [] = refl
 remove_place uid (u ∷ uids) = remove_step (u == uid) u uids (without uid uids) (place uid uids) (place_pos uid uids) (remove_place uid uids)
 
-not_falling : (view : List ℕ) → IsStrictlyIncreasing view → (i j : ℕ) → i ≤ j → j < length view → get_or view i 0 ≤ get_or view j 0
+pub not_falling : (view : List ℕ) → IsStrictlyIncreasing view → (i j : ℕ) → i ≤ j → j < length view → get_or view i 0 ≤ get_or view j 0
 not_falling view up i j l m = elim (cases_lt i j) [
   | inl low ↦ let less : get_or view i 0 < get_or view j 0 = AllPairs-from_increasing view up i j 0 low m in omega (arith, less)
   | inr high ↦ let same : i ≡ j = omega arith in rw same (omega arith)

@@ -6,5 +6,6 @@ pub use lines::{FLAGS_ROOM, put_flags};
 pub use set::{CursorSeat, CursorSet, FeedFault, NoMemory, Stranger};
 
 mod gap;
+mod leaving;
 mod lines;
 mod set;

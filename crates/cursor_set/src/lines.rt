@@ -1,14 +1,15 @@
 //! The lines that show changes to a client, written in room that was reserved, and what the client
 //! counts after them. Which changes are shown, and to whom, is told in `set`.
 
-ghost use Rattle.std.specs.Prelude.{◌≡◌, ◌+◌, ◌*◌, ◌<◌, ◌≤◌, [], ◌++◌, length, ◌∷◌, not, ◌&&◌, if◌then◌else◌, codes, decimal, vec_len, vec_capacity};
+ghost use Rattle.std.specs.Prelude.{◌≡◌, ◌+◌, ◌*◌, ◌<◌, ◌≤◌, [], ◌++◌, List, length, ◌∷◌, not, ◌&&◌, if◌then◌else◌, codes, decimal, vec_len, vec_capacity};
 ghost use Rattle.std.specs.List.Sorted.{IsStrictlyIncreasing};
-ghost use Rattle.change_ring.specs.Log.{Names, shown, replay};
-ghost use Rattle.cursor_set.specs.Gap.{counted, IsGapOf};
+ghost use Rattle.change_ring.specs.declared.change.Change.{Change};
+ghost use Rattle.change_ring.specs.Log.{Names, added, shown, replay};
+ghost use Rattle.cursor_set.specs.Leaving.{counted, AreIn};
 ghost use Rattle.cursor_set.specs.Legal.{IsLegalOn};
 ghost use Rattle.cursor_set.specs.Lines.{flag_words, spaced, fetch_line, line, lines};
 
-use crate::gap::Gap;
+use crate::leaving::Leaving;
 use change_ring::{Change, Flags};
 use itoa::Buffer;
 
@@ -101,17 +102,17 @@ fn put_fetch(number: usize, uid: u32, flags: Flags, out: &mut Vec<u8>)
 }
 
 // Shows one change: its line, and the view after it.
-#[tactic(auto, using(crate::proofs::Places::remove_place))]
-fn show_change(change: Change, gap: Gap, view: &mut Vec<u32>, out: &mut Vec<u8>) -> Gap
-    requires gap { IsGapOf gap view.old.items }
-    requires there { Names (counted gap view.old.items) change }
-    requires rising { IsStrictlyIncreasing (counted gap view.old.items) }
+fn show_change(change: Change, leaving: &mut Leaving, view: &mut Vec<u32>, out: &mut Vec<u8>)
+    requires gone { AreIn leaving.old.gone.items view.old.items }
+    requires there { Names (counted leaving.old.gone.items view.old.items) change }
+    requires rising { IsStrictlyIncreasing view.old.items }
     requires view_room { vec_len view.old + 1 ≤ vec_capacity view.old }
     requires out_room { vec_len out.old + LINE_ROOM ≤ vec_capacity out.old }
 
-    ensures gap { IsGapOf result view.new.items }
-    ensures view { counted result view.new.items ≡ shown (counted gap view.old.items) change }
-    ensures text { out.new.items ≡ out.old.items ++ line (counted gap view.old.items) change }
+    ensures gone { AreIn leaving.new.gone.items view.new.items }
+    ensures view { counted leaving.new.gone.items view.new.items ≡ shown (counted leaving.old.gone.items view.old.items) change }
+    ensures rising { (later : List Change) → IsStrictlyIncreasing (view.old.items ++ added (change ∷ later)) → IsStrictlyIncreasing (view.new.items ++ added later) }
+    ensures text { out.new.items ≡ out.old.items ++ line (counted leaving.old.gone.items view.old.items) change }
 
     ensures view_len { vec_len view.new ≤ vec_len view.old + 1 }
     ensures view_capacity { vec_capacity view.old ≤ vec_capacity view.new }
@@ -121,24 +122,18 @@ fn show_change(change: Change, gap: Gap, view: &mut Vec<u32>, out: &mut Vec<u8>)
     match change {
         Change::Add(uid) => {
             view.push_reserved(uid);
-            put_numbered(gap.count(view), b" EXISTS\r\n", out);
-            gap
+            put_numbered(leaving.count(view), b" EXISTS\r\n", out);
         }
         Change::Gone(uid) => {
-            let place = gap.place(view, uid);
+            let place = leaving.take_out(view, uid);
             put_numbered(place, b" EXPUNGE\r\n", out);
-            gap.without(view, place - 1)
         }
-        Change::Flags(uid, flags) => {
-            put_fetch(gap.place(view, uid), uid, flags, out);
-            gap
-        }
+        Change::Flags(uid, flags) => put_fetch(leaving.place(view, uid), uid, flags, out),
     }
 }
 
-/// Shows changes: their lines, and the view after them. What is taken out leaves a gap until the
-/// last change was shown, so that the view's tail isn't moved for each.
-#[tactic(auto, using(crate::proofs::LegalLaws::legal_rises, crate::proofs::LegalLaws::legal_step))]
+/// Shows changes: their lines, and the view after them. What is taken out is noted beside the view,
+/// which is closed at the end, so that it isn't moved for each.
 pub fn show_changes(changes: &[Change], view: &mut Vec<u32>, out: &mut Vec<u8>)
     requires legal { IsLegalOn view.old.items changes.now }
     requires view_room { vec_len view.old + length changes.now ≤ vec_capacity view.old }
@@ -152,9 +147,9 @@ pub fn show_changes(changes: &[Change], view: &mut Vec<u32>, out: &mut Vec<u8>)
     ensures out_len { vec_len out.new ≤ vec_len out.old + length changes.now * LINE_ROOM }
     ensures out_capacity { vec_capacity out.old ≤ vec_capacity out.new }
 {
-    let mut gap = Gap::none();
+    let mut leaving = Leaving::new(*view.allocator(), changes);
     for change in changes {
-        gap = show_change(*change, gap, view, out);
+        show_change(*change, &mut leaving, view, out);
     }
-    gap.close(view);
+    leaving.close(view);
 }

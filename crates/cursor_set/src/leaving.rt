@@ -1,0 +1,146 @@
+//! A client's view while messages are taken out of it: the view stays as it is, and beside it the
+//! indices of what is gone are noted, so that removals in any order don't move the view for each.
+//! It is closed over them once they are many, and at the end. Which lines tell of it is told in
+//! `lines`.
+
+ghost use Rattle.std.specs.Prelude.{◌≡◌, ◌≢◌, ℕ, ◌+◌, ◌-◌, ◌<◌, ◌≤◌, [], ◌++◌, List, length, slice_index, remove, All, vec_len, vec_capacity, Contains};
+ghost use Rattle.std.specs.List.Sorted.{IsStrictlyIncreasing};
+ghost use Rattle.change_ring.specs.Log.{without};
+ghost use Rattle.cursor_set.specs.Leaving.{counted, below, AreIn};
+ghost use Rattle.cursor_set.specs.Lines.{place};
+
+use crate::gap::Gap;
+use change_ring::Change;
+use std::alloc::Global;
+
+/// At most so many indices are noted. To note one moves those above it, and to close the view over
+/// them moves the view: of a view of some ten thousands, neither is much for each.
+const MOST: usize = 512;
+
+/// The UIDs of a view that don't count any more: their indices in it, which rise.
+#[derive(Drop)]
+pub struct Leaving {
+    gone: Vec<usize>,
+}
+
+impl Leaving {
+    /// None is gone. There is room to note all removals among these changes but one, as far as memory
+    /// is given: what isn't noted is taken out of the view at once.
+    pub fn new(alloc: Global, changes: &[Change]) -> Leaving
+        ensures { result.gone.items ≡ [] }
+    {
+        let removals = changes
+            .iter()
+            .filter(|change| matches!(change, Change::Gone(_)))
+            .count();
+        let room = removals.saturating_sub(1).min(MOST);
+        match Vec::with_capacity(alloc, room) {
+            Ok(gone) => Leaving { gone },
+            Err(_) => Leaving {
+                gone: Vec::new(alloc),
+            },
+        }
+    }
+
+    /// How many UIDs count.
+    pub fn count(&self, view: &[u32]) -> usize
+        requires { AreIn self.now.gone.items view.now }
+        ensures { result ≡ length (counted self.now.gone.items view.now) }
+    {
+        view.len() - self.gone.len()
+    }
+
+    // How many of those that are gone stand before this index: all, where a run of removals rises.
+    fn below(&self, index: usize) -> usize
+        requires { IsStrictlyIncreasing self.now.gone.items }
+        ensures { result ≡ below index self.now.gone.items }
+    {
+        let Some(last) = self.gone.last() else {
+            return 0;
+        };
+        if *last < index {
+            return self.gone.len();
+        }
+        self.gone.partition_point(|other| *other < index)
+    }
+
+    /// The place of a message among those that count, from 1.
+    pub fn place(&self, view: &[u32], uid: u32) -> usize
+        requires gone { AreIn self.now.gone.items view.now }
+        requires there { Contains (counted self.now.gone.items view.now) uid }
+        requires rising { IsStrictlyIncreasing view.now }
+        ensures { result ≡ place uid (counted self.now.gone.items view.now) }
+    {
+        let index = index_of(view, uid);
+        index - self.below(index) + 1
+    }
+
+    // Takes out the UID at an index of the view, before which so many are gone: notes it, or, where
+    // there is no room, closes the view and then removes it.
+    fn take_out_at(&mut self, view: &mut Vec<u32>, index: usize, before: usize)
+        requires gone { AreIn self.old.gone.items view.old.items }
+        requires index { index < length view.old.items }
+        requires within { index - before < length (counted self.old.gone.items view.old.items) }
+        requires before { before ≡ below index self.old.gone.items }
+        requires counts { All (λ other. other ≢ index) self.old.gone.items }
+        ensures gone { AreIn self.new.gone.items view.new.items }
+        ensures counted { counted self.new.gone.items view.new.items ≡ remove (counted self.old.gone.items view.old.items) (index - before) }
+        ensures rising { (later : List ℕ) → IsStrictlyIncreasing (view.old.items ++ later) → IsStrictlyIncreasing (view.new.items ++ later) }
+        ensures len { vec_len view.new ≤ vec_len view.old }
+        ensures capacity { vec_capacity view.new ≡ vec_capacity view.old }
+    {
+        if self.gone.len() < self.gone.capacity() {
+            let _ = self.gone.insert(before, index);
+            return;
+        }
+        self.close(view);
+        view.remove(index - before);
+    }
+
+    /// Takes out a message, and answers the place that it had.
+    pub fn take_out(&mut self, view: &mut Vec<u32>, uid: u32) -> usize
+        requires gone { AreIn self.old.gone.items view.old.items }
+        requires there { Contains (counted self.old.gone.items view.old.items) uid }
+        requires rising { IsStrictlyIncreasing view.old.items }
+        ensures gone { AreIn self.new.gone.items view.new.items }
+        ensures counted { counted self.new.gone.items view.new.items ≡ without uid (counted self.old.gone.items view.old.items) }
+        ensures rising { (later : List ℕ) → IsStrictlyIncreasing (view.old.items ++ later) → IsStrictlyIncreasing (view.new.items ++ later) }
+        ensures place { result ≡ place uid (counted self.old.gone.items view.old.items) }
+        ensures len { vec_len view.new ≤ vec_len view.old }
+        ensures capacity { vec_capacity view.new ≡ vec_capacity view.old }
+    {
+        let index = index_of(view, uid);
+        let before = self.below(index);
+        self.take_out_at(view, index, before);
+        index - before + 1
+    }
+
+    /// Leaves the UIDs that count, and none that is gone.
+    pub fn close(&mut self, view: &mut Vec<u32>)
+        requires { AreIn self.old.gone.items view.old.items }
+        ensures items { view.new.items ≡ counted self.old.gone.items view.old.items }
+        ensures gone { self.new.gone.items ≡ [] }
+        ensures len { vec_len view.new ≤ vec_len view.old }
+        ensures capacity { vec_capacity view.new ≡ vec_capacity view.old }
+    {
+        let mut gap = Gap::none();
+        for (before, index) in self.gone.iter().enumerate() {
+            gap = gap.without(view, *index - before);
+        }
+        gap.close(view);
+        self.gone.clear();
+    }
+}
+
+// The index of a UID in a view, which rises.
+fn index_of(view: &[u32], uid: u32) -> usize
+    requires there { Contains view.now uid }
+    requires rising { IsStrictlyIncreasing view.now }
+    ensures within { result < length view.now }
+    ensures there { slice_index view.now result ≡ uid }
+{
+    match view.binary_search(&uid) {
+        Ok(index) => index,
+        Err(_) => unreachable!(),
+    }
+}
