@@ -348,6 +348,45 @@ const CASES: &[(&str, Case<'static>)] = &[
             view: &[3, 5],
         },
     ),
+    (
+        "scattered removals, one of what was added meanwhile",
+        Case {
+            room: 16,
+            uids: &[1, 2, 3, 4, 5, 6, 7, 8],
+            changes: &[
+                Change::Gone(5),
+                Change::Gone(2),
+                Change::Gone(8),
+                Change::Add(9),
+                Change::Gone(9),
+                Change::Gone(1),
+            ],
+            limits: &[64],
+            counts: &[6],
+            text: b"* 5 EXPUNGE\r\n* 2 EXPUNGE\r\n* 6 EXPUNGE\r\n* 6 EXISTS\r\n* 6 EXPUNGE\r\n* 1 EXPUNGE\r\n",
+            view: &[3, 4, 6, 7],
+        },
+    ),
+    (
+        "flags among scattered removals",
+        Case {
+            room: 16,
+            uids: &[10, 20, 30, 40, 50, 60],
+            changes: &[
+                Change::Gone(50),
+                Change::Flags(60, NONE),
+                Change::Gone(10),
+                Change::Flags(20, NONE),
+                Change::Gone(30),
+                Change::Flags(60, SEEN),
+                Change::Gone(60),
+            ],
+            limits: &[64],
+            counts: &[7],
+            text: b"* 5 EXPUNGE\r\n* 5 FETCH (UID 60 FLAGS ())\r\n* 1 EXPUNGE\r\n* 1 FETCH (UID 20 FLAGS ())\r\n* 2 EXPUNGE\r\n* 3 FETCH (UID 60 FLAGS (\\Seen))\r\n* 3 EXPUNGE\r\n",
+            view: &[20, 40],
+        },
+    ),
 ];
 
 const FULL: Case<'static> = Case {
@@ -441,6 +480,33 @@ fn half_goes(alloc: Global) -> Result<bool, AllocError> {
 #[test]
 fn every_second_of_a_thousand_is_removed(rt: HostRuntime) -> Result<(), AllocError> {
     assert!(rt; half_goes(rt.alloc())?);
+    Ok(())
+}
+
+// Whether a client that counts a thousand UIDs is told that all behind the first three hundred are removed, the last one first. So each
+// has its UID for its place.
+fn last_ones_go(alloc: Global) -> Result<bool, AllocError> {
+    let uids = numbers(alloc, 1, 1, 1000)?;
+    let mut gone = numbers(alloc, 301, 1, 700)?;
+    gone.reverse();
+    let changes = removals(alloc, &gone)?;
+    let lines = expunges(alloc, &gone)?;
+    let kept = numbers(alloc, 1, 1, 300)?;
+    let case = Case {
+        room: 1000,
+        uids: &uids,
+        changes: &changes,
+        limits: &[1000],
+        counts: &[700],
+        text: lines.as_bytes(),
+        view: &kept,
+    };
+    goes(alloc, case)
+}
+
+#[test]
+fn seven_hundred_are_removed_from_the_last_on(rt: HostRuntime) -> Result<(), AllocError> {
+    assert!(rt; last_ones_go(rt.alloc())?);
     Ok(())
 }
 
