@@ -1,10 +1,8 @@
 //! What is measured of mailboxes: mail for them, what a client asks of all the messages of one, and sessions that come and go.
 
-use crate::play::{large_house, play};
 use crate::mail::{Mail, deliver, message};
-use crate::scripts::{
-    deliveries, odd_fetch, scattered_removals, single_fetches, statuses, visits,
-};
+use crate::play::{large_house, play};
+use crate::scripts::{deliveries, odd_fetch, scattered_removals, single_fetches, statuses, visits};
 use house::House;
 use std::io;
 use std::time::{CpuClock, Duration};

@@ -130,10 +130,7 @@ fn option<'a>(alloc: Global, option: NumberOption) -> Arg<'a> {
         .long(option.name)
         .help(option.help)
         .action(ArgAction::Set)
-        .value_parser(ValueParser::unsigned(
-            option.number.least,
-            option.number.most,
-        ))
+        .value_parser(ValueParser::unsigned(option.number.least, option.number.most))
 }
 
 // A name that may be set. Which names are right is the settings' to say.
