@@ -1,0 +1,153 @@
+#!/usr/bin/env python3
+"""What the pages cite is there: each path of the repository in backquotes, and each name that a table of docs/STANDARDS.md gives behind a path.
+
+    tests/cited.py          the pages below
+    tests/cited.py PAGE ..  other pages; names are looked up on each of them
+
+In the last cell of a row a name belongs to the path before it. Behind a file of specs/ or proofs/ it is a definition, a constructor, a field or
+a worked example of that file; behind one of the code a function, a type, a constant or a variant; behind tests/worked_cases a case with all its
+files. A path may have a star for what differs.
+"""
+
+import glob
+import os
+import re
+import sys
+
+TOP = os.path.dirname(os.path.dirname(os.path.abspath(__file__)))
+
+# The pages that cite, and the one whose rows give names.
+PAGES = ["README.md", "docs/ARCHITECTURE.md", "docs/DECISIONS.md", "docs/PROMISE.md", "docs/SCRIPT.md", "docs/STANDARDS.md"]
+WITH_NAMES = "docs/STANDARDS.md"
+
+CASES = "tests/worked_cases"
+PARTS = ("args", "stdin", "stdout", "status")
+
+QUOTED = re.compile(r"`([^`]+)`")
+A_PATH = re.compile(r"(?:crates|docs|tests|examples|bench|\.ci)/[\w./*-]+")
+# A name that stands for any: there is no such path.
+PLACEHOLDER = re.compile(r"(^|/)[A-Z]+(/|$)")
+
+DECLARED = re.compile(r"\s*(?:pub )?(?:(?:abbrev|unfoldable|data|record) (?:pub )?)([^\s:({]+)")
+MEMBERS = re.compile(r"(?:  )?(?:pub )?([^\W\d][\w ]*?) : ")
+OF_CODE = re.compile(r"^\s*(?:pub(?:\(crate\))? )?(?:fn|struct|enum|trait|type|const|static) (\w+)|^    ([A-Z]\w*)(?:\(.*\),|,| \{)$", re.M)
+
+
+def read(path):
+    with open(os.path.join(TOP, path), encoding="utf-8") as text:
+        return text.read()
+
+
+def defined_in_specs(text):
+    """The names that a file of definitions has."""
+    names = set()
+    for line in text.split("\n"):
+        if line.startswith(("--", "use ")):
+            continue
+        declared = DECLARED.match(line)
+        if declared:
+            names.add(declared.group(1))
+        elif members := MEMBERS.match(line):
+            names.update(members.group(1).split())
+    return names
+
+
+class Names:
+    """Which names a path has. Each file is read once."""
+
+    def __init__(self):
+        self.read = {}
+
+    def of(self, path):
+        if path not in self.read:
+            if path.endswith(".antt"):
+                self.read[path] = defined_in_specs(read(path))
+            else:
+                self.read[path] = {name for pair in OF_CODE.findall(read(path)) for name in pair if name}
+        return self.read[path]
+
+    def lacks(self, path, name):
+        """Why a name isn't one of this path's, or None."""
+        if path == CASES:
+            lacking = [part for part in PARTS if not os.path.exists(os.path.join(TOP, path, f"{name}.{part}"))]
+            return f"has no case {name}" if lacking else None
+        if not path.endswith((".antt", ".rt")):
+            return f"is no file whose names are looked up, as {name} is to be"
+        return None if name in self.of(path) else f"has no {name}"
+
+
+def is_there(path):
+    if "*" in path:
+        return bool(glob.glob(os.path.join(TOP, path)))
+    return os.path.exists(os.path.join(TOP, path))
+
+
+def path_in(quoted):
+    """The path that a quoted text begins with, if it is one of the repository, or None."""
+    found = A_PATH.match(quoted.split(" ")[0])
+    if not found or PLACEHOLDER.search(found.group(0)):
+        return None
+    return found.group(0)
+
+
+def lines_of(page):
+    """The lines of a page with their numbers, without its blocks of code."""
+    inside = False
+    for number, line in enumerate(read(page).split("\n"), 1):
+        if line.startswith("```"):
+            inside = not inside
+        elif not inside and not line.startswith("    "):
+            yield number, line
+
+
+def last_cell(line):
+    """The last cell of a table's row; nothing of another line."""
+    return line.strip().strip("|").split("|")[-1] if line.startswith("|") else ""
+
+
+class Check:
+    def __init__(self):
+        self.names = Names()
+        self.paths = 0
+        self.named = 0
+        self.missing = 0
+
+    def miss(self, page, number, text):
+        self.missing += 1
+        print(f"cited: {page}:{number}: {text}")
+
+    def look_at_paths(self, page, number, line):
+        for path in filter(None, map(path_in, QUOTED.findall(line))):
+            self.paths += 1
+            if not is_there(path):
+                self.miss(page, number, f"there is no {path}")
+
+    def look_at_names(self, page, number, cell):
+        path = None
+        for quoted in QUOTED.findall(cell):
+            if path_in(quoted):
+                path = path_in(quoted).rstrip("/")
+            elif path is None:
+                self.miss(page, number, f"{quoted} stands behind no path")
+            elif is_there(path):
+                self.named += 1
+                if lack := self.names.lacks(path, quoted):
+                    self.miss(page, number, f"{path} {lack}")
+
+    def look_at(self, page, with_names):
+        for number, line in lines_of(page):
+            self.look_at_paths(page, number, line)
+            if with_names:
+                self.look_at_names(page, number, last_cell(line))
+
+
+def main(words):
+    check = Check()
+    for page in words or PAGES:
+        check.look_at(page, bool(words) or page == WITH_NAMES)
+    print(f"{len(words or PAGES)} pages, {check.paths} paths, {check.named} names, {check.missing} missing")
+    return 1 if check.missing else 0
+
+
+if __name__ == "__main__":
+    sys.exit(main(sys.argv[1:]))
