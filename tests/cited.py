@@ -24,7 +24,7 @@ CASES = "tests/worked_cases"
 PARTS = ("args", "stdin", "stdout", "status")
 
 QUOTED = re.compile(r"`([^`]+)`")
-A_PATH = re.compile(r"(?:crates|docs|tests|examples|bench|\.ci)/[\w./*-]+")
+A_PATH = re.compile(r"(?:crates|docs|tests|examples|bench|\.ci)/[\w./*-]*|HANDLES|README\.md|crates\.txt")
 # A name that stands for any: there is no such path.
 PLACEHOLDER = re.compile(r"(^|/)[A-Z]+(/|$)")
 
@@ -84,10 +84,8 @@ def is_there(path):
 
 def path_in(quoted):
     """The path that a quoted text begins with, if it is one of the repository, or None."""
-    found = A_PATH.match(quoted.split(" ")[0])
-    if not found or PLACEHOLDER.search(found.group(0)):
-        return None
-    return found.group(0)
+    first = quoted.split(" ")[0]
+    return first if A_PATH.fullmatch(first) and (first == "HANDLES" or not PLACEHOLDER.search(first)) else None
 
 
 def lines_of(page):
