@@ -120,7 +120,7 @@ fn sized_mail<T: AllocGlobal + CpuClock + Print>(
     let wire = message(rt.alloc(), &USERS, mail)?;
     let mut output = Vec::new(rt.alloc());
     println!(rt;
-        "{times} messages of {} bytes for {} recipients each",
+        "{times} messages, each of {} bytes with its commands, and {} copies",
         wire.len(),
         mail.recipients
     )?;

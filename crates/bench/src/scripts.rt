@@ -104,11 +104,11 @@ fn push_removal(uid: u32, script: &mut Vec<u8>) -> Result<(), AllocError> {
     script.extend_from_slice(b"\n")
 }
 
-/// A session removes so many of the UIDs below a bound, each by commands of its own, in an order in which no two that follow one another are near.
+/// A session removes so many of the UIDs up to a bound, each by commands of its own, in an order in which no two that follow one another are near.
 pub fn scattered_removals(alloc: Global, count: u32, bound: u32) -> Result<Vec<u8>, AllocError> {
     let mut script = Vec::new(alloc);
     for i in 0..count {
-        let scattered = u64::from(i) * STRIDE % u64::from(bound.max(1));
+        let scattered = 1 + u64::from(i) * STRIDE % u64::from(bound.max(1));
         push_removal(scattered as u32, &mut script)?;
     }
     Ok(script)
