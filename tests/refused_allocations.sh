@@ -1,6 +1,6 @@
 #!/bin/sh
 # Worked cases, with each allocation of the program refused in turn: the Nth call of malloc or realloc answers NULL, for N from 1 until a
-# run meets none. Each run must end in one of these ways:
+# run meets none (`refuse.c`). Each run must end in one of these ways:
 # - with status 5, and what was written is a beginning of what the whole run writes;
 # - with status 0, and what was written is that up to a first line `451 4.3.0 Out of memory` of a connection, or `NO Out of memory` under a
 #   tag of a session, behind which the script goes on;
@@ -19,43 +19,6 @@ esac
 room=$(mktemp -d)
 trap 'rm -rf "$room"' EXIT
 
-cat > "$room/refuse.c" << 'C'
-#define _GNU_SOURCE
-#include <dlfcn.h>
-#include <fcntl.h>
-#include <stdlib.h>
-#include <unistd.h>
-
-static long left = -1;
-
-/* whether this call is the one that is refused: then the file that MET_AT names is made */
-static int refuse(void) {
-    if (left < 0) {
-        const char *at = getenv("REFUSE_AT");
-        left = at ? atol(at) : 0;
-    }
-    if (left == 0 || --left > 0)
-        return 0;
-    const char *met = getenv("MET_AT");
-    if (met)
-        close(open(met, O_CREAT | O_WRONLY, 0600));
-    return 1;
-}
-
-void *malloc(size_t size) {
-    static void *(*next)(size_t);
-    if (!next)
-        next = (void *(*)(size_t))dlsym(RTLD_NEXT, "malloc");
-    return refuse() ? NULL : next(size);
-}
-
-void *realloc(void *old, size_t size) {
-    static void *(*next)(void *, size_t);
-    if (!next)
-        next = (void *(*)(void *, size_t))dlsym(RTLD_NEXT, "realloc");
-    return refuse() ? NULL : next(old, size);
-}
-C
 compiler=
 for name in ${CC:-} cc gcc clang; do
     if command -v "$name" > /dev/null; then
@@ -63,7 +26,7 @@ for name in ${CC:-} cc gcc clang; do
         break
     fi
 done
-"${compiler:?there is no C compiler}" -O1 -shared -fPIC -o "$room/refuse.so" "$room/refuse.c" -ldl
+"${compiler:?there is no C compiler}" -O1 -shared -fPIC -o "$room/refuse.so" "$top/tests/refuse.c" -ldl
 
 words='script --depth 2 --ring 16 --messages 8 --uidvalidity 7 alice bob'
 refusal='^(L[1-8] 451 4[.]3[.]0|I[1-8] [^ *]+ NO) Out of memory$'

@@ -40,43 +40,62 @@ def free_ports(count):
     raise RuntimeError(f"there are no {count} free ports in a row")
 
 
-class House:
-    """A server with these users, which listens. `options` are further words of its command line."""
+class DoesNotServe(RuntimeError):
+    """A program that was to serve, and doesn't: its status, what it said of its listeners and what it was to say, and what it wrote to standard error."""
 
-    def __init__(self, program, users, options=()):
+    def __init__(self, house):
+        self.status, self.said, self.announcement, self.faults = house.process.poll(), house.said, house.announcement(), house.faults()
+        super().__init__(f"the program doesn't serve: status {self.status}, {self.faults!r}")
+
+
+class House:
+    """A server with these users, which listens. `options` are further words of its command line, `environment` is what it has of it beside ours."""
+
+    def __init__(self, program, users, options=(), environment=()):
         self.users = list(users)
         for _ in range(5):
-            self._start(program, options)
+            self._start(program, options, environment)
             if self._listens():
                 return
             # Somebody else has taken a port since it was found free.
             if self.process.wait(10) != 4:
                 break
-        raise RuntimeError(f"the program doesn't serve: status {self.process.poll()}, {self.faults()!r}")
+        fault = DoesNotServe(self)
+        self.kill()
+        raise fault
 
-    def _start(self, program, options):
+    def _start(self, program, options, environment):
         self.lmtp_port = free_ports(1 + len(self.users))
         self.imap_ports = [self.lmtp_port + 1 + number for number in range(len(self.users))]
         words = [program, "serve", "--lmtp-port", str(self.lmtp_port), "--imap-port", str(self.imap_ports[0]), *options, *self.users]
         self._faults = tempfile.TemporaryFile()
         self.process = subprocess.Popen(
-            words, stdin=subprocess.PIPE, stdout=subprocess.PIPE, stderr=self._faults, start_new_session=True
+            words,
+            stdin=subprocess.PIPE,
+            stdout=subprocess.PIPE,
+            stderr=self._faults,
+            start_new_session=True,
+            env={**os.environ, **dict(environment)},
         )
         self.pid = self.process.pid
         atexit.register(self.kill)
 
+    def announcement(self):
+        """What it has to say of its listeners, where it was told a UIDVALIDITY."""
+        users = "".join(f"IMAP {ADDRESS}:{port} {user}\n" for port, user in zip(self.imap_ports, self.users))
+        return f"LMTP {ADDRESS}:{self.lmtp_port}\n{users}"
+
     # Whether it said so of each listener.
     def _listens(self):
-        wanted = [f"LMTP {ADDRESS}:{self.lmtp_port}"]
-        wanted += [f"IMAP {ADDRESS}:{port} {user}" for port, user in zip(self.imap_ports, self.users)]
-        said, until = b"", time.monotonic() + 30
-        while said.count(b"\n") < len(wanted) and time.monotonic() < until:
+        wanted = self.announcement().encode()
+        self.said, until = b"", time.monotonic() + 30
+        while self.said.count(b"\n") < wanted.count(b"\n") and time.monotonic() < until:
             if select.select([self.process.stdout], [], [], 0.1)[0]:
                 piece = os.read(self.process.stdout.fileno(), 65536)
                 if not piece:
                     break
-                said += piece
-        return said.decode().splitlines()[: len(wanted)] == wanted
+                self.said += piece
+        return self.said.startswith(wanted)
 
     def connect_lmtp(self):
         """A connection to the port that mail comes to."""

@@ -1,0 +1,295 @@
+"""A server to which one thing is refused that it asks for: an allocation, or a thread."""
+
+import collections
+import contextlib
+import os
+import re
+import shutil
+import subprocess
+import tempfile
+
+from hostile.checks import STRIDE, end
+from serving_house import DoesNotServe, House
+from talks import DELIVERED, FETCH_ALL, RECIPIENT_OK, SENDER_OK, START_INPUT
+from talks import Over, Wrong, data_of, envelope, mail, name_of, opening, read_messages, session, standing
+
+# Each of so many allocations is refused in turn, behind them one of seven, up to this one.
+EACH_REFUSED, MOST_REFUSED = 400, 2000
+
+NO_MEMORY, NO_MEMORY_LINE = b"NO Out of memory", b"451 4.3.0 Out of memory"
+
+
+class Kept:
+    """What a mailbox has to keep: UID and data of each message, and the next UID."""
+
+    def __init__(self):
+        self.rows, self.following = [], 1
+        # Whether the first message was told to go, and what became of that wasn't read.
+        self.is_doubtful = False
+
+    def add(self, data):
+        """A copy stands."""
+        self.rows.append((self.following, data))
+        self.following += 1
+
+    def expect(self, messages):
+        """These stand, and no others."""
+        wanted = [(uid, standing(data)) for uid, data in self.rows]
+        if messages != wanted and self.is_doubtful:
+            del self.rows[0], wanted[0]
+        if messages != wanted:
+            shown = [(uid, name_of(text)) for uid, text in messages]
+            raise Wrong(f"{shown} stand, not {[(uid, name_of(text)) for uid, text in wanted]}, or with other texts")
+        self.is_doubtful = False
+
+
+class Pair:
+    """A mail connection and a session beside it, which say what clients say. Notes what is lost, by a connection's end or in one reply."""
+
+    STEPS = (
+        ("mail", "greet"),
+        ("mail", "bring_two"),
+        ("session", "enter"),
+        ("session", "look"),
+        ("session", "begin_to_idle"),
+        ("mail", "bring_one"),
+        ("session", "be_told"),
+        ("session", "remove_first"),
+        ("session", "leave"),
+        ("mail", "part"),
+    )
+
+    def __init__(self, house, kept):
+        self.house, self.kept = house, kept
+        self.losses, self.gone = [], set()
+        self.is_greeted = False
+
+    def run(self):
+        """Both from the greeting to the end. One that is gone does no more."""
+        for who, step in self.STEPS:
+            if who not in self.gone:
+                try:
+                    getattr(self, step)()
+                except Over as fault:
+                    self.gone.add(who)
+                    self.losses.append(f"a {who} connection, which would {step}: {fault}")
+
+    def greet(self):
+        self.mail = mail(self.house)
+        self.is_greeted = True
+
+    def bring_two(self):
+        self.deliver(f"two-{self.kept.following}", 2)
+
+    def bring_one(self):
+        self.deliver(f"one-{self.kept.following}", 1)
+
+    def deliver(self, name, recipients):
+        """Sends a message of some length to one user, so many times over. A copy that isn't answered doesn't stand."""
+        data = data_of(name, 200)
+        self.mail.say(envelope(["alice"] * recipients) + data + b".\r\n")
+        self.mail.expect(SENDER_OK, *[RECIPIENT_OK] * recipients, START_INPUT)
+        for _ in range(recipients):
+            line = self.mail.line()
+            if line == DELIVERED:
+                self.kept.add(data)
+            elif line == NO_MEMORY_LINE:
+                self.losses.append("a copy, answered 451")
+            else:
+                raise Wrong(f"a copy was answered {line!r}")
+
+    def part(self):
+        self.mail.quit()
+
+    def answer(self, command):
+        """Says a command, and once more where it is refused for memory, and gives what is answered, which is OK."""
+        answer = self.session.ask(command)
+        if answer[1] == NO_MEMORY:
+            self.losses.append(f"{command.split()[0].decode()}, answered NO")
+            answer = self.session.ask(command)
+        if not answer[1].startswith(b"OK "):
+            raise Wrong(f"{command!r} was answered {answer!r}")
+        return answer
+
+    def ask(self, command, *untagged):
+        """Says a command, which is answered with these responses, if it isn't refused for memory."""
+        lost = len(self.losses)
+        answer = self.answer(command)
+        if answer[0] != list(untagged) and len(self.losses) == lost:
+            raise Wrong(f"{command!r} was answered {answer!r}, not with {untagged!r}")
+
+    def enter(self):
+        self.session = session(self.house)
+        self.ask(b"SELECT INBOX", *opening(len(self.kept.rows), self.kept.following))
+
+    def look(self):
+        texts = enumerate(((uid, standing(data)) for uid, data in self.kept.rows), 1)
+        rows = [b"* %d FETCH (UID %d FLAGS () BODY[] {%d}\r\n%s)" % (place, uid, len(text), text) for place, (uid, text) in texts]
+        self.ask(b"UID FETCH 1:* (FLAGS BODY.PEEK[])", *rows)
+        numbers = (len(self.kept.rows), self.kept.following)
+        self.ask(b"STATUS INBOX (MESSAGES UIDNEXT)", b"* STATUS INBOX (MESSAGES %d UIDNEXT %d)" % numbers)
+        self.ask(b'LIST "" *', b'* LIST () "/" INBOX')
+
+    def begin_to_idle(self):
+        self.shown = len(self.kept.rows)
+        self.idle_tag = self.session.start(b"IDLE")
+        if (line := self.session.line()) == self.idle_tag + b" " + NO_MEMORY:
+            self.losses.append("IDLE, answered NO")
+            self.idle_tag = self.session.start(b"IDLE")
+            line = self.session.line()
+        if line != b"+ idling":
+            raise Wrong(f"IDLE was answered {line!r}")
+
+    def be_told(self):
+        """Is told of what came, at the latest when it idles no more."""
+        news = [b"* %d EXISTS" % len(self.kept.rows)] if len(self.kept.rows) > self.shown else []
+        if news and self.session.has_more(1.0):
+            self.session.expect(news.pop())
+        elif news:
+            self.losses.append("a line to one that idles, which came later")
+        self.session.say(b"DONE\r\n")
+        answer = self.session.finish(self.idle_tag)
+        if answer[1] == NO_MEMORY:
+            self.losses.append("DONE, answered NO")
+            answer = (answer[0] + self.answer(b"NOOP")[0], b"OK IDLE completed")
+        if answer != (news, b"OK IDLE completed"):
+            raise Wrong(f"DONE was answered {answer!r}, not with {news!r}")
+
+    def remove_first(self):
+        if self.kept.rows:
+            self.kept.is_doubtful = True
+            told = b"* 1 FETCH (UID %d FLAGS (\\Deleted))" % self.kept.rows[0][0]
+            self.ask(b"UID STORE %d +FLAGS (\\Deleted)" % self.kept.rows[0][0], told, told)
+            self.ask(b"EXPUNGE", b"* 1 EXPUNGE")
+            del self.kept.rows[0]
+            self.kept.is_doubtful = False
+
+    def leave(self):
+        self.ask(b"LOGOUT", b"* BYE Logging out")
+        self.session.expect_end()
+
+
+class Look(Pair):
+    """A session that looks at what stands."""
+
+    STEPS = (("session", "see"),)
+
+    def see(self):
+        self.session = session(self.house)
+        self.answer(b"SELECT INBOX")
+        self.kept.expect(read_messages(*self.answer(FETCH_ALL)))
+        self.leave()
+
+
+class RefusingHouse:
+    """A server to which one thing is refused that it asks for, and the clients that it serves then."""
+
+    # One of each, so that the next client comes where the one before was.
+    OPTIONS = ("--workers", "1", "--sessions", "1", "--depth", "2", "--ring", "16", "--messages", "8", "--uidvalidity", "7")
+    # By what is refused: the status where it can't start, and what it says then.
+    REFUSALS = {"REFUSE_AT": (5, "post_house: out of memory\n"), "SPAWN_AT": (4, "post_house: device fault\n")}
+
+    def __init__(self, program, library, kind, number):
+        self.program, self.kind = program, kind
+        self.met_at = library + ".met"
+        self.environment = {"LD_PRELOAD": library, kind: str(number), "MET_AT": self.met_at}
+        self.house, self.losses, self.kept = None, [], Kept()
+
+    def was_met(self):
+        """Whether it was refused by now."""
+        return os.path.exists(self.met_at)
+
+    def run(self):
+        """A whole life, and what became of the refusal; None where it wasn't met."""
+        with contextlib.suppress(FileNotFoundError):
+            os.unlink(self.met_at)
+        try:
+            self.house = House(self.program, ["alice"], self.OPTIONS, self.environment)
+            return self.serve()
+        except DoesNotServe as fault:
+            return self.not_served(fault)
+        finally:
+            if self.house:
+                self.house.kill()
+
+    def not_served(self, fault):
+        """It ended before it served anybody, and said why."""
+        told = (fault.status, fault.faults)
+        if told != self.REFUSALS[self.kind] or not fault.announcement.startswith(fault.said.decode()) or not self.was_met():
+            raise Wrong(f"it doesn't serve; its status, and what it says: {told}")
+        return "it doesn't start"
+
+    def serve(self):
+        """Clients come, and others where the refusal is met by then; it is stopped."""
+        self.come(Pair)
+        self.come_and_look()
+        if self.was_met():
+            self.come(Pair)
+            self.come_and_look()
+        was_met = self.was_met()
+        end(self.house)
+        if self.losses:
+            return re.sub(r":.*", "", self.losses[0])
+        return ("nothing is lost" if was_met else "it is met at the end") if self.was_met() else None
+
+    def come(self, kind):
+        """Such clients come, and lose one thing at most, of all that come, and nothing where the refusal was met before. Gives what is lost."""
+        was_met = self.was_met()
+        pair = kind(self.house, self.kept)
+        pair.run()
+        if "mail" in pair.gone and not pair.is_greeted and self.has_ended():
+            raise DoesNotServe(self.house)
+        self.losses += pair.losses
+        if pair.losses and (was_met or not self.was_met() or self.losses[1:]):
+            raise Wrong(f"{self.losses} are lost" + (", the last behind the refusal" if was_met else ""))
+        return pair.losses
+
+    def come_and_look(self):
+        """Looks whether the right messages stand."""
+        if self.come(Look):
+            self.come(Look)
+
+    def has_ended(self):
+        """Whether it has ended by itself."""
+        try:
+            return self.house.process.wait(1) is not None
+        except subprocess.TimeoutExpired:
+            return False
+
+
+def build_library(room):
+    """Builds what refuses, and gives its path."""
+    compiler = next(filter(None, map(shutil.which, (os.environ.get("CC") or "cc", "gcc", "clang"))), None)
+    if not compiler:
+        raise Wrong("there is no C compiler")
+    source, library = os.path.join(os.path.dirname(os.path.abspath(__file__)), "refuse.c"), os.path.join(room, "refuse.so")
+    subprocess.run([compiler, "-O1", "-shared", "-fPIC", "-o", library, source, "-ldl"], check=True)
+    return library
+
+
+def refuse_each(tally, program, library, kind, stride):
+    """Lives in which one is refused, one of so many in turn, until a life meets none."""
+    outcomes, number, is_met = collections.Counter(), 1, True
+    while is_met:
+        # Where a case fails it isn't known whether there are more.
+        outcome = "it fails"
+        with tally.case(f"{kind}={number}", 90):
+            outcome = RefusingHouse(program, library, kind, number).run()
+        outcomes[outcome] += 1
+        is_met = outcome is not None and number < MOST_REFUSED
+        number += stride if number < EACH_REFUSED else max(stride, STRIDE)
+    name = {"REFUSE_AT": "allocation", "SPAWN_AT": "thread"}[kind]
+    print(f"memory: in turn one {name} was refused, in {sum(outcomes.values())} lives of a server:")
+    for outcome, count in sorted(outcomes.items(), key=str):
+        print(f"    {count:4} times: {outcome or 'none was met'}")
+
+
+def refuse_memory(tally, program, is_quick):
+    """Each allocation is refused, and each thread."""
+    room = tempfile.mkdtemp()
+    try:
+        library = build_library(room)
+        refuse_each(tally, program, library, "REFUSE_AT", STRIDE if is_quick else 1)
+        refuse_each(tally, program, library, "SPAWN_AT", 1)
+    finally:
+        shutil.rmtree(room)
