@@ -105,6 +105,11 @@ class House:
         """A connection to the port of the user of this number."""
         return connect(self.imap_ports[number])
 
+    def resident(self):
+        """What it has resident, in KB."""
+        with open(f"/proc/{self.pid}/status", encoding="ascii") as lines:
+            return next(int(line.split()[1]) for line in lines if line.startswith("VmRSS:"))
+
     def close_input(self):
         """Ends the program's input, which stops it."""
         self.process.stdin.close()

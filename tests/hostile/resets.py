@@ -1,6 +1,7 @@
 """Connections that are reset in the middle of what they say, and in the middle of what they are told."""
 
 import re
+import socket
 import time
 
 from hostile.checks import ROOM, STRIDE, Copies, end, expect_standing
@@ -117,6 +118,24 @@ class Resets:
         peer.reset()
         self.go_on()
 
+    def half_close(self):
+        """A mail connection and a session that close the side that they write to: what they said before is answered, and then they are let go."""
+        self.number += 1
+        name = f"half-{self.number}"
+        peer = MailTalk(self.house.connect_lmtp())
+        self.copies.send(name, data_of(name))
+        self.copies.settle(name, 1, 1)
+        peer.say(b"LHLO c.example\r\n" + envelope(["alice"]) + data_of(name) + b".\r\nNOO")
+        peer.stream.shutdown(socket.SHUT_WR)
+        peer.expect(*self.DATA_REPLIES)
+        peer.expect_end()
+        peer = session(self.house)
+        peer.say(b"a LIST \"\" *\r\nb IDLE\r\n")
+        peer.stream.shutdown(socket.SHUT_WR)
+        peer.expect(b'* LIST () "/" INBOX', b"a OK LIST completed", b"+ idling")
+        peer.expect_end()
+        self.go_on()
+
     def end(self):
         """What stands is right, and the server ends."""
         count = expect_standing(self.house, self.copies)
@@ -141,5 +160,7 @@ def reset_all(tally, program, is_quick):
             with tally.case(f"resets: a {who} connection, {count} bytes sent, {read} read, {pause} s"):
                 getattr(resets, act)(count, read, pause)
         print(f"resets: {len(plan)} {who} connections were reset, behind up to {sent} bytes sent and {was_read} read")
+    with tally.case("resets: connections that are closed on one side"):
+        resets.half_close()
     with tally.case("resets: what stands, and the end"):
         print(f"resets: {resets.end()} messages stand")

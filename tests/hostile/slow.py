@@ -8,7 +8,7 @@ import time
 
 from hostile.checks import PATIENCE, ROOM, end
 from serving_house import ADDRESS, House
-from talks import DELIVERED, GREETING, PREAUTH, ImapTalk, MailTalk, Wrong, data_of, mail, session
+from talks import DELIVERED, GREETING, PREAUTH, ImapTalk, MailTalk, Wrong, data_of, envelope, mail, session
 
 
 # So many connections to a port.
@@ -16,12 +16,13 @@ CROWD = 200
 
 
 class Crowd:
-    """Connections to one port that keep it busy: by turns one says nothing, one says a byte a second, and one asks without end and never reads."""
+    """Connections to one port that keep it busy: by turns one says nothing, one says a byte a second, one asks without end and never reads, and one says
+    something that never ends."""
 
-    KINDS = ("silent", "byte", "deaf")
+    KINDS = ("silent", "byte", "deaf", "endless")
 
-    def __init__(self, port, talk, question):
-        self.port, self.talk, self.question = port, talk, question
+    def __init__(self, port, talk, question, beginning):
+        self.port, self.talk, self.question, self.beginning = port, talk, question, beginning
         self.peers, self.said_at, self.place = [], 0.0, 0
 
     def add(self, count):
@@ -32,6 +33,8 @@ class Crowd:
             peer.setblocking(False)
             peer.connect_ex((ADDRESS, self.port))
             self.peers.append(peer)
+            if len(self.peers) % len(self.KINDS) == 0:
+                self.send(peer, self.beginning)
 
     def of_kind(self, kind):
         """The peers of a kind."""
@@ -46,6 +49,8 @@ class Crowd:
             self.place += 1
         for peer in self.of_kind("deaf"):
             self.send(peer, self.question)
+        for peer in self.of_kind("endless"):
+            self.send(peer, b"x" * 32768)
 
     def send(self, peer, text):
         """Sends what there is room for."""
@@ -89,12 +94,6 @@ class Crowd:
             peer.close()
 
 
-def memory_of(house):
-    """What the server has resident, in KB."""
-    with open(f"/proc/{house.pid}/status", encoding="ascii") as lines:
-        return next(int(line.split()[1]) for line in lines if line.startswith("VmRSS:"))
-
-
 class Dawdling:
     """A server whose workers but one, and the sessions of whose first user, are kept by a crowd; and clients that come where there is room."""
 
@@ -106,10 +105,10 @@ class Dawdling:
         for number in range(20):
             bringing.deliver(["alice"], data_of(f"{number}", 60))
         bringing.quit()
-        self.at_first = memory_of(self.house)
-        self.mail_crowd = Crowd(self.house.lmtp_port, b"LHLO c.example\r\nNOOP\r\nRSET\r\n" * 9, b"LHLO c.example\r\n" * 2000)
+        self.at_first = self.house.resident()
+        self.mail_crowd = Crowd(self.house.lmtp_port, b"LHLO c.example\r\nNOOP\r\nRSET\r\n" * 9, b"LHLO c.example\r\n" * 2000, b"LHLO c.example\r\n" + envelope(["bob"]))
         question = b"d SELECT INBOX\r\n" + b"d UID FETCH 1:* (BODY.PEEK[])\r\n" * 100
-        self.crowd = Crowd(self.house.imap_ports[0], b"b SELECT INBOX\r\nb IDLE\r\n" * 9, question)
+        self.crowd = Crowd(self.house.imap_ports[0], b"b SELECT INBOX\r\nb IDLE\r\n" * 9, question, b"e NOOP ")
         self.number, self.longest = 0, 0.0
 
     def gather(self):
@@ -170,9 +169,9 @@ def dawdle(program, seconds):
     try:
         dawdling.gather()
         dawdling.go_on(seconds / 4)
-        full = memory_of(dawdling.house)
+        full = dawdling.house.resident()
         dawdling.go_on(seconds * 3 / 4)
-        at_last = memory_of(dawdling.house)
+        at_last = dawdling.house.resident()
         dawdling.expect_waiting()
         for name, crowd in (("mail", dawdling.mail_crowd), ("a user", dawdling.crowd)):
             connected = sum(map(crowd.is_connected, crowd.peers))
