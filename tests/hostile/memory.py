@@ -262,7 +262,7 @@ def build_library(room):
     compiler = next(filter(None, map(shutil.which, (os.environ.get("CC") or "cc", "gcc", "clang"))), None)
     if not compiler:
         raise Wrong("there is no C compiler")
-    source, library = os.path.join(os.path.dirname(os.path.abspath(__file__)), "refuse.c"), os.path.join(room, "refuse.so")
+    source, library = os.path.join(os.path.dirname(__file__), os.pardir, "refuse.c"), os.path.join(room, "refuse.so")
     subprocess.run([compiler, "-O1", "-shared", "-fPIC", "-o", library, source, "-ldl"], check=True)
     return library
 
@@ -288,8 +288,11 @@ def refuse_memory(tally, program, is_quick):
     """Each allocation is refused, and each thread."""
     room = tempfile.mkdtemp()
     try:
-        library = build_library(room)
-        refuse_each(tally, program, library, "REFUSE_AT", STRIDE if is_quick else 1)
-        refuse_each(tally, program, library, "SPAWN_AT", 1)
+        library = None
+        with tally.case("memory: what refuses is built"):
+            library = build_library(room)
+        if library:
+            refuse_each(tally, program, library, "REFUSE_AT", STRIDE if is_quick else 1)
+            refuse_each(tally, program, library, "SPAWN_AT", 1)
     finally:
         shutil.rmtree(room)
