@@ -20,7 +20,9 @@ ends within six seconds, with status 0 and nothing on standard error, and leaves
 """
 
 import argparse
+import os
 import sys
+import threading
 import time
 
 from hostile.checks import Tally
@@ -35,6 +37,22 @@ PARTS = {"memory": refuse_memory, "resets": reset_all, "cuts": cut_all, "slow": 
 BY_NAME = {**PARTS, "patience": be_patient}
 
 
+# So many seconds it may take in all, and as a quick run.
+LIMITS = {False: 3600, True: 600}
+
+
+def limit_time(seconds):
+    """Ends the script where it takes so long, with whatever stands still. Servers end with it, for their input does."""
+
+    def give_up():
+        print(f"FAILED: all of it takes more than {seconds} s", flush=True)
+        os._exit(1)
+
+    timer = threading.Timer(seconds, give_up)
+    timer.daemon = True
+    timer.start()
+
+
 def main():
     reader = argparse.ArgumentParser(description="Serves hostile peers, and where memory is refused.")
     reader.add_argument("program")
@@ -42,6 +60,7 @@ def main():
     reader.add_argument("--quick", action="store_true")
     words = reader.parse_args()
     end_by_exit()
+    limit_time(LIMITS[words.quick])
     tally = Tally()
     for name in [words.part] if words.part else PARTS:
         started = time.monotonic()
