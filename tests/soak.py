@@ -249,7 +249,8 @@ class Mirror(Session):
             return b"NOOP", 0.0
         if not self.plan:
             self.plan = self.make_plan()
-        return self.plan.pop(0)
+        planned = self.plan.pop(0)
+        return planned() if callable(planned) else planned
 
     def make_plan(self):
         """What it does next: commands with the pauses behind them."""
@@ -320,13 +321,14 @@ class Flagger(Mirror):
         return b"UID STORE %s %sFLAGS%s (%s)" % (uids, sign, silent, flags), 0.02
 
     def flag_by_place(self):
-        """Sets a flag of a message by its place."""
-        # The first half was read: what is new comes behind it.
+        """Sets a flag of a message by its place, of those that there are as it is said."""
+        if not self.rows:
+            return b"NOOP", 0.0
         return b"STORE %d +FLAGS (%s)" % (self.chance.randint(1, len(self.rows)), self.chance.choice(FLAGS)), 0.02
 
     def make_plan(self):
         plan = [*self.ask_unknown(), (b"IDLE", self.chance.uniform(0.02, 0.4)), self.flag(), self.flag()]
-        return plan + ([self.flag_by_place()] if self.rows else [])
+        return [*plan, self.flag_by_place]
 
 
 class Remover(Flagger):

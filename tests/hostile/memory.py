@@ -92,14 +92,14 @@ class Pair:
         data = data_of(name, 200)
         self.mail.say(envelope(["alice"] * recipients) + data + b".\r\n")
         self.mail.expect(SENDER_OK, *[RECIPIENT_OK] * recipients, START_INPUT)
-        for _ in range(recipients):
-            line = self.mail.line()
-            if line == DELIVERED:
-                self.kept.add(data)
-            elif line == NO_MEMORY_LINE:
-                self.losses.append("a copy, answered 451")
-            else:
-                raise Wrong(f"a copy was answered {line!r}")
+        lines = [self.mail.line() for _ in range(recipients)]
+        if set(lines) - {DELIVERED, NO_MEMORY_LINE}:
+            raise Wrong(f"a message was answered {lines!r}")
+        for _ in range(lines.count(DELIVERED)):
+            self.kept.add(data)
+        # Memory that is refused for a message is refused for all of its copies.
+        if NO_MEMORY_LINE in lines:
+            self.losses.append(f"of a message to {recipients} {lines.count(NO_MEMORY_LINE)} copies, answered 451")
 
     def part(self):
         """The mail connection's end."""
@@ -227,9 +227,13 @@ class RefusingHouse:
     def not_served(self, fault):
         """It ended before it took any mail, and said why."""
         told = (fault.status, fault.faults)
-        if told != self.REFUSALS[self.kind] or not fault.announcement.startswith(fault.said.decode()) or not self.was_met():
+        refusals = [self.REFUSALS[self.kind]]
+        if fault.said.decode() == fault.announcement:
+            # Where the memory of a thread is refused there is no thread.
+            refusals.append(self.REFUSALS["SPAWN_AT"])
+        if told not in refusals or not fault.announcement.startswith(fault.said.decode()) or not self.was_met():
             raise Wrong(f"it doesn't serve; its status, and what it says: {told}")
-        return "it doesn't start"
+        return f"it doesn't start, and its status is {fault.status}"
 
     def serve(self):
         """Clients come, and others where the refusal is met by then; it is stopped."""
