@@ -252,7 +252,13 @@ class RefusingHouse:
         """Such clients come, and lose one thing at most, of all that come, and nothing where the refusal was met before. Gives what is lost."""
         was_met = self.was_met()
         pair = kind(self.house, self.kept)
-        pair.run()
+        try:
+            pair.run()
+        except Wrong:
+            # One that doesn't start may say so to clients who came early.
+            if self.kept.rows or not self.has_ended():
+                raise
+            raise DoesNotServe(self.house) from None
         if pair.gone and not self.kept.rows and self.has_ended():
             raise DoesNotServe(self.house)
         self.losses += pair.losses
