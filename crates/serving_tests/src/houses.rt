@@ -1,5 +1,7 @@
 //! Servers of tests: settings, ports that are free, what stops one, and what it says of its listeners. What clients do stands in `peers`.
 
+ghost use Rattle.std.specs.Prelude.{◌≡◌, false};
+
 use house::Config;
 use line_io::Sink;
 use loopback::Listening;
