@@ -18,7 +18,7 @@ use crate::client::Client;
 use crate::steps::DeliveryCore;
 use change_ring::{FlagOp, Flags};
 use cursor_set::FeedFault;
-use mailbox::{MailFault, Mailbox, Opening, Row, Status};
+use mailbox::{MailFault, Mailbox, Opening, Row, Status, View};
 
 // A feed's answer, with its fault as one of all calls.
 fn answer_of(fed: Result<usize, FeedFault>) -> Result<usize, MailFault>
@@ -232,13 +232,13 @@ impl DeliveryCore {
     /// The UIDs that a session was shown of its mailbox, in their order, which rise, also where it fell behind
     /// the window. It takes no memory.
     /// Stranger where it has entered no mailbox.
-    pub fn view(&self, session: u8) -> Result<&[u32], MailFault>
+    pub fn view(&self, session: u8) -> Result<View<'_>, MailFault>
         ensures stranger { IsErr result ↔ (client_of self.now session ≡ None) }
         ensures faults { IfErr result (λ fault. fault ≡ MailFault.Stranger) }
-        ensures shown { IfOk result (λ view. view.now ≡ view_of self.now session) }
-        ensures rising { IfOk result (λ view. IsStrictlyIncreasing view.now) }
+        ensures shown { IfOk result (λ view. view ≡ view_of self.now session) }
+        ensures rising { IfOk result (λ view. IsStrictlyIncreasing view) }
         ensures log { IfOk result (λ view. (k : Config) (w : World) → StandsFor k self.now w →
-            Selected w session (λ s. view.now ≡ view_at (w.box s.mailbox).log s.cursor)) }
+            Selected w session (λ s. view ≡ view_at (w.box s.mailbox).log s.cursor)) }
     {
         let place = usize::from(session);
         if place >= self.clients.len() {

@@ -154,6 +154,13 @@ fn moves(alloc: Global, core: &mut DeliveryCore, act: &Act) -> Result<bool, Allo
     }
 }
 
+fn counts(core: &DeliveryCore, session: u8, uids: &[u32]) -> bool {
+    match core.view(session) {
+        Ok(view) => view.uids() == uids,
+        Err(_fault) => false,
+    }
+}
+
 fn reads(
     core: &mut DeliveryCore,
     session: u8,
@@ -186,7 +193,7 @@ fn step(
     match act {
         Act::Enter(session, mailbox, wanted) => Ok(core.enter(*session, *mailbox) == *wanted),
         Act::Enters(session, mailbox) => Ok(core.enter(*session, *mailbox).is_ok()),
-        Act::View(session, uids) => Ok(core.view(*session) == Ok(*uids)),
+        Act::View(session, uids) => Ok(counts(core, *session, uids)),
         Act::IsUpToDate(session, wanted) => Ok(core.is_up_to_date(*session) == *wanted),
         Act::Feed(session, wanted) => Ok(core.feed(*session, 64, out) == *wanted),
         Act::Read(session, uid, mark, wanted) => Ok(reads(core, *session, *uid, *mark) == *wanted),

@@ -112,7 +112,7 @@ fn kept(mailbox: &Mailbox) -> (u64, usize) {
 
 fn counts(mailbox: &Mailbox, seat: &CursorSeat, uids: &[u32]) -> bool {
     match mailbox.view(seat) {
-        Ok(view) => view == uids,
+        Ok(view) => view.uids() == uids,
         Err(_stranger) => false,
     }
 }
@@ -179,7 +179,7 @@ fn step(
 ) -> Result<bool, AllocError> {
     match act {
         Act::View(uids) => Ok(counts(mailbox, seat, uids)),
-        Act::NoView => Ok(mailbox.view(seat) == Err(Stranger)),
+        Act::NoView => Ok(mailbox.view(seat).is_err()),
         Act::Read(uid, mark, wanted) => Ok(reads(mailbox, seat, *uid, *mark) == *wanted),
         Act::Store(uid, op, wanted) => Ok(mailbox.store(seat, *uid, *op) == *wanted),
         Act::StoreEach(every, count, op, wanted) => {

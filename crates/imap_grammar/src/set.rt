@@ -12,6 +12,7 @@ use crate::cut::cut_at;
 use crate::number::number_up_to;
 use crate::ranges::{is_one_too_high, places_in, ranges_in, uids_in};
 use crate::view::{Named, placed};
+use mailbox::View;
 use std::alloc::{AllocError, Global};
 use std::marker::Model;
 
@@ -144,19 +145,23 @@ impl<'a> SeqSet<'a> {
     /// The messages of a view that the set names, each once, in the view's order, with their places. By
     /// place a number is a message's place in the view, counted from 1, and `*` the last place; by UID
     /// what isn't in the view is passed over, and `*` is the view's last UID (RFC 9051, 9: seq-number).
-    /// The view's UIDs rise, as those of each mailbox do: so it costs the set's ranges, what they name, and the
-    /// logarithm of the view's length for each of both.
+    /// A view's UIDs rise, so it costs the set's ranges, what they name, and the logarithm of the view's
+    /// length for each of both.
     ///
     /// Errors, in this order: `TooHigh` exactly where a number by place is above the view's length, or
     /// `*` is said of an empty view; `NoMemory` where memory was refused.
-    pub fn resolve(&self, alloc: Global, view: &[u32], by_uid: bool) -> Result<Vec<Named>, SetFault>
-        requires { IsNonDecreasing view.now }
+    pub fn resolve(
+        &self,
+        alloc: Global,
+        view: &View<'_>,
+        by_uid: bool,
+    ) -> Result<Vec<Named>, SetFault>
         ensures found { IfOk result (λ named. messages_in by_uid self.now view.now ≡ Some named.items) }
         ensures too_high { (result ≡ Err SetFault.TooHigh) ↔ (named_in by_uid self.now view.now ≡ None) }
-        // In a view whose UIDs are all different.
-        ensures rising { IsStrictlyIncreasing view.now → IfOk result (λ named. IsStrictlyIncreasing (map (λ m. m.uid) named.items)) }
+        ensures rising { IfOk result (λ named. IsStrictlyIncreasing (map (λ m. m.uid) named.items)) }
     {
-        let uids = self.uids(alloc, view, by_uid)?;
-        Ok(placed(alloc, &uids, view)?)
+        let shown = view.uids();
+        let uids = self.uids(alloc, shown, by_uid)?;
+        Ok(placed(alloc, &uids, shown)?)
     }
 }

@@ -16,6 +16,7 @@ ghost use Rattle.mailbox.specs.Stands.{Stands, next_of};
 use crate::letters::Letter;
 use crate::logging::log_change;
 use crate::mailbox::Mailbox;
+use crate::shown::View;
 use change_ring::{Change, FlagOp, Flags, Spent};
 use cursor_set::{CursorSeat, FeedFault, NoMemory, Stranger};
 use delivery_token::Text;
@@ -107,12 +108,15 @@ impl Mailbox {
 
     /// The UIDs that a client counts, in their order, which rise: what it was shown of the log.
     /// Stranger where the seat has no cursor here. It takes no memory.
-    pub fn view(&self, seat: &CursorSeat) -> Result<&[u32], Stranger>
+    pub fn view(&self, seat: &CursorSeat) -> Result<View<'_>, Stranger>
         ensures stranger { IsErr result ↔ IsStranger self.now seat.now }
-        ensures shown { IfOk result (λ view. option_map (λ o. o.view) (held self.now.cursors seat.now) ≡ Some view.now) }
-        ensures rising { IfOk result (λ view. IsStrictlyIncreasing view.now) }
+        ensures shown { IfOk result (λ view. option_map (λ o. o.view) (held self.now.cursors seat.now) ≡ Some view) }
+        ensures rising { IfOk result (λ view. IsStrictlyIncreasing view) }
     {
-        self.cursors.view(seat)
+        let Ok(uids) = self.cursors.view(seat) else {
+            return Err(Stranger);
+        };
+        Ok(View::rising(uids))
     }
 
     /// Shows a client its next changes, at most `limit`, as `CursorSet::feed` does: a line for each

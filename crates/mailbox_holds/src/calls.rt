@@ -10,7 +10,7 @@ ghost use Rattle.mailbox_holds.specs.Holds.{Counts, DoesAlter, DoesDeliver, Does
 use change_ring::{FlagOp, Flags};
 use cursor_set::{CursorSeat, FeedFault, NoMemory, Stranger};
 use delivery_token::{Job, Refusal};
-use mailbox::{MailFault, Mailbox, Opening, Receipt, Row, Status, every_mailbox_keeps};
+use mailbox::{MailFault, Mailbox, Opening, Receipt, Row, Status, View, every_mailbox_keeps};
 
 /// Delivers a copy: one change, which adds its message under the next UID (RFC 9051, 2.3.1.1). This
 /// copy alone is added to those that were accepted, and no client's cursor changes: clients are
@@ -52,9 +52,9 @@ pub fn enter(mailbox: &mut Mailbox) -> Result<(CursorSeat, Opening), MailFault>
 /// The UIDs that a client counts, in their order, which rise; it is no event, and takes no memory.
 ///
 /// Stranger where the seat has no cursor here.
-pub fn view<'a>(mailbox: &'a Mailbox, seat: &CursorSeat) -> Result<&'a [u32], Stranger>
-    ensures looks { IfOk result (λ view. DoesLook mailbox.now seat.now (Ok view.now)) }
-    ensures rising { IfOk result (λ view. IsStrictlyIncreasing view.now) }
+pub fn view<'a>(mailbox: &'a Mailbox, seat: &CursorSeat) -> Result<View<'a>, Stranger>
+    ensures looks { IfOk result (λ view. DoesLook mailbox.now seat.now (Ok view)) }
+    ensures rising { IfOk result (λ view. IsStrictlyIncreasing view) }
     ensures stranger { OnErr result (DoesLook mailbox.now seat.now (Err MailFault.Stranger)) }
 {
     every_mailbox_keeps(mailbox);

@@ -37,7 +37,7 @@ impl Store for Desk {
             Err(fault) => return Err(fault),
             Ok(view) => view,
         };
-        match set.resolve(alloc, view, by_uid) {
+        match set.resolve(alloc, &view, by_uid) {
             Err(SetFault::TooHigh) => Ok(None),
             Err(SetFault::NoMemory) => Err(MailFault::NoMemory),
             Ok(messages) => Ok(Some(messages)),

@@ -1,19 +1,19 @@
 //! Sets of messages, by number and by UID, as they name the messages of a view.
 
 use crate::lines::fetch_of;
-use crate::shelf::is_rising;
 use imap_grammar::{Named, SetFault};
+use mailbox::View;
 use std::alloc::Global;
 
 // The messages that the set of a FETCH or UID FETCH names in a view.
-fn resolved(alloc: Global, line: &[u8], view: &[u32]) -> Result<Vec<Named>, SetFault> {
+fn resolved(alloc: Global, line: &[u8], uids: &[u32]) -> Result<Vec<Named>, SetFault> {
     let Some(fetch) = fetch_of(line) else {
         return Err(SetFault::NoMemory);
     };
-    if !is_rising(view) {
+    let Some(view) = View::of(uids) else {
         return Err(SetFault::NoMemory);
-    }
-    fetch.set.resolve(alloc, view, fetch.by_uid)
+    };
+    fetch.set.resolve(alloc, &view, fetch.by_uid)
 }
 
 const VIEW: &[u32] = &[4, 9, 12];
@@ -49,5 +49,15 @@ fn sets_name_no_message_that_is_not_there(rt: HostRuntime) {
         (b"a FETCH * UID", &[]),
     ] {
         assert!(rt; matches!(resolved(rt.alloc(), line, view), Err(SetFault::TooHigh)));
+    }
+}
+
+#[test]
+fn uids_that_do_not_rise_are_no_view(rt: HostRuntime) {
+    for uids in [[9, 4, 12, 4].as_slice(), &[4, 4], &[2, 1]] {
+        assert!(rt; View::of(uids).is_none());
+    }
+    for uids in [[].as_slice(), &[7], VIEW] {
+        assert!(rt; View::of(uids).is_some_and(|view| view.uids() == uids));
     }
 }

@@ -3,7 +3,6 @@
 
 ghost use Rattle.std.specs.Prelude.{◌≡◌, ◌+◌, ◌<◌, ◌≤◌, ◌++◌, codes, decimal, length, OnOk, OnErr, IfErr, IfSome, if◌then◌else◌, vec_len, true};
 ghost use Rattle.std.specs.Io.{StartsWith};
-ghost use Rattle.std.specs.List.Sorted.{IsNonDecreasing};
 ghost use Rattle.std.specs.Vec.{vec_capacity};
 ghost use Rattle.change_ring.specs.Log.{shown};
 ghost use Rattle.cursor_set.specs.Lines.{fetch_line, line, place, spaced, flag_words};
@@ -15,7 +14,7 @@ use delivery_token::Text;
 use imap_grammar::{Named, SeqSet, SetFault};
 use imap_session::Store;
 use itoa::Buffer;
-use mailbox::{MailFault, Opening, Row, Status};
+use mailbox::{MailFault, Opening, Row, Status, View};
 use std::alloc::{AllocError, Global};
 
 /// A message.
@@ -50,13 +49,6 @@ fn place_among(letters: &[Letter], uid: u32) -> Option<usize>
 // The text that has these bytes.
 fn text_of(alloc: Global, bytes: &[u8]) -> Result<Text, AllocError> {
     Text::new(Vec::from_slice(alloc, bytes)?)
-}
-
-/// Whether no UID of a view is below the one before it.
-pub fn is_rising(view: &[u32]) -> bool
-    ensures { result ≡ true → IsNonDecreasing view.now }
-{
-    view.is_sorted()
 }
 
 // The place of a message, counted from 1; one past the last where it isn't there.
@@ -294,11 +286,10 @@ impl Store for Shelf {
         set: &SeqSet<'_>,
         by_uid: bool,
     ) -> Result<Option<Vec<Named>>, MailFault> {
-        let view = self.view.as_slice();
-        if !is_rising(view) {
+        let Some(view) = View::of(&self.view) else {
             return Err(MailFault::Stranger);
-        }
-        match set.resolve(alloc, view, by_uid) {
+        };
+        match set.resolve(alloc, &view, by_uid) {
             Err(SetFault::TooHigh) => Ok(None),
             Err(SetFault::NoMemory) => Err(MailFault::NoMemory),
             Ok(messages) => Ok(Some(messages)),

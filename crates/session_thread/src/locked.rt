@@ -44,7 +44,7 @@ pub(crate) fn choose<R: Wait>(
     let Ok(view) = holds::view(&held, seat) else {
         return Err(MailFault::Stranger);
     };
-    match set.resolve(alloc, view, by_uid) {
+    match set.resolve(alloc, &view, by_uid) {
         Err(SetFault::TooHigh) => Ok(None),
         Err(SetFault::NoMemory) => Err(MailFault::NoMemory),
         Ok(messages) => Ok(Some(messages)),

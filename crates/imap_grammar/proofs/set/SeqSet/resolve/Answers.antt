@@ -2,11 +2,17 @@ use Rattle.std.proofs.Common.{rules, ◌≡◌, ◌∙◌, map, sym, ap, subst}
 use Rattle.std.specs.List.Sorted.{IsStrictlyIncreasing}
 use Rattle.imap_grammar.specs.Sets.{named_at}
 use Rattle.imap_grammar.specs.declared.view.Named.{Named}
-use Rattle.imap_grammar.proofs.Rising.{uids_named}
+use Rattle.imap_grammar.proofs.Rising.{never_falls, uids_named}
 use Rattle.imap_grammar.proofs.set.SeqSet.resolve.Goals as goal
 
+pub uids-requires : goal.uids-requires
+uids-requires c = never_falls c.uids-shown.result.now c.uids-shown.ensures.rising
+
+pub placed-requires : goal.placed-requires
+placed-requires c = never_falls c.uids-shown.result.now c.uids-shown.ensures.rising
+
 pub returns-clause-rising : goal.returns-clause-rising
-returns-clause-rising c = λ h.
-    let view = c.args.view.now in
-    let named : c.in_ok-placed.field-0.items ≡ map (named_at view) c.in_ok-uids.uids.items = search rules in
-    subst IsStrictlyIncreasing (sym (ap (map (λ (m : Named). m.uid)) named ∙ uids_named view c.in_ok-uids.uids.items)) (c.in_ok-uids.ensures.rising h)
+returns-clause-rising c =
+    let shown = c.uids-shown.result.now in
+    let named : c.in_ok-placed.field-0.items ≡ map (named_at shown) c.in_ok-uids.uids.items = search rules in
+    subst IsStrictlyIncreasing (sym (ap (map (λ (m : Named). m.uid)) named ∙ uids_named shown c.in_ok-uids.uids.items)) (c.in_ok-uids.ensures.rising c.uids-shown.ensures.rising)
