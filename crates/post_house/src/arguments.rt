@@ -94,6 +94,24 @@ const SESSIONS: NumberOption = NumberOption {
     number: numbers::SESSIONS,
 };
 
+// What both subcommands may be given.
+const HOUSE_OPTIONS: &[NumberOption] = &[
+    SHARDS,
+    DEPTH,
+    RING,
+    RING_MAX,
+    MESSAGES,
+    MAX_MESSAGE,
+    UIDVALIDITY,
+    FIRST_UID,
+];
+
+// What `serve` may be given besides.
+const SERVER_OPTIONS: &[NumberOption] = &[LMTP_PORT, IMAP_PORT, WORKERS, SESSIONS];
+
+// The program's version, and the logic that its proofs were checked by, as `rt version` names it.
+const VERSION: &str = "0.1.0, proved with logic dac8208d650f15bf";
+
 /// What the words ask for.
 #[derive(Drop)]
 pub enum Asked {
@@ -125,12 +143,41 @@ impl<'a> From<AllocError> for Refused<'a> {
     }
 }
 
-fn option<'a>(alloc: Global, option: NumberOption) -> Arg<'a> {
+// An option that sets a number. Its help says what it is for, how far it may go, and what stands where it
+// is not given.
+fn option<'a>(alloc: Global, option: NumberOption, help: &'a str) -> Arg<'a> {
     Arg::new(alloc, option.name)
         .long(option.name)
-        .help(option.help)
+        .help(help)
         .action(ArgAction::Set)
         .value_parser(ValueParser::unsigned(option.number.least, option.number.most))
+}
+
+// The help of each of these options.
+fn helps_of(alloc: Global, options: &[NumberOption]) -> Result<Vec<String>, AllocError> {
+    let mut helps = Vec::with_capacity(alloc, options.len())?;
+    for option in options {
+        let number = option.number;
+        helps.push_reserved(format!(in alloc;
+            "{}: {} to {}, and {} where it is not given",
+            option.help, number.least, number.most, number.standing
+        )?);
+    }
+    Ok(helps)
+}
+
+// A subcommand with these options besides.
+fn with_options<'a>(
+    alloc: Global,
+    subcommand: Command<'a>,
+    options: &[NumberOption],
+    helps: &'a [String],
+) -> Result<Command<'a>, AllocError> {
+    let mut subcommand = subcommand;
+    for (number, help) in options.iter().zip(helps) {
+        subcommand = subcommand.arg(option(alloc, *number, help))?;
+    }
+    Ok(subcommand)
 }
 
 // A name that may be set. Which names are right is the settings' to say.
@@ -142,53 +189,63 @@ fn name<'a>(alloc: Global, name: &'static str, help: &'static str) -> Arg<'a> {
 }
 
 // A subcommand with what both have: the options of a house, and its mailboxes.
-fn with_house<'a>(alloc: Global, subcommand: Command<'a>) -> Result<Command<'a>, AllocError> {
+fn with_house<'a>(
+    alloc: Global,
+    subcommand: Command<'a>,
+    helps: &'a [String],
+) -> Result<Command<'a>, AllocError> {
     let mailboxes = Arg::new(alloc, "MAILBOX")
         .help("A mailbox, `user` or `user/folder`")
         .action(ArgAction::Append)
         .num_args(1..)
         .required(true);
-    subcommand
-        .arg(name(alloc, "host", "The name that the house greets with"))?
-        .arg(name(alloc, "domain", "The domain that mail comes for"))?
-        .arg(option(alloc, SHARDS))?
-        .arg(option(alloc, DEPTH))?
-        .arg(option(alloc, RING))?
-        .arg(option(alloc, RING_MAX))?
-        .arg(option(alloc, MESSAGES))?
-        .arg(option(alloc, MAX_MESSAGE))?
-        .arg(option(alloc, UIDVALIDITY))?
-        .arg(option(alloc, FIRST_UID))?
-        .arg(mailboxes)
+    let named = subcommand
+        .arg(name(
+            alloc,
+            "host",
+            "The name that the house greets with: mx.example.org where it is not given",
+        ))?
+        .arg(name(
+            alloc,
+            "domain",
+            "The domain that mail comes for: example.org where it is not given",
+        ))?;
+    with_options(alloc, named, HOUSE_OPTIONS, helps)?.arg(mailboxes)
 }
 
 // `script`, with its options and its mailboxes.
-fn script_line<'a>(alloc: Global) -> Result<Command<'a>, AllocError> {
+fn script_line<'a>(alloc: Global, helps: &'a [String]) -> Result<Command<'a>, AllocError> {
     let script = Command::new(alloc, "script").about(
         "Runs a script from standard input on a house of its own",
     );
-    with_house(alloc, script)
+    with_house(alloc, script, helps)
 }
 
 // `serve`, with its options and its mailboxes.
-fn serve_line<'a>(alloc: Global) -> Result<Command<'a>, AllocError> {
+fn serve_line<'a>(
+    alloc: Global,
+    helps: &'a [String],
+    server_helps: &'a [String],
+) -> Result<Command<'a>, AllocError> {
     let serve = Command::new(alloc, "serve").about(
         "Serves on the loopback address until standard input is at its end",
     );
-    with_house(alloc, serve)?
-        .arg(option(alloc, LMTP_PORT))?
-        .arg(option(alloc, IMAP_PORT))?
-        .arg(option(alloc, WORKERS))?
-        .arg(option(alloc, SESSIONS))
+    let housed = with_house(alloc, serve, helps)?;
+    with_options(alloc, housed, SERVER_OPTIONS, server_helps)
 }
 
 // What the program takes: one of two subcommands.
-fn command_line<'a>(alloc: Global) -> Result<Command<'a>, AllocError> {
+fn command_line<'a>(
+    alloc: Global,
+    helps: &'a [String],
+    server_helps: &'a [String],
+) -> Result<Command<'a>, AllocError> {
     Command::new(alloc, "post_house")
         .about("Takes in mail for a few mailboxes")
+        .version(VERSION)
         .subcommand_required(true)
-        .subcommand(script_line(alloc)?)?
-        .subcommand(serve_line(alloc)?)
+        .subcommand(script_line(alloc, helps)?)?
+        .subcommand(serve_line(alloc, helps, server_helps)?)
 }
 
 fn are_digits(text: &str) -> bool {
@@ -360,7 +417,9 @@ fn asked_in<'a>(alloc: Global, matches: &ArgMatches<'a>) -> Result<Asked, Refuse
 pub fn asked_of<'a, S: AsStr>(alloc: Global, words: &'a [S]) -> Result<Asked, Error>
     ensures { IfOk result IsAskedInRange }
 {
-    let mut command = command_line(alloc)?;
+    let helps = helps_of(alloc, HOUSE_OPTIONS)?;
+    let server_helps = helps_of(alloc, SERVER_OPTIONS)?;
+    let mut command = command_line(alloc, &helps, &server_helps)?;
     let matches = command.try_get_matches_from_mut(words)?;
     match asked_in(alloc, &matches) {
         Ok(asked) => Ok(asked),

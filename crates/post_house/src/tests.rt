@@ -161,11 +161,38 @@ fn words_and_options_in_any_order(rt: HostRuntime) {
     }
 }
 
+// Whether this was written, with all of these texts in it, and nothing was said of faults.
+fn tells(ended: &Ended, texts: &[&str]) -> bool {
+    match str::from_utf8(&ended.output) {
+        Ok(output) => ended.faults.is_empty() && texts.iter().all(|text| output.contains(*text)),
+        Err(_) => false,
+    }
+}
+
 #[test]
-fn help_is_no_fault(rt: HostRuntime) {
-    let ended = run_of(&rt, rt.alloc(), &["post_house", "script", "--help"]);
+fn help_tells_ranges_and_what_stands(rt: HostRuntime) {
+    let ended = run_of(&rt, rt.alloc(), &["post_house", "serve", "--help"]);
     assert_eq!(rt; ended.status, 0);
-    assert!(rt; !ended.output.is_empty() && ended.faults.is_empty());
+    assert!(rt;
+        tells(
+            &ended,
+            &[
+                "--shards <shards>",
+                "Shards that keep the mailboxes: 1 to 8, and 1 where it is not given",
+                "1 to 16777216, and 1048576 where it is not given",
+                "--workers <workers>",
+                "1 to 8, and 4 where it is not given",
+                "example.org where it is not given",
+            ]
+        )
+    );
+}
+
+#[test]
+fn a_version_is_told(rt: HostRuntime) {
+    let ended = run_of(&rt, rt.alloc(), &["post_house", "--version"]);
+    assert_eq!(rt; ended.status, 0);
+    assert!(rt; tells(&ended, &["post_house 0.1.0, proved with logic "]));
 }
 
 #[test]
