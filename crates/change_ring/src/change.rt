@@ -10,6 +10,15 @@ pub struct Flags {
     pub draft: bool,
 }
 
+/// None of the flags: what a message has as it is delivered.
+pub const NO_FLAGS: Flags = Flags {
+    answered: false,
+    flagged: false,
+    deleted: false,
+    seen: false,
+    draft: false,
+};
+
 /// One change of a mailbox.
 #[derive(Clone, Copy, Debug, PartialEq, Eq)]
 pub enum Change {

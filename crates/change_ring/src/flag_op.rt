@@ -58,26 +58,22 @@ impl Flags {
 #[cfg(test)]
 mod tests {
     use super::*;
-
-    const NONE: Flags = Flags {
-        answered: false,
-        flagged: false,
-        deleted: false,
-        seen: false,
-        draft: false,
-    };
+    use crate::change::NO_FLAGS;
 
     #[test]
     fn flags_are_set_inserted_and_removed(rt: HostRuntime) {
-        let seen = Flags { seen: true, ..NONE };
+        let seen = Flags {
+            seen: true,
+            ..NO_FLAGS
+        };
         let deleted = Flags {
             deleted: true,
-            ..NONE
+            ..NO_FLAGS
         };
         let both = Flags {
             seen: true,
             deleted: true,
-            ..NONE
+            ..NO_FLAGS
         };
         assert_eq!(rt; FlagOp::Set(deleted).after(seen), deleted);
         assert_eq!(rt; FlagOp::Insert(deleted).after(seen), both);

@@ -2,7 +2,7 @@
 //! No message, no text and no client stands here.
 #![tactic(auto)]
 
-pub use change::{Change, Flags};
+pub use change::{Change, Flags, NO_FLAGS};
 pub use flag_op::FlagOp;
 pub use ring::{ChangeRing, Lapped, Spent};
 

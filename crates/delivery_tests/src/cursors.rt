@@ -10,24 +10,19 @@ ghost use Rattle.change_ring.specs.Window.{total, changes_from};
 ghost use Rattle.cursor_set.specs.Cursors.{Open, held};
 ghost use Rattle.cursor_set.specs.Legal.{IsLegalOn};
 
-use change_ring::{Change, ChangeRing, Flags};
+use change_ring::{Change, ChangeRing, Flags, NO_FLAGS};
 use cursor_set::{CursorSeat, CursorSet, FeedFault};
 use std::alloc::{AllocError, Global};
 use std::fmt::Write;
 
-const NONE: Flags = Flags {
-    answered: false,
-    flagged: false,
-    deleted: false,
-    seen: false,
-    draft: false,
+const SEEN: Flags = Flags {
+    seen: true,
+    ..NO_FLAGS
 };
-
-const SEEN: Flags = Flags { seen: true, ..NONE };
 
 const DELETED: Flags = Flags {
     deleted: true,
-    ..NONE
+    ..NO_FLAGS
 };
 
 const ALL: Flags = Flags {
@@ -298,7 +293,7 @@ const CASES: &[(&str, Case<'static>)] = &[
         Case {
             room: 16,
             uids: &[7],
-            changes: &[Change::Flags(7, ALL), Change::Flags(7, NONE)],
+            changes: &[Change::Flags(7, ALL), Change::Flags(7, NO_FLAGS)],
             limits: &[10],
             counts: &[2],
             text: b"* 1 FETCH (UID 7 FLAGS (\\Answered \\Flagged \\Deleted \\Seen \\Draft))\r\n* 1 FETCH (UID 7 FLAGS ())\r\n",
@@ -336,10 +331,10 @@ const CASES: &[(&str, Case<'static>)] = &[
             changes: &[
                 Change::Gone(2),
                 Change::Gone(4),
-                Change::Flags(5, NONE),
+                Change::Flags(5, NO_FLAGS),
                 Change::Gone(1),
                 Change::Add(9),
-                Change::Flags(3, NONE),
+                Change::Flags(3, NO_FLAGS),
                 Change::Gone(9),
             ],
             limits: &[64],
@@ -374,9 +369,9 @@ const CASES: &[(&str, Case<'static>)] = &[
             uids: &[10, 20, 30, 40, 50, 60],
             changes: &[
                 Change::Gone(50),
-                Change::Flags(60, NONE),
+                Change::Flags(60, NO_FLAGS),
                 Change::Gone(10),
-                Change::Flags(20, NONE),
+                Change::Flags(20, NO_FLAGS),
                 Change::Gone(30),
                 Change::Flags(60, SEEN),
                 Change::Gone(60),

@@ -3,7 +3,7 @@
 
 ghost use Rattle.std.specs.Prelude.{◌<◌};
 
-use change_ring::{FlagOp, Flags};
+use change_ring::{FlagOp, Flags, NO_FLAGS};
 use delivery_core::{DeliveryCore, Fault, Settings};
 use delivery_token::{CopyKey, Noted, Refusal, Text, Verdict};
 use mailbox::{Limits, MailFault, Opening, Status};
@@ -40,19 +40,14 @@ const TWO_SEATS: Settings = Settings {
     ..NO_GROWTH
 };
 
-const NONE: Flags = Flags {
-    answered: false,
-    flagged: false,
-    deleted: false,
-    seen: false,
-    draft: false,
+const SEEN: Flags = Flags {
+    seen: true,
+    ..NO_FLAGS
 };
-
-const SEEN: Flags = Flags { seen: true, ..NONE };
 
 const DELETED: Flags = Flags {
     deleted: true,
-    ..NONE
+    ..NO_FLAGS
 };
 
 const KEY: CopyKey = CopyKey {

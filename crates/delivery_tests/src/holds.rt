@@ -1,27 +1,22 @@
 //! What the calls on a mailbox that is held do, as tables: each line is a call with what it is to
 //! answer. One function owns the mailbox and its client's seat, and lends them to the others.
 
-use change_ring::{FlagOp, Flags};
+use change_ring::{FlagOp, Flags, NO_FLAGS};
 use cursor_set::{CursorSeat, Stranger};
 use delivery_token::{CopyKey, Job, Refusal, Text};
 use mailbox::{History, Limits, MailFault, Mailbox, Opening, Status};
 use mailbox_holds::{alter, count, deliver, enter, expunge, feed, leave, read, view};
 use std::alloc::{AllocError, Global};
 
-const NONE: Flags = Flags {
-    answered: false,
-    flagged: false,
-    deleted: false,
-    seen: false,
-    draft: false,
-};
-
 const DELETED: Flags = Flags {
     deleted: true,
-    ..NONE
+    ..NO_FLAGS
 };
 
-const SEEN: Flags = Flags { seen: true, ..NONE };
+const SEEN: Flags = Flags {
+    seen: true,
+    ..NO_FLAGS
+};
 
 const LIMITS: Limits = Limits {
     messages: 2,
@@ -79,7 +74,7 @@ fn same_uids(counted: &[u32], wanted: &[u32]) -> bool {
 fn counts(mailbox: &Mailbox, seat: &CursorSeat, wanted: Result<&[u32], MailFault>) -> bool {
     match view(mailbox, seat) {
         Ok(counted) => match wanted {
-            Ok(uids) => same_uids(counted, uids),
+            Ok(uids) => same_uids(counted.uids(), uids),
             Err(_fault) => false,
         },
         Err(Stranger) => wanted.err() == Some(MailFault::Stranger),

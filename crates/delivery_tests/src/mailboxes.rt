@@ -3,26 +3,21 @@
 
 ghost use Rattle.std.specs.Prelude.{◌<◌};
 
-use change_ring::{Change, FlagOp, Flags};
+use change_ring::{Change, FlagOp, Flags, NO_FLAGS};
 use cursor_set::{CursorSeat, FeedFault, Stranger};
 use delivery_token::{CopyKey, Job, Refusal, Text};
 use mailbox::{History, Limits, MailFault, Mailbox, Opening, Status, every_mailbox_keeps};
 use std::alloc::{AllocError, Global};
 
-const NONE: Flags = Flags {
-    answered: false,
-    flagged: false,
-    deleted: false,
-    seen: false,
-    draft: false,
-};
-
 const DELETED: Flags = Flags {
     deleted: true,
-    ..NONE
+    ..NO_FLAGS
 };
 
-const SEEN: Flags = Flags { seen: true, ..NONE };
+const SEEN: Flags = Flags {
+    seen: true,
+    ..NO_FLAGS
+};
 
 const BOTH: Flags = Flags {
     deleted: true,
@@ -422,7 +417,7 @@ const FLAGS: &[Act] = &[
     Act::Store(1, FlagOp::Insert(DELETED), Ok(Some(DELETED))),
     // Flags that stay as they are aren't logged.
     Act::Store(1, FlagOp::Set(DELETED), Ok(Some(DELETED))),
-    Act::Store(9, FlagOp::Set(NONE), Ok(None)),
+    Act::Store(9, FlagOp::Set(NO_FLAGS), Ok(None)),
     Act::Feed(Ok(2)),
     Act::Lines(b"* 2 FETCH (UID 2 FLAGS (\\Seen))\r\n* 1 FETCH (UID 1 FLAGS (\\Deleted))\r\n"),
 ];
@@ -450,7 +445,7 @@ const UNKEPT: &[Act] = &[
 const HALF_GOES: &[Act] = &[
     Act::StoreEach(2, 16_384, FlagOp::Insert(DELETED), DELETED),
     Act::Expunge(None, Ok(16_384)),
-    Act::Read(32_767, false, Ok(Some((NONE, false)))),
+    Act::Read(32_767, false, Ok(Some((NO_FLAGS, false)))),
     Act::Read(32_768, false, Ok(None)),
     Act::Deliver(0, b"hi\r\n", Ok((3, 32_769, 32_768))),
     Act::Count(Status {
@@ -525,9 +520,9 @@ fn a_seat_of_another_mailbox_is_a_stranger(rt: HostRuntime) -> Result<(), AllocE
 
 const GROWS: &[Act] = &[
     Act::StoreEach(1, 8, FlagOp::Insert(SEEN), SEEN),
-    Act::StoreEach(1, 8, FlagOp::Remove(SEEN), NONE),
+    Act::StoreEach(1, 8, FlagOp::Remove(SEEN), NO_FLAGS),
     Act::StoreEach(1, 8, FlagOp::Insert(SEEN), SEEN),
-    Act::StoreEach(1, 8, FlagOp::Remove(SEEN), NONE),
+    Act::StoreEach(1, 8, FlagOp::Remove(SEEN), NO_FLAGS),
     // 40 changes, of which both are to be shown the last 32.
     Act::Kept(8, 32),
     Act::Feed(Ok(32)),
@@ -537,7 +532,7 @@ const GROWS: &[Act] = &[
 
 const LAPPED: &[Act] = &[
     Act::Read(1, false, Err(MailFault::Lapped)),
-    Act::Store(1, FlagOp::Set(NONE), Err(MailFault::Lapped)),
+    Act::Store(1, FlagOp::Set(NO_FLAGS), Err(MailFault::Lapped)),
 ];
 
 // Whether two clients are told what their tables say, of whom the second is shown nothing.

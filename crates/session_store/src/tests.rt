@@ -1,7 +1,7 @@
 //! Two sessions of one core, each served in its turn through the trait. The lines are those of RFC 9051, 7.4 and 7.5.
 
 use crate::desk::Desk;
-use change_ring::{FlagOp, Flags};
+use change_ring::{FlagOp, Flags, NO_FLAGS};
 use delivery_core::{DeliveryCore, Settings};
 use delivery_token::{CopyKey, Text};
 use imap_grammar::{Command, Named, SeqSet, read_line};
@@ -24,19 +24,14 @@ const SMALL: Settings = Settings {
     sessions: 2,
 };
 
-const NONE: Flags = Flags {
-    answered: false,
-    flagged: false,
-    deleted: false,
-    seen: false,
-    draft: false,
+const SEEN: Flags = Flags {
+    seen: true,
+    ..NO_FLAGS
 };
-
-const SEEN: Flags = Flags { seen: true, ..NONE };
 
 const DELETED: Flags = Flags {
     deleted: true,
-    ..NONE
+    ..NO_FLAGS
 };
 
 // A copy of "hi" goes the whole way to a mailbox.

@@ -1,23 +1,15 @@
 //! Dialogues with a small store. What is expected are the texts of RFC 9051's forms that specs/Commands.antt of `imap_session` settles.
 
 use crate::shelf::Shelf;
-use change_ring::{Change, Flags};
+use change_ring::{Change, Flags, NO_FLAGS};
 use imap_session::{
     After, Folder, Selected, Session, SessionFault, changes_are_shown_in_place, done_shows_in_place,
 };
 use std::alloc::{AllocError, Global};
 
-const NONE: Flags = Flags {
-    answered: false,
-    flagged: false,
-    deleted: false,
-    seen: false,
-    draft: false,
-};
-
 const DELETED: Flags = Flags {
     deleted: true,
-    ..NONE
+    ..NO_FLAGS
 };
 
 fn session(alloc: Global) -> Result<Session, AllocError> {
@@ -153,7 +145,7 @@ const ENTERED: &[u8] =
 const DIALOGUES: &[Dialogue] = &[
     Dialogue {
         name: "one dialogue",
-        letter: Some(NONE),
+        letter: Some(NO_FLAGS),
         taken: None,
         steps: &[
             GREETING,
@@ -281,7 +273,7 @@ const DIALOGUES: &[Dialogue] = &[
     // A session that missed changes is told so, and ends. The mailbox stays noted as selected.
     Dialogue {
         name: "missed changes end a session",
-        letter: Some(NONE),
+        letter: Some(NO_FLAGS),
         taken: None,
         steps: &[
             GREETING,
@@ -299,7 +291,7 @@ const DIALOGUES: &[Dialogue] = &[
     },
     Dialogue {
         name: "what comes is shown in turns",
-        letter: Some(NONE),
+        letter: Some(NO_FLAGS),
         taken: None,
         steps: &[
             GREETING,
@@ -321,7 +313,7 @@ const DIALOGUES: &[Dialogue] = &[
     },
     Dialogue {
         name: "any other line ends an idle",
-        letter: Some(NONE),
+        letter: Some(NO_FLAGS),
         taken: None,
         steps: &[
             GREETING,
@@ -339,7 +331,7 @@ const DIALOGUES: &[Dialogue] = &[
     },
     Dialogue {
         name: "a session idles without a mailbox",
-        letter: Some(NONE),
+        letter: Some(NO_FLAGS),
         taken: None,
         steps: &[
             GREETING,
@@ -353,7 +345,7 @@ const DIALOGUES: &[Dialogue] = &[
     // A tag of 32 bytes is kept in place, and one of 33 is not.
     Dialogue {
         name: "a session idles with a long tag",
-        letter: Some(NONE),
+        letter: Some(NO_FLAGS),
         taken: None,
         steps: &[
             GREETING,
@@ -366,7 +358,7 @@ const DIALOGUES: &[Dialogue] = &[
     },
     Dialogue {
         name: "missed changes end a session that idles",
-        letter: Some(NONE),
+        letter: Some(NO_FLAGS),
         taken: None,
         steps: &[
             GREETING,

@@ -1,7 +1,7 @@
 //! Commands as lines spell them, and the faults of lines. What is expected is what RFC 9051 says of them, and the choices that the
 //! grammar of `imap_grammar` leaves to this server.
 
-use change_ring::{FlagOp, Flags};
+use change_ring::{FlagOp, Flags, NO_FLAGS};
 use imap_grammar::{Command, Fetch, ImapFault, read_line};
 use std::alloc::{AllocError, Global};
 
@@ -148,20 +148,15 @@ fn change_of(line: &[u8]) -> Option<(FlagOp, bool)> {
     }
 }
 
-const NONE: Flags = Flags {
-    answered: false,
-    flagged: false,
-    deleted: false,
-    seen: false,
-    draft: false,
-};
-
 #[test]
 fn changes_of_flags(rt: HostRuntime) {
-    let seen = Flags { seen: true, ..NONE };
+    let seen = Flags {
+        seen: true,
+        ..NO_FLAGS
+    };
     assert_eq!(rt;
         change_of(b"a STORE 1 FLAGS ()"),
-        Some((FlagOp::Set(NONE), false))
+        Some((FlagOp::Set(NO_FLAGS), false))
     );
     assert_eq!(rt;
         change_of(b"a STORE 1 +flags (\\seen $x)"),
