@@ -1,11 +1,11 @@
 -- Lemmas on a message's place in a view whose UIDs rise.
-use Rattle.std.proofs.Common.{◌≡◌, ℕ, zero, suc, ◌+◌, ◌-◌, ◌<◌, ◌≤◌, Bool, true, false, ◌==◌, List, [], ◌∷◌, ◌++◌, length, get_or, Contains, ap, ◌∙◌, refl, subst, arith, eq-eqb, inl, inr}
+use Rattle.std.proofs.Common.{◌≡◌, ℕ, zero, suc, ◌+◌, ◌-◌, ◌<◌, ◌≤◌, Bool, true, false, ◌==◌, List, [], ◌∷◌, ◌++◌, length, drop, get_or, Contains, ap, ◌∙◌, refl, subst, arith, eq-eqb, inl, inr, length-drop}
 use Rattle.std.specs.Prelude.{remove, if◌then◌else◌, MatchResult, Result, Ok, Err}
 use Rattle.std.specs.List.{AllByRecursion}
 use Rattle.std.specs.Ordering.{nat_cmp}
 use Rattle.std.specs.List.Sorted.{IsStrictlyIncreasing, IsBinarySearchResult}
 use Rattle.std.proofs.lemmas.List.Sorted.{searched}
-use Rattle.std.proofs.lemmas.List.{get_or_default}
+use Rattle.std.proofs.lemmas.List.{get_or-drop, get_or_default}
 use Rattle.std.proofs.lemmas.Bool.{eqb-true, cases_lt}
 use Rattle.std.proofs.lemmas.List.Kept.{AllPairs-from_increasing}
 use Rattle.std.proofs.lemmas.List.Elements.{recursion_from_All}
@@ -116,3 +116,28 @@ searched_at xs uid (Err k) h up = λ there.
       | inl low ↦ let less : get_or xs there.0 0 < uid = gap.1 there.0 low in absurd (omega (arith, less, here))
       | inr high ↦ let more : uid < get_or xs there.0 0 = gap.2 there.0 (omega arith) there.1 in absurd (omega (arith, more, here))
     ]
+
+-- ---- what is left of a view behind an index
+
+module _ (view : List ℕ) (near : ℕ) (up : IsStrictlyIncreasing view) where
+  pub rest_rises : IsStrictlyIncreasing (drop near view)
+  rest_rises k l =
+      let here = get_or-drop near view k 0 in
+      let next : near + (k + 1) ≡ near + k + 1 = omega arith in
+      let behind : get_or (drop near view) (k + 1) 0 ≡ get_or view (near + k + 1) 0 = get_or-drop near view (k + 1) 0 ∙ ap (λ (i : ℕ). get_or view i 0) next in
+      let less : get_or view (near + k) 0 < get_or view (near + k + 1) 0 = up (near + k) (omega (arith, l, length-drop near view)) in
+      omega (arith, here, behind, less)
+
+  -- a UID stands there unless it is less than the one at the index
+  pub in_rest : (uid : ℕ) → near < length view → get_or view near 0 ≤ uid → Contains view uid → Contains (drop near view) uid
+  in_rest uid within high there =
+      let here : get_or view there.0 0 ≡ uid = get_or_default view there.0 0 uid there.1 ∙ there.2 in
+      elim (cases_lt there.0 near) [
+        | inl low ↦ let less : get_or view there.0 0 < get_or view near 0 = AllPairs-from_increasing view up there.0 near 0 low within in absurd (omega (arith, less, here, high))
+        | inr from ↦
+            let at : near + (there.0 - near) ≡ there.0 = omega (arith, from) in (
+              there.0 - near,
+              omega (arith, there.1, from, length-drop near view),
+              get_or-drop near view (there.0 - near) uid ∙ ap (λ (i : ℕ). get_or view i uid) at ∙ there.2,
+            )
+      ]

@@ -17,10 +17,12 @@ use std::alloc::Global;
 /// them moves the view: of a view of some ten thousands, neither is much for each.
 const MOST: usize = 512;
 
-/// The UIDs of a view that don't count any more: their indices in it, which rise.
+/// The UIDs of a view that don't count any more: their indices in it, which rise. Beside them stands
+/// the index that was looked up last, a hint for the next: it may be any number.
 #[derive(Drop)]
 pub struct Leaving {
     gone: Vec<usize>,
+    last: usize,
 }
 
 impl Leaving {
@@ -35,9 +37,10 @@ impl Leaving {
             .count();
         let room = removals.saturating_sub(1).min(MOST);
         match Vec::with_capacity(alloc, room) {
-            Ok(gone) => Leaving { gone },
+            Ok(gone) => Leaving { gone, last: 0 },
             Err(_) => Leaving {
                 gone: Vec::new(alloc),
+                last: 0,
             },
         }
     }
@@ -65,13 +68,15 @@ impl Leaving {
     }
 
     /// The place of a message among those that count, from 1.
-    pub fn place(&self, view: &[u32], uid: u32) -> usize
-        requires gone { AreIn self.now.gone.items view.now }
-        requires there { Contains (counted self.now.gone.items view.now) uid }
+    pub fn place(&mut self, view: &[u32], uid: u32) -> usize
+        requires gone { AreIn self.old.gone.items view.now }
+        requires there { Contains (counted self.old.gone.items view.now) uid }
         requires rising { IsStrictlyIncreasing view.now }
-        ensures { result ≡ place uid (counted self.now.gone.items view.now) }
+        ensures gone { self.new.gone.items ≡ self.old.gone.items }
+        ensures place { result ≡ place uid (counted self.old.gone.items view.now) }
     {
-        let index = index_of(view, uid);
+        let index = index_near(view, uid, self.last);
+        self.last = index;
         index - self.below(index) + 1
     }
 
@@ -109,7 +114,8 @@ impl Leaving {
         ensures len { vec_len view.new ≤ vec_len view.old }
         ensures capacity { vec_capacity view.new ≡ vec_capacity view.old }
     {
-        let index = index_of(view, uid);
+        let index = index_near(view, uid, self.last);
+        self.last = index;
         let before = self.below(index);
         self.take_out_at(view, index, before);
         index - before + 1
@@ -130,6 +136,21 @@ impl Leaving {
         gap.close(view);
         self.gone.clear();
     }
+}
+
+// The index of a UID in a view, which rises. Where it doesn't stand before the index `near`, only
+// what is from there on is searched. So, where UIDs that rise are looked up one after another, each
+// stands at the front of what is searched, and the searches all take the same turns.
+fn index_near(view: &[u32], uid: u32, near: usize) -> usize
+    requires there { Contains view.now uid }
+    requires rising { IsStrictlyIncreasing view.now }
+    ensures within { result < length view.now }
+    ensures there { slice_index view.now result ≡ uid }
+{
+    if near < view.len() && view[near] <= uid {
+        return near + index_of(&view[near..], uid);
+    }
+    index_of(view, uid)
 }
 
 // The index of a UID in a view, which rises.

@@ -12,34 +12,34 @@ found_in : (gone view xs : List ℕ) (uid i : ℕ) → xs ≡ view → AreIn gon
 found_in gone view xs uid i same h up there within at =
     found gone view uid h up there i (subst (λ (ys : List ℕ). i < length ys) same within) (subst (λ (ys : List ℕ). get_or ys i 0 ≡ uid) same at)
 
-pub index_of-index-requires-clause-there : goal.index_of-index-requires-clause-there
-index_of-index-requires-clause-there c =
+pub index_near-index-requires-clause-there : goal.index_near-index-requires-clause-there
+index_near-index-requires-clause-there c =
     subst (λ (xs : List ℕ). Contains xs c.args.uid) (sym c.deref.ensures.value)
     (in_view c.args.self.now.gone.items c.args.view.now.items c.args.uid c.requires.gone c.requires.rising c.requires.there)
 
 pub take_out_at-requires-clause-within : goal.take_out_at-requires-clause-within
 take_out_at-requires-clause-within c =
-    let f = found_in c.args.self.now.gone.items c.args.view.now.items c.deref.result.now c.args.uid c.index_of-index.result c.deref.ensures.value c.requires.gone c.requires.rising c.requires.there c.index_of-index.ensures.within c.index_of-index.ensures.there in
+    let f = found_in c.args.self.now.gone.items c.args.view.now.items c.deref.result.now c.args.uid c.index_near-index.result c.deref.ensures.value c.requires.gone c.requires.rising c.requires.there c.index_near-index.ensures.within c.index_near-index.ensures.there in
     omega (arith, f.within, c.below-before.ensures)
 
 pub take_out_at-requires-clause-counts : goal.take_out_at-requires-clause-counts
 take_out_at-requires-clause-counts c =
-    let f = found_in c.args.self.now.gone.items c.args.view.now.items c.deref.result.now c.args.uid c.index_of-index.result c.deref.ensures.value c.requires.gone c.requires.rising c.requires.there c.index_of-index.ensures.within c.index_of-index.ensures.there in
+    let f = found_in c.args.self.now.gone.items c.args.view.now.items c.deref.result.now c.args.uid c.index_near-index.result c.deref.ensures.value c.requires.gone c.requires.rising c.requires.there c.index_near-index.ensures.within c.index_near-index.ensures.there in
     f.others
 
 pub overflow_sub-result : goal.overflow_sub-result
 overflow_sub-result c =
-    let f = found_in c.args.self.now.gone.items c.args.view.now.items c.deref.result.now c.args.uid c.index_of-index.result c.deref.ensures.value c.requires.gone c.requires.rising c.requires.there c.index_of-index.ensures.within c.index_of-index.ensures.there in
+    let f = found_in c.args.self.now.gone.items c.args.view.now.items c.deref.result.now c.args.uid c.index_near-index.result c.deref.ensures.value c.requires.gone c.requires.rising c.requires.there c.index_near-index.ensures.within c.index_near-index.ensures.there in
     omega (arith, f.low, c.below-before.ensures)
 
 pub returns-clause-counted : goal.returns-clause-counted
 returns-clause-counted c =
-    let f = found_in c.args.self.now.gone.items c.args.view.now.items c.deref.result.now c.args.uid c.index_of-index.result c.deref.ensures.value c.requires.gone c.requires.rising c.requires.there c.index_of-index.ensures.within c.index_of-index.ensures.there in
+    let f = found_in c.args.self.now.gone.items c.args.view.now.items c.deref.result.now c.args.uid c.index_near-index.result c.deref.ensures.value c.requires.gone c.requires.rising c.requires.there c.index_near-index.ensures.within c.index_near-index.ensures.there in
     let left = counted c.args.self.now.gone.items c.args.view.now.items in
-    let at : c.index_of-index.result - c.below-before.result ≡ place c.args.uid left - 1 = omega (arith, f.place, c.below-before.ensures) in
+    let at : c.index_near-index.result - c.below-before.result ≡ place c.args.uid left - 1 = omega (arith, f.place, c.below-before.ensures) in
     c.take_out_at.ensures.counted ∙ ap (remove left) at ∙ remove_place c.args.uid left
 
 pub returns-clause-place : goal.returns-clause-place
 returns-clause-place c =
-    let f = found_in c.args.self.now.gone.items c.args.view.now.items c.deref.result.now c.args.uid c.index_of-index.result c.deref.ensures.value c.requires.gone c.requires.rising c.requires.there c.index_of-index.ensures.within c.index_of-index.ensures.there in
-    ap (λ (n : ℕ). c.index_of-index.result - n + 1) c.below-before.ensures ∙ f.place
+    let f = found_in c.args.self.now.gone.items c.args.view.now.items c.deref.result.now c.args.uid c.index_near-index.result c.deref.ensures.value c.requires.gone c.requires.rising c.requires.there c.index_near-index.ensures.within c.index_near-index.ensures.there in
+    ap (λ (n : ℕ). c.index_near-index.result - n + 1) c.below-before.ensures ∙ f.place
