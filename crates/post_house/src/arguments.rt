@@ -155,13 +155,17 @@ fn option<'a>(alloc: Global, option: NumberOption, help: &'a str) -> Arg<'a> {
 
 // The help of each of these options.
 fn helps_of(alloc: Global, options: &[NumberOption]) -> Result<Vec<String>, AllocError> {
-    let mut helps = Vec::with_capacity(alloc, options.len())?;
+    let mut helps = Vec::new(alloc);
     for option in options {
         let number = option.number;
-        helps.push_reserved(format!(in alloc;
+        let help = format!(in alloc;
             "{}: {} to {}, and {} where it is not given",
-            option.help, number.least, number.most, number.standing
-        )?);
+            option.help,
+            number.least,
+            number.most,
+            number.standing
+        )?;
+        helps.push(help)?;
     }
     Ok(helps)
 }
