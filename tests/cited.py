@@ -1,5 +1,6 @@
 #!/usr/bin/env python3
-"""What the pages cite is there: each path of the repository in backquotes, and each name that a table of docs/STANDARDS.md gives behind a path.
+"""What the pages cite is there: each path of the repository in backquotes, each name that a table of docs/STANDARDS.md gives behind a path, and each
+promise that a page gives as a function with its clause.
 
     tests/cited.py          the pages below
     tests/cited.py PAGE ..  other pages; names are looked up on each of them
@@ -7,6 +8,10 @@
 In the last cell of a row a name belongs to the path before it. Behind a file of specs/ or proofs/ it is a definition, a constructor, a field or
 a worked example of that file; behind one of the code a function, a type, a constant or a variant; behind tests/worked_cases a case with all its
 files. A path may have a star for what differs.
+
+A promise is cited as `drive` (crate `script`, clause `once`), with "clauses" before several, as `Visit::hear` (crate `imap_stream`, clause `ok`) where it
+is a type's, or with no clause. There has to be such a public function in that crate's src/, which ensures each of these clauses; where none is named it
+has to ensure anything at all. A program has no public functions: those of its main.rt count.
 """
 
 import glob
@@ -17,7 +22,7 @@ import sys
 TOP = os.path.dirname(os.path.dirname(os.path.abspath(__file__)))
 
 # The pages that cite, and the one whose rows give names.
-PAGES = ["README.md", "docs/ARCHITECTURE.md", "docs/DECISIONS.md", "docs/PROMISE.md", "docs/SCRIPT.md", "docs/STANDARDS.md"]
+PAGES = ["README.md", "docs/ARCHITECTURE.md", "docs/CRATES.md", "docs/DECISIONS.md", "docs/OPERATING.md", "docs/PROMISE.md", "docs/SCRIPT.md", "docs/STANDARDS.md"]
 WITH_NAMES = "docs/STANDARDS.md"
 
 CASES = "tests/worked_cases"
@@ -30,6 +35,10 @@ PLACEHOLDER = re.compile(r"(^|/)[A-Z]+(/|$)")
 
 DECLARED = re.compile(r"\s*(?:pub )?(?:(?:abbrev|unfoldable|data|record) (?:pub )?)([^\s:({]+)")
 MEMBERS = re.compile(r"(?:  )?(?:pub )?([^\W\d][\w ]*?) : ")
+CLAIM = re.compile(r"`([\w:]+)`\s+\(crate\s+`(\w+)`(?:,\s+clauses?\s+([^()]*))?\)")
+OWNER = re.compile(r"impl(?:<.*?>)? (?:.* for )?(?:\w+::)*(\w+)")
+FUNCTION = re.compile(r" *(pub )?(?:const )?fn (\w+)")
+ENSURES = re.compile(r" *ensures (?:(\w+) )?\{")
 OF_CODE = re.compile(r"^\s*(?:pub(?:\(crate\))? )?(?:fn|struct|enum|trait|type|const|static) (\w+)|^    ([A-Z]\w*)(?:\(.*\),|,| \{)$", re.M)
 
 
@@ -76,6 +85,46 @@ class Names:
         return None if name in self.of(path) else f"has no {name}"
 
 
+def functions_in(text, is_program):
+    """The functions of a file that may be cited, each with the labels of what it ensures; a clause without one has the empty label."""
+    found, owner, labels = {}, None, None
+    for line in text.split("\n"):
+        if line.startswith("impl"):
+            owner, labels = OWNER.match(line), None
+        elif function := FUNCTION.match(line):
+            inside = f"{owner.group(1)}::" if owner and line.startswith(" ") else ""
+            labels = found.setdefault(inside + function.group(2), set()) if function.group(1) or is_program else None
+        elif line.strip() in ("{", "{}"):
+            labels = None
+        elif labels is not None and (ensures := ENSURES.match(line)):
+            labels.add(ensures.group(1) or "")
+    return found
+
+
+class Functions:
+    """What each crate's functions ensure. Each crate is read once."""
+
+    def __init__(self):
+        self.read = {}
+
+    def of(self, crate):
+        if crate not in self.read:
+            self.read[crate] = {}
+            for path in glob.glob(os.path.join(TOP, "crates", crate, "src", "**", "*.rt"), recursive=True):
+                self.read[crate].update(functions_in(read(path), os.path.basename(path) == "main.rt"))
+        return self.read[crate]
+
+    def lacks(self, crate, name, clauses):
+        """Why a crate doesn't promise this, or None."""
+        labels = self.of(crate).get(name)
+        if labels is None:
+            return f"crate {crate} has no public function {name}"
+        if not labels:
+            return f"{name} of crate {crate} ensures nothing"
+        missing = [clause for clause in clauses if clause not in labels]
+        return f"{name} of crate {crate} ensures no {', no '.join(missing)}" if missing else None
+
+
 def is_there(path):
     if "*" in path:
         return bool(glob.glob(os.path.join(TOP, path)))
@@ -105,9 +154,8 @@ def last_cell(line):
 
 class Check:
     def __init__(self):
-        self.names = Names()
-        self.paths = 0
-        self.named = 0
+        self.names, self.functions = Names(), Functions()
+        self.paths = self.named = self.claims = 0
         self.missing = 0
 
     def miss(self, page, number, text):
@@ -132,8 +180,19 @@ class Check:
                 if lack := self.names.lacks(path, quoted):
                     self.miss(page, number, f"{path} {lack}")
 
+    def look_at_claims(self, page, lines):
+        # A claim may go over a line's end.
+        text = "\n".join(line for _, line in lines)
+        for claim in CLAIM.finditer(text):
+            self.claims += 1
+            name, crate, clauses = claim.groups()
+            if lack := self.functions.lacks(crate, name, QUOTED.findall(clauses or "")):
+                self.miss(page, lines[text.count("\n", 0, claim.start())][0], lack)
+
     def look_at(self, page, with_names):
-        for number, line in lines_of(page):
+        lines = list(lines_of(page))
+        self.look_at_claims(page, lines)
+        for number, line in lines:
             self.look_at_paths(page, number, line)
             if with_names:
                 self.look_at_names(page, number, last_cell(line))
@@ -143,7 +202,7 @@ def main(words):
     check = Check()
     for page in words or PAGES:
         check.look_at(page, bool(words) or page == WITH_NAMES)
-    print(f"{len(words or PAGES)} pages, {check.paths} paths, {check.named} names, {check.missing} missing")
+    print(f"{len(words or PAGES)} pages, {check.paths} paths, {check.named} names, {check.claims} promises, {check.missing} missing")
     return 1 if check.missing else 0
 
 
