@@ -1,0 +1,6 @@
+pub mod Client
+pub mod Beliefs
+pub mod Turns
+pub mod Laws
+pub mod Rows
+pub mod WholeRows
