@@ -7,3 +7,5 @@ mod Turns
 mod Played
 mod Ends
 mod IdleTurns
+mod Tags
+mod Commands

@@ -33,10 +33,13 @@ digits_back (d ∷ ds) h =
     ∙ rw (digits_back ds (rest_of is_digit d ds h), first_of is_digit d ds h) refl
 
 -- the count of a literal, last byte first, behind what stands before it in its line
-abbrev count_back : ℕ → List ℕ → List ℕ
-count_back n line = 125 ∷ (reverse (decimal n) ++ 123 ∷ line)
+abbrev brace_back : ℕ → List ℕ → List ℕ
+brace_back n line = 125 ∷ (reverse (decimal n) ++ 123 ∷ line)
 
-count_is : (n : ℕ) (line : List ℕ) → n < 2 ^ 64 → literal_of (count_back n line) ≡ Some n
+abbrev count_back : ℕ → List ℕ → List ℕ
+count_back n line = 10 ∷ 13 ∷ brace_back n line
+
+count_is : (n : ℕ) (line : List ℕ) → n < 2 ^ 64 → literal_of (brace_back n line) ≡ Some n
 count_is n line h =
     count_digits (reverse (decimal n)) [] line (digits_back (decimal n) (decimal_digits n h))
     ∙ ap number (append-nil (reverse (reverse (decimal n))) ∙ reverse-reverse (decimal n))
@@ -51,16 +54,16 @@ reads_literal o line bytes h =
     ∙ reads-append (within o (123 ∷ line)) (decimal n) (codes "}\r\n" ++ bytes)
     ∙ ap (λ (c : Client). reads c (codes "}\r\n" ++ bytes)) (inner_text o (123 ∷ line) (decimal n) (words_are_inner (decimal n) (decimal_word n h)))
     ∙ ap (λ (c : Client). reads c (13 ∷ 10 ∷ bytes)) (inner_byte o (reverse (decimal n) ++ 123 ∷ line) 125 refl)
-    ∙ ap (λ (c : Client). reads c (10 ∷ bytes)) (inner_byte o (count_back n line) 13 refl)
-    ∙ ap (λ (k : Option ℕ). reads (line_ends k o (count_back n line)) bytes) (count_is n line h)
+    ∙ ap (λ (c : Client). reads c (10 ∷ bytes)) (inner_byte o (brace_back n line) 13 refl)
+    ∙ ap (λ (k : Option ℕ). reads (line_ends k o (brace_back n line)) bytes) (count_is n line h)
     ∙ passes_over o (count_back n line) bytes
 
 -- the count of a literal, last byte first, is what the count alone leaves
-count_shape : (n : ℕ) (line : List ℕ) → reverse (codes "{" ++ decimal n ++ codes "}") ++ line ≡ count_back n line
+count_shape : (n : ℕ) (line : List ℕ) → reverse (codes "{" ++ decimal n ++ codes "}\r\n") ++ line ≡ count_back n line
 count_shape n line =
-    ap (λ (l : List ℕ). l ++ line) (reverse-append (123 ∷ decimal n) (125 ∷ []))
-    ∙ ap (λ (l : List ℕ). 125 ∷ (l ++ line)) (reverse_onto (decimal n) 123 [])
-    ∙ ap (λ (l : List ℕ). 125 ∷ l) (append_assoc (reverse (decimal n)) (123 ∷ []) line)
+    ap (λ (l : List ℕ). l ++ line) (reverse-append (123 ∷ decimal n) (125 ∷ 13 ∷ 10 ∷ []))
+    ∙ ap (λ (l : List ℕ). 10 ∷ 13 ∷ 125 ∷ (l ++ line)) (reverse_onto (decimal n) 123 [])
+    ∙ ap (λ (l : List ℕ). 10 ∷ 13 ∷ 125 ∷ l) (append_assoc (reverse (decimal n)) (123 ∷ []) line)
 
 pub literal_leaves_its_count : LiteralLeavesItsCount
 literal_leaves_its_count messages line bytes h = reads_literal messages line bytes h ∙ ap (within messages) (sym (count_shape (length bytes) line))

@@ -193,9 +193,9 @@ abbrev pub literal_of : List ℕ → Option ℕ
 literal_of [] = None
 literal_of (b ∷ line) = if b == 125 then count_of [] line else None
 
--- what comes behind the end of a line, or of the count of a literal
+-- What comes behind the end of a line, or behind the count of a literal, which stays in its line with the CR and LF behind it: so where the literal ends the line it isn't counted again
 abbrev pub line_ends : Option ℕ → Messages → List ℕ → Client
-line_ends (Some n) messages line = record { messages = messages; line = line; literal = n }
+line_ends (Some n) messages line = record { messages = messages; line = 10 ∷ 13 ∷ line; literal = n }
 line_ends None messages line = knowing (told (reverse line) messages)
 
 -- a byte of a line: an LF behind a CR ends it

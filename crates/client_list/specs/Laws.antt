@@ -1,14 +1,17 @@
 -- What holds of a client that reads what its session says.
-use Rattle.std.specs.Prelude.{◌≡◌, ℕ, ◌<◌, ◌^◌, List, ◌++◌, length, reverse, codes, decimal, Some}
+use Rattle.std.specs.Prelude.{◌≡◌, ℕ, ◌<◌, ◌^◌, List, ◌++◌, length, reverse, codes, decimal, Some, Ok, IfSome}
 use Rattle.change_ring.specs.declared.change.Change.{Change}
 use Rattle.change_ring.specs.Log.{replay}
 use Rattle.cursor_set.specs.Lines.{lines}
 use Rattle.mailbox.specs.declared.clients.MailFault.{MailFault}
 use Rattle.imap_grammar.specs.Answers.{literal}
+use Rattle.imap_grammar.specs.Reading.{read}
+use Rattle.imap_grammar.specs.declared.command.Command.{Command}
 use Rattle.imap_session.specs.Exchange.{Answer, Exchange, Standing, Turn, bye, played, refusal_text, tagged}
-use Rattle.imap_session.specs.Commands.{greeting, idle_turn}
+use Rattle.imap_session.specs.Commands.{greeting, idle_turn, turn_of, turn_of_long_line}
 use Rattle.client_list.specs.Client.{Client, Known, Messages, reads, within}
 use Rattle.client_list.specs.Beliefs.{IsRight, Leads, MayShow, TellsNothing}
+use Rattle.client_list.specs.Commands.{IsFollowed}
 use Rattle.client_list.specs.Turns.{IsPlain, IsTag, Says, SeesAll}
 
 -- ---- bytes
@@ -20,7 +23,7 @@ PiecesAreTheWhole = (client : Client) (one two : List ℕ) → reads client (one
 -- within a line a literal leaves nothing but its count, as if that stood there alone
 abbrev pub LiteralLeavesItsCount : Type 0
 LiteralLeavesItsCount = (messages : Messages) (line bytes : List ℕ) → length bytes < 2 ^ 64
-    → reads (within messages line) (literal bytes) ≡ within messages (reverse (codes "{" ++ decimal (length bytes) ++ codes "}") ++ line)
+    → reads (within messages line) (literal bytes) ≡ within messages (reverse (codes "{" ++ decimal (length bytes) ++ codes "}\r\n") ++ line)
 
 -- so a client can't tell two texts of one length apart, whatever lines they have
 abbrev pub LiteralsAreAlike : Type 0
@@ -62,3 +65,18 @@ TurnIsFollowed = (tag view : List ℕ) (now : Standing) (x : Exchange) (answers 
 abbrev pub IdleTurnIsFollowed : Type 0
 IdleTurnIsFollowed = (view : List ℕ) (now : Standing) (answers : List Answer) (turn : Turn) (new : List ℕ)
     → idle_turn now answers ≡ Some turn → SeesAll view turn.events new → Leads view turn.bytes new
+
+-- ---- lines that a client sends
+
+-- whatever the line is, its tag is one
+abbrev pub TagsAreTags : Type 0
+TagsAreTags = (line tag : List ℕ) (command : Command) → read line ≡ Ok (tag, command) → IsTag tag
+
+-- Over any store, whatever it answers: after the answer to such a line a client is right about the session's view. Of the exchange nothing is asked.
+abbrev pub AnswerIsFollowed : Type 0
+AnswerIsFollowed = (now : Standing) (line view : List ℕ) (answers : List Answer) (turn : Turn) (new : List ℕ)
+    → IsFollowed now.idling line → turn_of now line answers ≡ Some turn → SeesAll view turn.events new → Leads view turn.bytes new
+
+-- and after the answer to a line that is too long
+abbrev pub LongLineTellsNothing : Type 0
+LongLineTellsNothing = (now : Standing) → IfSome now.idling IsTag → TellsNothing (turn_of_long_line now).bytes

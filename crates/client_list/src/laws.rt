@@ -1,7 +1,7 @@
 //! Laws of what a client reads, as functions that do nothing: bytes and literals, the lines of changes, and the
 //! turns of a session.
 
-ghost use Rattle.client_list.specs.Laws.{ByeTellsNothing, GreetingTellsNothing, IdleTurnIsFollowed, LinesAreFollowed, ListIsAsLong, LiteralLeavesItsCount, LiteralsAreAlike, PiecesAreTheWhole, RefusalTellsNothing, TaggedTellsNothing, TurnIsFollowed};
+ghost use Rattle.client_list.specs.Laws.{AnswerIsFollowed, ByeTellsNothing, GreetingTellsNothing, IdleTurnIsFollowed, LinesAreFollowed, ListIsAsLong, LiteralLeavesItsCount, LiteralsAreAlike, LongLineTellsNothing, PiecesAreTheWhole, RefusalTellsNothing, TaggedTellsNothing, TagsAreTags, TurnIsFollowed};
 
 /// It makes no difference in which pieces bytes come, and a literal leaves nothing but its count in the line in which it
 /// stands, whatever its bytes (RFC 9051, 4.3). So a message's text can't be taken for lines.
@@ -35,4 +35,14 @@ pub fn ends_tell_nothing()
 pub fn turns_are_followed()
     ensures turn { TurnIsFollowed }
     ensures idle { IdleTurnIsFollowed }
+{}
+
+/// The tag of each command that is read begins with no star and has no LF. Over any store, whatever it answers: after the
+/// answer to CAPABILITY, NOOP, LOGOUT, NAMESPACE, IDLE, EXPUNGE, UID EXPUNGE, to what isn't offered or can't be read, and to
+/// the line that ends an IDLE, a client that was right about the session's view is right about its view then. A line
+/// that is too long leaves its list as it was.
+pub fn answers_are_followed()
+    ensures tags { TagsAreTags }
+    ensures answer { AnswerIsFollowed }
+    ensures long_line { LongLineTellsNothing }
 {}
