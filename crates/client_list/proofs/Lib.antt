@@ -1,0 +1,11 @@
+mod Bytes
+mod Each
+mod LinesRead
+mod Follows
+mod Literals
+mod Turns
+mod Played
+mod Ends
+mod IdleTurns
+mod Tags
+mod Commands

@@ -1,0 +1,12 @@
+use Rattle.client_list.proofs.Commands.{answer_is_followed, long_line_tells_nothing}
+use Rattle.client_list.proofs.Tags.{tags_are_tags}
+use Rattle.client_list.proofs.laws.answers_are_followed.Goals as goal
+
+pub returns-clause-tags : goal.returns-clause-tags
+returns-clause-tags c = tags_are_tags
+
+pub returns-clause-answer : goal.returns-clause-answer
+returns-clause-answer c = answer_is_followed
+
+pub returns-clause-long_line : goal.returns-clause-long_line
+returns-clause-long_line c = long_line_tells_nothing

@@ -1,0 +1,82 @@
+-- What holds of a client that reads what its session says.
+use Rattle.std.specs.Prelude.{◌≡◌, ℕ, ◌<◌, ◌^◌, List, ◌++◌, length, reverse, codes, decimal, Some, Ok, IfSome}
+use Rattle.change_ring.specs.declared.change.Change.{Change}
+use Rattle.change_ring.specs.Log.{replay}
+use Rattle.cursor_set.specs.Lines.{lines}
+use Rattle.mailbox.specs.declared.clients.MailFault.{MailFault}
+use Rattle.imap_grammar.specs.Answers.{literal}
+use Rattle.imap_grammar.specs.Reading.{read}
+use Rattle.imap_grammar.specs.declared.command.Command.{Command}
+use Rattle.imap_session.specs.Exchange.{Answer, Exchange, Standing, Turn, bye, played, refusal_text, tagged}
+use Rattle.imap_session.specs.Commands.{greeting, idle_turn, turn_of, turn_of_long_line}
+use Rattle.client_list.specs.Client.{Client, Known, Messages, reads, within}
+use Rattle.client_list.specs.Beliefs.{IsRight, Leads, MayShow, TellsNothing}
+use Rattle.client_list.specs.Commands.{IsFollowed}
+use Rattle.client_list.specs.Turns.{IsPlain, IsTag, Says, SeesAll}
+
+-- ---- bytes
+
+-- it makes no difference in which pieces the bytes come
+abbrev pub PiecesAreTheWhole : Type 0
+PiecesAreTheWhole = (client : Client) (one two : List ℕ) → reads client (one ++ two) ≡ reads (reads client one) two
+
+-- within a line a literal leaves nothing but its count, as if that stood there alone
+abbrev pub LiteralLeavesItsCount : Type 0
+LiteralLeavesItsCount = (messages : Messages) (line bytes : List ℕ) → length bytes < 2 ^ 64
+    → reads (within messages line) (literal bytes) ≡ within messages (reverse (codes "{" ++ decimal (length bytes) ++ codes "}\r\n") ++ line)
+
+-- so a client can't tell two texts of one length apart, whatever lines they have
+abbrev pub LiteralsAreAlike : Type 0
+LiteralsAreAlike = (messages : Messages) (line one two : List ℕ) → length one < 2 ^ 64 → length one ≡ length two
+    → reads (within messages line) (literal one) ≡ reads (within messages line) (literal two)
+
+-- ---- lines
+
+-- a client that is right has as many messages as its session counts
+abbrev pub ListIsAsLong : Type 0
+ListIsAsLong = (view : List ℕ) (list : List Known) → IsRight view list → length list ≡ length view
+
+-- the lines of changes lead a client from the view that they are shown to, to the view that they leave
+abbrev pub LinesAreFollowed : Type 0
+LinesAreFollowed = (view : List ℕ) (changes : List Change) → MayShow view changes → Leads view (lines view changes) (replay view changes)
+
+-- a tagged line, whatever its words
+abbrev pub TaggedTellsNothing : Type 0
+TaggedTellsNothing = (tag words : List ℕ) → IsTag tag → IsPlain words → TellsNothing (tagged tag words)
+
+abbrev pub ByeTellsNothing : Type 0
+ByeTellsNothing = (words : List ℕ) → IsPlain words → TellsNothing (bye words)
+
+-- what is said where a store or memory refuses
+abbrev pub RefusalTellsNothing : Type 0
+RefusalTellsNothing = (tag : List ℕ) (fault : MailFault) → IsTag tag → TellsNothing (refusal_text tag fault)
+
+abbrev pub GreetingTellsNothing : Type 0
+GreetingTellsNothing = TellsNothing greeting
+
+-- ---- turns
+
+-- Over any store, whatever it answers, and wherever it or memory refuses: the bytes of a turn lead a client from the session's view before it to the view after it.
+abbrev pub TurnIsFollowed : Type 0
+TurnIsFollowed = (tag view : List ℕ) (now : Standing) (x : Exchange) (answers : List Answer) (turn : Turn) (new : List ℕ)
+    → IsTag tag → played tag now x answers ≡ Some turn → Says tag view x → SeesAll view turn.events new → Leads view turn.bytes new
+
+-- and so do those of a turn of a session that idles
+abbrev pub IdleTurnIsFollowed : Type 0
+IdleTurnIsFollowed = (view : List ℕ) (now : Standing) (answers : List Answer) (turn : Turn) (new : List ℕ)
+    → idle_turn now answers ≡ Some turn → SeesAll view turn.events new → Leads view turn.bytes new
+
+-- ---- lines that a client sends
+
+-- whatever the line is, its tag is one
+abbrev pub TagsAreTags : Type 0
+TagsAreTags = (line tag : List ℕ) (command : Command) → read line ≡ Ok (tag, command) → IsTag tag
+
+-- Over any store, whatever it answers: after the answer to such a line a client is right about the session's view. Of the exchange nothing is asked.
+abbrev pub AnswerIsFollowed : Type 0
+AnswerIsFollowed = (now : Standing) (line view : List ℕ) (answers : List Answer) (turn : Turn) (new : List ℕ)
+    → IsFollowed now.idling line → turn_of now line answers ≡ Some turn → SeesAll view turn.events new → Leads view turn.bytes new
+
+-- and after the answer to a line that is too long
+abbrev pub LongLineTellsNothing : Type 0
+LongLineTellsNothing = (now : Standing) → IfSome now.idling IsTag → TellsNothing (turn_of_long_line now).bytes

@@ -1,0 +1,48 @@
+//! Laws of what a client reads, as functions that do nothing: bytes and literals, the lines of changes, and the
+//! turns of a session.
+
+ghost use Rattle.client_list.specs.Laws.{AnswerIsFollowed, ByeTellsNothing, GreetingTellsNothing, IdleTurnIsFollowed, LinesAreFollowed, ListIsAsLong, LiteralLeavesItsCount, LiteralsAreAlike, LongLineTellsNothing, PiecesAreTheWhole, RefusalTellsNothing, TaggedTellsNothing, TagsAreTags, TurnIsFollowed};
+
+/// It makes no difference in which pieces bytes come, and a literal leaves nothing but its count in the line in which it
+/// stands, whatever its bytes (RFC 9051, 4.3). So a message's text can't be taken for lines.
+pub fn literals_are_passed_over()
+    ensures pieces { PiecesAreTheWhole }
+    ensures count { LiteralLeavesItsCount }
+    ensures alike { LiteralsAreAlike }
+{}
+
+/// A client whose list is as long as its session's view, and right about the UIDs that it knows, reads the lines of any
+/// changes that may be shown to that view. Its list is then as long as the view that they leave, and right about UIDs,
+/// and no number was out of its list (7.4.1, 7.5).
+pub fn lines_are_followed()
+    ensures lines { LinesAreFollowed }
+    ensures length { ListIsAsLong }
+{}
+
+/// Tagged lines, BYE, the greeting and what is said where the store or memory refuses tell a client nothing of messages:
+/// its list stays as it was (2.2.2, 7.1).
+pub fn ends_tell_nothing()
+    ensures tagged { TaggedTellsNothing }
+    ensures bye { ByeTellsNothing }
+    ensures refusal { RefusalTellsNothing }
+    ensures greeting { GreetingTellsNothing }
+{}
+
+/// Over any store, whatever it answers, and wherever it or memory refuses: a client that is right about the session's view
+/// before a turn reads the turn's bytes, and is right about its view after it. So it is of a turn while the session idles.
+/// Of the turn it is asked that each text beside the lines of changes leaves a client as right as before (`Says`), and of
+/// the answers that what they show may be shown (`SeesAll`).
+pub fn turns_are_followed()
+    ensures turn { TurnIsFollowed }
+    ensures idle { IdleTurnIsFollowed }
+{}
+
+/// The tag of each command that is read begins with no star and has no LF. Over any store, whatever it answers: after the
+/// answer to CAPABILITY, NOOP, LOGOUT, NAMESPACE, IDLE, EXPUNGE, UID EXPUNGE, to what isn't offered or can't be read, and to
+/// the line that ends an IDLE, a client that was right about the session's view is right about its view then. A line
+/// that is too long leaves its list as it was.
+pub fn answers_are_followed()
+    ensures tags { TagsAreTags }
+    ensures answer { AnswerIsFollowed }
+    ensures long_line { LongLineTellsNothing }
+{}
