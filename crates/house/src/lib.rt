@@ -1,5 +1,5 @@
-//! The house on one thread: connections over the delivery core, and what is printed of them. One call is one event; nothing here knows
-//! of scripts, threads, sockets or locks.
+//! The house on one thread: connections and sessions over the delivery core, its settings, and what is printed of both. One call is one
+//! event; nothing here knows of scripts, threads, sockets or locks.
 #![tactic(auto)]
 
 mod config;

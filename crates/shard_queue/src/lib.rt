@@ -1,5 +1,6 @@
-//! A bounded lane from several producers to one consumer: what it is by its history, and a lane on
-//! one thread. What the items are for is told by the crates above.
+//! A bounded lane from several producers to one consumer: what it is by its history, a lane on one
+//! thread, and the queue and the reply channel that threads share. What the items are for is told by
+//! the crates above.
 #![tactic(auto)]
 
 mod calls;
