@@ -1,10 +1,13 @@
 -- What was said is sent: from the parts of a visit to the visit.
-use Rattle.std.proofs.Common.{◌≡◌, ℕ, ◌<◌, ◌⊎◌, inl, inr, true, false, List, [], length, take, sym, subst}
+use Rattle.std.proofs.Common.{◌≡◌, ℕ, ◌<◌, ◌⊎◌, inl, inr, true, false, List, [], length, take, refl, sym, subst}
 use Rattle.std.specs.Prelude.{OnErr, OnOk, Result, Ok, Err}
 use Rattle.std.specs.Io.KnownBytes.{Appends}
 use Rattle.imap_connection.specs.Dialogue.{Dialogue, StandsFor}
 use Rattle.session_thread.specs.Life.{Moment, moment}
-use Rattle.imap_stream.specs.Visits.{LeadsTo, SendsAll, SendsFirst, Tells, VisitState}
+use Rattle.imap_session.specs.declared.standing.After.{After}
+use Rattle.imap_stream.specs.declared.visit.VisitFault.{VisitFault}
+use Rattle.imap_stream.specs.declared.visit.VisitFault.TheVariants.{NoMemory, Write}
+use Rattle.imap_stream.specs.Visits.{LeadsTo, Looks, SendsAll, SendsFirst, ShowsAll, ShowsInPart, Tells, VisitState, cut, cut_in_part, in_part, is_over, whole}
 
 -- each dialogue was led by P, behind what stood in the room before
 abbrev pub Led : (Moment → Moment → Type 0) → VisitState → List ℕ → List ℕ → VisitState → Type 0
@@ -44,3 +47,14 @@ tells_what_went (Err e) P Q room now old seen new before said same is empty h k 
 pub sends_first : (old seen new : VisitState) (said : List ℕ) → seen ≡ old → TookFirst seen said new → new.failed ≡ true → new.closed ≡ true → SendsFirst old said new
 sends_first old seen new said is took failed over = subst (λ (o : VisitState). SendsFirst o said new) is
     (record { sent = took.0; few = took.1; took = took.2; failed = failed; over = over })
+
+was_cut : (old new : VisitState) → Tells ShowsAll SendsFirst old new ⊎ Tells (ShowsInPart new.room) SendsFirst old new → Looks old new
+was_cut old new (inl all) = cut all
+was_cut old new (inr part) = cut_in_part part
+
+-- a look, by what it answered
+pub looked : (r : Result After VisitFault) (old new : VisitState) → OnOk r (is_over old ≡ false → Tells ShowsAll SendsAll old new) → (r ≡ Err NoMemory → Tells (ShowsInPart new.room) SendsAll old new)
+    → (r ≡ Err Write → Tells ShowsAll SendsFirst old new ⊎ Tells (ShowsInPart new.room) SendsFirst old new) → is_over old ≡ false → Looks old new
+looked (Ok x) old new ok short failed goes = whole (ok goes)
+looked (Err NoMemory) old new ok short failed goes = in_part (short refl)
+looked (Err Write) old new ok short failed goes = was_cut old new (failed refl)

@@ -9,5 +9,5 @@ mod tests;
 mod turns;
 mod visit;
 
-pub use place::Place;
+pub use place::{Hush, Place};
 pub use visit::{Visit, VisitFault};

@@ -2,7 +2,8 @@
 //! until a bell wakes it and shows what there is. What they do in one hold of the place's lock is one
 //! call of the visit, and no clause says more; who starts the threads stands above.
 
-ghost use Rattle.std.specs.Prelude.{◌≡◌, IfErr};
+ghost use Rattle.std.specs.Prelude.{◌≡◌, false, true, IfErr};
+ghost use Rattle.imap_stream.specs.Visits.{Looks, is_over};
 
 use crate::visit::Visit;
 use imap_session::After;
@@ -13,6 +14,28 @@ use std::alloc::Global;
 use std::io::{ErrorKind, Read};
 use std::sync::atomic::{AtomicBool, Ordering};
 use std::sync::{Arc, Mutex, Wait};
+
+/// What ends the read of the thread that serves a place's client.
+pub trait Hush {
+    /// The client at hand is heard no more: a read that waits for it finds the end. What was said to it
+    /// is sent still.
+    fn hush<R: Wait>(&self, rt: &R);
+}
+
+// The visit has a look, unless it is over. Answers whether that ended it: its reader may wait then for
+// bytes that nobody would answer.
+fn ends_by_a_look<R: Wait, G: Gate, W: Sink>(visit: &mut Visit<'_, R, G, W>) -> bool
+    ensures over { is_over visit.old ≡ true → (result ≡ false) × (visit.new ≡ visit.old) }
+    ensures ends { is_over visit.old ≡ false → result ≡ is_over visit.new }
+    ensures looks { is_over visit.old ≡ false → Looks visit.old visit.new }
+{
+    if visit.is_over() {
+        return false;
+    }
+    // Where memory was refused the session still idles, and the next bell tries again.
+    let _ = visit.look();
+    visit.is_over()
+}
 
 /// Where one client at a time is served. Its visit stands under a lock, which is held while it is heard
 /// and while what it said is sent, and not while its bytes are awaited.
@@ -61,13 +84,18 @@ impl<'a, R: Wait, G: Gate, W: Sink + Drop> Place<'a, R, G, W> {
 
     /// Sleeps until the bell is rung, and shows the client what there is, where there is one and its
     /// session idles; so again and again, until it is rung and `over` is set.
-    pub fn keep_watch(&self, rt: &R, bell: &Sleeper, over: &AtomicBool) {
+    ///
+    /// Where that ends the visit, as it does where the client missed too many changes or the output
+    /// fails, `line` is hushed: the thread that attends may wait for bytes that nobody would answer.
+    /// The visit stands in the place meanwhile, so what `line` has at hand then is to be that client's:
+    /// it comes to hand before `attend`, and another one's only behind that.
+    pub fn keep_watch<H: Hush>(&self, rt: &R, bell: &Sleeper, over: &AtomicBool, line: &H) {
         for _ in rt.forever() {
             bell.sleep(rt);
             if over.load(Ordering::SeqCst) {
                 return;
             }
-            self.look(rt);
+            self.look(rt, line);
         }
         unreachable!()
     }
@@ -139,16 +167,20 @@ impl<'a, R: Wait, G: Gate, W: Sink + Drop> Place<'a, R, G, W> {
         }
     }
 
-    fn look(&self, rt: &R) {
+    // Shows the client what there is, where it idles, and hushes its line where that ends the visit.
+    fn look<H: Hush>(&self, rt: &R, line: &H) {
         let mut held = self.visit.lock(rt);
         let Some(visit) = &mut *held else {
             return;
         };
-        // Where the output failed the reader ends by itself; where memory was refused the session still
-        // idles, and the next bell tries again.
-        let _ = visit.look();
+        let is_ended = ends_by_a_look(visit);
         self.idles
             .store(visit.awaited() == After::Idle, Ordering::SeqCst);
+        if is_ended {
+            // The lock is still held, and only behind it the visit is taken out and the next client
+            // comes to hand: so this client's line is hushed, and never a later one's.
+            line.hush(rt);
+        }
     }
 
     // The client's session leaves its mailbox, and the place has no client.

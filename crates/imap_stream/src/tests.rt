@@ -3,7 +3,7 @@
 
 ghost use Rattle.std.specs.Prelude.{◌≡◌, false};
 
-use crate::place::Place;
+use crate::place::{Hush, Place};
 use crate::visit::{Visit, VisitFault};
 use delivery_token::{CopyKey, Job, Text};
 use imap_session::{After, Folder};
@@ -18,9 +18,10 @@ use std::sync::atomic::{AtomicBool, AtomicU64, Ordering};
 use std::sync::{Arc, Mutex, Wait};
 use std::thread::{self, Threads, join};
 
+// Two changes are kept: a client that misses three has fallen behind.
 const SMALL: Limits = Limits {
     messages: 8,
-    ring: 16,
+    ring: 2,
     ring_max: 0,
 };
 
@@ -54,6 +55,8 @@ struct Marks {
     waits: AtomicBool,
     // It was shown a message.
     told: AtomicBool,
+    // Its line was hushed.
+    hushed: AtomicBool,
     // The watch is over.
     over: AtomicBool,
 }
@@ -63,8 +66,15 @@ impl Marks {
         Marks {
             waits: AtomicBool::new(false),
             told: AtomicBool::new(false),
+            hushed: AtomicBool::new(false),
             over: AtomicBool::new(false),
         }
+    }
+}
+
+impl Hush for Marks {
+    fn hush<R: Wait>(&self, _rt: &R) {
+        self.hushed.store(true, Ordering::SeqCst);
     }
 }
 
@@ -123,11 +133,38 @@ fn keep<R: Wait>(rt: &R, all: &Mutex<Vec<u8>>, bytes: &[u8]) -> bool {
     all.lock(rt).extend_from_slice(bytes).is_ok()
 }
 
-// A client that idles, and goes on once it was shown a message.
+// How a client idles.
+#[derive(Drop)]
+struct Nap {
+    // So many messages come meanwhile.
+    messages: u8,
+    // So many sends reach it.
+    sends: usize,
+    // What it says once it was shown a message. Where that is nothing, its read waits until its line
+    // is hushed.
+    says: &'static [u8],
+    // What it is told behind `OPENING`.
+    told: &'static [u8],
+}
+
+// A client that idles.
 #[derive(Drop)]
 struct Idler<'a> {
     reads: u8,
     marks: &'a Marks,
+    nap: &'a Nap,
+}
+
+impl Idler<'_> {
+    // Waits for what ends the nap.
+    fn wait(&self) {
+        self.marks.waits.store(true, Ordering::SeqCst);
+        if self.nap.says.is_empty() {
+            wait_until(&self.marks.hushed);
+        } else {
+            wait_until(&self.marks.told);
+        }
+    }
 }
 
 impl Read for Idler<'_> {
@@ -136,9 +173,8 @@ impl Read for Idler<'_> {
         let mut piece = match self.reads {
             1 => b"a1 SELECT INBOX\r\na2 IDLE\r\n".as_slice(),
             2 => {
-                self.marks.waits.store(true, Ordering::SeqCst);
-                wait_until(&self.marks.told);
-                b"DONE\r\na3 LOGOUT\r\na4 NOOP\r\n".as_slice()
+                self.wait();
+                self.nap.says
             }
             _ => b"".as_slice(),
         };
@@ -335,9 +371,14 @@ fn attend<'a, R: Wait>(
     place: &Place<'a, R, Tally, Wire<'a, R>>,
     visit: Visit<'a, R, Tally, Wire<'a, R>>,
     marks: &Marks,
+    nap: &Nap,
     bell: &SessionBell,
 ) -> bool {
-    let mut idler = Idler { reads: 0, marks };
+    let mut idler = Idler {
+        reads: 0,
+        marks,
+        nap,
+    };
     let mut buffer = [0; 64];
     let never = AtomicBool::new(false);
     let is_done = place
@@ -348,80 +389,132 @@ fn attend<'a, R: Wait>(
     is_done
 }
 
-// The thread that delivers a message while the client waits, and rings.
+// The thread that delivers so many messages while the client waits, and rings then.
 fn bring<R: Wait>(
     rt: &R,
     mailboxes: &[Mutex<Mailbox>],
     job: &Job,
+    count: u8,
     marks: &Marks,
     bell: &SessionBell,
 ) -> bool {
     wait_until(&marks.waits);
-    let is_stored = deliver(rt, mailboxes, job);
+    let mut are_stored = true;
+    for _ in 0..count {
+        are_stored &= deliver(rt, mailboxes, job);
+    }
     bell.ring();
-    is_stored
+    are_stored
 }
 
-// The three threads of a place whose client idles: whether the client was served, and a message brought.
+// The three threads of a place whose client idles: whether the client was served, and the messages brought.
 fn serve_idler<'a, R: Threads + Wait + Sync>(
     rt: &'a R,
     alloc: Global,
     mailboxes: &'a [Mutex<Mailbox>],
     visit: Visit<'a, R, Tally, Wire<'a, R>>,
     marks: &'a Marks,
+    nap: &'a Nap,
 ) -> Result<bool, AllocError> {
     let job = copy(alloc)?;
     let sleeper = Sleeper::new(alloc)?;
     let bell = sleeper.bell()?;
     let place = Place::new(sleeper.idling()?);
     let (shared, rung, brought) = (&place, &bell, &job);
-    let (_watched, (is_done, is_stored)) = join(
+    let (_watched, (is_done, are_stored)) = join(
         rt,
-        move || shared.keep_watch(rt, &sleeper, &marks.over),
+        move || shared.keep_watch(rt, &sleeper, &marks.over, marks),
         move || {
             join(
                 rt,
-                move || attend(rt, alloc, shared, visit, marks, rung),
-                move || bring(rt, mailboxes, brought, marks, rung),
+                move || attend(rt, alloc, shared, visit, marks, nap, rung),
+                move || bring(rt, mailboxes, brought, nap.messages, marks, rung),
             )
         },
     );
-    Ok(is_done && is_stored)
+    Ok(is_done && are_stored)
 }
 
+// Whether a client that idles so was served to its end, and its line was hushed where it said nothing.
 fn idle_through<R: Threads + Wait + Sync>(
     rt: &R,
     alloc: Global,
     bytes: &Mutex<Vec<u8>>,
+    nap: &Nap,
 ) -> Result<bool, AllocError> {
     let mailboxes = a_mailbox(rt, alloc, false)?;
     let (tally, marks) = (Tally::new(), Marks::new());
     let desk = LockedDesk::new(rt, &tally, 0, &mailboxes, &[]);
-    let wire = Wire::new(rt, bytes, 9, &marks.told);
-    match Visit::open(rt, alloc, desk, folders(alloc)?, wire) {
-        Ok(visit) => serve_idler(rt, alloc, &mailboxes, visit, &marks),
-        Err(_) => Ok(false),
-    }
+    let wire = Wire::new(rt, bytes, nap.sends, &marks.told);
+    let is_served = match Visit::open(rt, alloc, desk, folders(alloc)?, wire) {
+        Ok(visit) => serve_idler(rt, alloc, &mailboxes, visit, &marks, nap)?,
+        Err(_) => false,
+    };
+    Ok(is_served && marks.hushed.load(Ordering::SeqCst) == nap.says.is_empty())
+}
+
+const OPENING: &[u8] = b"* PREAUTH IMAP4rev2 server ready\r\n\
+      * FLAGS (\\Answered \\Flagged \\Deleted \\Seen \\Draft)\r\n\
+      * 0 EXISTS\r\n\
+      * OK [UIDVALIDITY 7] UIDs valid\r\n\
+      * OK [UIDNEXT 1] Predicted next UID\r\n\
+      * OK [PERMANENTFLAGS (\\Answered \\Flagged \\Deleted \\Seen \\Draft)] Flags kept\r\n\
+      * LIST () \"/\" INBOX\r\n\
+      a1 OK [READ-WRITE] SELECT completed\r\n\
+      + idling\r\n";
+
+fn is_opening_and(told: &[u8], rest: &[u8]) -> bool {
+    told.starts_with(OPENING) && &told[OPENING.len()..] == rest
+}
+
+// Whether a client that idles so is served to its end and told what it is to be told.
+fn naps_well<R: Threads + Wait + Sync>(
+    rt: &R,
+    alloc: Global,
+    nap: &Nap,
+) -> Result<bool, AllocError> {
+    let told = Mutex::new(Vec::new(alloc));
+    let is_served = idle_through(rt, alloc, &told, nap)?;
+    Ok(is_served && is_opening_and(&told.into_inner(), nap.told))
 }
 
 #[test]
 fn an_idling_client_is_shown_a_message(rt: HostRuntime) -> Result<(), AllocError> {
-    let told = Mutex::new(Vec::new(rt.alloc()));
-    assert!(rt; idle_through(&rt, rt.alloc(), &told)?);
-    let wanted = b"* PREAUTH IMAP4rev2 server ready\r\n\
-          * FLAGS (\\Answered \\Flagged \\Deleted \\Seen \\Draft)\r\n\
-          * 0 EXISTS\r\n\
-          * OK [UIDVALIDITY 7] UIDs valid\r\n\
-          * OK [UIDNEXT 1] Predicted next UID\r\n\
-          * OK [PERMANENTFLAGS (\\Answered \\Flagged \\Deleted \\Seen \\Draft)] Flags kept\r\n\
-          * LIST () \"/\" INBOX\r\n\
-          a1 OK [READ-WRITE] SELECT completed\r\n\
-          + idling\r\n\
-          * 1 EXISTS\r\n\
+    let nap = Nap {
+        messages: 1,
+        sends: 9,
+        says: b"DONE\r\na3 LOGOUT\r\na4 NOOP\r\n",
+        told: b"* 1 EXISTS\r\n\
           a2 OK IDLE completed\r\n\
           * BYE Logging out\r\n\
-          a3 OK LOGOUT completed\r\n";
-    assert_eq!(rt; told.into_inner().as_slice(), wanted.as_slice());
+          a3 OK LOGOUT completed\r\n",
+    };
+    assert!(rt; naps_well(&rt, rt.alloc(), &nap)?);
+    Ok(())
+}
+
+#[test]
+fn an_idling_client_that_falls_behind_is_let_go(rt: HostRuntime) -> Result<(), AllocError> {
+    let nap = Nap {
+        messages: 3,
+        sends: 9,
+        says: b"",
+        told: b"* BYE Too many changes were missed\r\n",
+    };
+    assert!(rt; naps_well(&rt, rt.alloc(), &nap)?);
+    Ok(())
+}
+
+#[test]
+fn an_idling_client_that_cannot_be_shown_is_let_go(rt: HostRuntime) -> Result<(), AllocError> {
+    // The greeting is sent, and the answers to its first piece.
+    let nap = Nap {
+        messages: 1,
+        sends: 2,
+        says: b"",
+        told: b"",
+    };
+    assert!(rt; naps_well(&rt, rt.alloc(), &nap)?);
     Ok(())
 }
 

@@ -7,7 +7,7 @@ use crate::equipment::SharedPlace;
 use crate::sockets::Sockets;
 use clerks::Unhindered;
 use house_floor::{Floor, Visit, inbox_numbered};
-use imap_stream::{Place, Visit as ClientVisit};
+use imap_stream::{Hush, Place, Visit as ClientVisit};
 use line_io::Watched;
 use loopback::{Listening, Patience, Pause, Slot, prepare};
 use serving_workers::Door;
@@ -22,6 +22,19 @@ use visitors::folders_of;
 
 /// Where one client of a user is served at a time.
 pub(crate) type ClientPlace<'a, R> = Place<'a, R, Unhindered, Watched<TcpStream>>;
+
+// The connection that a place's thread has at hand, for the watch beside it. It comes to hand before its visit stands in the place, and
+// the next one only when that visit was taken out: see `answer_clients`.
+#[derive(Drop)]
+struct AtHand<'s> {
+    slot: &'s Slot,
+}
+
+impl Hush for AtHand<'_> {
+    fn hush<R: Wait>(&self, rt: &R) {
+        self.slot.hush(rt);
+    }
+}
 
 // Opens the visit of a client of this user, who is greeted. None where memory or a handle is refused, or the client has gone.
 fn open_visit<'a, R: Wait>(
@@ -97,6 +110,17 @@ fn answer_clients<'a, R: Wait>(
     }
 }
 
+// The life of the thread that shows a client what there is, until the house stops.
+fn watch_clients<'a, R: Wait>(
+    rt: &R,
+    place: &ClientPlace<'a, R>,
+    bell: &Sleeper,
+    stop: &AtomicBool,
+    slot: &Slot,
+) {
+    place.keep_watch(rt, bell, stop, &AtHand { slot });
+}
+
 // Starts the two threads of a place, and says whether both could be made. Where the first can't be, the second isn't either; where the
 // second can't be, the first ends as the house stops.
 fn start_place<'s, E, R: Threads + Wait + Sync>(
@@ -126,7 +150,7 @@ fn start_place<'s, E, R: Threads + Wait + Sync>(
     if answers.is_err() {
         return false;
     }
-    let watches = scope.spawn(move || watch.keep_watch(rt, &bell, stop));
+    let watches = scope.spawn(move || watch_clients(rt, &watch, &bell, stop, slot));
     watches.is_ok()
 }
 
