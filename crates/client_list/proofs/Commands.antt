@@ -51,6 +51,7 @@ set_expunged tag view set t = by (named_in true set view)
   where
     done : (new : List ℕ) → Says tag new (completed (commands.UidExpunge set))
     done new = last tag new (codes "OK UID EXPUNGE complete") 100 t (plain_words (codes "OK UID EXPUNGE complete") 100 refl refl)
+
     by : (chosen : Option (List ℕ)) → Says tag view (on_chosen chosen (λ uids. Expunge (Some uids) (Feed unlimited (completed (commands.UidExpunge set)))))
     by None = last tag view (codes "BAD Sequence number too hig") 104 t (plain_words (codes "BAD Sequence number too hig") 104 refl refl)
     by (Some uids) = λ new newer. done newer
@@ -105,6 +106,7 @@ idle_line_says tag view selected line t = by (is_done line)
   where
     done : (new : List ℕ) → Says tag new (completed commands.Idle)
     done new = last tag new (codes "OK IDLE complete") 100 t (plain_words (codes "OK IDLE complete") 100 refl refl)
+
     by : (b : Bool) → Says tag view (if b then showing selected (completed commands.Idle) else says (codes "BAD Expected DONE"))
     by true = shows_then tag view selected (completed commands.Idle) done
     by false = last tag view (codes "BAD Expected DON") 69 t (plain_words (codes "BAD Expected DON") 69 refl refl)

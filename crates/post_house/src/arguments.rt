@@ -160,10 +160,7 @@ fn helps_of(alloc: Global, options: &[NumberOption]) -> Result<Vec<String>, Allo
         let number = option.number;
         let help = format!(in alloc;
             "{}: {} to {}, and {} where it is not given",
-            option.help,
-            number.least,
-            number.most,
-            number.standing
+            option.help, number.least, number.most, number.standing
         )?;
         helps.push(help)?;
     }
