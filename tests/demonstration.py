@@ -1,5 +1,6 @@
 #!/usr/bin/env python3
-"""The demonstration of README.md on a built program: each command that it shows is run, and prints what it shows.
+"""The demonstration of README.md on a built program: each command that it shows is run, and prints what it shows. Then the server is started
+once more by examples/hold_open.sh, which is told to end, and so ends it.
 
     tests/demonstration.py PROGRAM
 
@@ -9,15 +10,16 @@ A server is started as README.md starts one, but on ports that are free, which s
 
 import os
 import re
+import signal
 import subprocess
 import sys
 
-from serving_house import House, end_by_exit
+from serving_house import House, end_by_exit, free_ports
 
 TOP = os.path.dirname(os.path.dirname(os.path.abspath(__file__)))
 USERS = ("alice", "bob")
 # The ports that are shown: mail's, and the users'.
-SHOWN = {"lmtp": "2424", "alice": "14300", "bob": "14301"}
+SHOWN = ("2424", "14300", "14301")
 
 
 def block():
@@ -51,30 +53,55 @@ def is_shown(wanted, came):
     return re.fullmatch(pattern, came) is not None
 
 
-def main(program):
-    end_by_exit()
+def on_ports_of(house, text):
+    """A text with this server's ports in place of the shown ones."""
+    ports = dict(zip(SHOWN, map(str, [house.lmtp_port, *house.imap_ports])))
+    return re.sub(r"\d+", lambda found: ports.get(found[0], found[0]), text)
+
+
+def show(program):
+    """Runs all commands, and says what failed, and of how many checks."""
     said, commands = commands_in(block())
-    house = House(os.path.abspath(program), USERS, ("--uidvalidity", "7"))
-    ports = {"lmtp": house.lmtp_port, **dict(zip(USERS, house.imap_ports))}
-    failed = 0
-
-    def on_our_ports(text):
-        return re.sub(r"\b(" + "|".join(SHOWN.values()) + r")\b", lambda found: str(ports[next(k for k, v in SHOWN.items() if v == found[0])]), text)
-
+    house = House(program, USERS, ("--uidvalidity", "7"))
     checks = [("what it listens on", said, house.said.decode())]
     for words, printed in commands:
-        run = subprocess.run(["sh", "-c", on_our_ports(words)], cwd=TOP, capture_output=True, timeout=30, check=False)
+        run = subprocess.run(["sh", "-c", on_ports_of(house, words)], cwd=TOP, capture_output=True, timeout=30, check=False)
         checks.append((words, printed, run.stdout.decode().replace("\r\n", "\n")))
-    for name, wanted, came in checks:
-        if not is_shown([on_our_ports(line) for line in wanted], came):
-            failed += 1
-            print(f"FAILED: {name}\n--- it printed\n{came}--- and not\n" + "\n".join(wanted))
-    status = house.stop()
-    if status != 0 or house.faults():
-        failed += 1
-        print(f"FAILED: the server ended with status {status} and {house.faults()!r}")
-    print(f"{len(checks) + 1 - failed} passed, {failed} failed")
-    return 1 if failed or not commands else 0
+    wrong = [
+        f"{name}\n--- it printed\n{came}--- and not\n" + "\n".join(wanted)
+        for name, wanted, came in checks
+        if not is_shown([on_ports_of(house, line) for line in wanted], came)
+    ]
+    if (status := house.stop()) != 0 or house.faults():
+        wrong.append(f"the server ended with status {status} and {house.faults()!r}")
+    return wrong, len(checks) + 1
+
+
+def hold_open(program):
+    """Starts a server by the script, tells that to end, and says what was wrong, and of how many checks."""
+    port = free_ports(2)
+    options = ["--lmtp-port", str(port), "--imap-port", str(port + 1), "--uidvalidity", "7", "alice"]
+    script = os.path.join(TOP, "examples", "hold_open.sh")
+    held = subprocess.Popen([script, program, "serve", *options], stdout=subprocess.PIPE, stderr=subprocess.PIPE)
+    said = held.stdout.readline() + held.stdout.readline()
+    held.send_signal(signal.SIGTERM)
+    more, faults = held.communicate(timeout=10)
+    wanted = f"LMTP 127.0.0.1:{port}\nIMAP 127.0.0.1:{port + 1} alice\n".encode()
+    if (said + more, faults, held.returncode) == (wanted, b"", 0):
+        return [], 1
+    return [f"hold_open.sh: {said + more!r}, {faults!r}, status {held.returncode}"], 1
+
+
+def main(program):
+    end_by_exit()
+    failed = count = 0
+    for part in (show, hold_open):
+        wrong, checks = part(os.path.abspath(program))
+        failed, count = failed + len(wrong), count + checks
+        for text in wrong:
+            print(f"FAILED: {text}")
+    print(f"{count - failed} passed, {failed} failed")
+    return 1 if failed else 0
 
 
 if __name__ == "__main__":
