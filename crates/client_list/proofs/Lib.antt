@@ -8,4 +8,9 @@ mod Played
 mod Ends
 mod IdleTurns
 mod Tags
+mod Kept
+mod Items
+mod Fetched
+mod Chosen
+mod Untold
 mod Commands

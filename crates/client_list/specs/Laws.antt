@@ -75,7 +75,7 @@ TagsAreTags = (line tag : List ℕ) (command : Command) → read line ≡ Ok (ta
 -- Over any store, whatever it answers: after the answer to such a line a client is right about the session's view. Of the exchange nothing is asked.
 abbrev pub AnswerIsFollowed : Type 0
 AnswerIsFollowed = (now : Standing) (line view : List ℕ) (answers : List Answer) (turn : Turn) (new : List ℕ)
-    → IsFollowed now.idling line → turn_of now line answers ≡ Some turn → SeesAll view turn.events new → Leads view turn.bytes new
+    → IsFollowed now.idling now view line → turn_of now line answers ≡ Some turn → SeesAll view turn.events new → Leads view turn.bytes new
 
 -- and after the answer to a line that is too long
 abbrev pub LongLineTellsNothing : Type 0
