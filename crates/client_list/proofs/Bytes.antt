@@ -16,7 +16,6 @@ reads-append c (x ∷ xs) ys = reads-append (on_byte c.literal c.messages c.line
 
 -- ---- bytes within a line
 
-
 -- neither a space nor an LF
 abbrev pub is_word : ℕ → Bool
 is_word b = if b == 32 then false else is_inner b

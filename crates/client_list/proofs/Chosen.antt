@@ -1,6 +1,6 @@
 -- The messages that a set names in a view are in the view.
-use Rattle.std.proofs.Common.{◌≡◌, ℕ, ◌+◌, ◌^◌, ◌<◌, Bool, true, false, cond, List, [], ◌∷◌, length, inl, inr, refl, subst}
-use Rattle.std.specs.Prelude.{filter, Option, Some, None, IfSome, if◌then◌else◌}
+use Rattle.std.proofs.Common.{ℕ, ◌+◌, ◌^◌, ◌<◌, Bool, true, false, cond, List, [], ◌∷◌, length, inl, inr, refl, subst}
+use Rattle.std.specs.Prelude.{filter, Some, None, IfSome, if◌then◌else◌}
 use Rattle.imap_grammar.specs.Sets.{at_places, is_named, is_too_high, last_uid, named_in}
 use Rattle.imap_grammar.specs.declared.set.SeqRange.{SeqRange}
 use Rattle.client_list.specs.Fetches.{AreSmall}

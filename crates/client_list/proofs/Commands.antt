@@ -63,6 +63,7 @@ set_expunged tag view set t = by (named_in true set view)
   where
     done : (new : List ℕ) → Says tag new (completed (commands.UidExpunge set))
     done new = last tag new (codes "OK UID EXPUNGE complete") 100 t (plain_words (codes "OK UID EXPUNGE complete") 100 refl refl)
+
     by : (chosen : Option (List ℕ)) → Says tag view (on_chosen chosen (λ uids. Expunge (Some uids) (Feed unlimited (completed (commands.UidExpunge set)))))
     by None = last tag view (codes "BAD Sequence number too hig") 104 t (plain_words (codes "BAD Sequence number too hig") 104 refl refl)
     by (Some uids) = λ new newer. done newer
@@ -104,6 +105,7 @@ storing_says tag view store done ends numbered (uid ∷ uids) gone there = by (s
     silent_or : (b : Bool) (flags : Flags) → Leaves view (if b then [] else flags_answer store.by_uid (place uid view) uid flags)
     silent_or true flags = leaves view [] (λ messages. refl)
     silent_or false flags = flags_leave view uid store.by_uid flags there.0 numbered.few (small_in uid view numbered.small there.0)
+
     by : ((gone : Bool) → AreIn uids view → Says tag view (storing store view done uids gone)) → (flags : Option Flags)
         → Says tag view (on_found (λ flags. Write (stored store view uid flags) (storing store view done uids gone)) (storing store view done uids true) flags)
     by more None = more true there.1
@@ -138,9 +140,10 @@ selected_says tag view (Some selected) now next e t h = rw e (h selected)
 -- ---- LIST and STATUS
 
 list_says : (tag view : List ℕ) (now : Standing) (reference pattern : List ℕ) → IsTag tag → AreNames now.folders → Says tag view (on_command now (commands.List reference pattern))
-list_says tag view now reference pattern t names =
-    (leaves view _ (list_tells_nothing reference pattern now.folders names),
-    shows_then tag view now.selected (completed (commands.List reference pattern)) (λ new. last tag new (codes "OK LIST complete") 100 t (plain_words (codes "OK LIST complete") 100 refl refl)))
+list_says tag view now reference pattern t names = (
+  leaves view _ (list_tells_nothing reference pattern now.folders names),
+  shows_then tag view now.selected (completed (commands.List reference pattern)) (λ new. last tag new (codes "OK LIST complete") 100 t (plain_words (codes "OK LIST complete") 100 refl refl)),
+)
 
 status_says : (tag view : List ℕ) (now : Standing) (name : List ℕ) (items : List StatusItem) → IsTag tag → AreNames now.folders → Says tag view (on_command now (commands.Status name items))
 status_says tag view now name items t names = (leaves view [] (λ messages. refl), by (folder_of name now.folders) (folder_plain name now.folders names))
@@ -148,9 +151,10 @@ status_says tag view now name items t names = (leaves view [] (λ messages. refl
     by : (folder : Option Folder) → IfSome folder (λ f. IsPlain f.name)
         → Says tag view (on_found (counting now name items) (says (codes "NO [NONEXISTENT] No such mailbox")) folder)
     by None plain = last tag view (codes "NO [NONEXISTENT] No such mailbo") 120 t (plain_words (codes "NO [NONEXISTENT] No such mailbo") 120 refl refl)
-    by (Some folder) plain = λ status counted.
-        (leaves view _ (status_tells_nothing folder.name items status plain counted),
-        shows_then tag view now.selected (completed (commands.Status name items)) (λ new. last tag new (codes "OK STATUS complete") 100 t (plain_words (codes "OK STATUS complete") 100 refl refl)))
+    by (Some folder) plain = λ status counted. (
+      leaves view _ (status_tells_nothing folder.name items status plain counted),
+      shows_then tag view now.selected (completed (commands.Status name items)) (λ new. last tag new (codes "OK STATUS complete") 100 t (plain_words (codes "OK STATUS complete") 100 refl refl)),
+    )
 
 -- ---- all of them
 
@@ -204,6 +208,7 @@ idle_line_says tag view selected line t = by (is_done line)
   where
     done : (new : List ℕ) → Says tag new (completed commands.Idle)
     done new = last tag new (codes "OK IDLE complete") 100 t (plain_words (codes "OK IDLE complete") 100 refl refl)
+
     by : (b : Bool) → Says tag view (if b then showing selected (completed commands.Idle) else says (codes "BAD Expected DONE"))
     by true = shows_then tag view selected (completed commands.Idle) done
     by false = last tag view (codes "BAD Expected DON") 69 t (plain_words (codes "BAD Expected DON") 69 refl refl)

@@ -23,8 +23,8 @@ tagged_read : (b : ℕ) (bs front : List ℕ) (c : ℕ) → (b == 42) ≡ false 
 tagged_read b bs front c star inner other plain messages =
     let t : List ℕ = (bs ++ 32 ∷ []) ++ (front ++ c ∷ []) in
     reads_other messages b t star
-        (list_all-append is_inner ((b ∷ bs) ++ 32 ∷ []) (front ++ c ∷ []) ∙ rw (list_all-append is_inner (b ∷ bs) (32 ∷ []), inner, plain) refl)
-        (ap (λ (l : List ℕ). literal_of (reverse l)) (sym (append_assoc ((b ∷ bs) ++ 32 ∷ []) front (c ∷ []))) ∙ not_a_count (((b ∷ bs) ++ 32 ∷ []) ++ front) c other)
+    (list_all-append is_inner ((b ∷ bs) ++ 32 ∷ []) (front ++ c ∷ []) ∙ rw (list_all-append is_inner (b ∷ bs) (32 ∷ []), inner, plain) refl)
+    (ap (λ (l : List ℕ). literal_of (reverse l)) (sym (append_assoc ((b ∷ bs) ++ 32 ∷ []) front (c ∷ []))) ∙ not_a_count (((b ∷ bs) ++ 32 ∷ []) ++ front) c other)
 
 pub tagged_tells_nothing : TaggedTellsNothing
 tagged_tells_nothing tag text t plain messages =
@@ -38,7 +38,7 @@ bye_told rest messages = refl
 bye_read : (front : List ℕ) (c : ℕ) → (c == 125) ≡ false → list_all is_inner (front ++ c ∷ []) ≡ true → TellsNothing (bye (front ++ c ∷ []))
 bye_read front c other plain messages =
     whole_line messages (codes "* BYE " ++ (front ++ c ∷ [])) plain
-        (ap (λ (l : List ℕ). literal_of (reverse l)) (sym (append_assoc (codes "* BYE ") front (c ∷ []))) ∙ not_a_count (codes "* BYE " ++ front) c other)
+    (ap (λ (l : List ℕ). literal_of (reverse l)) (sym (append_assoc (codes "* BYE ") front (c ∷ []))) ∙ not_a_count (codes "* BYE " ++ front) c other)
     ∙ ap knowing (bye_told (front ++ c ∷ []) messages)
 
 pub bye_tells_nothing : ByeTellsNothing

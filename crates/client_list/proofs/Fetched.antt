@@ -1,6 +1,6 @@
 -- The answers of FETCH and STORE leave a client as right as it was.
 use Rattle.std.proofs.Common.{◌≡◌, append-nil, ℕ, ◌+◌, ◌^◌, ◌<◌, Bool, true, false, List, [], ◌∷◌, ◌++◌, length, map, ap, ◌∙◌, sym, refl, subst, arith, append_assoc}
-use Rattle.std.specs.Prelude.{reverse, decimal, codes, Some, ◌&&◌, not, if◌then◌else◌}
+use Rattle.std.specs.Prelude.{decimal, codes, Some, ◌&&◌, not, if◌then◌else◌}
 use Rattle.std.specs.List.{list_any}
 use Rattle.change_ring.specs.declared.change.Flags.{Flags}
 use Rattle.cursor_set.specs.Lines.{flag_words, place, spaced}
@@ -9,15 +9,15 @@ use Rattle.imap_grammar.specs.Answers.{answered, fetch_answer, flags_last, is_fl
 use Rattle.imap_grammar.specs.declared.items.FetchItem.{FetchItem}
 use Rattle.imap_grammar.specs.declared.items.FetchItem.TheVariants as fetch
 use Rattle.imap_session.specs.Commands.{flags_answer}
-use Rattle.client_list.specs.Client.{Known, Messages, knowing, reads, told, words, into_first, items, unopened, fetched, on_list, numbered}
-use Rattle.client_list.specs.Beliefs.{IsOf, IsRight, Leaves}
-use Rattle.client_list.specs.Fetches.{AreToldParts, IsNumbered}
+use Rattle.client_list.specs.Client.{Messages, knowing, reads, told, words, into_first, items, unopened, fetched, on_list}
+use Rattle.client_list.specs.Beliefs.{IsOf, Leaves}
+use Rattle.client_list.specs.Fetches.{AreToldParts}
 use Rattle.client_list.proofs.Bytes.{decimal_word, words_are_inner}
 use Rattle.client_list.proofs.Each.{IsIn, is_told}
 use Rattle.client_list.proofs.Follows.{place_most}
 use Rattle.client_list.proofs.Items.{items_harmless, opened_harmless}
 use Rattle.client_list.proofs.Kept.{Keeping, both_keeping, inner_keeping, item_kept, items_keeping, IsSmall, whole_kept}
-use Rattle.client_list.proofs.LinesRead.{begun, not_a_count, numbered_told}
+use Rattle.client_list.proofs.LinesRead.{not_a_count, numbered_told}
 
 front_keeping : (k : ℕ) → k < 2 ^ 64 → Keeping (codes "* " ++ decimal k ++ codes " FETCH (") (codes "* " ++ decimal k ++ codes " FETCH (")
 front_keeping k h =
@@ -40,7 +40,7 @@ answer_read o k row list h small parts =
     let texts : List ℕ = spaced (map (item_text row) list) in
     let kept : List ℕ = spaced (map (item_kept row) list) in
     let keeping : Keeping (front ++ texts ++ 41 ∷ []) (front ++ kept ++ 41 ∷ []) =
-        both_keeping (front ++ texts) (front ++ kept) (41 ∷ []) (41 ∷ []) (both_keeping front front texts kept (front_keeping k h) (items_keeping row list small parts)) (inner_keeping (41 ∷ []) refl) in
+    both_keeping (front ++ texts) (front ++ kept) (41 ∷ []) (41 ∷ []) (both_keeping front front texts kept (front_keeping k h) (items_keeping row list small parts)) (inner_keeping (41 ∷ []) refl) in
     ap (reads (knowing o)) (answer_shape front texts)
     ∙ whole_kept o (front ++ texts ++ 41 ∷ []) (front ++ kept ++ 41 ∷ []) keeping (not_a_count (front ++ kept) 41 refl)
     ∙ ap (λ (t : List ℕ). knowing (told t o)) (begun_shape (decimal k) kept)

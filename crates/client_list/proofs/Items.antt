@@ -1,12 +1,10 @@
 -- The words of a FETCH's items, as a client reads them: they tell of no UID but the message's own.
-use Rattle.std.proofs.Common.{◌≡◌, ℕ, ◌+◌, ◌^◌, ◌<◌, Bool, true, false, ◌==◌, ◌&&◌, List, [], ◌∷◌, ◌++◌, length, map, ap, ◌∙◌, sym, refl, subst, append_assoc}
+use Rattle.std.proofs.Common.{◌≡◌, ℕ, ◌^◌, ◌<◌, Bool, true, false, ◌==◌, ◌&&◌, List, [], ◌∷◌, ◌++◌, length, map, ap, ◌∙◌, sym, refl, subst, append_assoc}
 use Rattle.std.specs.Prelude.{decimal, codes, not, Option, Some, None, if◌then◌else◌}
 use Rattle.std.specs.List.{list_all}
-use Rattle.std.specs.Str.{bytes_eq}
 use Rattle.std.proofs.lemmas.Bool.{false≢true}
 use Rattle.std.proofs.lemmas.List.{append-nil}
 use Rattle.std.proofs.lemmas.List.Folds.{list_all-append}
-use Rattle.std.proofs.lemmas.Option.{none-some}
 use Rattle.change_ring.specs.declared.change.Flags.{Flags}
 use Rattle.cursor_set.specs.Lines.{flag_words, spaced}
 use Rattle.mailbox.specs.declared.clients.Row.{Row}
@@ -206,6 +204,7 @@ body_unspaced peek which span told =
     front Whole = refl
     front Header = refl
     front Text = refl
+
     back : (span : Option Span) → IsToldPart (fetch.Body peek which span) → list_all is_unspaced (origin_text span) ≡ true
     back None h = refl
     back (Some span) h =
@@ -244,7 +243,7 @@ items_harmless row (item ∷ []) small told = item_harmless row item true small 
 items_harmless row (item ∷ other ∷ list) small told =
     let kept : List ℕ = spaced (map (item_kept row) (other ∷ list)) ++ 41 ∷ [] in
     let first : Harmless row.uid (words (item_kept row item)) =
-        subst (λ (t : List ℕ). Harmless row.uid (words t)) (append-nil (item_kept row item)) (item_harmless row item false small told.0) in
+    subst (λ (t : List ℕ). Harmless row.uid (words t)) (append-nil (item_kept row item)) (item_harmless row item false small told.0) in
     subst (λ (ws : List (List ℕ)). Harmless row.uid ws)
     (sym (ap words (append_assoc (item_kept row item) (32 ∷ spaced (map (item_kept row) (other ∷ list))) (41 ∷ [])) ∙ words_append (item_kept row item) kept))
     (harmless_append row.uid (words (item_kept row item)) (words kept) first (items_harmless row (other ∷ list) small told.1))

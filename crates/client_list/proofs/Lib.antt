@@ -14,3 +14,4 @@ mod Fetched
 mod Chosen
 mod Untold
 mod Commands
+mod Opening

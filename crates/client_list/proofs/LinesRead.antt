@@ -30,8 +30,8 @@ pub numbered_line : (o : Messages) (k : ℕ) (front : List ℕ) (b : ℕ) → k 
 numbered_line o k front b h other inner =
     let rest : List ℕ = front ++ b ∷ [] in
     whole_line o (begun k rest)
-        (list_all-append is_inner (decimal k) (32 ∷ rest) ∙ rw (words_are_inner (decimal k) (decimal_word k h), inner) refl)
-        (ap (λ (t : List ℕ). literal_of (reverse t)) (sym (append_assoc (42 ∷ 32 ∷ decimal k) (32 ∷ front) (b ∷ []))) ∙ not_a_count ((42 ∷ 32 ∷ decimal k) ++ 32 ∷ front) b other)
+    (list_all-append is_inner (decimal k) (32 ∷ rest) ∙ rw (words_are_inner (decimal k) (decimal_word k h), inner) refl)
+    (ap (λ (t : List ℕ). literal_of (reverse t)) (sym (append_assoc (42 ∷ 32 ∷ decimal k) (32 ∷ front) (b ∷ []))) ∙ not_a_count ((42 ∷ 32 ∷ decimal k) ++ 32 ∷ front) b other)
     ∙ ap knowing (numbered_told o k rest h)
 
 -- ---- EXISTS and EXPUNGE
@@ -148,7 +148,7 @@ items_told uid f m h =
     ap (λ (p : ℕ × List ℕ). items (decimal uid ∷ ws) (with_uid (number p.1) m)) (digits_closing (decimal uid) (decimal_digits uid h))
     ∙ ap (λ (n : Option ℕ). items (decimal uid ∷ ws) (with_uid n m)) (decimal_says uid h)
     ∙ rw (digits_differ (decimal uid) 85 (codes "ID") refl (decimal_digits uid h), digits_differ (decimal uid) 70 (codes "LAGS") refl (decimal_digits uid h))
-        (flags_told f.answered f.flagged f.deleted f.seen f.draft (with_uid (Some uid) m))
+    (flags_told f.answered f.flagged f.deleted f.seen f.draft (with_uid (Some uid) m))
 
 abbrev fetch_part : ℕ → Flags → List ℕ
 fetch_part uid f = codes "FETCH (UID " ++ (decimal uid ++ 32 ∷ flags_part f)

@@ -22,8 +22,8 @@ count_digits : (back acc line : List ℕ) → list_all is_digit back ≡ true �
 count_digits [] acc line h = refl
 count_digits (b ∷ bs) acc line h =
     rw (first_of is_digit b bs h)
-        (count_digits bs (b ∷ acc) line (rest_of is_digit b bs h)
-        ∙ ap number (sym (ap (λ (l : List ℕ). l ++ acc) (reverse_onto bs b []) ∙ append_assoc (reverse bs) (b ∷ []) acc)))
+    (count_digits bs (b ∷ acc) line (rest_of is_digit b bs h)
+    ∙ ap number (sym (ap (λ (l : List ℕ). l ++ acc) (reverse_onto bs b []) ∙ append_assoc (reverse bs) (b ∷ []) acc)))
 
 digits_back : (ds : List ℕ) → list_all is_digit ds ≡ true → list_all is_digit (reverse ds) ≡ true
 digits_back [] h = refl

@@ -93,7 +93,7 @@ shows view call answer met changes tells fits rest turn new e sees behind list r
     let t = tells s.0 s.1.leads in
     let may = fits s.1.fits in
     let f : Follows IsOf list (lines met changes) (replay view changes) =
-        subst (λ (v : List ℕ). Follows IsOf list (lines v changes) (replay view changes)) (sym t.0) (lines_are_followed view changes list may.few may.printed may.fits right) in
+    subst (λ (v : List ℕ). Follows IsOf list (lines v changes) (replay view changes)) (sym t.0) (lines_are_followed view changes list may.few may.printed may.fits right) in
     let g = behind o.more s.0 o.is s.2 f.after (subst (λ (v : List ℕ). Each IsOf v f.after) (sym t.1) f.each) in
     subst (λ (bytes : List ℕ). Follows IsOf list bytes new) (sym o.bytes) (then_follows list (lines met changes) o.more.bytes (replay view changes) new f g)
 

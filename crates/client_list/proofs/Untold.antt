@@ -1,38 +1,38 @@
 -- The answers of LIST and STATUS tell a client nothing of messages.
 use Rattle.std.proofs.Common.{◌≡◌, ℕ, ◌^◌, ◌<◌, ◌==◌, Bool, true, false, List, [], ◌∷◌, ◌++◌, map, ap, ◌∙◌, sym, refl, append_assoc}
-use Rattle.std.specs.Prelude.{reverse, decimal, codes, flat_map, IfSome, Option, Some, None, ◌||◌, if◌then◌else◌}
+use Rattle.std.specs.Prelude.{decimal, codes, flat_map, IfSome, Some, if◌then◌else◌}
 use Rattle.std.specs.List.{list_all}
 use Rattle.std.proofs.lemmas.List.Folds.{list_all-append}
 use Rattle.cursor_set.specs.Lines.{spaced}
 use Rattle.mailbox.specs.declared.mailbox.Status.{Status}
-use Rattle.imap_grammar.specs.Answers.{asks_for_root, is_inbox, is_listed, list_answer, listed, name_answer, root_answer, status_answer, status_number, status_text}
+use Rattle.imap_grammar.specs.Answers.{asks_for_root, is_listed, list_answer, listed, name_answer, root_answer, status_answer, status_number, status_text}
 use Rattle.imap_grammar.specs.Grammar.{status_word}
 use Rattle.imap_grammar.specs.declared.items.StatusItem.{StatusItem}
 use Rattle.imap_grammar.specs.declared.items.StatusItem.TheVariants as status
 use Rattle.imap_session.specs.Exchange.{Folder}
 use Rattle.imap_session.specs.Commands.{folder_of, is_named}
-use Rattle.client_list.specs.Client.{Client, Messages, knowing, reads, literal_of, told}
+use Rattle.client_list.specs.Client.{Client, Messages, knowing, reads, told}
 use Rattle.client_list.specs.Beliefs.{TellsNothing}
 use Rattle.client_list.specs.Commands.{AreNames}
 use Rattle.client_list.specs.Turns.{is_inner, IsCounted, IsPlain}
 use Rattle.client_list.proofs.Bytes.{decimal_word, reads-append, whole_line, words_are_inner}
 use Rattle.client_list.proofs.LinesRead.{not_a_count}
 
-both_tell_nothing : (one two : List ℕ) → TellsNothing one → TellsNothing two → TellsNothing (one ++ two)
+pub both_tell_nothing : (one two : List ℕ) → TellsNothing one → TellsNothing two → TellsNothing (one ++ two)
 both_tell_nothing one two h k messages = reads-append (knowing messages) one two ∙ ap (λ (c : Client). reads c two) (h messages) ∙ k messages
 
-inner_both : (a b : List ℕ) → list_all is_inner a ≡ true → list_all is_inner b ≡ true → list_all is_inner (a ++ b) ≡ true
+pub inner_both : (a b : List ℕ) → list_all is_inner a ≡ true → list_all is_inner b ≡ true → list_all is_inner (a ++ b) ≡ true
 inner_both a b h k = list_all-append is_inner a b ∙ rw (h, k) refl
 
 -- a line that tells nothing as it stands
-line_tells_nothing : (front : List ℕ) (last : ℕ) → (last == 125) ≡ false → list_all is_inner (front ++ last ∷ []) ≡ true → ((messages : Messages) → told (front ++ last ∷ []) messages ≡ messages)
+pub line_tells_nothing : (front : List ℕ) (last : ℕ) → (last == 125) ≡ false → list_all is_inner (front ++ last ∷ []) ≡ true → ((messages : Messages) → told (front ++ last ∷ []) messages ≡ messages)
     → TellsNothing ((front ++ last ∷ []) ++ 13 ∷ 10 ∷ [])
 line_tells_nothing front last other inner nothing messages =
     whole_line messages (front ++ last ∷ []) inner (not_a_count front last other) ∙ ap knowing (nothing messages)
 
 -- ---- LIST
 
-name_tells_nothing : (name : List ℕ) → IsPlain name → TellsNothing (name_answer name)
+pub name_tells_nothing : (name : List ℕ) → IsPlain name → TellsNothing (name_answer name)
 name_tells_nothing name plain messages =
     ap (λ (n : List ℕ). reads (knowing messages) (name_answer n)) plain.is
     ∙ line_tells_nothing (codes "* LIST () \"/\" " ++ plain.front) plain.last plain.no_count plain.inner (λ o. refl) messages
@@ -92,8 +92,8 @@ status_tells_nothing name items s plain h messages =
     let texts : List ℕ = spaced (map (status_text s) items) in
     ap (reads (knowing messages)) (sym (append_assoc (front ++ texts) (41 ∷ []) (13 ∷ 10 ∷ [])))
     ∙ line_tells_nothing (front ++ texts) 41 refl
-        (inner_both (front ++ texts) (41 ∷ []) (inner_both front texts (inner_both (codes "* STATUS " ++ name) (codes " (") (plain_inner name plain) refl) (texts_inner s items h)) refl)
-        (λ o. refl) messages
+    (inner_both (front ++ texts) (41 ∷ []) (inner_both front texts (inner_both (codes "* STATUS " ++ name) (codes " (") (plain_inner name plain) refl) (texts_inner s items h)) refl)
+    (λ o. refl) messages
 
 -- ---- mailboxes by name
 

@@ -90,7 +90,7 @@ by_the_mailbox_is_refused follows =
 expunge_by_the_mailbox_is_refused : Follows IsOf (record { uid = Some 1; flags = None } ∷ record { uid = Some 2; flags = None } ∷ record { uid = Some 3; flags = None } ∷ []) (codes "* 2 EXPUNGE\r\n") (1 ∷ 2 ∷ []) → ⊥
 expunge_by_the_mailbox_is_refused follows =
     let each = one_list (record { uid = Some 1; flags = None } ∷ record { uid = Some 2; flags = None } ∷ record { uid = Some 3; flags = None } ∷ []) (codes "* 2 EXPUNGE\r\n") (1 ∷ 2 ∷ [])
-        (record { uid = Some 1; flags = None } ∷ record { uid = Some 3; flags = None } ∷ []) refl follows in
+    (record { uid = Some 1; flags = None } ∷ record { uid = Some 3; flags = None } ∷ []) refl follows in
     let same : 3 ≡ 2 = each.1.0 3 refl in absurd (omega (arith, same))
 
 -- the EXISTS before the EXPUNGE that came first, as they are

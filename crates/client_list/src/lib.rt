@@ -4,4 +4,7 @@
 
 mod laws;
 
-pub use laws::{answers_are_followed, ends_tell_nothing, lines_are_followed, literals_are_passed_over, turns_are_followed};
+pub use laws::{
+    answers_are_followed, ends_tell_nothing, lines_are_followed, literals_are_passed_over,
+    messages_are_told, turns_are_followed,
+};
