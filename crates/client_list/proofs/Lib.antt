@@ -8,6 +8,7 @@ mod Played
 mod Ends
 mod IdleTurns
 mod Tags
+mod IdleTags
 mod Kept
 mod Items
 mod Fetched

@@ -39,7 +39,7 @@ record Onward (call : Call) (answer : Answer) (text : List ℕ) (rest : Option T
   events : turn.events ≡ record { call = call; answer = answer } ∷ more.events
   bytes : turn.bytes ≡ text ++ more.bytes
 
-abbrev the_turn : Turn → Option Turn → Turn
+abbrev pub the_turn : Turn → Option Turn → Turn
 the_turn d None = d
 the_turn d (Some t) = t
 

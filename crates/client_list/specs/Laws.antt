@@ -77,6 +77,10 @@ IdleTurnIsFollowed = (view : List ℕ) (now : Standing) (answers : List Answer) 
 abbrev pub TagsAreTags : Type 0
 TagsAreTags = (line tag : List ℕ) (command : Command) → read line ≡ Ok (tag, command) → IsTag tag
 
+-- and so is the tag of an IDLE, as long as it lasts, if it was one before: a session begins with none
+abbrev pub IdleTagsAreTags : Type 0
+IdleTagsAreTags = (now : Standing) (line : List ℕ) (answers : List Answer) (turn : Turn) → IfSome now.idling IsTag → turn_of now line answers ≡ Some turn → IfSome turn.standing.idling IsTag
+
 -- Over any store, whatever it answers: after the answer to such a line a client is right about the session's view. Of the exchange nothing is asked.
 abbrev pub AnswerIsFollowed : Type 0
 AnswerIsFollowed = (now : Standing) (line view : List ℕ) (answers : List Answer) (turn : Turn) (new : List ℕ)
