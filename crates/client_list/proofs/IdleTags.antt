@@ -19,7 +19,7 @@ use Rattle.client_list.specs.Laws.{IdleTagsAreTags}
 use Rattle.client_list.proofs.Tags.{Tagged, read_tagged}
 use Rattle.client_list.proofs.Turns.{the_turn}
 
-abbrev Kept : Turn → Type 0
+abbrev pub Kept : Turn → Type 0
 Kept turn = IfSome turn.standing.idling IsTag
 
 -- a turn with an event or a text more

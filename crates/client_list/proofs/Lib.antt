@@ -16,3 +16,4 @@ mod Chosen
 mod Untold
 mod Commands
 mod Opening
+mod Talking

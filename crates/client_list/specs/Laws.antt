@@ -17,6 +17,7 @@ use Rattle.client_list.specs.Client.{Client, Known, Messages, reads, within}
 use Rattle.client_list.specs.Beliefs.{Follows, IsOf, IsRight, Leads, Leaves, MayShow, TellsNothing}
 use Rattle.client_list.specs.Commands.{IsFollowed}
 use Rattle.client_list.specs.Fetches.{AreToldParts, IsNumbered}
+use Rattle.client_list.specs.Talks.{Happening, Talks}
 use Rattle.client_list.specs.Turns.{IsPlain, IsRowOf, IsTag, Says, SeesAll}
 
 -- ---- bytes
@@ -105,3 +106,9 @@ FlagsAreTold = (view : List ℕ) (uid : ℕ) (by_uid : Bool) (flags : Flags) →
 abbrev pub OpeningIsFollowed : Type 0
 OpeningIsFollowed = (read_only : Bool) (name : List ℕ) (opening : Opening) (view : List ℕ) → IsPlain name → opening.count ≡ length view
     → opening.count < 2 ^ 64 → opening.uidvalidity < 2 ^ 64 → opening.uidnext < 2 ^ 64 → Follows IsOf [] (opening_text read_only name opening) view
+
+-- ---- a whole talk
+
+-- Whatever comes, one line or turn behind the other: a client that was right about the session's view reads all that is written, and is right about the view to which it leads.
+abbrev pub TalkIsFollowed : Type 0
+TalkIsFollowed = (now : Standing) (view : List ℕ) (talk : List Happening) (bytes new : List ℕ) → IfSome now.idling IsTag → Talks now view talk bytes new → Leads view bytes new

@@ -3,6 +3,7 @@ pub mod Beliefs
 pub mod Turns
 pub mod Commands
 pub mod Fetches
+pub mod Talks
 pub mod Laws
 pub mod Rows
 pub mod WholeRows

@@ -1,7 +1,7 @@
 //! Laws of what a client reads, as functions that do nothing: bytes and literals, the lines of changes, and the
 //! turns of a session.
 
-ghost use Rattle.client_list.specs.Laws.{AnswerIsFollowed, ByeTellsNothing, FlagsAreTold, GreetingTellsNothing, IdleTagsAreTags, IdleTurnIsFollowed, LinesAreFollowed, ListIsAsLong, LiteralLeavesItsCount, LiteralsAreAlike, LongLineTellsNothing, OpeningIsFollowed, PiecesAreTheWhole, RefusalTellsNothing, RowIsTold, TaggedTellsNothing, TagsAreTags, TurnIsFollowed};
+ghost use Rattle.client_list.specs.Laws.{AnswerIsFollowed, ByeTellsNothing, FlagsAreTold, GreetingTellsNothing, IdleTagsAreTags, IdleTurnIsFollowed, LinesAreFollowed, ListIsAsLong, LiteralLeavesItsCount, LiteralsAreAlike, LongLineTellsNothing, OpeningIsFollowed, PiecesAreTheWhole, RefusalTellsNothing, RowIsTold, TaggedTellsNothing, TagsAreTags, TalkIsFollowed, TurnIsFollowed};
 
 /// It makes no difference in which pieces bytes come, and a literal leaves nothing but its count in the line in which it
 /// stands, whatever its bytes (RFC 9051, 4.3). So a message's text can't be taken for lines.
@@ -56,4 +56,11 @@ pub fn answers_are_followed()
     ensures idle_tags { IdleTagsAreTags }
     ensures answer { AnswerIsFollowed }
     ensures long_line { LongLineTellsNothing }
+{}
+
+/// So it is of a whole talk in one mailbox: lines, lines that are too long and turns of an IDLE, one behind the other, over any
+/// store. A client that was right about the session's view reads all that is written, however it is cut into pieces, and
+/// is right about the view to which it all leads.
+pub fn talks_are_followed()
+    ensures { TalkIsFollowed }
 {}
