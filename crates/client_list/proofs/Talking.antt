@@ -1,16 +1,15 @@
 -- A whole talk, one turn behind the other.
-use Rattle.std.proofs.Common.{◌≡◌, ℕ, Bool, true, false, List, [], ◌∷◌, ◌++◌, ap, ◌∙◌, sym, refl, subst}
+use Rattle.std.proofs.Common.{◌≡◌, ℕ, Bool, true, false, List, [], ◌∷◌, ap, sym, refl, subst}
 use Rattle.std.specs.Prelude.{Option, Some, None, IfSome}
 use Rattle.std.proofs.lemmas.Option.{none-some}
 use Rattle.mailbox.specs.declared.clients.MailFault.TheVariants.{Stranger, Lapped, Spent, NoMemory}
 use Rattle.imap_session.specs.declared.standing.Selected.{Selected}
-use Rattle.imap_session.specs.Exchange.{Answer, Entered, Looked, Found, Counted, Altered, Expunged, Fed, Left, Refused, Starved, Event, Standing, Turn, is_idling}
-use Rattle.imap_session.specs.Commands.{idle_turn_in, long_line_text, turn_of_long_line}
-use Rattle.client_list.specs.Client.{Client, Known, knowing, reads}
+use Rattle.imap_session.specs.Exchange.{Answer, Entered, Looked, Found, Counted, Altered, Expunged, Fed, Left, Refused, Starved, Standing, Turn, is_idling}
+use Rattle.imap_session.specs.Commands.{idle_turn_in, turn_of_long_line}
 use Rattle.client_list.specs.Beliefs.{IsOf, Follows, Leads}
 use Rattle.client_list.specs.Commands.{IsFollowed}
 use Rattle.client_list.specs.Laws.{TalkIsFollowed}
-use Rattle.client_list.specs.Talks.{Happening, Line, LongLine, Turned, MayCome, MayHappen, Talks, leads_to}
+use Rattle.client_list.specs.Talks.{Happening, Line, LongLine, Turned, MayCome, MayHappen, leads_to}
 use Rattle.client_list.specs.Turns.{IsTag, SeesAll}
 use Rattle.client_list.proofs.Commands.{answer_is_followed, long_line_tells_nothing}
 use Rattle.client_list.proofs.Ends.{leaves}

@@ -7,3 +7,4 @@ pub mod Talks
 pub mod Laws
 pub mod Rows
 pub mod WholeRows
+pub mod TalkRows
