@@ -1,24 +1,36 @@
 -- The answers to lines that a client sends.
 use Rattle.std.proofs.Common.{◌≡◌, ℕ, Bool, true, false, List, [], ◌∷◌, ◌++◌, refl}
-use Rattle.std.specs.Prelude.{Option, Some, None, Result, Ok, Err, IfSome, codes, if◌then◌else◌}
+use Rattle.std.specs.Prelude.{Option, Some, None, Result, Ok, Err, IfSome, codes, ◌&&◌, not, if◌then◌else◌}
+use Rattle.std.specs.List.{list_any}
 use Rattle.std.proofs.lemmas.Bool.{false≢true}
 use Rattle.std.proofs.lemmas.Option.{none-some}
+use Rattle.change_ring.specs.declared.change.Flags.{Flags}
+use Rattle.cursor_set.specs.Lines.{place}
+use Rattle.mailbox.specs.declared.clients.Row.{Row}
+use Rattle.imap_grammar.specs.Answers.{marks_seen}
 use Rattle.imap_grammar.specs.Reading.{read, is_done}
 use Rattle.imap_grammar.specs.Sets.{named_in}
 use Rattle.imap_grammar.specs.declared.set.SeqRange.{SeqRange}
 use Rattle.imap_grammar.specs.declared.command.Command.{Command}
 use Rattle.imap_grammar.specs.declared.command.Command.TheVariants as commands
+use Rattle.imap_grammar.specs.declared.command.Fetch.{Fetch}
+use Rattle.imap_grammar.specs.declared.command.Store.{Store}
+use Rattle.imap_grammar.specs.declared.items.StatusItem.{StatusItem}
 use Rattle.imap_grammar.specs.declared.command.ImapFault.{ImapFault}
 use Rattle.imap_grammar.specs.declared.command.ImapFault.TheVariants.{NoTag, Unknown, LeftOut, Arguments}
 use Rattle.imap_session.specs.declared.standing.After.TheVariants.{Go}
 use Rattle.imap_session.specs.declared.standing.Selected.{Selected}
-use Rattle.imap_session.specs.Exchange.{Answer, Exchange, Expunge, Feed, Standing, Turn}
-use Rattle.imap_session.specs.Commands.{completed, fault_text, in_writable, long_line_text, on_chosen, on_command, on_idle_line, on_read, only_says, showing, says, turn_while, unlimited, wrong_state, expunge_set}
-use Rattle.client_list.specs.Beliefs.{Leads, TellsNothing}
-use Rattle.client_list.specs.Turns.{IsPlain, IsTag, Says, SeesAll}
-use Rattle.client_list.specs.Commands.{IsFollowed, only_shows, line_only_shows}
+use Rattle.imap_session.specs.Exchange.{Answer, Exchange, Expunge, Feed, Folder, Standing, Turn, Write}
+use Rattle.imap_session.specs.Commands.{completed, counting, expunge_set, fault_text, fetch_messages, fetched, fetching, flags_answer, folder_of, in_selected, in_writable, long_line_text, messages_done, on_chosen, on_command, on_found, on_idle_line, on_read, on_set, only_says, says, showing, store_messages, stored, storing, turn_while, unlimited, wrong_state}
+use Rattle.client_list.specs.Beliefs.{Leads, Leaves, TellsNothing}
+use Rattle.client_list.specs.Turns.{IsPlain, IsRowOf, IsTag, Says, SeesAll}
+use Rattle.client_list.specs.Fetches.{AreToldParts, IsNumbered}
+use Rattle.client_list.specs.Commands.{AreNames, IsFollowed, MayAnswer, MayAsk}
 use Rattle.client_list.specs.Laws.{AnswerIsFollowed, LongLineTellsNothing}
 use Rattle.client_list.proofs.Ends.{leaves, plain_words, refusals, tagged_tells_nothing}
+use Rattle.client_list.proofs.Chosen.{AreIn, named_are_in, small_in}
+use Rattle.client_list.proofs.Fetched.{flags_leave, row_leaves}
+use Rattle.client_list.proofs.Untold.{folder_plain, list_tells_nothing, status_tells_nothing}
 use Rattle.client_list.proofs.Played.{turn_follows}
 use Rattle.client_list.proofs.Tags.{Tagged, read_tagged}
 use Rattle.client_list.proofs.Turns.{ends}
@@ -56,29 +68,119 @@ set_expunged tag view set t = by (named_in true set view)
     by None = last tag view (codes "BAD Sequence number too hig") 104 t (plain_words (codes "BAD Sequence number too hig") 104 refl refl)
     by (Some uids) = λ new newer. done newer
 
-command_says : (tag view : List ℕ) (now : Standing) (command : Command) → IsTag tag → only_shows command ≡ true → Says tag view (on_command now command)
-command_says tag view now commands.Capability t h =
+-- ---- FETCH and STORE
+
+-- what stands behind the last message of a FETCH, under its UID form or not
+fetch_done : (tag view : List ℕ) (fetch : Fetch) (gone : Bool) → IsTag tag → Says tag view (messages_done (commands.Fetch fetch) fetch.by_uid gone)
+fetch_done tag view fetch gone t = by fetch.by_uid gone
+  where
+    by : (b gone : Bool) → Says tag view (messages_done (commands.Fetch (record { by_uid = b; set = fetch.set; items = fetch.items })) b gone)
+    by true gone = λ new. last tag new (codes "OK UID FETCH complete") 100 t (plain_words (codes "OK UID FETCH complete") 100 refl refl)
+    by false true = last tag view (codes "NO [EXPUNGEISSUED] Some messages are gon") 101 t (plain_words (codes "NO [EXPUNGEISSUED] Some messages are gon") 101 refl refl)
+    by false false = last tag view (codes "OK FETCH complete") 100 t (plain_words (codes "OK FETCH complete") 100 refl refl)
+
+store_done : (tag view : List ℕ) (store : Store) (gone : Bool) → IsTag tag → Says tag view (messages_done (commands.Store store) store.by_uid gone)
+store_done tag view store gone t = by store.by_uid gone
+  where
+    by : (b gone : Bool) → Says tag view (messages_done (commands.Store (record { by_uid = b; set = store.set; silent = store.silent; change = store.change })) b gone)
+    by true gone = λ new. last tag new (codes "OK UID STORE complete") 100 t (plain_words (codes "OK UID STORE complete") 100 refl refl)
+    by false true = last tag view (codes "NO [EXPUNGEISSUED] Some messages are gon") 101 t (plain_words (codes "NO [EXPUNGEISSUED] Some messages are gon") 101 refl refl)
+    by false false = last tag view (codes "OK STORE complete") 100 t (plain_words (codes "OK STORE complete") 100 refl refl)
+
+fetching_says : (tag view : List ℕ) (fetch : Fetch) (mark : Bool) (done : Bool → Exchange) → ((gone : Bool) → Says tag view (done gone)) → AreToldParts fetch.items → IsNumbered view
+    → (uids : List ℕ) (gone : Bool) → AreIn uids view → Says tag view (fetching fetch mark view done uids gone)
+fetching_says tag view fetch mark done ends parts numbered [] gone there = ends gone
+fetching_says tag view fetch mark done ends parts numbered (uid ∷ uids) gone there = by (fetching_says tag view fetch mark done ends parts numbered uids)
+  where
+    by : ((gone : Bool) → AreIn uids view → Says tag view (fetching fetch mark view done uids gone)) → (row : Option Row) → IsRowOf uid row
+        → Says tag view (on_found (λ row. Write (fetched fetch view uid row) (fetching fetch mark view done uids gone)) (fetching fetch mark view done uids true) row)
+    by more None is = more true there.1
+    by more (Some row) is = (row_leaves view uid fetch.by_uid fetch.items row there.0 numbered.few (small_in uid view numbered.small there.0) is.0 is.1 parts, more gone there.1)
+
+storing_says : (tag view : List ℕ) (store : Store) (done : Bool → Exchange) → ((gone : Bool) → Says tag view (done gone)) → IsNumbered view
+    → (uids : List ℕ) (gone : Bool) → AreIn uids view → Says tag view (storing store view done uids gone)
+storing_says tag view store done ends numbered [] gone there = ends gone
+storing_says tag view store done ends numbered (uid ∷ uids) gone there = by (storing_says tag view store done ends numbered uids)
+  where
+    silent_or : (b : Bool) (flags : Flags) → Leaves view (if b then [] else flags_answer store.by_uid (place uid view) uid flags)
+    silent_or true flags = leaves view [] (λ messages. refl)
+    silent_or false flags = flags_leave view uid store.by_uid flags there.0 numbered.few (small_in uid view numbered.small there.0)
+
+    by : ((gone : Bool) → AreIn uids view → Says tag view (storing store view done uids gone)) → (flags : Option Flags)
+        → Says tag view (on_found (λ flags. Write (stored store view uid flags) (storing store view done uids gone)) (storing store view done uids true) flags)
+    by more None = more true there.1
+    by more (Some flags) = (silent_or store.silent flags, more gone there.1)
+
+-- the messages that a set names, or one that isn't there
+chosen_says : (tag view : List ℕ) (by_uid : Bool) (set : List SeqRange) (next : List ℕ → List ℕ → Exchange) → IsTag tag → ((uids : List ℕ) → AreIn uids view → Says tag view (next view uids))
+    → Says tag view (on_set by_uid set next)
+chosen_says tag view by_uid set next t h = by (named_in by_uid set view) (named_are_in by_uid set view)
+  where
+    by : (chosen : Option (List ℕ)) → IfSome chosen (λ uids. AreIn uids view) → Says tag view (on_chosen chosen (next view))
+    by None there = last tag view (codes "BAD Sequence number too hig") 104 t (plain_words (codes "BAD Sequence number too hig") 104 refl refl)
+    by (Some uids) there = h uids there
+
+fetch_says : (tag view : List ℕ) (fetch : Fetch) (selected : Selected) → IsTag tag → AreToldParts fetch.items → IsNumbered view → Says tag view (fetch_messages fetch selected)
+fetch_says tag view fetch selected t parts numbered =
+    chosen_says tag view fetch.by_uid fetch.set
+    (λ view uids. fetching fetch (list_any marks_seen fetch.items && not selected.read_only) view (messages_done (commands.Fetch fetch) fetch.by_uid) uids false) t
+    (λ uids there. fetching_says tag view fetch (list_any marks_seen fetch.items && not selected.read_only) (messages_done (commands.Fetch fetch) fetch.by_uid)
+    (λ gone. fetch_done tag view fetch gone t) parts numbered uids false there)
+
+store_says : (tag view : List ℕ) (store : Store) → IsTag tag → IsNumbered view → Says tag view (store_messages store)
+store_says tag view store t numbered =
+    chosen_says tag view store.by_uid store.set (λ view uids. storing store view (messages_done (commands.Store store) store.by_uid) uids false) t
+    (λ uids there. storing_says tag view store (messages_done (commands.Store store) store.by_uid) (λ gone. store_done tag view store gone t) numbered uids false there)
+
+selected_says : (tag view : List ℕ) (selected : Option Selected) (now : Standing) (next : Selected → Exchange) → now.selected ≡ selected → IsTag tag → ((s : Selected) → Says tag view (next s))
+    → Says tag view (in_selected now next)
+selected_says tag view None now next e t h = rw e (wrong tag view t)
+selected_says tag view (Some selected) now next e t h = rw e (h selected)
+
+-- ---- LIST and STATUS
+
+list_says : (tag view : List ℕ) (now : Standing) (reference pattern : List ℕ) → IsTag tag → AreNames now.folders → Says tag view (on_command now (commands.List reference pattern))
+list_says tag view now reference pattern t names = (
+  leaves view _ (list_tells_nothing reference pattern now.folders names),
+  shows_then tag view now.selected (completed (commands.List reference pattern)) (λ new. last tag new (codes "OK LIST complete") 100 t (plain_words (codes "OK LIST complete") 100 refl refl)),
+)
+
+status_says : (tag view : List ℕ) (now : Standing) (name : List ℕ) (items : List StatusItem) → IsTag tag → AreNames now.folders → Says tag view (on_command now (commands.Status name items))
+status_says tag view now name items t names = (leaves view [] (λ messages. refl), by (folder_of name now.folders) (folder_plain name now.folders names))
+  where
+    by : (folder : Option Folder) → IfSome folder (λ f. IsPlain f.name)
+        → Says tag view (on_found (counting now name items) (says (codes "NO [NONEXISTENT] No such mailbox")) folder)
+    by None plain = last tag view (codes "NO [NONEXISTENT] No such mailbo") 120 t (plain_words (codes "NO [NONEXISTENT] No such mailbo") 120 refl refl)
+    by (Some folder) plain = λ status counted. (
+      leaves view _ (status_tells_nothing folder.name items status plain counted),
+      shows_then tag view now.selected (completed (commands.Status name items)) (λ new. last tag new (codes "OK STATUS complete") 100 t (plain_words (codes "OK STATUS complete") 100 refl refl)),
+    )
+
+-- ---- all of them
+
+command_says : (tag view : List ℕ) (now : Standing) (command : Command) → IsTag tag → MayAsk now view command → Says tag view (on_command now command)
+command_says tag view now commands.Capability t may =
     (leaves view _ (λ messages. refl), last tag view (codes "OK CAPABILITY complete") 100 t (plain_words (codes "OK CAPABILITY complete") 100 refl refl))
-command_says tag view now commands.Noop t h =
+command_says tag view now commands.Noop t may =
     shows_then tag view now.selected (completed commands.Noop) (λ new. last tag new (codes "OK NOOP complete") 100 t (plain_words (codes "OK NOOP complete") 100 refl refl))
-command_says tag view now commands.Logout t h =
+command_says tag view now commands.Logout t may =
     (leaves view _ (λ messages. refl), leaves view _ (tagged_tells_nothing tag (codes "OK LOGOUT completed") t (plain_words (codes "OK LOGOUT complete") 100 refl refl)))
-command_says tag view now commands.Namespace t h =
+command_says tag view now commands.Namespace t may =
     (leaves view _ (λ messages. refl), last tag view (codes "OK NAMESPACE complete") 100 t (plain_words (codes "OK NAMESPACE complete") 100 refl refl))
-command_says tag view now commands.Idle t h = tt
-command_says tag view now commands.Login t h = wrong tag view t
-command_says tag view now commands.Authenticate t h = wrong tag view t
-command_says tag view now commands.StartTls t h = wrong tag view t
-command_says tag view now (commands.Select name) t h = absurd (false≢true h)
-command_says tag view now (commands.Examine name) t h = absurd (false≢true h)
-command_says tag view now (commands.List reference pattern) t h = absurd (false≢true h)
-command_says tag view now (commands.Status name items) t h = absurd (false≢true h)
-command_says tag view now commands.Close t h = absurd (false≢true h)
-command_says tag view now commands.Unselect t h = absurd (false≢true h)
-command_says tag view now commands.Expunge t h = writable tag view now.selected now (Expunge None (Feed unlimited (completed commands.Expunge))) refl t (λ new newer. expunged tag newer t)
-command_says tag view now (commands.UidExpunge set) t h = writable tag view now.selected now (expunge_set set) refl t (set_expunged tag view set t)
-command_says tag view now (commands.Fetch fetch) t h = absurd (false≢true h)
-command_says tag view now (commands.Store store) t h = absurd (false≢true h)
+command_says tag view now commands.Idle t may = tt
+command_says tag view now commands.Login t may = wrong tag view t
+command_says tag view now commands.Authenticate t may = wrong tag view t
+command_says tag view now commands.StartTls t may = wrong tag view t
+command_says tag view now (commands.Select name) t may = absurd (false≢true may.stays)
+command_says tag view now (commands.Examine name) t may = absurd (false≢true may.stays)
+command_says tag view now (commands.List reference pattern) t may = list_says tag view now reference pattern t may.names
+command_says tag view now (commands.Status name items) t may = status_says tag view now name items t may.names
+command_says tag view now commands.Close t may = absurd (false≢true may.stays)
+command_says tag view now commands.Unselect t may = absurd (false≢true may.stays)
+command_says tag view now commands.Expunge t may = writable tag view now.selected now (Expunge None (Feed unlimited (completed commands.Expunge))) refl t (λ new newer. expunged tag newer t)
+command_says tag view now (commands.UidExpunge set) t may = writable tag view now.selected now (expunge_set set) refl t (set_expunged tag view set t)
+command_says tag view now (commands.Fetch fetch) t may = selected_says tag view now.selected now (fetch_messages fetch) refl t (λ selected. fetch_says tag view fetch selected t may.parts may.numbered)
+command_says tag view now (commands.Store store) t may = writable tag view now.selected now (store_messages store) refl t (store_says tag view store t may.numbered)
 
 -- ---- lines that are no commands
 
@@ -94,7 +196,7 @@ fault_follows now fault view [] turn new t e sees = ends view now (fault_text fa
 fault_follows now fault view (answer ∷ more) turn new t e sees = absurd (none-some turn e)
 
 read_follows : (now : Standing) (r : Result (List ℕ × Command) ImapFault) (view : List ℕ) (answers : List Answer) (turn : Turn) (new : List ℕ)
-    → Tagged r → line_only_shows r ≡ true → on_read now r answers ≡ Some turn → SeesAll view turn.events new → Leads view turn.bytes new
+    → Tagged r → MayAnswer now view r → on_read now r answers ≡ Some turn → SeesAll view turn.events new → Leads view turn.bytes new
 read_follows now (Ok line) view answers turn new t h e sees =
     turn_follows line.0 (refusals line.0 t) view now (on_command now line.1) answers turn new e (command_says line.0 view now line.1 t h) sees
 read_follows now (Err fault) view answers turn new t h e sees = fault_follows now fault view answers turn new t e sees
@@ -112,7 +214,7 @@ idle_line_says tag view selected line t = by (is_done line)
     by false = last tag view (codes "BAD Expected DON") 69 t (plain_words (codes "BAD Expected DON") 69 refl refl)
 
 while_follows : (idling : Option (List ℕ)) (now : Standing) (line view : List ℕ) (answers : List Answer) (turn : Turn) (new : List ℕ)
-    → IsFollowed idling line → turn_while idling now line answers ≡ Some turn → SeesAll view turn.events new → Leads view turn.bytes new
+    → IsFollowed idling now view line → turn_while idling now line answers ≡ Some turn → SeesAll view turn.events new → Leads view turn.bytes new
 while_follows None now line view answers turn new h e sees = read_follows now (read line) view answers turn new (read_tagged line) h e sees
 while_follows (Some tag) now line view answers turn new t e sees =
     turn_follows tag (refusals tag t) view (record now { idling = None }) (on_idle_line now.selected line) answers turn new e (idle_line_says tag view now.selected line t) sees

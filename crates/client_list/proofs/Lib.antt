@@ -8,4 +8,12 @@ mod Played
 mod Ends
 mod IdleTurns
 mod Tags
+mod IdleTags
+mod Kept
+mod Items
+mod Fetched
+mod Chosen
+mod Untold
 mod Commands
+mod Opening
+mod Talking

@@ -90,7 +90,7 @@ flags_told false false false true false m = refl
 flags_told false false false false true m = refl
 flags_told false false false false false m = refl
 
-flags_inner : (a b c d e : Bool) → list_all is_inner (flags_part (flags_of a b c d e) ++ 41 ∷ []) ≡ true
+pub flags_inner : (a b c d e : Bool) → list_all is_inner (flags_part (flags_of a b c d e) ++ 41 ∷ []) ≡ true
 flags_inner true true true true true = refl
 flags_inner true true true true false = refl
 flags_inner true true true false true = refl

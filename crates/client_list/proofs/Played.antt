@@ -72,7 +72,7 @@ turn_follows tag refusals view now (Count mailbox next) [] turn new e says sees 
 turn_follows tag refusals view now (Count mailbox next) (Entered a ∷ more) turn new e says sees = absurd (none-some turn e)
 turn_follows tag refusals view now (Count mailbox next) (Looked a ∷ more) turn new e says sees = absurd (none-some turn e)
 turn_follows tag refusals view now (Count mailbox next) (Found a ∷ more) turn new e says sees = absurd (none-some turn e)
-turn_follows tag refusals view now (Count mailbox next) (Counted a ∷ more) turn new e says sees = calls view (Count mailbox) (Counted a) (played tag now (next a) more) turn new e sees (λ mid s. s) (λ t mid after fits d s. turn_follows tag refusals view now (next a) more t new d (says a) s)
+turn_follows tag refusals view now (Count mailbox next) (Counted a ∷ more) turn new e says sees = calls view (Count mailbox) (Counted a) (played tag now (next a) more) turn new e sees (λ mid s. s) (λ t mid after fits d s. turn_follows tag refusals view now (next a) more t new d (says a fits) s)
 turn_follows tag refusals view now (Count mailbox next) (Altered a ∷ more) turn new e says sees = absurd (none-some turn e)
 turn_follows tag refusals view now (Count mailbox next) (Expunged a b c ∷ more) turn new e says sees = absurd (none-some turn e)
 turn_follows tag refusals view now (Count mailbox next) (Fed a b ∷ more) turn new e says sees = absurd (none-some turn e)

@@ -23,7 +23,7 @@ use Rattle.client_list.proofs.Follows.{lines_are_followed}
 abbrev pub Refusals : List ℕ → Type 0
 Refusals tag = (view : List ℕ) (fault : MailFault) → Leaves view (refusal_text tag fault)
 
-then_follows : (list : List Known) (one two view new : List ℕ) → (f : Follows IsOf list one view) → Follows IsOf f.after two new → Follows IsOf list (one ++ two) new
+pub then_follows : (list : List Known) (one two view new : List ℕ) → (f : Follows IsOf list one view) → Follows IsOf f.after two new → Follows IsOf list (one ++ two) new
 then_follows list one two view new f g = record {
   after = g.after;
   reads = reads-append (knowing (Some list)) one two ∙ ap (λ (c : Client). reads c two) f.reads ∙ g.reads;
@@ -39,7 +39,7 @@ record Onward (call : Call) (answer : Answer) (text : List ℕ) (rest : Option T
   events : turn.events ≡ record { call = call; answer = answer } ∷ more.events
   bytes : turn.bytes ≡ text ++ more.bytes
 
-abbrev the_turn : Turn → Option Turn → Turn
+abbrev pub the_turn : Turn → Option Turn → Turn
 the_turn d None = d
 the_turn d (Some t) = t
 

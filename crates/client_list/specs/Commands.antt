@@ -1,32 +1,44 @@
 -- The lines that a client sends, after whose answers its list is right again.
-use Rattle.std.specs.Prelude.{◌≡◌, ℕ, Bool, true, false, List, Option, Some, None, Result, Ok, Err}
+use Rattle.std.specs.Prelude.{◌≡◌, ℕ, Bool, true, false, List, [], ◌∷◌, Option, Some, None, Result, Ok, Err}
 use Rattle.imap_grammar.specs.Reading.{read}
 use Rattle.imap_grammar.specs.declared.command.Command.{Command}
 use Rattle.imap_grammar.specs.declared.command.Command.TheVariants as commands
 use Rattle.imap_grammar.specs.declared.command.ImapFault.{ImapFault}
-use Rattle.client_list.specs.Turns.{IsTag}
+use Rattle.imap_session.specs.Exchange.{Folder, Standing}
+use Rattle.client_list.specs.Fetches.{AreToldParts, IsNumbered}
+use Rattle.client_list.specs.Turns.{IsPlain, IsTag}
 
--- A command whose answer tells of messages by the lines of changes alone. The others: SELECT, EXAMINE, CLOSE and UNSELECT leave or enter a mailbox, and FETCH, STORE, LIST and STATUS
--- have answers of their own
-abbrev pub only_shows : Command → Bool
-only_shows commands.Capability = true
-only_shows commands.Noop = true
-only_shows commands.Logout = true
-only_shows commands.Namespace = true
-only_shows commands.Idle = true
-only_shows commands.Login = true
-only_shows commands.Authenticate = true
-only_shows commands.StartTls = true
-only_shows commands.Expunge = true
-only_shows (commands.UidExpunge set) = true
-only_shows _ = false
+-- The command stays in the mailbox that is selected. SELECT and EXAMINE enter one, CLOSE and UNSELECT leave it (RFC 9051, 6.3.2, 6.3.3, 6.4.1 and 6.4.2).
+abbrev pub stays : Command → Bool
+stays (commands.Select name) = false
+stays (commands.Examine name) = false
+stays commands.Close = false
+stays commands.Unselect = false
+stays _ = true
 
--- so does a line that is none of the commands
-abbrev pub line_only_shows : Result (List ℕ × Command) ImapFault → Bool
-line_only_shows (Ok line) = only_shows line.1
-line_only_shows (Err fault) = true
+-- the parts of texts that a FETCH asks for have numbers that can be printed
+abbrev pub HasToldParts : Command → Type 0
+HasToldParts (commands.Fetch fetch) = AreToldParts fetch.items
+HasToldParts _ = Unit {0}
+
+-- the names of mailboxes stand in lines
+abbrev pub AreNames : List Folder → Type 0
+AreNames [] = Unit {0}
+AreNames (folder ∷ folders) = IsPlain folder.name × AreNames folders
+
+-- what is asked of a session that counts this view, and of a command to it
+pub record MayAsk (now : Standing) (view : List ℕ) (command : Command) : Type 0 where
+  pub stays : stays command ≡ true
+  pub numbered : IsNumbered view
+  pub names : AreNames now.folders
+  pub parts : HasToldParts command
+
+-- a line that is no command is answered too
+abbrev pub MayAnswer : Standing → List ℕ → Result (List ℕ × Command) ImapFault → Type 0
+MayAnswer now view (Ok line) = MayAsk now view line.1
+MayAnswer now view (Err fault) = Unit {0}
 
 -- Where the session idles any line ends that, under the tag of the IDLE; else the line is read
-abbrev pub IsFollowed : Option (List ℕ) → List ℕ → Type 0
-IsFollowed None line = line_only_shows (read line) ≡ true
-IsFollowed (Some tag) line = IsTag tag
+abbrev pub IsFollowed : Option (List ℕ) → Standing → List ℕ → List ℕ → Type 0
+IsFollowed None now view line = MayAnswer now view (read line)
+IsFollowed (Some tag) now view line = IsTag tag

@@ -1,18 +1,24 @@
 -- What holds of a client that reads what its session says.
-use Rattle.std.specs.Prelude.{◌≡◌, ℕ, ◌<◌, ◌^◌, List, ◌++◌, length, reverse, codes, decimal, Some, Ok, IfSome}
+use Rattle.std.specs.Prelude.{◌≡◌, ℕ, ◌<◌, ◌^◌, Bool, Contains, List, [], ◌++◌, length, reverse, codes, decimal, Some, Ok, IfSome}
 use Rattle.change_ring.specs.declared.change.Change.{Change}
+use Rattle.change_ring.specs.declared.change.Flags.{Flags}
 use Rattle.change_ring.specs.Log.{replay}
-use Rattle.cursor_set.specs.Lines.{lines}
+use Rattle.cursor_set.specs.Lines.{lines, place}
+use Rattle.mailbox.specs.declared.clients.Opening.{Opening}
+use Rattle.mailbox.specs.declared.clients.Row.{Row}
 use Rattle.mailbox.specs.declared.clients.MailFault.{MailFault}
-use Rattle.imap_grammar.specs.Answers.{literal}
+use Rattle.imap_grammar.specs.Answers.{literal, row_answer}
+use Rattle.imap_grammar.specs.declared.items.FetchItem.{FetchItem}
 use Rattle.imap_grammar.specs.Reading.{read}
 use Rattle.imap_grammar.specs.declared.command.Command.{Command}
 use Rattle.imap_session.specs.Exchange.{Answer, Exchange, Standing, Turn, bye, played, refusal_text, tagged}
-use Rattle.imap_session.specs.Commands.{greeting, idle_turn, turn_of, turn_of_long_line}
+use Rattle.imap_session.specs.Commands.{flags_answer, greeting, idle_turn, opening_text, turn_of, turn_of_long_line}
 use Rattle.client_list.specs.Client.{Client, Known, Messages, reads, within}
-use Rattle.client_list.specs.Beliefs.{IsRight, Leads, MayShow, TellsNothing}
+use Rattle.client_list.specs.Beliefs.{Follows, IsOf, IsRight, Leads, Leaves, MayShow, TellsNothing}
 use Rattle.client_list.specs.Commands.{IsFollowed}
-use Rattle.client_list.specs.Turns.{IsPlain, IsTag, Says, SeesAll}
+use Rattle.client_list.specs.Fetches.{AreToldParts, IsNumbered}
+use Rattle.client_list.specs.Talks.{Happening, Talks}
+use Rattle.client_list.specs.Turns.{IsPlain, IsRowOf, IsTag, Says, SeesAll}
 
 -- ---- bytes
 
@@ -72,11 +78,37 @@ IdleTurnIsFollowed = (view : List ℕ) (now : Standing) (answers : List Answer) 
 abbrev pub TagsAreTags : Type 0
 TagsAreTags = (line tag : List ℕ) (command : Command) → read line ≡ Ok (tag, command) → IsTag tag
 
+-- and so is the tag of an IDLE, as long as it lasts, if it was one before: a session begins with none
+abbrev pub IdleTagsAreTags : Type 0
+IdleTagsAreTags = (now : Standing) (line : List ℕ) (answers : List Answer) (turn : Turn) → IfSome now.idling IsTag → turn_of now line answers ≡ Some turn → IfSome turn.standing.idling IsTag
+
 -- Over any store, whatever it answers: after the answer to such a line a client is right about the session's view. Of the exchange nothing is asked.
 abbrev pub AnswerIsFollowed : Type 0
 AnswerIsFollowed = (now : Standing) (line view : List ℕ) (answers : List Answer) (turn : Turn) (new : List ℕ)
-    → IsFollowed now.idling line → turn_of now line answers ≡ Some turn → SeesAll view turn.events new → Leads view turn.bytes new
+    → IsFollowed now.idling now view line → turn_of now line answers ≡ Some turn → SeesAll view turn.events new → Leads view turn.bytes new
 
 -- and after the answer to a line that is too long
 abbrev pub LongLineTellsNothing : Type 0
 LongLineTellsNothing = (now : Standing) → IfSome now.idling IsTag → TellsNothing (turn_of_long_line now).bytes
+
+-- ---- answers about messages
+
+-- the answer about a row, whatever was asked of it, at its place in the view
+abbrev pub RowIsTold : Type 0
+RowIsTold = (view : List ℕ) (uid : ℕ) (by_uid : Bool) (items : List FetchItem) (row : Row) → Contains view uid → IsNumbered view → IsRowOf uid (Some row) → AreToldParts items
+    → Leaves view (row_answer (place uid view) by_uid items row)
+
+-- and the flags after a STORE
+abbrev pub FlagsAreTold : Type 0
+FlagsAreTold = (view : List ℕ) (uid : ℕ) (by_uid : Bool) (flags : Flags) → Contains view uid → IsNumbered view → Leaves view (flags_answer by_uid (place uid view) uid flags)
+
+-- What SELECT says of a mailbox before its tagged line leads a client with no messages to the view of a session that enters there, which is as long as the mailbox is told to be.
+abbrev pub OpeningIsFollowed : Type 0
+OpeningIsFollowed = (read_only : Bool) (name : List ℕ) (opening : Opening) (view : List ℕ) → IsPlain name → opening.count ≡ length view
+    → opening.count < 2 ^ 64 → opening.uidvalidity < 2 ^ 64 → opening.uidnext < 2 ^ 64 → Follows IsOf [] (opening_text read_only name opening) view
+
+-- ---- a whole talk
+
+-- Whatever comes, one line or turn behind the other: a client that was right about the session's view reads all that is written, and is right about the view to which it leads.
+abbrev pub TalkIsFollowed : Type 0
+TalkIsFollowed = (now : Standing) (view : List ℕ) (talk : List Happening) (bytes new : List ℕ) → IfSome now.idling IsTag → Talks now view talk bytes new → Leads view bytes new

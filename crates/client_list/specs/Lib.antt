@@ -2,6 +2,9 @@ pub mod Client
 pub mod Beliefs
 pub mod Turns
 pub mod Commands
+pub mod Fetches
+pub mod Talks
 pub mod Laws
 pub mod Rows
 pub mod WholeRows
+pub mod TalkRows

@@ -4,7 +4,7 @@ use Rattle.std.specs.List.{list_all}
 use Rattle.change_ring.specs.declared.change.Flags.{Flags}
 use Rattle.mailbox.specs.declared.clients.Row.{Row}
 use Rattle.mailbox.specs.declared.mailbox.Status.{Status}
-use Rattle.imap_session.specs.Exchange.{Call, Answer, Event, Found, Fed, Expunged, Exchange, Done, Idle, Write, Put, Enter, Look, Read, Count, Alter, Expunge, Feed, Leave, tagged}
+use Rattle.imap_session.specs.Exchange.{Call, Answer, Event, Found, Counted, Fed, Expunged, Exchange, Done, Idle, Write, Put, Enter, Look, Read, Count, Alter, Expunge, Feed, Leave, tagged}
 use Rattle.imap_session.specs.Store.{ViewAfter}
 use Rattle.client_list.specs.Beliefs.{MayShow, Leaves}
 
@@ -41,11 +41,21 @@ abbrev pub IsRead : Call → Option Row → Type 0
 IsRead (Read uid mark) row = IsRowOf uid row
 IsRead call row = Unit {0}
 
+-- the numbers of a STATUS can be printed
+pub record IsCounted (status : Status) : Type 0 where
+  pub messages : status.messages < 2 ^ 64
+  pub uidnext : status.uidnext < 2 ^ 64
+  pub uidvalidity : status.uidvalidity < 2 ^ 64
+  pub unseen : status.unseen < 2 ^ 64
+  pub deleted : status.deleted < 2 ^ 64
+  pub size : status.size < 2 ^ 64
+
 -- an answer that a store may give to a session that counts this view: what it shows may be shown, and what it read was asked for
 abbrev pub Fits : List ℕ → Call → Answer → Type 0
 Fits view call (Fed met changes) = MayShow view changes
 Fits view call (Expunged met changes gone) = MayShow view changes
 Fits view call (Found row) = IsRead call row
+Fits view call (Counted status) = IsCounted status
 Fits view call answer = Unit {0}
 
 -- from this view a call and its answer lead to that one
@@ -70,7 +80,7 @@ Says tag view (Put bytes x) = Leaves view bytes × Says tag view x
 Says tag view (Enter selected next) = ⊥
 Says tag view (Look next) = Says tag view (next view)
 Says tag view (Read uid mark next) = (row : Option Row) → IsRowOf uid row → Says tag view (next row)
-Says tag view (Count mailbox next) = (status : Status) → Says tag view (next status)
+Says tag view (Count mailbox next) = (status : Status) → IsCounted status → Says tag view (next status)
 Says tag view (Alter uid change next) = (flags : Option Flags) → Says tag view (next flags)
 Says tag view (Expunge uids x) = (new : List ℕ) → Says tag new x
 Says tag view (Feed limit x) = (new : List ℕ) → Says tag new x

@@ -1,7 +1,7 @@
 //! Laws of what a client reads, as functions that do nothing: bytes and literals, the lines of changes, and the
 //! turns of a session.
 
-ghost use Rattle.client_list.specs.Laws.{AnswerIsFollowed, ByeTellsNothing, GreetingTellsNothing, IdleTurnIsFollowed, LinesAreFollowed, ListIsAsLong, LiteralLeavesItsCount, LiteralsAreAlike, LongLineTellsNothing, PiecesAreTheWhole, RefusalTellsNothing, TaggedTellsNothing, TagsAreTags, TurnIsFollowed};
+ghost use Rattle.client_list.specs.Laws.{AnswerIsFollowed, ByeTellsNothing, FlagsAreTold, GreetingTellsNothing, IdleTagsAreTags, IdleTurnIsFollowed, LinesAreFollowed, ListIsAsLong, LiteralLeavesItsCount, LiteralsAreAlike, LongLineTellsNothing, OpeningIsFollowed, PiecesAreTheWhole, RefusalTellsNothing, RowIsTold, TaggedTellsNothing, TagsAreTags, TalkIsFollowed, TurnIsFollowed};
 
 /// It makes no difference in which pieces bytes come, and a literal leaves nothing but its count in the line in which it
 /// stands, whatever its bytes (RFC 9051, 4.3). So a message's text can't be taken for lines.
@@ -37,12 +37,30 @@ pub fn turns_are_followed()
     ensures idle { IdleTurnIsFollowed }
 {}
 
-/// The tag of each command that is read begins with no star and has no LF. Over any store, whatever it answers: after the
-/// answer to CAPABILITY, NOOP, LOGOUT, NAMESPACE, IDLE, EXPUNGE, UID EXPUNGE, to what isn't offered or can't be read, and to
-/// the line that ends an IDLE, a client that was right about the session's view is right about its view then. A line
-/// that is too long leaves its list as it was.
+/// The answer to a FETCH about a message at its place, with any items and the literals of any text, and the flags after a
+/// STORE leave a client as right as it was (7.5.2). What SELECT and EXAMINE say of a mailbox before their tagged line
+/// leads a client with no messages to a list as long as the mailbox (6.3.2).
+pub fn messages_are_told()
+    ensures row { RowIsTold }
+    ensures flags { FlagsAreTold }
+    ensures opening { OpeningIsFollowed }
+{}
+
+/// The tag of each command that is read begins with no star and has no LF, and so does that of an IDLE while it lasts. Over any store, whatever it answers: after the
+/// answer to any line but SELECT, EXAMINE, CLOSE and UNSELECT, a client that was right about the session's view is right
+/// about its view then. So it is of a line that is no command, and of the line that ends an IDLE; one that is too long
+/// leaves the list as it was. What the store shows and answers is to fit the view (`SeesAll`), and the numbers of the view and
+/// of the command, and the names of mailboxes, are to be such as can be printed (`MayAsk`).
 pub fn answers_are_followed()
     ensures tags { TagsAreTags }
+    ensures idle_tags { IdleTagsAreTags }
     ensures answer { AnswerIsFollowed }
     ensures long_line { LongLineTellsNothing }
+{}
+
+/// So it is of a whole talk in one mailbox: lines, lines that are too long and turns of an IDLE, one behind the other, over any
+/// store. A client that was right about the session's view reads all that is written, however it is cut into pieces, and
+/// is right about the view to which it all leads.
+pub fn talks_are_followed()
+    ensures { TalkIsFollowed }
 {}

@@ -1,0 +1,190 @@
+-- The tag of an IDLE is a tag as long as the IDLE lasts: by induction over the exchange, a clause for each answer that there is.
+use Rattle.std.proofs.Common.{zero, suc, ◌≡◌, ℕ, Bool, true, false, List, [], ◌∷◌, length, ap, refl, subst, sym}
+use Rattle.std.specs.Prelude.{Option, Some, None, IfSome, Result, Ok, Err, nat_lt, if◌then◌else◌}
+use Rattle.std.specs.Option.{option_map}
+use Rattle.std.proofs.lemmas.Option.{none-some}
+use Rattle.cursor_set.specs.Lines.{lines}
+use Rattle.mailbox.specs.declared.clients.MailFault.{MailFault}
+use Rattle.mailbox.specs.declared.clients.MailFault.TheVariants.{NoMemory}
+use Rattle.imap_grammar.specs.Reading.{read}
+use Rattle.imap_grammar.specs.declared.command.Command.{Command}
+use Rattle.imap_grammar.specs.declared.command.ImapFault.{ImapFault}
+use Rattle.imap_session.specs.declared.standing.After.{After}
+use Rattle.imap_session.specs.declared.standing.After.TheVariants.{Go, Bye}
+use Rattle.imap_session.specs.declared.standing.After.TheVariants as afters
+use Rattle.imap_session.specs.Exchange.{Answer, Entered, Looked, Found, Counted, Altered, Expunged, Fed, Left, Refused, Starved, Exchange, Done, Idle, Write, Put, Enter, Look, Read, Count, Alter, Expunge, Feed, Leave, Standing, Turn, closed, having, most_in_place, played, refusal_after, refusal_text, refused, saying, tagged}
+use Rattle.imap_session.specs.Commands.{fault_text, on_command, on_idle_line, on_read, only_says, turn_while}
+use Rattle.client_list.specs.Turns.{IsTag}
+use Rattle.client_list.specs.Laws.{IdleTagsAreTags}
+use Rattle.client_list.proofs.Tags.{Tagged, read_tagged}
+use Rattle.client_list.proofs.Turns.{the_turn}
+
+abbrev pub Kept : Turn → Type 0
+Kept turn = IfSome turn.standing.idling IsTag
+
+-- a turn with an event or a text more
+maps : (f : Turn → Turn) → ((s : Turn) → (f s).standing ≡ s.standing) → (rest : Option Turn) (turn : Turn) → option_map f rest ≡ Some turn → ((more : Turn) → rest ≡ Some more → Kept more) → Kept turn
+maps f same None turn e behind = absurd (none-some turn e)
+maps f same (Some more) turn e behind =
+    subst (λ (s : Turn). Kept s) (ap (the_turn turn) e) (subst (λ (s : Standing). IfSome s.idling IsTag) (sym (same more)) (behind more refl))
+
+closed_keeps : (now : Standing) (how : After) → IfSome now.idling IsTag → Kept (closed now how)
+closed_keeps now Go k = k
+closed_keeps now Bye k = k
+closed_keeps now afters.Idle k = k
+
+-- a turn that ends
+told : (now : Standing) (f : Turn → Turn) → ((s : Turn) → (f s).standing ≡ s.standing) → (how : After) (turn : Turn) → IfSome now.idling IsTag → Some (f (closed now how)) ≡ Some turn → Kept turn
+told now f same how turn k e = maps f same (Some (closed now how)) turn e (λ more d. subst (λ (s : Turn). Kept s) (ap (the_turn more) d) (closed_keeps now how k))
+
+given_up : (tag : List ℕ) (now : Standing) (fault : MailFault) (turn : Turn) → IfSome now.idling IsTag → Some (refused tag now fault) ≡ Some turn → Kept turn
+given_up tag now fault turn k e = told now (saying (refusal_text tag fault)) (λ s. refl) (refusal_after fault) turn k e
+
+given_up_if : (b : Bool) (tag : List ℕ) (now : Standing) (fault : MailFault) (turn : Turn) → IfSome now.idling IsTag → (if b then Some (refused tag now fault) else None) ≡ Some turn → Kept turn
+given_up_if true tag now fault turn k e = given_up tag now fault turn k e
+given_up_if false tag now fault turn k e = absurd (none-some turn e)
+
+played_keeps : (tag : List ℕ) → IsTag tag → (now : Standing) (x : Exchange) (answers : List Answer) (turn : Turn) → IfSome now.idling IsTag → played tag now x answers ≡ Some turn → Kept turn
+played_keeps tag t now (Done words how) [] turn k e = told now (saying (tagged tag words)) (λ s. refl) how turn k e
+played_keeps tag t now (Done words how) (a ∷ more) turn k e = absurd (none-some turn e)
+played_keeps tag t now Idle [] turn k e = subst (λ (s : Turn). Kept s) (ap (the_turn turn) e) t
+played_keeps tag t now Idle (Entered a ∷ more) turn k e = absurd (none-some turn e)
+played_keeps tag t now Idle (Looked a ∷ more) turn k e = absurd (none-some turn e)
+played_keeps tag t now Idle (Found a ∷ more) turn k e = absurd (none-some turn e)
+played_keeps tag t now Idle (Counted a ∷ more) turn k e = absurd (none-some turn e)
+played_keeps tag t now Idle (Altered a ∷ more) turn k e = absurd (none-some turn e)
+played_keeps tag t now Idle (Expunged a b c ∷ more) turn k e = absurd (none-some turn e)
+played_keeps tag t now Idle (Fed a b ∷ more) turn k e = absurd (none-some turn e)
+played_keeps tag t now Idle (Left a ∷ more) turn k e = absurd (none-some turn e)
+played_keeps tag t now Idle (Refused a ∷ more) turn k e = absurd (none-some turn e)
+played_keeps tag t now Idle (Starved zero ∷ []) turn k e = given_up_if (nat_lt most_in_place (length tag)) tag now NoMemory turn k e
+played_keeps tag t now Idle (Starved zero ∷ b ∷ more) turn k e = absurd (none-some turn e)
+played_keeps tag t now Idle (Starved (suc n) ∷ more) turn k e = absurd (none-some turn e)
+played_keeps tag t now (Write bytes x) [] turn k e = maps (saying bytes) (λ s. refl) (played tag now x []) turn e (λ s d. played_keeps tag t now x [] s k d)
+played_keeps tag t now (Write bytes x) (Entered a ∷ more) turn k e = maps (saying bytes) (λ s. refl) (played tag now x (Entered a ∷ more)) turn e (λ s d. played_keeps tag t now x (Entered a ∷ more) s k d)
+played_keeps tag t now (Write bytes x) (Looked a ∷ more) turn k e = maps (saying bytes) (λ s. refl) (played tag now x (Looked a ∷ more)) turn e (λ s d. played_keeps tag t now x (Looked a ∷ more) s k d)
+played_keeps tag t now (Write bytes x) (Found a ∷ more) turn k e = maps (saying bytes) (λ s. refl) (played tag now x (Found a ∷ more)) turn e (λ s d. played_keeps tag t now x (Found a ∷ more) s k d)
+played_keeps tag t now (Write bytes x) (Counted a ∷ more) turn k e = maps (saying bytes) (λ s. refl) (played tag now x (Counted a ∷ more)) turn e (λ s d. played_keeps tag t now x (Counted a ∷ more) s k d)
+played_keeps tag t now (Write bytes x) (Altered a ∷ more) turn k e = maps (saying bytes) (λ s. refl) (played tag now x (Altered a ∷ more)) turn e (λ s d. played_keeps tag t now x (Altered a ∷ more) s k d)
+played_keeps tag t now (Write bytes x) (Expunged a b c ∷ more) turn k e = maps (saying bytes) (λ s. refl) (played tag now x (Expunged a b c ∷ more)) turn e (λ s d. played_keeps tag t now x (Expunged a b c ∷ more) s k d)
+played_keeps tag t now (Write bytes x) (Fed a b ∷ more) turn k e = maps (saying bytes) (λ s. refl) (played tag now x (Fed a b ∷ more)) turn e (λ s d. played_keeps tag t now x (Fed a b ∷ more) s k d)
+played_keeps tag t now (Write bytes x) (Left a ∷ more) turn k e = maps (saying bytes) (λ s. refl) (played tag now x (Left a ∷ more)) turn e (λ s d. played_keeps tag t now x (Left a ∷ more) s k d)
+played_keeps tag t now (Write bytes x) (Refused a ∷ more) turn k e = maps (saying bytes) (λ s. refl) (played tag now x (Refused a ∷ more)) turn e (λ s d. played_keeps tag t now x (Refused a ∷ more) s k d)
+played_keeps tag t now (Write bytes x) (Starved zero ∷ []) turn k e = given_up tag now NoMemory turn k e
+played_keeps tag t now (Write bytes x) (Starved (suc n) ∷ []) turn k e = maps (saying bytes) (λ s. refl) (played tag now x (Starved n ∷ [])) turn e (λ s d. played_keeps tag t now x (Starved n ∷ []) s k d)
+played_keeps tag t now (Write bytes x) (Starved zero ∷ b ∷ more) turn k e = maps (saying bytes) (λ s. refl) (played tag now x (Starved zero ∷ b ∷ more)) turn e (λ s d. played_keeps tag t now x (Starved zero ∷ b ∷ more) s k d)
+played_keeps tag t now (Write bytes x) (Starved (suc n) ∷ b ∷ more) turn k e = maps (saying bytes) (λ s. refl) (played tag now x (Starved (suc n) ∷ b ∷ more)) turn e (λ s d. played_keeps tag t now x (Starved (suc n) ∷ b ∷ more) s k d)
+played_keeps tag t now (Put bytes x) answers turn k e = maps (saying bytes) (λ s. refl) (played tag now x answers) turn e (λ s d. played_keeps tag t now x answers s k d)
+played_keeps tag t now (Enter selected next) [] turn k e = absurd (none-some turn e)
+played_keeps tag t now (Enter selected next) (Entered a ∷ more) turn k e = maps (having (Enter selected.mailbox) (Entered a)) (λ s. refl) (played tag (record now { selected = Some selected }) (next a) more) turn e (λ s d. played_keeps tag t (record now { selected = Some selected }) (next a) more s k d)
+played_keeps tag t now (Enter selected next) (Looked a ∷ more) turn k e = absurd (none-some turn e)
+played_keeps tag t now (Enter selected next) (Found a ∷ more) turn k e = absurd (none-some turn e)
+played_keeps tag t now (Enter selected next) (Counted a ∷ more) turn k e = absurd (none-some turn e)
+played_keeps tag t now (Enter selected next) (Altered a ∷ more) turn k e = absurd (none-some turn e)
+played_keeps tag t now (Enter selected next) (Expunged a b c ∷ more) turn k e = absurd (none-some turn e)
+played_keeps tag t now (Enter selected next) (Fed a b ∷ more) turn k e = absurd (none-some turn e)
+played_keeps tag t now (Enter selected next) (Left a ∷ more) turn k e = absurd (none-some turn e)
+played_keeps tag t now (Enter selected next) (Refused a ∷ []) turn k e = told now (λ s. having (Enter selected.mailbox) (Refused a) (saying (refusal_text tag a) s)) (λ s. refl) (refusal_after a) turn k e
+played_keeps tag t now (Enter selected next) (Refused a ∷ b ∷ more) turn k e = absurd (none-some turn e)
+played_keeps tag t now (Enter selected next) (Starved a ∷ more) turn k e = absurd (none-some turn e)
+played_keeps tag t now (Look next) [] turn k e = absurd (none-some turn e)
+played_keeps tag t now (Look next) (Entered a ∷ more) turn k e = absurd (none-some turn e)
+played_keeps tag t now (Look next) (Looked a ∷ more) turn k e = maps (having Look (Looked a)) (λ s. refl) (played tag now (next a) more) turn e (λ s d. played_keeps tag t now (next a) more s k d)
+played_keeps tag t now (Look next) (Found a ∷ more) turn k e = absurd (none-some turn e)
+played_keeps tag t now (Look next) (Counted a ∷ more) turn k e = absurd (none-some turn e)
+played_keeps tag t now (Look next) (Altered a ∷ more) turn k e = absurd (none-some turn e)
+played_keeps tag t now (Look next) (Expunged a b c ∷ more) turn k e = absurd (none-some turn e)
+played_keeps tag t now (Look next) (Fed a b ∷ more) turn k e = absurd (none-some turn e)
+played_keeps tag t now (Look next) (Left a ∷ more) turn k e = absurd (none-some turn e)
+played_keeps tag t now (Look next) (Refused a ∷ []) turn k e = told now (λ s. having Look (Refused a) (saying (refusal_text tag a) s)) (λ s. refl) (refusal_after a) turn k e
+played_keeps tag t now (Look next) (Refused a ∷ b ∷ more) turn k e = absurd (none-some turn e)
+played_keeps tag t now (Look next) (Starved zero ∷ []) turn k e = given_up tag now NoMemory turn k e
+played_keeps tag t now (Look next) (Starved zero ∷ b ∷ more) turn k e = absurd (none-some turn e)
+played_keeps tag t now (Look next) (Starved (suc n) ∷ more) turn k e = absurd (none-some turn e)
+played_keeps tag t now (Read uid mark next) [] turn k e = absurd (none-some turn e)
+played_keeps tag t now (Read uid mark next) (Entered a ∷ more) turn k e = absurd (none-some turn e)
+played_keeps tag t now (Read uid mark next) (Looked a ∷ more) turn k e = absurd (none-some turn e)
+played_keeps tag t now (Read uid mark next) (Found a ∷ more) turn k e = maps (having (Read uid mark) (Found a)) (λ s. refl) (played tag now (next a) more) turn e (λ s d. played_keeps tag t now (next a) more s k d)
+played_keeps tag t now (Read uid mark next) (Counted a ∷ more) turn k e = absurd (none-some turn e)
+played_keeps tag t now (Read uid mark next) (Altered a ∷ more) turn k e = absurd (none-some turn e)
+played_keeps tag t now (Read uid mark next) (Expunged a b c ∷ more) turn k e = absurd (none-some turn e)
+played_keeps tag t now (Read uid mark next) (Fed a b ∷ more) turn k e = absurd (none-some turn e)
+played_keeps tag t now (Read uid mark next) (Left a ∷ more) turn k e = absurd (none-some turn e)
+played_keeps tag t now (Read uid mark next) (Refused a ∷ []) turn k e = told now (λ s. having (Read uid mark) (Refused a) (saying (refusal_text tag a) s)) (λ s. refl) (refusal_after a) turn k e
+played_keeps tag t now (Read uid mark next) (Refused a ∷ b ∷ more) turn k e = absurd (none-some turn e)
+played_keeps tag t now (Read uid mark next) (Starved a ∷ more) turn k e = absurd (none-some turn e)
+played_keeps tag t now (Count mailbox next) [] turn k e = absurd (none-some turn e)
+played_keeps tag t now (Count mailbox next) (Entered a ∷ more) turn k e = absurd (none-some turn e)
+played_keeps tag t now (Count mailbox next) (Looked a ∷ more) turn k e = absurd (none-some turn e)
+played_keeps tag t now (Count mailbox next) (Found a ∷ more) turn k e = absurd (none-some turn e)
+played_keeps tag t now (Count mailbox next) (Counted a ∷ more) turn k e = maps (having (Count mailbox) (Counted a)) (λ s. refl) (played tag now (next a) more) turn e (λ s d. played_keeps tag t now (next a) more s k d)
+played_keeps tag t now (Count mailbox next) (Altered a ∷ more) turn k e = absurd (none-some turn e)
+played_keeps tag t now (Count mailbox next) (Expunged a b c ∷ more) turn k e = absurd (none-some turn e)
+played_keeps tag t now (Count mailbox next) (Fed a b ∷ more) turn k e = absurd (none-some turn e)
+played_keeps tag t now (Count mailbox next) (Left a ∷ more) turn k e = absurd (none-some turn e)
+played_keeps tag t now (Count mailbox next) (Refused a ∷ []) turn k e = told now (λ s. having (Count mailbox) (Refused a) (saying (refusal_text tag a) s)) (λ s. refl) (refusal_after a) turn k e
+played_keeps tag t now (Count mailbox next) (Refused a ∷ b ∷ more) turn k e = absurd (none-some turn e)
+played_keeps tag t now (Count mailbox next) (Starved a ∷ more) turn k e = absurd (none-some turn e)
+played_keeps tag t now (Alter uid op next) [] turn k e = absurd (none-some turn e)
+played_keeps tag t now (Alter uid op next) (Entered a ∷ more) turn k e = absurd (none-some turn e)
+played_keeps tag t now (Alter uid op next) (Looked a ∷ more) turn k e = absurd (none-some turn e)
+played_keeps tag t now (Alter uid op next) (Found a ∷ more) turn k e = absurd (none-some turn e)
+played_keeps tag t now (Alter uid op next) (Counted a ∷ more) turn k e = absurd (none-some turn e)
+played_keeps tag t now (Alter uid op next) (Altered a ∷ more) turn k e = maps (having (Alter uid op) (Altered a)) (λ s. refl) (played tag now (next a) more) turn e (λ s d. played_keeps tag t now (next a) more s k d)
+played_keeps tag t now (Alter uid op next) (Expunged a b c ∷ more) turn k e = absurd (none-some turn e)
+played_keeps tag t now (Alter uid op next) (Fed a b ∷ more) turn k e = absurd (none-some turn e)
+played_keeps tag t now (Alter uid op next) (Left a ∷ more) turn k e = absurd (none-some turn e)
+played_keeps tag t now (Alter uid op next) (Refused a ∷ []) turn k e = told now (λ s. having (Alter uid op) (Refused a) (saying (refusal_text tag a) s)) (λ s. refl) (refusal_after a) turn k e
+played_keeps tag t now (Alter uid op next) (Refused a ∷ b ∷ more) turn k e = absurd (none-some turn e)
+played_keeps tag t now (Alter uid op next) (Starved a ∷ more) turn k e = absurd (none-some turn e)
+played_keeps tag t now (Expunge uids x) [] turn k e = absurd (none-some turn e)
+played_keeps tag t now (Expunge uids x) (Entered a ∷ more) turn k e = absurd (none-some turn e)
+played_keeps tag t now (Expunge uids x) (Looked a ∷ more) turn k e = absurd (none-some turn e)
+played_keeps tag t now (Expunge uids x) (Found a ∷ more) turn k e = absurd (none-some turn e)
+played_keeps tag t now (Expunge uids x) (Counted a ∷ more) turn k e = absurd (none-some turn e)
+played_keeps tag t now (Expunge uids x) (Altered a ∷ more) turn k e = absurd (none-some turn e)
+played_keeps tag t now (Expunge uids x) (Expunged a b c ∷ more) turn k e = maps (λ s. having (Expunge uids) (Expunged a b c) (saying (lines a b) s)) (λ s. refl) (played tag now x more) turn e (λ s d. played_keeps tag t now x more s k d)
+played_keeps tag t now (Expunge uids x) (Fed a b ∷ more) turn k e = absurd (none-some turn e)
+played_keeps tag t now (Expunge uids x) (Left a ∷ more) turn k e = absurd (none-some turn e)
+played_keeps tag t now (Expunge uids x) (Refused a ∷ []) turn k e = told now (λ s. having (Expunge uids) (Refused a) (saying (refusal_text tag a) s)) (λ s. refl) (refusal_after a) turn k e
+played_keeps tag t now (Expunge uids x) (Refused a ∷ b ∷ more) turn k e = absurd (none-some turn e)
+played_keeps tag t now (Expunge uids x) (Starved a ∷ more) turn k e = absurd (none-some turn e)
+played_keeps tag t now (Feed limit x) [] turn k e = absurd (none-some turn e)
+played_keeps tag t now (Feed limit x) (Entered a ∷ more) turn k e = absurd (none-some turn e)
+played_keeps tag t now (Feed limit x) (Looked a ∷ more) turn k e = absurd (none-some turn e)
+played_keeps tag t now (Feed limit x) (Found a ∷ more) turn k e = absurd (none-some turn e)
+played_keeps tag t now (Feed limit x) (Counted a ∷ more) turn k e = absurd (none-some turn e)
+played_keeps tag t now (Feed limit x) (Altered a ∷ more) turn k e = absurd (none-some turn e)
+played_keeps tag t now (Feed limit x) (Expunged a b c ∷ more) turn k e = absurd (none-some turn e)
+played_keeps tag t now (Feed limit x) (Fed a b ∷ more) turn k e = maps (λ s. having (Feed limit) (Fed a b) (saying (lines a b) s)) (λ s. refl) (played tag now x more) turn e (λ s d. played_keeps tag t now x more s k d)
+played_keeps tag t now (Feed limit x) (Left a ∷ more) turn k e = absurd (none-some turn e)
+played_keeps tag t now (Feed limit x) (Refused a ∷ []) turn k e = told now (λ s. having (Feed limit) (Refused a) (saying (refusal_text tag a) s)) (λ s. refl) (refusal_after a) turn k e
+played_keeps tag t now (Feed limit x) (Refused a ∷ b ∷ more) turn k e = absurd (none-some turn e)
+played_keeps tag t now (Feed limit x) (Starved a ∷ more) turn k e = absurd (none-some turn e)
+played_keeps tag t now (Leave remove x) [] turn k e = absurd (none-some turn e)
+played_keeps tag t now (Leave remove x) (Entered a ∷ more) turn k e = absurd (none-some turn e)
+played_keeps tag t now (Leave remove x) (Looked a ∷ more) turn k e = absurd (none-some turn e)
+played_keeps tag t now (Leave remove x) (Found a ∷ more) turn k e = absurd (none-some turn e)
+played_keeps tag t now (Leave remove x) (Counted a ∷ more) turn k e = absurd (none-some turn e)
+played_keeps tag t now (Leave remove x) (Altered a ∷ more) turn k e = absurd (none-some turn e)
+played_keeps tag t now (Leave remove x) (Expunged a b c ∷ more) turn k e = absurd (none-some turn e)
+played_keeps tag t now (Leave remove x) (Fed a b ∷ more) turn k e = absurd (none-some turn e)
+played_keeps tag t now (Leave remove x) (Left a ∷ more) turn k e = maps (having (Leave remove) (Left a)) (λ s. refl) (played tag (record now { selected = None }) x more) turn e (λ s d. played_keeps tag t (record now { selected = None }) x more s k d)
+played_keeps tag t now (Leave remove x) (Refused a ∷ []) turn k e = told now (λ s. having (Leave remove) (Refused a) (saying (refusal_text tag a) s)) (λ s. refl) (refusal_after a) turn k e
+played_keeps tag t now (Leave remove x) (Refused a ∷ b ∷ more) turn k e = absurd (none-some turn e)
+played_keeps tag t now (Leave remove x) (Starved a ∷ more) turn k e = absurd (none-some turn e)
+
+fault_keeps : (now : Standing) (text : List ℕ) (answers : List Answer) (turn : Turn) → IfSome now.idling IsTag → only_says text now answers ≡ Some turn → Kept turn
+fault_keeps now text [] turn k e = told now (saying text) (λ s. refl) Go turn k e
+fault_keeps now text (answer ∷ more) turn k e = absurd (none-some turn e)
+
+read_keeps : (now : Standing) (r : Result (List ℕ × Command) ImapFault) (answers : List Answer) (turn : Turn) → Tagged r → IfSome now.idling IsTag → on_read now r answers ≡ Some turn → Kept turn
+read_keeps now (Ok line) answers turn t k e = played_keeps line.0 t now (on_command now line.1) answers turn k e
+read_keeps now (Err fault) answers turn t k e = fault_keeps now (fault_text fault) answers turn k e
+
+while_keeps : (idling : Option (List ℕ)) (now : Standing) (line : List ℕ) (answers : List Answer) (turn : Turn) → IfSome idling IsTag → IfSome now.idling IsTag → turn_while idling now line answers ≡ Some turn → Kept turn
+while_keeps None now line answers turn t k e = read_keeps now (read line) answers turn (read_tagged line) k e
+while_keeps (Some tag) now line answers turn t k e = played_keeps tag t (record now { idling = None }) (on_idle_line now.selected line) answers turn tt e
+
+pub idle_tags_are_tags : IdleTagsAreTags
+idle_tags_are_tags now line answers turn k e = while_keeps now.idling now line answers turn k k e

@@ -1,0 +1,72 @@
+-- A whole talk, one turn behind the other.
+use Rattle.std.proofs.Common.{◌≡◌, ℕ, Bool, true, false, List, [], ◌∷◌, ap, sym, refl, subst}
+use Rattle.std.specs.Prelude.{Option, Some, None, IfSome}
+use Rattle.std.proofs.lemmas.Option.{none-some}
+use Rattle.mailbox.specs.declared.clients.MailFault.TheVariants.{Stranger, Lapped, Spent, NoMemory}
+use Rattle.imap_session.specs.declared.standing.Selected.{Selected}
+use Rattle.imap_session.specs.Exchange.{Answer, Entered, Looked, Found, Counted, Altered, Expunged, Fed, Left, Refused, Starved, Standing, Turn, is_idling}
+use Rattle.imap_session.specs.Commands.{idle_turn_in, turn_of_long_line}
+use Rattle.client_list.specs.Beliefs.{IsOf, Follows, Leads}
+use Rattle.client_list.specs.Commands.{IsFollowed}
+use Rattle.client_list.specs.Laws.{TalkIsFollowed}
+use Rattle.client_list.specs.Talks.{Happening, Line, LongLine, Turned, MayCome, MayHappen, leads_to}
+use Rattle.client_list.specs.Turns.{IsTag, SeesAll}
+use Rattle.client_list.proofs.Commands.{answer_is_followed, long_line_tells_nothing}
+use Rattle.client_list.proofs.Ends.{leaves}
+use Rattle.client_list.proofs.IdleTags.{Kept, idle_tags_are_tags}
+use Rattle.client_list.proofs.IdleTurns.{idle_turn_is_followed}
+use Rattle.client_list.proofs.Turns.{the_turn, then_follows}
+
+turned_keeps : (selected : Option Selected) (idling : Bool) (now : Standing) (answers : List Answer) (turn : Turn) → IfSome now.idling IsTag → idle_turn_in selected idling now answers ≡ Some turn → Kept turn
+turned_keeps (Some selected) true now [] turn k e = absurd (none-some turn e)
+turned_keeps (Some selected) true now (Fed met changes ∷ []) turn k e = subst (λ (s : Turn). Kept s) (ap (the_turn turn) e) k
+turned_keeps (Some selected) true now (Fed met changes ∷ b ∷ more) turn k e = absurd (none-some turn e)
+turned_keeps (Some selected) true now (Refused Lapped ∷ []) turn k e = subst (λ (s : Turn). Kept s) (ap (the_turn turn) e) k
+turned_keeps (Some selected) true now (Refused Lapped ∷ b ∷ more) turn k e = absurd (none-some turn e)
+turned_keeps (Some selected) true now (Refused Stranger ∷ []) turn k e = subst (λ (s : Turn). Kept s) (ap (the_turn turn) e) k
+turned_keeps (Some selected) true now (Refused Stranger ∷ b ∷ more) turn k e = absurd (none-some turn e)
+turned_keeps (Some selected) true now (Refused Spent ∷ more) turn k e = absurd (none-some turn e)
+turned_keeps (Some selected) true now (Refused NoMemory ∷ more) turn k e = absurd (none-some turn e)
+turned_keeps (Some selected) true now (Entered a ∷ more) turn k e = absurd (none-some turn e)
+turned_keeps (Some selected) true now (Looked a ∷ more) turn k e = absurd (none-some turn e)
+turned_keeps (Some selected) true now (Found a ∷ more) turn k e = absurd (none-some turn e)
+turned_keeps (Some selected) true now (Counted a ∷ more) turn k e = absurd (none-some turn e)
+turned_keeps (Some selected) true now (Altered a ∷ more) turn k e = absurd (none-some turn e)
+turned_keeps (Some selected) true now (Expunged a b c ∷ more) turn k e = absurd (none-some turn e)
+turned_keeps (Some selected) true now (Left a ∷ more) turn k e = absurd (none-some turn e)
+turned_keeps (Some selected) true now (Starved a ∷ more) turn k e = absurd (none-some turn e)
+turned_keeps (Some selected) false now [] turn k e = subst (λ (s : Turn). Kept s) (ap (the_turn turn) e) k
+turned_keeps (Some selected) false now (a ∷ more) turn k e = absurd (none-some turn e)
+turned_keeps None true now [] turn k e = subst (λ (s : Turn). Kept s) (ap (the_turn turn) e) k
+turned_keeps None true now (a ∷ more) turn k e = absurd (none-some turn e)
+turned_keeps None false now [] turn k e = subst (λ (s : Turn). Kept s) (ap (the_turn turn) e) k
+turned_keeps None false now (a ∷ more) turn k e = absurd (none-some turn e)
+
+happening_keeps : (now : Standing) (view : List ℕ) (happening : Happening) (turn : Turn) → IfSome now.idling IsTag → leads_to now happening ≡ Some turn → Kept turn
+happening_keeps now view (Line line answers) turn k e = idle_tags_are_tags now line answers turn k e
+happening_keeps now view LongLine turn k e = subst (λ (s : Turn). Kept s) (ap (the_turn turn) e) tt
+happening_keeps now view (Turned answers) turn k e = turned_keeps now.selected (is_idling now) now answers turn k e
+
+may_follow : (idling : Option (List ℕ)) (now : Standing) (view line : List ℕ) → IfSome idling IsTag → MayCome idling now view line → IsFollowed idling now view line
+may_follow None now view line k may = may
+may_follow (Some tag) now view line k may = k
+
+long_follows : (now : Standing) (view : List ℕ) (turn : Turn) (new : List ℕ) → IfSome now.idling IsTag → Some (turn_of_long_line now) ≡ Some turn → SeesAll view turn.events new → Leads view turn.bytes new
+long_follows now view turn new k e sees =
+    let same : turn_of_long_line now ≡ turn = ap (the_turn turn) e in
+    let s : new ≡ view = subst (λ (t : Turn). SeesAll view t.events new) (sym same) sees in
+    subst (λ (t : Turn). Leads view t.bytes new) same (subst (λ (v : List ℕ). Leads view (turn_of_long_line now).bytes v) (sym s) (leaves view (turn_of_long_line now).bytes (long_line_tells_nothing now k)))
+
+happening_follows : (now : Standing) (view : List ℕ) (happening : Happening) (turn : Turn) (new : List ℕ) → IfSome now.idling IsTag → MayHappen now view happening → leads_to now happening ≡ Some turn
+    → SeesAll view turn.events new → Leads view turn.bytes new
+happening_follows now view (Line line answers) turn new k may e sees = answer_is_followed now line view answers turn new (may_follow now.idling now view line k may) e sees
+happening_follows now view LongLine turn new k may e sees = long_follows now view turn new k e sees
+happening_follows now view (Turned answers) turn new k may e sees = idle_turn_is_followed view now answers turn new e sees
+
+pub talk_is_followed : TalkIsFollowed
+talk_is_followed now view [] bytes new k talk list right =
+    subst (λ (b : List ℕ). Follows IsOf list b new) (sym talk.0) (subst (λ (v : List ℕ). Follows IsOf list [] v) (sym talk.1) (record { after = list; reads = refl; each = right }))
+talk_is_followed now view (happening ∷ more) bytes new k (turn, mid, rest, may, e, sees, is, talk) list right =
+    let f = happening_follows now view happening turn mid k may e sees list right in
+    let g = talk_is_followed turn.standing mid more rest new (happening_keeps now view happening turn k e) talk f.after f.each in
+    subst (λ (b : List ℕ). Follows IsOf list b new) (sym is) (then_follows list turn.bytes rest mid new f g)
