@@ -6,9 +6,5 @@ mod laws;
 
 pub use laws::{
     answers_are_followed, ends_tell_nothing, lines_are_followed, literals_are_passed_over,
-<<<<<<< HEAD
-    turns_are_followed,
-=======
     messages_are_told, talks_are_followed, turns_are_followed,
->>>>>>> 1a97d22fd5c734b9fb90a938bb4b931fff7a1928
 };
