@@ -114,7 +114,7 @@ class Closure:
             self.reach(*source.imported[name])
 
     def scan(self, source, text):
-        text = re.sub(r'"[^"]*"|--.*', "", text)
+        text = re.sub(r'"(?:\\.|[^"\\])*"|--.*', "", text)
         for word in WORD.findall(text):
             first, *rest = word.split(".")
             if rest and first in source.modules:

@@ -5,12 +5,14 @@ use crate::desk::LockedDesk;
 use crate::life::{Step, live};
 use change_ring::{FlagOp, Flags};
 use delivery_token::{CopyKey, Job, Text};
+use imap_connection::ImapConnection;
 use imap_grammar::{Command, read_line};
 use imap_session::{Folder, Store};
 use mailbox::{History, Limits, MailFault, Mailbox};
 use pace::{Actor, Gate};
 use session_bells::{SessionBell, Sleeper, ring_each};
 use std::alloc::{AllocError, Global};
+use std::mem;
 use std::sync::atomic::{AtomicBool, AtomicU64, Ordering};
 use std::sync::{Mutex, Wait};
 use std::thread::{self, Threads, join};
@@ -465,5 +467,81 @@ fn a_change_rings_the_users_bells(rt: HostRuntime) -> Result<(), AllocError> {
     let mut bells = Vec::new(alloc);
     bells.push(bell.bell()?)?;
     assert!(rt; wakes_each_time(&rt, alloc, &mailboxes, &bells, &bell));
+    Ok(())
+}
+
+// Each mailbox stands behind the other's lock then.
+fn exchange<R: Wait>(rt: &R, mailboxes: &[Mutex<Mailbox>]) {
+    if let [first, second] = mailboxes {
+        mem::swap(&mut *first.lock(rt), &mut *second.lock(rt));
+    }
+}
+
+// What a session is told by a line, which it has selected INBOX for, once another mailbox stands behind its lock; and whether it has
+// ended then.
+fn told_by_another<R: Wait>(
+    rt: &R,
+    alloc: Global,
+    mailboxes: &[Mutex<Mailbox>],
+    line: &[u8],
+) -> Result<(Vec<u8>, bool), AllocError> {
+    let tally = Tally::new();
+    let mut said = Vec::new(alloc);
+    let mut desk = LockedDesk::new(rt, &tally, 0, mailboxes, &[]);
+    let mut connection = ImapConnection::new(alloc, folders(alloc)?)?;
+    let _ = connection.take(alloc, b"a1 SELECT INBOX\r\n", &mut desk, &mut said);
+    if connection.has_ended() {
+        return Err(AllocError);
+    }
+    said.clear();
+    exchange(rt, mailboxes);
+    let _ = connection.take(alloc, line, &mut desk, &mut said);
+    exchange(rt, mailboxes);
+    let has_ended = connection.has_ended();
+    let _ = desk.leave(false);
+    Ok((said, has_ended))
+}
+
+// RFC 9051, 7.1.5: a server that is about to close the connection says BYE.
+#[test]
+fn a_session_of_another_mailbox_is_told_so_and_ends(rt: HostRuntime) -> Result<(), AllocError> {
+    let alloc = rt.alloc();
+    let mailboxes = with_a_message(&rt, alloc)?;
+    for line in [
+        b"a2 NOOP\r\n".as_slice(),
+        b"a2 FETCH 1 FLAGS\r\n",
+        b"a2 STORE 1 FLAGS (\\Seen)\r\n",
+        b"a2 EXPUNGE\r\n",
+    ] {
+        let (said, has_ended) = told_by_another(&rt, alloc, &mailboxes, line)?;
+        assert_eq!(rt; said.as_slice(), b"* BYE Internal fault\r\n".as_slice());
+        assert!(rt; has_ended);
+    }
+    Ok(())
+}
+
+// The seat of a mailbox is a stranger to each call on another, and still its own mailbox's afterwards.
+#[test]
+fn a_seat_of_another_mailbox_is_a_stranger_to_each_call(rt: HostRuntime) -> Result<(), AllocError> {
+    let alloc = rt.alloc();
+    let mailboxes = with_a_message(&rt, alloc)?;
+    let tally = Tally::new();
+    let mut out = Vec::new(alloc);
+    let mut desk = LockedDesk::new(&rt, &tally, 0, &mailboxes, &[]);
+    assert!(rt; desk.enter(0).is_ok());
+    exchange(&rt, &mailboxes);
+    assert_eq!(rt; has_chosen(&desk, alloc), Some(false));
+    assert_eq!(rt; desk.read(1, true).map(|_row| ()), Err(MailFault::Stranger));
+    assert_eq!(rt;
+        desk.store(1, FlagOp::Insert(FLAGGED)),
+        Err(MailFault::Stranger)
+    );
+    assert_eq!(rt; desk.expunge(None, &mut out), Err(MailFault::Stranger));
+    assert_eq!(rt; desk.feed(64, &mut out), Err(MailFault::Stranger));
+    assert_eq!(rt; desk.leave(true), Err(MailFault::Stranger));
+    assert!(rt; out.is_empty());
+    exchange(&rt, &mailboxes);
+    assert_eq!(rt; desk.store(1, FlagOp::Insert(FLAGGED)), Ok(Some(FLAGGED)));
+    assert_eq!(rt; desk.leave(false), Ok(0));
     Ok(())
 }
