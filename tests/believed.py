@@ -4,6 +4,8 @@
     tests/believed.py                       each file that has some, how many, and how many lines they take with their comments
     tests/believed.py --page docs/PROMISE.md    the same check that the gate makes: the page lists these files, and no other of specs/
     tests/believed.py CRATE::FUNCTION ..    those of other functions
+    tests/believed.py --apart               whether what public clauses say stands apart, as the gate checks too: each definition of specs/ is cited by a
+                                            clause that another crate can see, those of specs/inner/ by none, and specs/rows/ has tables of worked examples
 
 It goes by names: a definition counts where its name stands in the text of one that counts (or in a clause), and is its file's own or is
 imported there. A constructor or a field counts with its type. Types of the code are counted, and not opened; what the kit's libraries define is
@@ -18,6 +20,12 @@ TOP = os.path.dirname(os.path.dirname(os.path.abspath(__file__)))
 
 # Who carries the promise: the law over every list of events, a run of a script, a run of threads.
 ROOTS = ["exactly_once::exactly_once_delivery", "script::drive", "running_house::run_house"]
+
+# What the tables of worked examples begin with stands with the other words of its file.
+WITH_ITS_FILE = {("crates/client_list/specs/Client.antt", "fresh")}
+
+# Words of a notation, which are no definitions.
+NOTATION = {"infixr", "infixl", "use"}
 
 WORD = re.compile(r"[^\s(){},;.]+(?:\.[^\s(){},;.]+)*")
 DECLARED = re.compile(r"^(?:abbrev |unfoldable )?(?:pub )?(?:(data|record) )?(\S+)")
@@ -145,6 +153,73 @@ class Closure:
             self.scan(*self.open.pop())
 
 
+def public_text(code):
+    """What the clauses of a file say that another crate can see: those of public functions, of public traits and of what is written for a trait, and
+    what a model's value is."""
+    text, block, end = [], None, None
+    for line in code.split("\n"):
+        if line.startswith("}"):
+            block = None
+        elif re.match(r"pub (unsafe )?trait ", line):
+            block = "trait"
+        elif found := re.match(r"impl\b.*?(\bModel)? for ", line):
+            block = "model" if found.group(1) else "impl"
+        elif found := re.match(r"( *)pub (?:const |unsafe )*fn ", line):
+            end = found.group(1) + "{"
+        if block == "trait" or end is not None or (block == "model" and "ghost Value" in line):
+            text.append(line)
+        elif block == "impl" and re.match(r"\s+(ensures|requires|ghost (?!use))", line):
+            text.append(line)
+        if end is not None and (line.startswith(end) or re.search(r"[\w>)] \{$", line)):
+            end = None
+    return "\n".join(text)
+
+
+def sources_of(folder):
+    for where, _, files in os.walk(folder):
+        for file in sorted(files):
+            yield os.path.join(where, file)
+
+
+def cited_in_public():
+    """What the clauses of all crates say that another crate can see."""
+    closure = Closure()
+    for crate in sorted(os.listdir(os.path.join(TOP, "crates"))):
+        for path in sources_of(os.path.join(TOP, "crates", crate, "src")):
+            with open(path, encoding="utf-8") as code:
+                text = code.read()
+            source = Source(path)
+            for line in text.split("\n"):
+                source.read_import(line)
+            closure.scan(source, public_text(text))
+    closure.follow()
+    return closure
+
+
+def apart():
+    """The definitions that stand on the wrong side, and how many stand on each."""
+    closure = cited_in_public()
+    wrong, sides = [], {"specs": 0, "inner": 0, "rows": 0}
+    for crate in sorted(os.listdir(os.path.join(TOP, "crates"))):
+        for path in sources_of(os.path.join(TOP, "crates", crate, "specs")):
+            path = os.path.relpath(path, TOP)
+            side = path.split("/")[3] if path.count("/") == 4 else "specs"
+            if path.endswith("/Lib.antt") or path.islower():
+                continue
+            source = closure.source_of("Rattle." + path[len("crates/"):-len(".antt")].replace("/", "."))
+            # A module with parameters of its own is not opened here, and stands where its file does.
+            with open(os.path.join(TOP, path), encoding="utf-8") as lines:
+                if source is None or re.search(r"^module ", lines.read(), re.M):
+                    continue
+            sides[side] += len(source.text)
+            for name in source.text:
+                if side == "rows" or name in NOTATION or (path, name) in WITH_ITS_FILE:
+                    continue
+                if (name in closure.reached.get(path, ())) != (side == "specs"):
+                    wrong.append(f"{path}: {name} is cited by {'no' if side == 'specs' else 'a'} public clause")
+    return wrong, sides
+
+
 def listed_in(page):
     with open(page, encoding="utf-8") as text:
         return set(re.findall(r"`(crates/\w+/specs/\w+\.antt)`", text.read()))
@@ -152,6 +227,12 @@ def listed_in(page):
 
 def main(words):
     page = None
+    if words == ["--apart"]:
+        wrong, sides = apart()
+        for line in wrong:
+            print(f"believed: {line}")
+        print(f"{sides['specs']} definitions of public clauses, {sides['inner']} of bodies and proofs, {sides['rows']} of worked examples")
+        return 1 if wrong else 0
     if words[:1] == ["--page"]:
         page, words = words[1], words[2:]
     closure = Closure()

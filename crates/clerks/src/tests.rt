@@ -353,11 +353,11 @@ fn run_in<H: Hall + Send, T: Threads + Wait + Sync + Abort>(
         posts,
         consumed,
         worked,
-        idle,
+        unmanned,
         said: _,
     } = crew;
     worked.destroy_empty();
-    idle.destroy_empty();
+    unmanned.destroy_empty();
     let Baskets {
         hands,
         mut lists,
@@ -561,7 +561,7 @@ fn clerks_with_nothing_to_do_are_stood_down(rt: HostRuntime) -> Result<(), Fail>
         posts,
         consumed,
         worked,
-        idle,
+        unmanned,
         said: _,
     } = crew;
     let (shard, ends, stands) = idle_in::<Brand, HostRuntime>(&rt, &floor, stands);
@@ -571,7 +571,7 @@ fn clerks_with_nothing_to_do_are_stood_down(rt: HostRuntime) -> Result<(), Fail>
     let _baskets = packed(baskets);
     let _stands = packed(stands);
     let _posts = packed(posts);
-    let _lists = packed((consumed, worked, idle));
+    let _lists = packed((consumed, worked, unmanned));
     assert!(&rt; (shard, ends, count) == (1, 0, 2));
     Ok(())
 }

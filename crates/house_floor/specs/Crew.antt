@@ -63,5 +63,5 @@ pub record IsCrew (floor : Floor) (workers : ℕ) (visits : List Visit) (crew : 
   pub each_worker : vec_len crew.posts ≡ workers
   pub consumed : (crew.consumed.items ≡ []) × (length floor.office.lanes.items ≤ vec_capacity crew.consumed)
   pub worked : (crew.worked.items ≡ []) × (workers ≤ vec_capacity crew.worked)
-  pub idle : (crew.idle.items ≡ []) × (workers ≤ vec_capacity crew.idle)
+  pub unmanned : (crew.unmanned.items ≡ []) × (workers ≤ vec_capacity crew.unmanned)
   pub said : (crew.said.items ≡ []) × (length visits ≤ vec_capacity crew.said)

@@ -57,7 +57,7 @@ pub record AreEmptyLists (l : Lists) : Type 0 where
   pub posts : l.crew.posts.items ≡ []
   pub consumed : l.crew.consumed.items ≡ []
   pub worked : l.crew.worked.items ≡ []
-  pub idle : l.crew.idle.items ≡ []
+  pub unmanned : l.crew.unmanned.items ≡ []
   pub consumers : l.ends.consumers.items ≡ []
   pub receivers : l.ends.receivers.items ≡ []
   pub spares : AreNoSpares l.ends.spares
@@ -68,7 +68,7 @@ pub record AreCrewLists (workers shards : ℕ) (l : CrewLists) : Type 0 where
   pub posts : (l.posts.items ≡ []) × (workers ≤ vec_capacity l.posts)
   pub consumed : (l.consumed.items ≡ []) × (shards ≤ vec_capacity l.consumed)
   pub worked : (l.worked.items ≡ []) × (workers ≤ vec_capacity l.worked)
-  pub idle : (l.idle.items ≡ []) × (workers ≤ vec_capacity l.idle)
+  pub unmanned : (l.unmanned.items ≡ []) × (workers ≤ vec_capacity l.unmanned)
 
 pub record AreLists (workers shards : ℕ) (l : Lists) : Type 0 where
   pub empty : AreEmptyLists l

@@ -49,7 +49,7 @@ pub struct Crew {
     pub consumed: Vec<Consumed>,
     pub worked: Vec<Worked>,
     /// For posts that are never handed to a thread.
-    pub idle: Vec<Post>,
+    pub unmanned: Vec<Post>,
     /// What each session said, or that it wanted memory.
     pub said: Vec<Result<Vec<u8>, AllocError>>,
 }

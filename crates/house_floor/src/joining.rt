@@ -80,7 +80,7 @@ fn man(
         posts,
         consumed,
         worked,
-        idle,
+        unmanned,
     } = lists;
     let (stands, posts) = deal_out(floor, workers, shards, undealt, stands, posts);
     Crew {
@@ -88,7 +88,7 @@ fn man(
         posts,
         consumed,
         worked,
-        idle,
+        unmanned,
         said,
     }
 }

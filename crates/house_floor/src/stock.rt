@@ -29,7 +29,7 @@ pub(crate) struct CrewLists {
     /// For what each worker leaves.
     pub(crate) worked: Vec<Worked>,
     /// For posts that are never handed to a thread.
-    pub(crate) idle: Vec<Post>,
+    pub(crate) unmanned: Vec<Post>,
 }
 
 /// Empty lists for the ends of the queues.
@@ -113,7 +113,7 @@ impl Lists {
             posts: Vec::new(alloc),
             consumed: Vec::new(alloc),
             worked: Vec::new(alloc),
-            idle: Vec::new(alloc),
+            unmanned: Vec::new(alloc),
         };
         let ends = EndLists {
             consumers: Vec::new(alloc),
@@ -134,7 +134,7 @@ impl Lists {
         self.crew.posts.reserve(workers)?;
         self.crew.consumed.reserve(shards)?;
         self.crew.worked.reserve(workers)?;
-        self.crew.idle.reserve(workers)?;
+        self.crew.unmanned.reserve(workers)?;
         self.ends.consumers.reserve(shards)?;
         self.ends.receivers.reserve(workers)?;
         self.ends.spares.reserve(workers * shards)?;
@@ -151,7 +151,7 @@ impl Lists {
             posts,
             consumed,
             worked,
-            idle,
+            unmanned,
         } = crew;
         let EndLists {
             consumers,
@@ -163,7 +163,7 @@ impl Lists {
         posts.destroy_empty();
         consumed.destroy_empty();
         worked.destroy_empty();
-        idle.destroy_empty();
+        unmanned.destroy_empty();
         consumers.destroy_empty();
         receivers.destroy_empty();
     }

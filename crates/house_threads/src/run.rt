@@ -50,11 +50,11 @@ fn end_posts<R: Wait, G: Gate>(
     floor: &Floor,
     gate: &G,
     mut posts: Vec<Post>,
-    mut idle: Vec<Post>,
+    mut unmanned: Vec<Post>,
     manned: usize,
 ) -> Vec<Post>
     requires posts { AllAt (IsPost floor.now) 0 posts.items }
-    requires room { (idle.items ≡ []) × (vec_len posts ≤ vec_capacity idle) }
+    requires room { (unmanned.items ≡ []) × (vec_len posts ≤ vec_capacity unmanned) }
     requires manned { manned ≤ length floor.now.office.lanes.items }
     ensures count { vec_len result ≡ vec_len posts }
     ensures left { All (IsPostLeft (length floor.now.office.lanes.items)) result.items }
@@ -62,10 +62,10 @@ fn end_posts<R: Wait, G: Gate>(
     for done in 0..posts.len() {
         let post = posts.remove(0);
         let mut pace = Pace::new(gate, Actor::Worker(post.desk.number));
-        idle.push_reserved(end_first(rt, &mut pace, &floor.office, &floor.bells, post, manned));
+        unmanned.push_reserved(end_first(rt, &mut pace, &floor.office, &floor.bells, post, manned));
     }
     posts.destroy_empty();
-    idle
+    unmanned
 }
 
 // Room for the handles of all threads, so that none is lost for want of it once a thread runs.
@@ -120,11 +120,11 @@ fn in_scope<'s, E, R: Threads + Wait + Sync, G: Gate + Sync>(
         posts,
         consumed,
         worked,
-        idle,
+        unmanned,
         said,
     } = ManuallyDrop::into_inner(crew);
     let Ok(handles) = handles_for(alloc, shards, plans.len(), visits.len()) else {
-        idle.destroy_empty();
+        unmanned.destroy_empty();
         let started = Started::NoMemory;
         return Ran {
             worked,
@@ -143,7 +143,7 @@ fn in_scope<'s, E, R: Threads + Wait + Sync, G: Gate + Sync>(
     let (kept, first) = start_consumers(scope, rt, floor, gate, stands, kept, manned);
     let stands = Vec::new(alloc);
     if first < shards {
-        let posts = end_posts(rt, floor, gate, posts, idle, first);
+        let posts = end_posts(rt, floor, gate, posts, unmanned, first);
         let consumed = join_consumers(rt, floor, kept, consumed);
         let started = Started::Spawn;
         return Ran {
@@ -170,7 +170,7 @@ fn in_scope<'s, E, R: Threads + Wait + Sync, G: Gate + Sync>(
         consumed,
         said,
         stands,
-        posts: idle,
+        posts: unmanned,
         started,
     }
 }

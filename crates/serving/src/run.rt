@@ -359,10 +359,10 @@ pub(crate) fn run_house_in<H: Hall + Send, R: Threads + Wait + Sync, I: Read + D
         posts,
         consumed,
         worked,
-        idle,
+        unmanned,
         said: _,
     } = crew;
-    idle.destroy_empty();
+    unmanned.destroy_empty();
     let (shards, workers) = (floor.office.lanes.len(), floor.depot.channels.len());
     let Ok(rooms) = make_rooms::<H>(floor.alloc, shards, workers, visits.len()) else {
         return Err(give_up(floor, worked, consumed, stands, posts, baskets));

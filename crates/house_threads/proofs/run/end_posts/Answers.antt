@@ -17,5 +17,5 @@ loop-done-preserved g c =
       search rules,
       search rules,
       search rules,
-      subst (All P) (sym c.push_reserved.ensures.items) (All-push P c.loop-done.idle.items c.end_first.result v.4 c.end_first.ensures),
+      subst (All P) (sym c.push_reserved.ensures.items) (All-push P c.loop-done.unmanned.items c.end_first.result v.4 c.end_first.ensures),
     )

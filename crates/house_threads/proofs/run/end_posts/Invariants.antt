@@ -6,5 +6,5 @@ use Rattle.house_threads.proofs.run.end_posts.Given as goal
 abbrev pub invariant-loop-done : goal.invariant-loop-done
 invariant-loop-done g l =
     AllAt (IsPost l.floor) l.done l.posts.items × (vec_len l.posts + l.done ≡ vec_len l.fn.posts)
-    × (vec_len l.idle ≡ l.done) × (vec_len l.fn.posts ≤ vec_capacity l.idle)
-    × All (IsPostLeft (length l.floor.office.lanes.items)) l.idle.items
+    × (vec_len l.unmanned ≡ l.done) × (vec_len l.fn.posts ≤ vec_capacity l.unmanned)
+    × All (IsPostLeft (length l.floor.office.lanes.items)) l.unmanned.items
