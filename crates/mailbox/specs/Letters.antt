@@ -1,21 +1,29 @@
 -- The messages by their UIDs, as a mailbox keeps them.
-use Rattle.std.specs.Prelude.{◌≡◌, ℕ, ◌==◌, ◌≤◌, List, [], ◌∷◌, length, map, All, if◌then◌else◌}
-use Rattle.std.specs.List.Sorted.{IsStrictlySortedBy}
-use Rattle.std.specs.Map.{keys_of}
-use Rattle.std.specs.Ordering.{nat_cmp}
+use Rattle.std.specs.Prelude.{◌≡◌, ℕ, ◌==◌, ◌≤◌, List, [], ◌∷◌, length, map, All, Option, Some, None, if◌then◌else◌}
+use Rattle.std.specs.List.Sorted.{IsStrictlyIncreasing}
 use Rattle.change_ring.specs.declared.change.Flags.{Flags}
 use Rattle.mailbox.specs.Counts.{unseen_count, bytes_in_all}
 use Rattle.mailbox.specs.Mail.{Message}
 use Rattle.mailbox.specs.declared.letters.Letter.{Letter}
 use Rattle.mailbox.specs.declared.letters.Letters.TheInside.{Inside}
 
--- an entry as a message
-abbrev pub message_of : ℕ × Letter → Message
-message_of e = record { uid = e.0; flags = e.1.flags; text = e.1.text }
+-- the message of this UID that has these flags and this text
+abbrev pub message_of : ℕ → Flags → List ℕ → Message
+message_of uid flags text = record { uid = uid; flags = flags; text = text }
 
--- the entries as messages
-abbrev pub messages_of : List (ℕ × Letter) → List Message
-messages_of entries = map message_of entries
+-- a letter in front of messages: where its text is there it is one
+abbrev pub in_front : ℕ → Flags → Option (List ℕ) → List Message → List Message
+in_front uid flags None messages = messages
+in_front uid flags (Some text) messages = message_of uid flags text ∷ messages
+
+-- the letters whose text is there, as messages
+abbrev pub messages_of : List Letter → List Message
+messages_of [] = []
+messages_of (l ∷ ls) = in_front l.uid l.flags l.text (messages_of ls)
+
+-- the letters' UIDs, also of those whose text was taken
+abbrev pub letter_uids : List Letter → List ℕ
+letter_uids letters = map (λ (l : Letter). l.uid) letters
 
 -- without the message of a UID
 abbrev pub without_message : ℕ → List Message → List Message
@@ -29,7 +37,8 @@ reflagged uid flags (m ∷ ms) = if m.uid == uid then record m { flags = flags }
 
 -- the UIDs rise, and the counts are the messages'
 pub record AreCounted (b : Inside) : Type 0 where
-  pub rising : IsStrictlySortedBy nat_cmp (keys_of b.by_uid.entries)
-  pub unseen : b.unseen ≡ unseen_count (messages_of b.by_uid.entries)
-  pub bytes : b.bytes ≡ bytes_in_all (messages_of b.by_uid.entries)
-  pub small : All (λ (m : Message). length m.text ≤ 0xffff_ffff_ffff_ffff) (messages_of b.by_uid.entries)
+  pub rising : IsStrictlyIncreasing (letter_uids b.letters.items)
+  pub count : b.count ≡ length (messages_of b.letters.items)
+  pub unseen : b.unseen ≡ unseen_count (messages_of b.letters.items)
+  pub bytes : b.bytes ≡ bytes_in_all (messages_of b.letters.items)
+  pub small : All (λ (m : Message). length m.text ≤ 0xffff_ffff_ffff_ffff) (messages_of b.letters.items)

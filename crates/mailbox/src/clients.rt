@@ -13,7 +13,6 @@ ghost use Rattle.mailbox.specs.Letters.{message_of};
 ghost use Rattle.mailbox.specs.Mail.{Message as Kept, flagged, message_with, next_uid, rows, uids_of};
 ghost use Rattle.mailbox.specs.Stands.{Stands, next_of};
 
-use crate::letters::Letter;
 use crate::logging::log_change;
 use crate::mailbox::Mailbox;
 use crate::shown::View;
@@ -174,9 +173,9 @@ impl Mailbox {
         Ok(())
     }
 
-    // The message of a UID.
-    fn letter(&self, uid: u32) -> Option<&Letter>
-        ensures { option_map (λ l. message_of (uid, l.now)) result ≡ message_with uid self.now.messages }
+    // Flags and text of the message of a UID.
+    fn letter(&self, uid: u32) -> Option<(Flags, &Text)>
+        ensures { option_map (λ p. message_of uid p.0 p.1.now) result ≡ message_with uid self.now.messages }
     {
         self.messages.get(uid)
     }
@@ -185,7 +184,7 @@ impl Mailbox {
     fn flags_of(&self, uid: u32) -> Option<Flags>
         ensures { result ≡ option_map (λ (m : Kept). m.flags) (message_with uid self.now.messages) }
     {
-        Some(self.letter(uid)?.flags)
+        Some(self.letter(uid)?.0)
     }
 
     // Sets the flags of a message that has these flags, and logs that where they become others:
@@ -305,11 +304,10 @@ impl Mailbox {
         }) (message_with uid self.new.messages)) }
     {
         self.admit(seat)?;
-        let Some(letter) = self.letter(uid) else {
+        let Some((old, shared)) = self.letter(uid) else {
             return Ok(None);
         };
-        let old = letter.flags;
-        let Ok(text) = letter.text.copy() else {
+        let Ok(text) = shared.copy() else {
             return Err(self.refuse_copy(uid, old, mark_seen));
         };
         let Ok(newly_seen) = self.mark(uid, old, mark_seen) else {

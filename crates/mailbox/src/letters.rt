@@ -1,20 +1,20 @@
 //! The messages that are there, by their UIDs, and what is counted of them. Which of them have
 //! \Deleted is told in `messages`; changes and cursors are not told here.
+//!
+//! They stand in a vector, by rising UIDs. One that is taken out loses its text at once, and its place
+//! as soon as more than half of all places are such: so neither a removal nor what is added moves others,
+//! and a message mostly stands as far from the first one as its UID is above that one's.
 
-ghost use Rattle.std.specs.Prelude.{◌≡◌, ◌^◌, ◌<◌, [], ◌∷◌, ◌++◌, length, map, All, IfOk, OnOk, OnErr, option_map};
+ghost use Rattle.std.specs.Prelude.{◌≡◌, ◌^◌, ◌<◌, ◌-◌, false, [], ◌∷◌, ◌++◌, List, length, map, filter, All, IfOk, OnOk, OnErr, IfSome, IfNone, Some, None, option_map, slice_get};
 ghost use Rattle.std.specs.List.Sorted.{IsStrictlyIncreasing};
-ghost use Rattle.std.specs.BTreeMap.{is_at, keys};
-ghost use Rattle.std.specs.Map.{lookup};
-ghost use Rattle.std.specs.Ordering.{nat_cmp};
 ghost use Rattle.change_ring.specs.Log.{no_flags};
 ghost use Rattle.mailbox.specs.Counts.{unseen_count, bytes_in_all};
-ghost use Rattle.mailbox.specs.Letters.{message_of, messages_of, reflagged, without_message};
+ghost use Rattle.mailbox.specs.Letters.{letter_uids, message_of, messages_of, reflagged, without_message};
 ghost use Rattle.mailbox.specs.Mail.{message_with, texts_of, uids_of};
 
 use change_ring::Flags;
 use delivery_token::Text;
 use std::alloc::{AllocError, Global};
-use std::collections::BTreeMap;
 use std::marker::Model;
 
 // The flags of a message that was delivered.
@@ -26,17 +26,20 @@ const NO_FLAGS: Flags = Flags {
     draft: false,
 };
 
-// A message, but for its UID.
+// A message, or the place of one that was taken out: that has no text any more.
 #[derive(Drop)]
 pub(crate) struct Letter {
-    pub(crate) flags: Flags,
-    pub(crate) text: Text,
+    uid: u32,
+    flags: Flags,
+    text: Option<Text>,
 }
 
-// The messages by their UIDs, how many of them are without \Seen, and the bytes of their texts.
+// The letters, whose UIDs rise; how many of them are messages, how many of these are without \Seen, and
+// the bytes of their texts.
 #[derive(Drop)]
 pub(crate) struct Letters {
-    by_uid: BTreeMap<u32, Letter>,
+    letters: Vec<Letter>,
+    count: usize,
     unseen: usize,
     bytes: u128,
 }
@@ -48,28 +51,132 @@ impl Model for Letters {
 
     ghost Value = { List Message };
 
-    ghost view = { λ b. messages_of b.by_uid.entries };
+    ghost view = { λ b. messages_of b.letters.items };
 
     ghost invariant = { AreCounted };
 }
 
-// Sets the flags of a UID's letter. None where there is none; else the flags that it had.
-fn replace_flags(by_uid: &mut BTreeMap<u32, Letter>, uid: u32, flags: Flags) -> Option<Flags>
-    ensures was { result ≡ option_map (λ l. l.flags) (lookup (is_at (nat_cmp uid)) by_uid.old.entries) }
-    ensures messages { messages_of by_uid.new.entries ≡ reflagged uid flags (messages_of by_uid.old.entries) }
-    ensures keys { keys by_uid.new ≡ keys by_uid.old }
+// The UID at a place.
+fn uid_at(letters: &[Letter], place: usize) -> Option<u32>
+    ensures { result ≡ option_map (λ l. l.uid) (slice_get letters.now place) }
 {
-    let letter = by_uid.get_mut(&uid)?;
+    Some(letters.get(place)?.uid)
+}
+
+// How far a UID is above the first letter's: its place, where no UID is missing before it.
+fn distance(letters: &[Letter], uid: u32) -> usize
+    ensures { (l : Letter) (ls : List Letter) → letters.now ≡ l ∷ ls → result ≡ uid - l.uid }
+{
+    match letters.first() {
+        Some(first) => uid.saturating_sub(first.uid) as usize,
+        None => 0,
+    }
+}
+
+// The place of a UID. None only where no message has it.
+fn place_of(letters: &[Letter], uid: u32) -> Option<usize>
+    requires { IsStrictlyIncreasing (letter_uids letters.now) }
+    ensures found { IfSome result (λ place. option_map (λ l. l.uid) (slice_get letters.now place) ≡ Some uid) }
+    ensures none { IfNone result (message_with uid (messages_of letters.now) ≡ None) }
+{
+    let near = distance(letters, uid);
+    if uid_at(letters, near) == Some(uid) {
+        return Some(near);
+    }
+    let place = letters.partition_point(|letter| letter.uid < uid);
+    if uid_at(letters, place) == Some(uid) {
+        Some(place)
+    } else {
+        None
+    }
+}
+
+// Sets the flags of the message of a UID. None where there is none; else the flags that it had.
+fn replace_flags(letters: &mut Vec<Letter>, uid: u32, flags: Flags) -> Option<Flags>
+    requires { IsStrictlyIncreasing (letter_uids letters.old.items) }
+    ensures was { result ≡ option_map (λ m. m.flags) (message_with uid (messages_of letters.old.items)) }
+    ensures messages { messages_of letters.new.items ≡ reflagged uid flags (messages_of letters.old.items) }
+    ensures uids { letter_uids letters.new.items ≡ letter_uids letters.old.items }
+{
+    let place = place_of(letters, uid)?;
+    let letter = &mut letters[place];
+    if letter.text.is_none() {
+        return None;
+    }
     let old = letter.flags;
     letter.flags = flags;
     Some(old)
 }
 
-// The UIDs of letters.
-fn uids_in(by_uid: &BTreeMap<u32, Letter>, alloc: Global) -> Result<Vec<u32>, AllocError>
-    ensures { IfOk result (λ uids. uids.items ≡ keys by_uid.now) }
+// Takes the text of the message of a UID. None where there is none; else its flags and its text.
+fn take_text(letters: &mut Vec<Letter>, uid: u32) -> Option<(Flags, Text)>
+    requires { IsStrictlyIncreasing (letter_uids letters.old.items) }
+    ensures was { option_map (λ p. message_of uid p.0 p.1) result ≡ message_with uid (messages_of letters.old.items) }
+    ensures messages { messages_of letters.new.items ≡ without_message uid (messages_of letters.old.items) }
+    ensures uids { letter_uids letters.new.items ≡ letter_uids letters.old.items }
 {
-    by_uid.keys().copied().collect(alloc)
+    let place = place_of(letters, uid)?;
+    let letter = &mut letters[place];
+    let text = letter.text.take()?;
+    Some((letter.flags, text))
+}
+
+// Gives up the places of those that were taken out.
+fn close_up(letters: &mut Vec<Letter>)
+    ensures messages { messages_of letters.new.items ≡ messages_of letters.old.items }
+    ensures uids { letter_uids letters.new.items ≡ uids_of (messages_of letters.old.items) }
+{
+    letters.retain(|letter| letter.text.is_some());
+}
+
+// Whether the last place has a UID that is not below this one.
+fn is_behind(letters: &[Letter], uid: u32) -> bool
+    ensures { result ≡ false → IsStrictlyIncreasing (letter_uids letters.now) → IsStrictlyIncreasing (letter_uids letters.now ++ uid ∷ []) }
+{
+    match letters.last() {
+        Some(last) => last.uid >= uid,
+        None => false,
+    }
+}
+
+// Makes way for a UID above all messages': no place that was given up is at or above it.
+fn make_way(letters: &mut Vec<Letter>, uid: u32)
+    requires rising { IsStrictlyIncreasing (letter_uids letters.old.items) }
+    requires above { All (λ u. u < uid) (uids_of (messages_of letters.old.items)) }
+    ensures messages { messages_of letters.new.items ≡ messages_of letters.old.items }
+    ensures rising { IsStrictlyIncreasing (letter_uids letters.new.items ++ uid ∷ []) }
+{
+    if is_behind(letters, uid) {
+        close_up(letters);
+    }
+}
+
+// The UIDs of those that are messages, of which there are so many.
+fn uids_in(letters: &[Letter], count: usize, alloc: Global) -> Result<Vec<u32>, AllocError>
+    requires { count ≡ length (messages_of letters.now) }
+    ensures { IfOk result (λ uids. uids.items ≡ uids_of (messages_of letters.now)) }
+{
+    let mut uids = Vec::with_capacity(alloc, count)?;
+    for letter in letters {
+        if letter.text.is_some() {
+            uids.push_reserved(letter.uid);
+        }
+    }
+    Ok(uids)
+}
+
+// UID and text of those that are messages, of which there are so many.
+fn texts_in(letters: &[Letter], count: usize, alloc: Global) -> Result<Vec<(u32, Text)>, AllocError>
+    requires { count ≡ length (messages_of letters.now) }
+    ensures { IfOk result (λ texts. texts.items ≡ texts_of (messages_of letters.now)) }
+{
+    let mut texts = Vec::with_capacity(alloc, count)?;
+    for letter in letters {
+        if let Some(text) = &letter.text {
+            texts.push_reserved((letter.uid, text.copy()?));
+        }
+    }
+    Ok(texts)
 }
 
 impl Letters {
@@ -78,7 +185,8 @@ impl Letters {
         ensures { result ≡ [] }
     {
         Letters {
-            by_uid: BTreeMap::new(alloc),
+            letters: Vec::new(alloc),
+            count: 0,
             unseen: 0,
             bytes: 0,
         }
@@ -90,7 +198,9 @@ impl Letters {
         ensures small { result < 2 ^ 63 }
         ensures rising { IsStrictlyIncreasing (uids_of self.now) }
     {
-        self.by_uid.len()
+        // Read for its bound: fewer than 2^63 are there.
+        let _len = self.letters.len();
+        self.count
     }
 
     // How many of them are without \Seen.
@@ -107,29 +217,27 @@ impl Letters {
         self.bytes
     }
 
-    // The message of a UID.
-    pub(crate) fn get(&self, uid: u32) -> Option<&Letter>
-        ensures { option_map (λ l. message_of (uid, l.now)) result ≡ message_with uid self.now }
+    // Flags and text of the message of a UID.
+    pub(crate) fn get(&self, uid: u32) -> Option<(Flags, &Text)>
+        ensures { option_map (λ p. message_of uid p.0 p.1.now) result ≡ message_with uid self.now }
     {
-        self.by_uid.get(&uid)
+        let place = place_of(&self.letters, uid)?;
+        let letter = &self.letters[place];
+        Some((letter.flags, letter.text.as_ref()?))
     }
 
     // Their UIDs, which rise.
     pub(crate) fn uids(&self, alloc: Global) -> Result<Vec<u32>, AllocError>
         ensures { IfOk result (λ uids. uids.items ≡ uids_of self.now) }
     {
-        uids_in(&self.by_uid, alloc)
+        uids_in(&self.letters, self.count, alloc)
     }
 
     // UID and text of each.
     pub(crate) fn texts(&self, alloc: Global) -> Result<Vec<(u32, Text)>, AllocError>
         ensures { IfOk result (λ texts. texts.items ≡ texts_of self.now) }
     {
-        let mut texts = Vec::with_capacity(alloc, self.by_uid.len())?;
-        for (uid, letter) in self.by_uid.iter() {
-            texts.push_reserved((*uid, letter.text.copy()?));
-        }
-        Ok(texts)
+        texts_in(&self.letters, self.count, alloc)
     }
 
     // One more, whose UID is above all others. An error where memory is refused; nothing is then
@@ -139,16 +247,17 @@ impl Letters {
         ensures ok { OnOk result (self.new ≡ self.old ++ record { uid = uid; flags = no_flags; text = text } ∷ []) }
         ensures err { OnErr result (self.new ≡ self.old) }
     {
-        // Read for its bound: fewer than 2^63 are there.
-        let _len = self.by_uid.len();
         let size = text.as_slice().len() as u128;
+        make_way(&mut self.letters, uid);
         let letter = Letter {
+            uid,
             flags: NO_FLAGS,
-            text,
+            text: Some(text),
         };
-        let Ok(_none) = self.by_uid.insert(uid, letter) else {
+        let Ok(()) = self.letters.push(letter) else {
             return Err(AllocError);
         };
+        self.count += 1;
         self.unseen += 1;
         self.bytes += size;
         Ok(())
@@ -160,8 +269,8 @@ impl Letters {
         ensures messages { self.new ≡ reflagged uid flags self.old }
     {
         // Read for its bound: fewer than 2^63 are there.
-        let _len = self.by_uid.len();
-        let Some(old) = replace_flags(&mut self.by_uid, uid, flags) else {
+        let _len = self.letters.len();
+        let Some(old) = replace_flags(&mut self.letters, uid, flags) else {
             return None;
         };
         self.unseen = self.unseen + usize::from(!flags.seen) - usize::from(!old.seen);
@@ -172,10 +281,20 @@ impl Letters {
     pub(crate) fn remove(&mut self, uid: u32)
         ensures { self.new ≡ without_message uid self.old }
     {
-        let Some(letter) = self.by_uid.remove(&uid) else {
+        let Some((flags, text)) = take_text(&mut self.letters, uid) else {
             return;
         };
-        self.unseen -= usize::from(!letter.flags.seen);
-        self.bytes -= letter.text.as_slice().len() as u128;
+        self.count -= 1;
+        self.unseen -= usize::from(!flags.seen);
+        self.bytes -= text.as_slice().len() as u128;
+    }
+
+    // Gives up the places of those that were taken out, where these are the most.
+    pub(crate) fn tidy(&mut self)
+        ensures { self.new ≡ self.old }
+    {
+        if self.count < self.letters.len() / 2 {
+            close_up(&mut self.letters);
+        }
     }
 }

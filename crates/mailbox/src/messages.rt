@@ -11,7 +11,7 @@ ghost use Rattle.mailbox.specs.Mail.{message_with, remaining, texts_of, uids_of}
 ghost use Rattle.mailbox.specs.Marks.{marked_of, put_in, remarked, without_each};
 
 use crate::choice::Choice;
-use crate::letters::{Letter, Letters};
+use crate::letters::Letters;
 use change_ring::Flags;
 use delivery_token::Text;
 use std::alloc::{AllocError, Global};
@@ -124,9 +124,9 @@ impl Messages {
         self.letters.bytes()
     }
 
-    // The message of a UID.
-    pub(crate) fn get(&self, uid: u32) -> Option<&Letter>
-        ensures { option_map (λ l. message_of (uid, l.now)) result ≡ message_with uid self.now }
+    // Flags and text of the message of a UID.
+    pub(crate) fn get(&self, uid: u32) -> Option<(Flags, &Text)>
+        ensures { option_map (λ p. message_of uid p.0 p.1.now) result ≡ message_with uid self.now }
     {
         self.letters.get(uid)
     }
@@ -184,6 +184,7 @@ impl Messages {
         // Read for its bound: the UIDs rise.
         let _len = self.letters.len();
         remove_each(&mut self.letters, &self.marked, choice);
+        self.letters.tidy();
         self.marked.retain(|uid| !choice.has(*uid));
     }
 }

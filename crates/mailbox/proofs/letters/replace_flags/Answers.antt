@@ -1,22 +1,58 @@
-use Rattle.std.proofs.Common.{rules, ◌≡◌, ap, sym, ◌∙◌}
-use Rattle.std.specs.BTreeMap.{is_at}
-use Rattle.std.specs.Map.{set_value}
-use Rattle.std.specs.Ordering.{nat_cmp}
+use Rattle.std.proofs.Common.{◌≡◌, ◌∙◌, List, Option, None, Some, ap, sym, refl, not, arith, ℕ, true, false}
+use Rattle.std.specs.Prelude.{option_map, is_some}
+use Rattle.change_ring.specs.declared.change.Flags.{Flags}
 use Rattle.mailbox.specs.declared.letters.Letter.{Letter}
-use Rattle.mailbox.specs.Letters.{messages_of}
-use Rattle.mailbox.proofs.LetterLaws.{none_found, reflagged_none, reflagged_set}
+use Rattle.mailbox.specs.Letters.{messages_of, message_of}
+use Rattle.mailbox.specs.Mail.{Message, message_with}
+use Rattle.mailbox.proofs.LetterLaws.{IsAt, at_place, placed, reflagged_none, text_gone}
 use Rattle.mailbox.proofs.letters.replace_flags.Goals as goal
 
-pub returns-in_err-letter-clause-messages : goal.returns-in_err-letter-clause-messages
-returns-in_err-letter-clause-messages c =
-    let es = c.args.by_uid.now.entries in
-    let same : c.get_mut.follows.lender-at-none.entries ≡ es = search rules in
-    ap messages_of same ∙ sym (reflagged_none c.args.uid c.args.flags (messages_of es) (none_found c.args.uid es c.in_err-letter.ensures.value))
+pub returns-in_err-place-clause-messages : goal.returns-in_err-place-clause-messages
+returns-in_err-place-clause-messages c =
+    let ms = messages_of c.args.letters.now.items in
+    sym (reflagged_none c.args.uid c.args.flags ms (ap (λ ls. message_with c.args.uid (messages_of ls)) (sym c.deref.ensures.value) ∙ c.in_err-place.ensures.none))
+
+pub index_mut-letter-requires : goal.index_mut-letter-requires
+index_mut-letter-requires c = let here = placed c.deref.result.now c.in_ok-place.place c.args.uid c.in_ok-place.ensures.found in omega (arith, here.0, c.deref.ensures.len)
+
+-- no message is there
+none : (ls : List Letter) (place uid : ℕ) (l : Letter) → IsAt ls place uid l → is_some l.text ≡ false → message_with uid (messages_of ls) ≡ None
+none ls place uid l at gone = at.found ∙ ap (option_map (λ (t : List ℕ). message_of uid l.flags t)) (text_gone l.text gone)
+
+pub returns-then-is_none-clause-was : goal.returns-then-is_none-clause-was
+returns-then-is_none-clause-was c =
+    let l = c.index_mut-letter.result.now in
+    let at = at_place c.args.letters.now.items c.deref.result.now c.in_ok-place.place c.args.uid l c.deref.ensures.value c.requires c.in_ok-place.ensures.found c.index_mut-letter.ensures.value in
+    sym (ap (option_map (λ (m : Message). m.flags)) (none c.args.letters.now.items c.in_ok-place.place c.args.uid l at (c.is_none.ensures ∙ ap not c.if-is_none.true)))
+
+pub returns-then-is_none-clause-messages : goal.returns-then-is_none-clause-messages
+returns-then-is_none-clause-messages c =
+    let l = c.index_mut-letter.result.now in
+    let ms = messages_of c.args.letters.now.items in
+    let at = at_place c.args.letters.now.items c.deref.result.now c.in_ok-place.place c.args.uid l c.deref.ensures.value c.requires c.in_ok-place.ensures.found c.index_mut-letter.ensures.value in
+    let gone = none c.args.letters.now.items c.in_ok-place.place c.args.uid l at (c.is_none.ensures ∙ ap not c.if-is_none.true) in
+    at.set l.flags ∙ reflagged_none c.args.uid l.flags ms gone ∙ sym (reflagged_none c.args.uid c.args.flags ms gone)
+
+-- what its flags are
+told : (uid : ℕ) (flags : Flags) (t : Option (List ℕ)) (found : Option Message) → is_some t ≡ true → found ≡ option_map (λ (x : List ℕ). message_of uid flags x) t →
+    Some flags ≡ option_map (λ (m : Message). m.flags) found
+told uid flags None found there is = cc
+told uid flags (Some t) found there is = sym (ap (option_map (λ (m : Message). m.flags)) is)
+
+pub returns-clause-was : goal.returns-clause-was
+returns-clause-was c =
+    let l = c.index_mut-letter.result.now in
+    let at = at_place c.args.letters.now.items c.deref.result.now c.in_ok-place.place c.args.uid l c.deref.ensures.value c.requires c.in_ok-place.ensures.found c.index_mut-letter.ensures.value in
+    told c.args.uid l.flags l.text (message_with c.args.uid (messages_of c.args.letters.now.items)) (c.is_none.ensures ∙ ap not c.if-is_none.false) at.found
 
 pub returns-clause-messages : goal.returns-clause-messages
 returns-clause-messages c =
-    let es = c.args.by_uid.now.entries in
-    let l : Letter = c.in_ok-letter.letter.now in
-    let new : Letter = record { flags = c.args.flags; text = l.text } in
-    let set : (c.get_mut.follows.lender new).entries ≡ set_value (is_at (nat_cmp c.args.uid)) es new = search rules in
-    ap messages_of set ∙ reflagged_set c.args.uid c.args.flags es l (sym c.in_ok-letter.ensures.value)
+    let l = c.index_mut-letter.result.now in
+    let at = at_place c.args.letters.now.items c.deref.result.now c.in_ok-place.place c.args.uid l c.deref.ensures.value c.requires c.in_ok-place.ensures.found c.index_mut-letter.ensures.value in
+    at.set c.args.flags
+
+pub returns-clause-uids : goal.returns-clause-uids
+returns-clause-uids c =
+    let l = c.index_mut-letter.result.now in
+    let at = at_place c.args.letters.now.items c.deref.result.now c.in_ok-place.place c.args.uid l c.deref.ensures.value c.requires c.in_ok-place.ensures.found c.index_mut-letter.ensures.value in
+    at.uids (record { uid = l.uid; flags = c.args.flags; text = l.text }) refl

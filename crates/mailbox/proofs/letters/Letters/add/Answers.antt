@@ -1,38 +1,57 @@
-use Rattle.std.proofs.Common.{◌≡◌, ◌≤◌, ◌<◌, ◌+◌, ◌∷◌, ◌++◌, [], ℕ, List, length, All, refl, sym, ap, subst, ◌∙◌, arith}
-use Rattle.std.proofs.lemmas.List.{length-map, map-append}
-use Rattle.std.proofs.lemmas.List.Elements.{recursion_from_All}
+use Rattle.std.proofs.Common.{◌≡◌, ◌≤◌, ◌+◌, ◌∷◌, ◌++◌, [], ℕ, List, Some, length, refl, sym, ap, subst, ◌∙◌, arith}
+use Rattle.std.specs.List.Sorted.{IsStrictlyIncreasing}
 use Rattle.change_ring.specs.Log.{no_flags}
-use Rattle.mailbox.specs.Letters.{AreCounted, message_of, messages_of}
-use Rattle.mailbox.specs.Mail.{Message, uids_of}
+use Rattle.cursor_set.proofs.Places.{Rises-first, Rises-from, Rises-to}
 use Rattle.mailbox.specs.declared.letters.Letter.{Letter}
-use Rattle.mailbox.proofs.LetterLaws.{AreCounted-add, bytes_few, inserted_last}
+use Rattle.mailbox.specs.Letters.{AreCounted, letter_uids, message_of, messages_of}
+use Rattle.mailbox.specs.Mail.{Message}
+use Rattle.mailbox.proofs.LetterLaws.{AreCounted-add, AreCounted-same, bytes_few, messages_few, messages_more, uids_more, unseen_few}
 use Rattle.mailbox.proofs.letters.Letters.add.Goals as goal
+
+pub overflow_add-self : goal.overflow_add-self
+overflow_add-self c =
+    let v = c.self.inside.letters in
+    omega (arith, c.self.invariant.count, messages_few v.items, v.ok.0, v.ok.1, v.small)
 
 pub overflow_add-self-2 : goal.overflow_add-self-2
 overflow_add-self-2 c =
-    let es = c.self.inside.by_uid.entries in
-    let few = bytes_few (messages_of es) c.self.invariant.small in
-    let long = length-map es message_of in
-    omega (arith, c.self.invariant.bytes, few, long, c.len-len.ensures.len, c.len-len.ensures.small, c.as_slice.type_inv.0)
+    let v = c.self.inside.letters in
+    omega (arith, c.self.invariant.unseen, unseen_few (messages_of v.items), messages_few v.items, v.ok.0, v.ok.1, v.small)
 
--- the message that is added
-abbrev added : goal.Joined-none → Message
-added c = record { uid = c.args.uid; flags = no_flags; text = c.args.text }
+pub overflow_add-self-3 : goal.overflow_add-self-3
+overflow_add-self-3 c =
+    let v = c.self.inside.letters in
+    omega (arith, c.self.invariant.bytes, bytes_few (messages_of v.items) c.self.invariant.small, messages_few v.items, v.ok.0, v.ok.1, v.small, c.as_slice.type_inv.0)
+
+pub invariant_of-self : goal.invariant_of-self
+invariant_of-self c =
+    let kept = c.make_way.new.letters.items in
+    let same : c.push.new.self.items ≡ kept = c.in_default.ensures.items in
+    let rising = Rises-to (letter_uids kept) (Rises-first (letter_uids kept) (c.args.uid ∷ []) (Rises-from (letter_uids kept ++ c.args.uid ∷ []) c.make_way.ensures.rising)) in
+    AreCounted-same c.self.inside c.push.new.self c.self.invariant (subst (λ (ls : List Letter). IsStrictlyIncreasing (letter_uids ls)) (sym same) rising)
+    (ap messages_of same ∙ c.make_way.ensures.messages)
+
+-- the message that is added, and its letter
+abbrev added : goal.After-self-3-1 → Message
+added c = message_of c.args.uid no_flags c.args.text
+
+abbrev letter : goal.After-self-3-1 → Letter
+letter c = record { uid = c.args.uid; flags = no_flags; text = Some c.args.text }
+
+items : (c : goal.After-self-3-1) → c.push.new.self.items ≡ c.make_way.new.letters.items ++ letter c ∷ []
+items c = c.in-Ok.ensures.items
 
 -- the messages then
-more : (c : goal.Joined-none) → messages_of c.insert.new.self.entries ≡ messages_of c.self.inside.by_uid.entries ++ added c ∷ []
+more : (c : goal.After-self-3-1) → messages_of c.push.new.self.items ≡ messages_of c.self.inside.letters.items ++ added c ∷ []
 more c =
-    let es = c.self.inside.by_uid.entries in
-    let letter : Letter = record { flags = no_flags; text = c.args.text } in
-    let below = subst (λ (ms : List Message). All (λ u. u < c.args.uid) (uids_of ms)) (sym c.self.view_is) c.requires in
-    ap messages_of (c.in-Ok.ensures.entries ∙ inserted_last c.args.uid letter es (recursion_from_All (λ u. u < c.args.uid) (uids_of (messages_of es)) below))
-    ∙ map-append message_of es ((c.args.uid, letter) ∷ [])
-
-pub returns-clause-ok : goal.returns-clause-ok
-returns-clause-ok c = more c ∙ ap (λ (ms : List Message). ms ++ added c ∷ []) c.self.view_is
+    ap messages_of (items c) ∙ messages_more c.make_way.new.letters.items (letter c) ∙ ap (λ (ms : List Message). ms ++ added c ∷ []) c.make_way.ensures.messages
 
 pub invariant_of-self-2 : goal.invariant_of-self-2
 invariant_of-self-2 c =
     let short : length c.args.text ≤ 0xffff_ffff_ffff_ffff = omega (arith, ap length c.as_slice.ensures, c.as_slice.type_inv.0) in
-    subst (λ (n : ℕ). AreCounted (record { by_uid = c.insert.new.self; unseen = c.self.inside.unseen + 1; bytes = c.self.inside.bytes + n })) (ap length (sym c.as_slice.ensures))
-    (AreCounted-add c.self.inside c.insert.new.self (added c) c.self.invariant c.in-Ok.ensures.ordered (more c) refl short)
+    let rising = subst IsStrictlyIncreasing (sym (ap letter_uids (items c) ∙ uids_more c.make_way.new.letters.items (letter c))) c.make_way.ensures.rising in
+    subst (λ (n : ℕ). AreCounted (record { letters = c.push.new.self; count = c.self.inside.count + 1; unseen = c.self.inside.unseen + 1; bytes = c.self.inside.bytes + n })) (ap length (sym c.as_slice.ensures))
+    (AreCounted-add c.self.inside c.push.new.self (added c) c.self.invariant rising (more c) refl short)
+
+pub returns-clause-ok : goal.returns-clause-ok
+returns-clause-ok c = more c ∙ ap (λ (ms : List Message). ms ++ added c ∷ []) c.self.view_is

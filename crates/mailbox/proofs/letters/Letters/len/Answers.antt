@@ -1,12 +1,13 @@
-use Rattle.std.proofs.Common.{ap, subst, ◌∙◌}
+use Rattle.std.proofs.Common.{subst, List, arith}
 use Rattle.std.specs.List.Sorted.{IsStrictlyIncreasing}
-use Rattle.std.specs.Map.{keys_of}
-use Rattle.std.proofs.lemmas.Map.Keys.{IsStrictlyIncreasing-from_sorted}
-use Rattle.mailbox.specs.Mail.{uids_of}
-use Rattle.mailbox.proofs.LetterLaws.{uids_entries}
+use Rattle.mailbox.specs.Mail.{Message, uids_of}
+use Rattle.mailbox.proofs.LetterLaws.{messages_few, messages_rise}
 use Rattle.mailbox.proofs.letters.Letters.len.Goals as goal
 
+pub returns-clause-small : goal.returns-clause-small
+returns-clause-small c =
+    let v = c.self.inside.letters in
+    omega (arith, c.self.invariant.count, messages_few v.items, v.ok.0, v.ok.1, v.small)
+
 pub returns-clause-rising : goal.returns-clause-rising
-returns-clause-rising c =
-    let es = c.self.inside.by_uid.entries in
-    subst IsStrictlyIncreasing (uids_entries es ∙ ap uids_of c.self.view_is) (IsStrictlyIncreasing-from_sorted (keys_of es) c.self.invariant.rising)
+returns-clause-rising c = subst (λ (ms : List Message). IsStrictlyIncreasing (uids_of ms)) c.self.view_is (messages_rise c.self.inside.letters.items c.self.invariant.rising)

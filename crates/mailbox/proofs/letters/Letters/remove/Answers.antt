@@ -1,33 +1,34 @@
-use Rattle.std.proofs.Common.{◌-◌, length, not, ap, ◌∙◌, arith}
-use Rattle.mailbox.specs.Letters.{message_of, messages_of, without_message}
-use Rattle.mailbox.proofs.LetterLaws.{AreCounted-remove, bytes_there, number_of, unseen_there, one_found, without_removed}
+use Rattle.std.proofs.Common.{◌-◌, length, not, ap, ◌∙◌, sym, subst, arith}
+use Rattle.std.specs.List.Sorted.{IsStrictlyIncreasing}
+use Rattle.mailbox.specs.Letters.{message_of, messages_of}
+use Rattle.mailbox.proofs.LetterLaws.{AreCounted-remove, AreCounted-same, bytes_there, length_without, number_of, unseen_there, without_none}
 use Rattle.mailbox.proofs.letters.Letters.remove.Goals as goal
 
-pub returns-in_default : goal.returns-in_default
-returns-in_default c = ap messages_of c.in_default.ensures.entries ∙ without_removed c.args.uid c.self.inside.by_uid.entries ∙ ap (without_message c.args.uid) c.self.view_is
-
-pub overflow_sub-self : goal.overflow_sub-self
-overflow_sub-self c =
-    let es = c.self.inside.by_uid.entries in
-    let found = one_found c.args.uid es c.in-Some.letter c.in-Some.ensures.value in
-    omega (arith, unseen_there c.args.uid (messages_of es) (message_of (c.args.uid, c.in-Some.letter)) found, c.from.ensures, number_of (not c.in-Some.letter.flags.seen), c.self.invariant.unseen)
+pub invariant_of-self : goal.invariant_of-self
+invariant_of-self c =
+    let ms = messages_of c.self.inside.letters.items in
+    AreCounted-same c.self.inside c.take_text.new.letters c.self.invariant (subst IsStrictlyIncreasing (sym c.in_default.ensures.uids) c.self.invariant.rising)
+    (c.in_default.ensures.messages ∙ without_none c.args.uid ms (sym c.in_default.ensures.was))
 
 pub overflow_sub-self-2 : goal.overflow_sub-self-2
 overflow_sub-self-2 c =
-    let es = c.self.inside.by_uid.entries in
-    let found = one_found c.args.uid es c.in-Some.letter c.in-Some.ensures.value in
-    omega (arith, bytes_there c.args.uid (messages_of es) (message_of (c.args.uid, c.in-Some.letter)) found, ap length c.as_slice.ensures, c.self.invariant.bytes)
+    let ms = messages_of c.self.inside.letters.items in
+    let x = message_of c.args.uid c.in-Some.flags c.in-Some.text in
+    omega (arith, unseen_there c.args.uid ms x (sym c.in-Some.ensures.was), c.from.ensures, number_of (not c.in-Some.flags.seen), c.self.invariant.unseen)
+
+pub overflow_sub-self-3 : goal.overflow_sub-self-3
+overflow_sub-self-3 c =
+    let ms = messages_of c.self.inside.letters.items in
+    let x = message_of c.args.uid c.in-Some.flags c.in-Some.text in
+    omega (arith, bytes_there c.args.uid ms x (sym c.in-Some.ensures.was), ap length c.as_slice.ensures, c.self.invariant.bytes)
 
 pub invariant_of-self-2 : goal.invariant_of-self-2
 invariant_of-self-2 c =
-    let es = c.self.inside.by_uid.entries in
-    let found = one_found c.args.uid es c.in-Some.letter c.in-Some.ensures.value in
-    let x = message_of (c.args.uid, c.in-Some.letter) in
-    let unseen = unseen_there c.args.uid (messages_of es) x found in
-    let bytes = bytes_there c.args.uid (messages_of es) x found in
-    AreCounted-remove c.self.inside c.remove.new.self c.args.uid x (c.self.inside.unseen - c.from.result) (c.self.inside.bytes - length c.as_slice.result.now) c.self.invariant c.in-Some.ensures.ordered
-    (ap messages_of c.in-Some.ensures.entries ∙ without_removed c.args.uid es) found
-    (omega (arith, unseen, c.from.ensures, number_of (not c.in-Some.letter.flags.seen), c.self.invariant.unseen)) (omega (arith, bytes, ap length c.as_slice.ensures, c.self.invariant.bytes))
-
-pub returns : goal.returns
-returns c = ap messages_of c.in-Some.ensures.entries ∙ without_removed c.args.uid c.self.inside.by_uid.entries ∙ ap (without_message c.args.uid) c.self.view_is
+    let ms = messages_of c.self.inside.letters.items in
+    let x = message_of c.args.uid c.in-Some.flags c.in-Some.text in
+    let found = sym c.in-Some.ensures.was in
+    let b = c.self.inside in
+    AreCounted-remove b c.take_text.new.letters c.args.uid x (b.count - 1) (b.unseen - c.from.result) (b.bytes - length c.as_slice.result.now) c.self.invariant
+    c.in-Some.ensures.uids c.in-Some.ensures.messages found (omega (arith, length_without c.args.uid ms x found, c.self.invariant.count))
+    (omega (arith, unseen_there c.args.uid ms x found, c.from.ensures, number_of (not c.in-Some.flags.seen), c.self.invariant.unseen))
+    (omega (arith, bytes_there c.args.uid ms x found, ap length c.as_slice.ensures, c.self.invariant.bytes))

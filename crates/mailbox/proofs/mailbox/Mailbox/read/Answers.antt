@@ -41,7 +41,7 @@ returns-in_default-clause-row c = sym (ap (option_map _) (none c))
 
 pub returns-clause-row : goal.returns-clause-row
 returns-clause-row c =
-    let x : Message = message_of (c.args.uid, c.in-Some.letter.now) in
+    let x : Message = message_of c.args.uid c.in-Some.old c.in-Some.shared.now in
     let ms = c.args.self.now.messages in
     let seen = was_logged (seen_logged c.args.mark_seen (rows c.args.self.now) c.args.uid) in
     let shown : Message → Row = λ (m : Message). record { uid = m.uid; flags = m.flags; newly_seen = seen; text = m.text } in

@@ -9,11 +9,11 @@ use Rattle.mailbox.proofs.TakenLaws.{each_taken, marks_left}
 use Rattle.mailbox.proofs.messages.Messages.remove.Goals as goal
 
 -- the messages that are left
-left : (c : goal.After-retain) → c.remove_each.new.letters ≡ remaining (passes c.args.choice) c.self.inside.letters
+left : (c : goal.After-retain) → c.tidy.new.self ≡ remaining (passes c.args.choice) c.self.inside.letters
 left c =
     let ms = c.self.inside.letters in
     let test = passes c.args.choice in
-    c.remove_each.ensures ∙ ap (λ (us : List ℕ). without_each test us ms) (c.deref.ensures.value ∙ c.self.invariant.marked)
+    c.tidy.ensures ∙ c.remove_each.ensures ∙ ap (λ (us : List ℕ). without_each test us ms) (c.deref.ensures.value ∙ c.self.invariant.marked)
     ∙ each_taken test ms (Rises-from (uids_of ms) c.len-len.ensures.rising)
 
 pub invariant_of-self : goal.invariant_of-self

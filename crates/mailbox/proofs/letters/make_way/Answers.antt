@@ -1,0 +1,12 @@
+use Rattle.std.proofs.Common.{◌++◌, ◌∷◌, [], ℕ, List, subst, sym}
+use Rattle.std.specs.List.Sorted.{IsStrictlyIncreasing}
+use Rattle.mailbox.specs.Letters.{messages_of}
+use Rattle.mailbox.specs.Mail.{uids_of}
+use Rattle.mailbox.proofs.LetterLaws.{messages_rise, rising_more}
+use Rattle.mailbox.proofs.letters.make_way.Goals as goal
+
+pub returns-then-is_behind-clause-rising : goal.returns-then-is_behind-clause-rising
+returns-then-is_behind-clause-rising c =
+    let ls = c.args.letters.now.items in
+    subst (λ (us : List ℕ). IsStrictlyIncreasing (us ++ c.args.uid ∷ [])) (sym c.close_up.ensures.uids)
+    (rising_more (uids_of (messages_of ls)) c.args.uid c.requires.above (messages_rise ls c.requires.rising))
