@@ -5,8 +5,8 @@ use Rattle.delivery_token.specs.declared.CopyKey.{CopyKey}
 use Rattle.mailbox.specs.Mail.{Mail, next_uid, uids_of}
 use Rattle.mailbox.specs.Stands.{Stands}
 use Rattle.mailbox.specs.Seen.{mail_of}
-use Rattle.mailbox.proofs.StandsLaws.{Stands-below, Stands-deliver}
-use Rattle.mailbox.proofs.mailbox.Mailbox.deliver.Goals as goal
+use Rattle.mailbox.proofs.StandsLaws.{Stands-below, Stands-deliver, Stands-rising}
+use Rattle.mailbox.proofs.mailbox.Mailbox.add.Goals as goal
 
 pub add-requires : goal.add-requires
 add-requires c =
@@ -44,3 +44,7 @@ returns-clause-logged c =
     let new = after c in
     λ log. subst (λ (m : Mail). Stands m log → Stands new (log ++ Add (next_uid m) ∷ [])) c.self.view_is
     (λ s. subst (λ (u : ℕ). Stands new (log ++ Add u ∷ [])) c.self.invariant.0 (delivered c log s))
+
+pub returns-clause-rising : goal.returns-clause-rising
+returns-clause-rising c =
+    Stands-rising (after c) (c.self.invariant.2.0 ++ Add c.self.inside.next ∷ []) (delivered c c.self.invariant.2.0 c.self.invariant.2.1)
