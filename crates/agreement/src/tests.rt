@@ -3,6 +3,7 @@
 ghost use Rattle.std.specs.Prelude.{◌≡◌};
 
 use crate::lists_agree;
+use change_ring::NO_FLAGS;
 use delivery_token::{CopyKey, Job, Text, Verdict, WorkerLog};
 use envelope::Directory;
 use std::alloc::{AllocError, Global};
@@ -113,6 +114,7 @@ fn copies(alloc: Global, taken: &[(u32, &str)]) -> Result<Vec<Job>, AllocError> 
             key: key(0, *message),
             mailbox: 0,
             text: text(alloc, word)?,
+            flags: NO_FLAGS,
         })?;
     }
     Ok(copies)

@@ -1,6 +1,7 @@
 -- What a connection's steps come to, from the machine's own promises.
 use Rattle.std.proofs.Common.{◌≡◌, ℕ, zero, suc, ◌+◌, ◌<◌, ◌≤◌, Bool, true, false, List, [], ◌∷◌, ◌++◌, length, drop, refl, ap, sym, ◌∙◌, subst, arith, Option, Some, None}
 use Rattle.std.proofs.lemmas.List.{append-nil}
+use Rattle.change_ring.specs.Log.{no_flags}
 use Rattle.delivery_token.specs.declared.CopyKey.{CopyKey}
 use Rattle.delivery_token.specs.declared.Verdict.{Verdict}
 use Rattle.delivery_token.specs.declared.log.Noted.{Noted}
@@ -233,7 +234,7 @@ module _ (k : Setup) (seat : ℕ) (next : CopyKey) (heard : List Noted) where
   all_put : (i : ℕ) (keys : List CopyKey) (mailboxes text : List ℕ) → length mailboxes ≡ length keys → drop i (copies keys mailboxes text) ≡ [] → length keys ≤ i
   all_put i [] ms t e h = omega arith
   all_put i (k ∷ ks) [] t e h = absurd (omega (arith, e))
-  all_put zero (k ∷ ks) (m ∷ ms) t e h = absurd (let x : record { key = k; mailbox = m; text = t } ∷ copies ks ms t ≡ [] = h in cc)
+  all_put zero (k ∷ ks) (m ∷ ms) t e h = absurd (let x : record { key = k; mailbox = m; text = t; flags = no_flags } ∷ copies ks ms t ≡ [] = h in cc)
   all_put (suc i) (k ∷ ks) (m ∷ ms) t e h = let r = all_put i ks ms t (omega (arith, e)) h in omega (arith, r)
 
   the_one : (setting : Setting) (directory : Directory) (message submitted : ℕ) (phase : Phase) (pending : List Submission) → length pending ≡ 1 → AreMessages setting directory message pending submitted → IsAwaited pending phase

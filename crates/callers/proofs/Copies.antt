@@ -5,6 +5,7 @@ use Rattle.std.proofs.lemmas.List.Elements.{All-head}
 use Rattle.std.specs.Prelude.{slice_index_or}
 use Rattle.std.proofs.lemmas.List.{append-nil}
 use Rattle.std.proofs.Math.Seq.{drop-nil}
+use Rattle.change_ring.specs.Log.{no_flags}
 use Rattle.delivery_token.specs.declared.CopyKey.{CopyKey}
 use Rattle.lmtp_machine.specs.Dialogue.{Submission}
 use Rattle.callers.specs.Caller.{copies, copies_of, keys_of}
@@ -17,7 +18,7 @@ length-copies (k ∷ ks) (m ∷ ms) text = let h = length-copies ks ms text in o
 -- the copy at a place, and those behind it
 pub drop-copies : (i : ℕ) (keys : List CopyKey) (mailboxes text : List ℕ) (key : CopyKey) (mailbox : ℕ) → i < length keys → i < length mailboxes
     → key ≡ slice_index_or keys i key → mailbox ≡ slice_index_or mailboxes i mailbox
-    → drop i (copies keys mailboxes text) ≡ record { key = key; mailbox = mailbox; text = text } ∷ drop (suc i) (copies keys mailboxes text)
+    → drop i (copies keys mailboxes text) ≡ record { key = key; mailbox = mailbox; text = text; flags = no_flags } ∷ drop (suc i) (copies keys mailboxes text)
 drop-copies i [] ms t k m h l e f = absurd (omega arith)
 drop-copies i (a ∷ ks) [] t k m h l e f = absurd (omega arith)
 drop-copies zero (a ∷ ks) (b ∷ ms) t k m h l e f = let ea : k ≡ a = e in let eb : m ≡ b = f in cc

@@ -5,6 +5,7 @@ use Rattle.std.proofs.lemmas.Bool.Decides.{eqb_tells}
 use Rattle.std.proofs.lemmas.List.Elements.{Contains-append_left, Contains-push, Contains-push_cases, All-contains, All-head, All-tail}
 use Rattle.std.proofs.Math.Seq.{get_or-append_seam}
 use Rattle.std.proofs.lemmas.List.{get_or_append_left}
+use Rattle.change_ring.specs.Log.{no_flags}
 use Rattle.delivery_token.specs.Keys.{Below}
 use Rattle.delivery_token.specs.declared.CopyKey.{CopyKey}
 use Rattle.delivery_token.specs.declared.Job.{Job}
@@ -50,14 +51,14 @@ behind_front (suc n) (x ∷ xs) y ys e = behind_front n xs y ys e
 pub front_key : (n : ℕ) (keys : List CopyKey) (mailboxes text : List ℕ) (c : Job) (cs : List Job) (d : CopyKey) → drop n (copies keys mailboxes text) ≡ c ∷ cs → get_or keys n d ≡ c.key
 front_key n [] ms t c cs d e = absurd (let l = front_within n [] c cs e in omega (arith, l))
 front_key n (k ∷ ks) [] t c cs d e = absurd (let l = front_within n [] c cs e in omega (arith, l))
-front_key zero (k ∷ ks) (m ∷ ms) t c cs d e = let h : record { key = k; mailbox = m; text = t } ≡ c = cc in ap (λ (j : Job). j.key) h
+front_key zero (k ∷ ks) (m ∷ ms) t c cs d e = let h : record { key = k; mailbox = m; text = t; flags = no_flags } ≡ c = cc in ap (λ (j : Job). j.key) h
 front_key (suc n) (k ∷ ks) (m ∷ ms) t c cs d e = front_key n ks ms t c cs d e
 
 -- the mailbox of the copy at a place
 pub front_mailbox : (n : ℕ) (keys : List CopyKey) (mailboxes text : List ℕ) (c : Job) (cs : List Job) (most : ℕ) → All (λ m. m < most) mailboxes → drop n (copies keys mailboxes text) ≡ c ∷ cs → c.mailbox < most
 front_mailbox n [] ms t c cs most a e = absurd (let l = front_within n [] c cs e in omega (arith, l))
 front_mailbox n (k ∷ ks) [] t c cs most a e = absurd (let l = front_within n [] c cs e in omega (arith, l))
-front_mailbox zero (k ∷ ks) (m ∷ ms) t c cs most a e = let h : record { key = k; mailbox = m; text = t } ≡ c = cc in let q = ap (λ (j : Job). j.mailbox) h in let p = All-head (λ m. m < most) m ms a in omega (arith, p, q)
+front_mailbox zero (k ∷ ks) (m ∷ ms) t c cs most a e = let h : record { key = k; mailbox = m; text = t; flags = no_flags } ≡ c = cc in let q = ap (λ (j : Job). j.mailbox) h in let p = All-head (λ m. m < most) m ms a in omega (arith, p, q)
 front_mailbox (suc n) (k ∷ ks) (m ∷ ms) t c cs most a e = front_mailbox n ks ms t c cs most (All-tail (λ m. m < most) m ms a) e
 
 below_itself : (a : CopyKey) → Below a a → ⊥

@@ -1,5 +1,6 @@
 -- Who talks to a house: a connection at its seat, and what it does by itself with the bytes that came and the verdicts that were heard.
 use Rattle.std.specs.Prelude.{◌≡◌, ℕ, ◌+◌, ◌<◌, Bool, true, false, List, [], ◌∷◌, ◌++◌, Contains, length, Option, Some, None}
+use Rattle.change_ring.specs.Log.{no_flags}
 use Rattle.delivery_token.specs.declared.CopyKey.{CopyKey}
 use Rattle.delivery_token.specs.declared.Job.{Job}
 use Rattle.delivery_token.specs.declared.Verdict.{Verdict}
@@ -43,7 +44,7 @@ HeardFor heard (key ∷ keys) (v ∷ vs) = ((m : ℕ) × Contains heard (record 
 abbrev pub copies : List CopyKey → List ℕ → List ℕ → List Job
 copies [] mailboxes text = []
 copies (key ∷ keys) [] text = []
-copies (key ∷ keys) (mailbox ∷ mailboxes) text = record { key = key; mailbox = mailbox; text = text } ∷ copies keys mailboxes text
+copies (key ∷ keys) (mailbox ∷ mailboxes) text = record { key = key; mailbox = mailbox; text = text; flags = no_flags } ∷ copies keys mailboxes text
 
 abbrev pub copies_of : List Submission → List Job
 copies_of [] = []

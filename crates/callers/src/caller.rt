@@ -7,6 +7,7 @@ ghost use Rattle.delivery_token.specs.declared.Verdict.{Verdict};
 ghost use Rattle.lmtp_machine.specs.Conversation.{Conversation};
 ghost use Rattle.std.specs.List.{list_all};
 ghost use Rattle.std.specs.Option.{is_some};
+ghost use Rattle.change_ring.specs.Log.{no_flags};
 ghost use Rattle.callers.specs.Taking.{AwaitsIn, AreKnown, HasWork, HearsSlot, IsCalm, IsPatient, TakenBy, awaited_keys, due, noted_put, with_all_said, with_more, with_nobody_there};
 ghost use Rattle.callers.specs.Talk.{marked};
 ghost use Rattle.callers.specs.CallerSteps.{SaidVerdicts, TookWhatWaits};
@@ -391,7 +392,7 @@ impl Caller {
     /// message waits.
     pub fn next_copy(&self) -> Option<(CopyKey, u8, &Text)>
         ensures none { result ≡ None → due self.now ≡ [] }
-        ensures some { IfSome result (λ c. (others : List Job) × (due self.now ≡ record { key = c.0; mailbox = c.1; text = c.2.now } ∷ others)) }
+        ensures some { IfSome result (λ c. (others : List Job) × (due self.now ≡ record { key = c.0; mailbox = c.1; text = c.2.now; flags = no_flags } ∷ others)) }
     {
         if !self.is_waiting {
             return None;

@@ -2,7 +2,7 @@
 use Rattle.std.specs.Prelude.{ℕ, ◌==◌, ◌&&◌, ◌||◌, not, Bool, true, false, List, [], ◌∷◌, map, filter, if◌then◌else◌}
 use Rattle.change_ring.specs.declared.change.Flags.{Flags}
 use Rattle.change_ring.specs.declared.change.Change.{Change}
-use Rattle.change_ring.specs.declared.change.Change.TheVariants.{Gone, Flags as SetFlags}
+use Rattle.change_ring.specs.declared.change.Change.TheVariants.{Add, Gone, Flags as SetFlags}
 use Rattle.change_ring.specs.declared.flag_op.FlagOp.{FlagOp}
 use Rattle.change_ring.specs.declared.flag_op.FlagOp.TheVariants.{Set, Insert, Remove}
 use Rattle.change_ring.specs.Log.{Row, no_flags}
@@ -38,6 +38,10 @@ flags_differ f g =
 -- the new flags of a message, if they are others
 abbrev pub new_flags : ℕ → Flags → Flags → List Change
 new_flags uid old new = if flags_differ old new then SetFlags uid new ∷ [] else []
+
+-- what a message's arrival logs: that it is there, and its flags where it has any
+abbrev pub arrival : ℕ → Flags → List Change
+arrival uid flags = Add uid ∷ new_flags uid no_flags flags
 
 -- what storing flags logs: one change, where the message is there and its flags become others
 abbrev pub flags_logged : List Row → ℕ → FlagOp → List Change

@@ -10,7 +10,7 @@ pub struct Flags {
     pub draft: bool,
 }
 
-/// None of the flags: what a message has as it is delivered.
+/// None of the flags: what a copy has that no client gave any.
 pub const NO_FLAGS: Flags = Flags {
     answered: false,
     flagged: false,

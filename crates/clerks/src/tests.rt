@@ -15,6 +15,7 @@ ghost use Rattle.clerks.specs.Rounds.{AreSomeones, IsOwnPost};
 ghost use Rattle.clerks.specs.declared.tests.Left.{Left};
 
 use crate::{Clerk, Clerks, Dismissed, Hall, Staff, Unhindered, dismiss_all, hire_all, stand_down};
+use change_ring::NO_FLAGS;
 use delivery_token::{CopyKey, Job, Noted, Text, Verdict};
 use envelope::Directory;
 use house_floor::{Baskets, Crew, Floor, Opened, Post, Sizes, Stand, open};
@@ -65,6 +66,7 @@ fn job_of(alloc: Global, seat: u8, serial: u8) -> Result<Job, AllocError> {
         key,
         mailbox: serial % MAILBOXES,
         text: Text::new(Vec::new(alloc))?,
+        flags: NO_FLAGS,
     })
 }
 

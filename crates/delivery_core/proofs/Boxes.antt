@@ -1,16 +1,20 @@
 -- A mailbox's delivery is the world's.
-use Rattle.std.proofs.Common.{◌≡◌, ℕ, suc, ◌-◌, ◌<◌, ◌≤◌, ◌⊎◌, inl, inr, Bool, true, false, ◌||◌, nat_le, [], ◌∷◌, ◌++◌, length, map, refl, sym, ap, ◌∙◌, arith, subst, Result, Ok, Err, OnOk, OnErr, IfOk, ◌≢◌, get_or, set, length-set, get_or-set_same, get_or-set_other, List}
+use Rattle.std.proofs.Common.{◌≡◌, ℕ, ◌+◌, ◌-◌, ◌<◌, ◌≤◌, ◌⊎◌, inl, inr, Bool, true, false, ◌||◌, nat_le, nat_lt, [], ◌∷◌, ◌++◌, length, map, refl, sym, ap, ◌∙◌, arith, subst, Result, Ok, Err, OnOk, OnErr, IfOk, ◌≢◌, get_or, set, length-set, get_or-set_same, get_or-set_other, List}
 use Rattle.std.specs.Prelude.{◌↔◌}
 use Rattle.std.proofs.lemmas.Bool.{cases_eq, leb-true, leb-false}
+use Rattle.std.proofs.lemmas.Bool.Decides.{nat_tests}
 use Rattle.delivery_core.proofs.Follow.{get_or-any}
 use Rattle.std.proofs.lemmas.List.{length-map, map-append}
 use Rattle.delivery_token.specs.declared.Job.{Job}
 use Rattle.delivery_token.specs.declared.Verdict.TheVariants.{Stored}
 use Rattle.delivery_token.specs.declared.Refusal.{Refusal}
 use Rattle.delivery_token.specs.declared.Refusal.TheVariants.{Full, MailboxFull, NoMemory, UidSpent}
-use Rattle.change_ring.specs.declared.change.Change.TheVariants.{Add}
-use Rattle.change_ring.specs.Log.{rows_of, no_flags}
-use Rattle.change_ring.specs.Window.{Window, total}
+use Rattle.change_ring.specs.declared.change.Change.{Change}
+use Rattle.change_ring.specs.declared.change.Flags.{Flags}
+use Rattle.change_ring.specs.Log.{rows_of}
+use Rattle.change_ring.specs.Logged.{arrival}
+use Rattle.change_ring.specs.Window.{Window, total, BaseAfter}
+use Rattle.change_ring.proofs.WindowLaws.{BaseAfter-less}
 use Rattle.cursor_set.specs.Cursors.{Cursors, Seat}
 use Rattle.mailbox.specs.Mail.{Mail, Message, SameMailbox, next_uid as mail_uid, is_spent, is_full as mail_full, row_of}
 use Rattle.mailbox.specs.Events.{Logs as MailLogs, Moves}
@@ -38,18 +42,27 @@ or_true : (a b : Bool) → (a || b) ≡ true → (a ≡ true) ⊎ (b ≡ true)
 or_true true b e = inl refl
 or_true false b e = inr e
 
--- the tests of a mailbox, as the facts of its box
-has_uid : (k : Config) (b : Mail) (w : Box) → StandsForBox k b w → is_spent b ≡ false → HasUid k w
-has_uid k b w S e =
-    let both : (nat_le 4294967295 (mail_uid b) ≡ false) × (nat_le 4611686018427387904 (total b.window) ≡ false) = or_false _ _ e in
-    (omega (arith, leb-false _ _ both.0, same_uid k b w S), omega (arith, leb-false _ _ both.1, S.log.window.long))
+same_arrival : (k : Config) (flags : Flags) (b : Mail) (w : Box) → StandsForBox k b w → length (arrival (mail_uid b) flags) ≡ length (arrival (next_uid k w) flags)
+same_arrival k flags b w S = ap (λ (u : ℕ). length (arrival u flags)) (same_uid k b w S)
 
-spent : (k : Config) (b : Mail) (w : Box) → StandsForBox k b w → is_spent b ≡ true → IsSpent k w
-spent k b w S e = go (or_true _ _ e)
+not_less : (a b : ℕ) → nat_lt a b ≡ false → b ≤ a
+not_less a b e = grind (arith, nat_tests)
+
+is_less : (a b : ℕ) → nat_lt a b ≡ true → a < b
+is_less a b e = grind (arith, nat_tests)
+
+-- the tests of a mailbox, as the facts of its box
+has_uid : (k : Config) (flags : Flags) (b : Mail) (w : Box) → StandsForBox k b w → is_spent flags b ≡ false → HasUid k flags w
+has_uid k flags b w S e =
+    let both : (nat_le 4294967295 (mail_uid b) ≡ false) × (nat_lt 4611686018427387904 (total b.window + length (arrival (mail_uid b) flags)) ≡ false) = or_false _ _ e in
+    (omega (arith, leb-false _ _ both.0, same_uid k b w S), omega (arith, not_less _ _ both.1, same_arrival k flags b w S, S.log.window.long))
+
+spent : (k : Config) (flags : Flags) (b : Mail) (w : Box) → StandsForBox k b w → is_spent flags b ≡ true → IsSpent k flags w
+spent k flags b w S e = go (or_true _ _ e)
   where
-    go : (nat_le 4294967295 (mail_uid b) ≡ true) ⊎ (nat_le 4611686018427387904 (total b.window) ≡ true) → IsSpent k w
+    go : (nat_le 4294967295 (mail_uid b) ≡ true) ⊎ (nat_lt 4611686018427387904 (total b.window + length (arrival (mail_uid b) flags)) ≡ true) → IsSpent k flags w
     go (inl t) = inl (omega (arith, leb-true _ _ t, same_uid k b w S))
-    go (inr t) = inr (omega (arith, leb-true _ _ t, S.log.window.long))
+    go (inr t) = inr (omega (arith, is_less _ _ t, same_arrival k flags b w S, S.log.window.long))
 
 full : (k : Config) (b : Mail) (w : Box) → StandsForBox k b w → mail_full b ≡ true → is_full k w
 full k b w S e = omega (arith, leb-true _ _ e, same_rows k b w S, S.messages)
@@ -57,17 +70,15 @@ full k b w S e = omega (arith, leb-true _ _ e, same_rows k b w S, S.messages)
 has_place : (k : Config) (b : Mail) (w : Box) → StandsForBox k b w → mail_full b ≡ false → length (rows_of w.log) < k.messages
 has_place k b w S e = omega (arith, leb-false _ _ e, same_rows k b w S, S.messages)
 
-base_after : (k : Config) (b new : Mail) (w : Box) (uid : ℕ) → StandsForBox k b w → Moves b.cursors b.window new.window (Add uid ∷ []) → (new.window.base ≡ w.base) ⊎ ((k.ring ≤ length w.log - w.base) × (new.window.base ≡ suc w.base))
-base_after k b new w uid S d = go (moves_base b.cursors b.window new.window (Add uid ∷ []) d)
-  where
-    go : (new.window.base ≡ b.window.base) ⊎ ((b.window.capacity ≤ total b.window - b.window.base) × (new.window.base ≡ suc b.window.base))
-        → (new.window.base ≡ w.base) ⊎ ((k.ring ≤ length w.log - w.base) × (new.window.base ≡ suc w.base))
-    go (inl same) = inl (omega (arith, same, S.base))
-    go (inr up) = inr (omega (arith, S.log.window.long, S.base, S.ring, up.0), omega (arith, up.1, S.base))
+base_after : (k : Config) (b new : Mail) (w : Box) (cs : List Change) → StandsForBox k b w → Moves b.cursors b.window new.window cs → BaseAfter k.ring (length w.log) w.base cs new.window.base
+base_after k b new w cs S moves =
+    subst (λ (n : ℕ). BaseAfter k.ring n w.base cs new.window.base) (sym S.log.window.long)
+    (subst (λ (n : ℕ). BaseAfter k.ring (total b.window) n cs new.window.base) S.base
+    (BaseAfter-less b.window.capacity k.ring (total b.window) b.window.base cs new.window.base S.ring (moves_base b.cursors b.window new.window cs moves)))
 
 -- where a mailbox neither said that it has no UID nor that it has no place, it has both
-open_of : (old : Mail) (A B : Type 0) → (A → ⊥) → (B → ⊥) → A ↔ (is_spent old ≡ true) → B ↔ ((is_spent old ≡ false) × (mail_full old ≡ true)) → (is_spent old ≡ false) × (mail_full old ≡ false)
-open_of old A B na nb spends fills = go (is_spent old) (mail_full old) spends fills
+open_of : (flags : Flags) (old : Mail) (A B : Type 0) → (A → ⊥) → (B → ⊥) → A ↔ (is_spent flags old ≡ true) → B ↔ ((is_spent flags old ≡ false) × (mail_full old ≡ true)) → (is_spent flags old ≡ false) × (mail_full old ≡ false)
+open_of flags old A B na nb spends fills = go (is_spent flags old) (mail_full old) spends fills
   where
     go : (s f : Bool) → A ↔ (s ≡ true) → B ↔ ((s ≡ false) × (f ≡ true)) → (s ≡ false) × (f ≡ false)
     go true f a b = absurd (na (a.1 refl))
@@ -75,17 +86,17 @@ open_of old A B na nb spends fills = go (is_spent old) (mail_full old) spends fi
     go false false a b = (refl, refl)
 
 -- a copy that was stored
-stored : (k : Config) (old new : Mail) (w : Box) (c : Job) (uid : ℕ) → StandsForBox k old w → (is_spent old ≡ false) × (mail_full old ≡ false)
-    → MailLogs old new (Add (mail_uid old) ∷ []) → new.accepted ≡ old.accepted ++ (c.key, mail_uid old) ∷ []
-    → new.messages ≡ old.messages ++ record { uid = mail_uid old; flags = no_flags; text = c.text } ∷ []
-    → Moves old.cursors old.window new.window (Add (mail_uid old) ∷ []) → SameMailbox old new → uid ≡ mail_uid old → BoxDelivers k w c (Stored uid) new
+stored : (k : Config) (old new : Mail) (w : Box) (c : Job) (uid : ℕ) → StandsForBox k old w → (is_spent c.flags old ≡ false) × (mail_full old ≡ false)
+    → MailLogs old new (arrival (mail_uid old) c.flags) → new.accepted ≡ old.accepted ++ (c.key, mail_uid old) ∷ []
+    → new.messages ≡ old.messages ++ record { uid = mail_uid old; flags = c.flags; text = c.text } ∷ []
+    → Moves old.cursors old.window new.window (arrival (mail_uid old) c.flags) → SameMailbox old new → uid ≡ mail_uid old → BoxDelivers k w c (Stored uid) new
 stored k old new w c uid S room logs accepts messages drops stays is =
     let n : mail_uid old ≡ next_uid k w = same_uid k old w S in
-    let has : HasUid k w = has_uid k old w S room.0 in
+    let has : HasUid k c.flags w = has_uid k c.flags old w S room.0 in
     stores
-    (record { log = w.log ++ Add (next_uid k w) ∷ []; base = new.window.base; accepted = w.accepted ++ (c, next_uid k w) ∷ [] })
+    (record { log = w.log ++ arrival (next_uid k w) c.flags; base = new.window.base; accepted = w.accepted ++ (c, next_uid k w) ∷ [] })
     has (has_place k old w S room.1)
-    (record { room = omega (arith, has.1); log = refl; base = base_after k old new w (mail_uid old) S drops; accepted = refl })
+    (record { room = has.1; log = refl; base = subst (λ (u : ℕ). BaseAfter k.ring (length w.log) w.base (arrival u c.flags) new.window.base) n (base_after k old new w (arrival (mail_uid old) c.flags) S drops); accepted = refl })
     (ap Stored (is ∙ n))
     (record {
       log = rw n at (logs w.log S.log);
@@ -98,24 +109,24 @@ stored k old new w c uid S room logs accepts messages drops stays is =
       first_uid = stays.first_uid ∙ S.first_uid;
       uidvalidity = stays.uidvalidity ∙ S.uidvalidity;
       messages = stays.limit ∙ S.messages;
-      ring = omega (arith, S.ring, moves_grows old.cursors old.window new.window (Add (mail_uid old) ∷ []) drops);
-      held = moves_held old.cursors old.window new.window (Add (mail_uid old) ∷ []) S.held drops;
-      most = moves_most old.cursors old.window new.window (Add (mail_uid old) ∷ []) S.most drops;
-      ring_max = moves_max old.cursors old.window new.window (Add (mail_uid old) ∷ []) drops ∙ S.ring_max;
+      ring = omega (arith, S.ring, moves_grows old.cursors old.window new.window (arrival (mail_uid old) c.flags) drops);
+      held = moves_held old.cursors old.window new.window (arrival (mail_uid old) c.flags) S.held drops;
+      most = moves_most old.cursors old.window new.window (arrival (mail_uid old) c.flags) S.most drops;
+      ring_max = moves_max old.cursors old.window new.window (arrival (mail_uid old) c.flags) drops ∙ S.ring_max;
     })
 
 pub box_delivers : (k : Config) (old new : Mail) (w : Box) (c : Job) (r : Result Receipt Refusal) → StandsForBox k old w
-    → (r ≡ Err UidSpent) ↔ (is_spent old ≡ true) → (r ≡ Err MailboxFull) ↔ ((is_spent old ≡ false) × (mail_full old ≡ true)) → (r ≡ Err Full → ⊥)
-    → OnErr r (new ≡ old) → OnOk r (MailLogs old new (Add (mail_uid old) ∷ [])) → OnOk r (new.accepted ≡ old.accepted ++ (c.key, mail_uid old) ∷ [])
-    → OnOk r (new.messages ≡ old.messages ++ record { uid = mail_uid old; flags = no_flags; text = c.text } ∷ [])
-    → OnOk r (Moves old.cursors old.window new.window (Add (mail_uid old) ∷ [])) → OnOk r (SameMailbox old new) → IfOk r (λ x. x ≡ record { mailbox = old.number; key = c.key; uid = mail_uid old; place = length old.accepted })
+    → (r ≡ Err UidSpent) ↔ (is_spent c.flags old ≡ true) → (r ≡ Err MailboxFull) ↔ ((is_spent c.flags old ≡ false) × (mail_full old ≡ true)) → (r ≡ Err Full → ⊥)
+    → OnErr r (new ≡ old) → OnOk r (MailLogs old new (arrival (mail_uid old) c.flags)) → OnOk r (new.accepted ≡ old.accepted ++ (c.key, mail_uid old) ∷ [])
+    → OnOk r (new.messages ≡ old.messages ++ record { uid = mail_uid old; flags = c.flags; text = c.text } ∷ [])
+    → OnOk r (Moves old.cursors old.window new.window (arrival (mail_uid old) c.flags)) → OnOk r (SameMailbox old new) → IfOk r (λ x. x ≡ record { mailbox = old.number; key = c.key; uid = mail_uid old; place = length old.accepted })
     → BoxDelivers k w c (verdict_of r) new
-box_delivers k old new w c (Ok x) S spends fills queued same logs accepts messages drops stays uid = stored k old new w c x.uid S (open_of old _ _ (λ e. cc) (λ e. cc) spends fills) logs accepts messages drops stays (ap (λ y. y.uid) uid)
-box_delivers k old new w c (Err UidSpent) S spends fills queued same logs accepts messages drops stays uid = has_no_uid (spent k old w S (spends.0 refl)) refl (rw same S)
-box_delivers k old new w c (Err MailboxFull) S spends fills queued same logs accepts messages drops stays uid = has_no_place (has_uid k old w S (fills.0 refl).0) (full k old w S (fills.0 refl).1) refl (rw same S)
+box_delivers k old new w c (Ok x) S spends fills queued same logs accepts messages drops stays uid = stored k old new w c x.uid S (open_of c.flags old _ _ (λ e. cc) (λ e. cc) spends fills) logs accepts messages drops stays (ap (λ y. y.uid) uid)
+box_delivers k old new w c (Err UidSpent) S spends fills queued same logs accepts messages drops stays uid = has_no_uid (spent k c.flags old w S (spends.0 refl)) refl (rw same S)
+box_delivers k old new w c (Err MailboxFull) S spends fills queued same logs accepts messages drops stays uid = has_no_place (has_uid k c.flags old w S (fills.0 refl).0) (full k old w S (fills.0 refl).1) refl (rw same S)
 box_delivers k old new w c (Err NoMemory) S spends fills queued same logs accepts messages drops stays uid =
-    let room : (is_spent old ≡ false) × (mail_full old ≡ false) = open_of old _ _ (λ e. cc) (λ e. cc) spends fills in
-    has_no_memory (has_uid k old w S room.0) (has_place k old w S room.1) refl (rw same S)
+    let room : (is_spent c.flags old ≡ false) × (mail_full old ≡ false) = open_of c.flags old _ _ (λ e. cc) (λ e. cc) spends fills in
+    has_no_memory (has_uid k c.flags old w S room.0) (has_place k old w S room.1) refl (rw same S)
 box_delivers k old new w c (Err Full) S spends fills queued same logs accepts messages drops stays uid = absurd (queued refl)
 
 pub same_mailbox : (r : Result Receipt Refusal) (old new : Mail) → OnOk r (SameMailbox old new) → OnErr r (new ≡ old) → SameMailbox old new

@@ -5,8 +5,8 @@ use Rattle.delivery_token.specs.declared.Verdict.{Verdict}
 use Rattle.delivery_token.specs.declared.Verdict.TheVariants.{Stored, Refused}
 use Rattle.delivery_token.specs.declared.Refusal.{Refusal}
 use Rattle.delivery_token.specs.declared.Refusal.TheVariants.{MailboxFull, NoMemory, UidSpent}
-use Rattle.change_ring.specs.declared.change.Change.TheVariants.{Add}
 use Rattle.change_ring.specs.Log.{rows_of}
+use Rattle.change_ring.specs.Logged.{arrival}
 use Rattle.mailbox.specs.Mail.{Mail}
 use Rattle.mailbox.specs.declared.mailbox.Receipt.{Receipt}
 use Rattle.world.specs.World.{Config, Box, HasUid, IsSpent, is_full, Logs, next_uid}
@@ -19,9 +19,9 @@ verdict_of (Err why) = Refused why
 
 -- From this box a mailbox took the copy, or refused it, and stands for the box that the world allows.
 pub data BoxDelivers (k : Config) (w : Box) (c : Job) (verdict : Verdict) (new : Mail) : Type 0 where
-  stores : (u : Box) → HasUid k w → length (rows_of w.log) < k.messages
-      → Logs k w (Add (next_uid k w) ∷ []) ((c, next_uid k w) ∷ []) u → verdict ≡ Stored (next_uid k w) → StandsForBox k new u → BoxDelivers k w c verdict new
-  has_no_uid : IsSpent k w → verdict ≡ Refused UidSpent → StandsForBox k new w → BoxDelivers k w c verdict new
-  has_no_place : HasUid k w → is_full k w → verdict ≡ Refused MailboxFull → StandsForBox k new w → BoxDelivers k w c verdict new
+  stores : (u : Box) → HasUid k c.flags w → length (rows_of w.log) < k.messages
+      → Logs k w (arrival (next_uid k w) c.flags) ((c, next_uid k w) ∷ []) u → verdict ≡ Stored (next_uid k w) → StandsForBox k new u → BoxDelivers k w c verdict new
+  has_no_uid : IsSpent k c.flags w → verdict ≡ Refused UidSpent → StandsForBox k new w → BoxDelivers k w c verdict new
+  has_no_place : HasUid k c.flags w → is_full k w → verdict ≡ Refused MailboxFull → StandsForBox k new w → BoxDelivers k w c verdict new
   -- a growth was refused
-  has_no_memory : HasUid k w → length (rows_of w.log) < k.messages → verdict ≡ Refused NoMemory → StandsForBox k new w → BoxDelivers k w c verdict new
+  has_no_memory : HasUid k c.flags w → length (rows_of w.log) < k.messages → verdict ≡ Refused NoMemory → StandsForBox k new w → BoxDelivers k w c verdict new

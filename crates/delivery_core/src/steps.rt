@@ -2,6 +2,7 @@
 //! the world. No connection, no session and no output stands here.
 
 ghost use Rattle.std.specs.Prelude.{max, replicate, None, ◌≡◌, ℕ, ◌⊎◌, ◌%◌, ◌+◌, ◌++◌, ◌<◌, ◌≤◌, ◌↔◌, [], ◌∷◌, length, OnOk, OnErr, Err, IfOk, IfSome, IsSome, IsTrue, option_map, slice_index_or, slice_set};
+ghost use Rattle.change_ring.specs.Log.{no_flags};
 ghost use Rattle.world.specs.World.{Answer, Box, Config, Deliver, Hear, Put, PutEnd, Take, empty_world, in_hand};
 ghost use Rattle.shard_queue.specs.Plain.{MayPutMore, taken_entry};
 ghost use Rattle.delivery_core.specs.Changes.{CannotEnd, Ends, Hears, SameCounts, heard_at_once};
@@ -19,7 +20,7 @@ ghost use Rattle.mailbox.specs.Mail.{Mail, SameMailbox};
 
 use crate::client::Client;
 use crate::make::{empty_hands, first_keys, new_boxes, new_lanes, new_logs, no_clients};
-use change_ring::Change;
+use change_ring::{Change, NO_FLAGS};
 use delivery_token::{CopyKey, Job, Noted, Refusal, Text, Verdict, WorkerLog, precedes};
 use mailbox::{Limits, Mailbox, Receipt};
 use shard_queue::{PlainLane, Taken};
@@ -106,7 +107,7 @@ fn hand_of(taken: Taken<Job>) -> Option<Hand>
 // Puts a copy of its own into a lane. No copy is made for a lane that is full.
 fn put_in(lane: &mut PlainLane<Job>, key: CopyKey, mailbox: u8, text: &Text) -> Option<Refusal>
     requires { MayPutMore lane.old.live key.seat }
-    ensures { LanePuts lane.old key.seat (record { key = key; mailbox = mailbox; text = text.now }) lane.new result }
+    ensures { LanePuts lane.old key.seat (record { key = key; mailbox = mailbox; text = text.now; flags = no_flags }) lane.new result }
 {
     if lane.is_full() {
         return Some(Refusal::Full);
@@ -114,7 +115,13 @@ fn put_in(lane: &mut PlainLane<Job>, key: CopyKey, mailbox: u8, text: &Text) -> 
     let Ok(text) = text.copy() else {
         return Some(Refusal::NoMemory);
     };
-    match lane.put(key.seat, Job { key, mailbox, text }) {
+    let job = Job {
+        key,
+        mailbox,
+        text,
+        flags: NO_FLAGS,
+    };
+    match lane.put(key.seat, job) {
         Ok(()) => None,
         Err(_) => Some(Refusal::Full),
     }
@@ -200,11 +207,11 @@ impl DeliveryCore {
         requires last { key.recipient < 255 }
         requires mailbox { mailbox < length self.old.boxes }
         requires shards { 0 < length self.old.lanes }
-        ensures follows { OnOk result ((k : Config) → Follows k self.old (Put key.seat (mailbox % length self.old.lanes) (record { key = key; mailbox = mailbox; text = text.now }) ∷ []) self.new) }
+        ensures follows { OnOk result ((k : Config) → Follows k self.old (Put key.seat (mailbox % length self.old.lanes) (record { key = key; mailbox = mailbox; text = text.now; flags = no_flags }) ∷ []) self.new) }
         ensures next { OnOk result (self.new.next ≡ slice_set self.old.next key.seat (past key)) }
         ensures somebody { result ≡ Err Fault.Nobody → ⊥ }
         ensures memory { result ≡ Err Fault.NoMemory → (d : Book) → (slice_index_or self.old.heard key.seat d).spare ≡ 0 }
-        ensures idle { result ≡ Err Fault.Nothing → (k : Config) → Idle k self.old (Put key.seat (mailbox % length self.old.lanes) (record { key = key; mailbox = mailbox; text = text.now })) }
+        ensures idle { result ≡ Err Fault.Nothing → (k : Config) → Idle k self.old (Put key.seat (mailbox % length self.old.lanes) (record { key = key; mailbox = mailbox; text = text.now; flags = no_flags })) }
         ensures heard { IfOk result (λ why. Hears self.old self.new key.seat (heard_at_once key mailbox why)) }
         ensures boxes { self.new.boxes ≡ self.old.boxes }
         ensures clients { self.new.clients ≡ self.old.clients }

@@ -59,6 +59,7 @@ fn delivers(
         key: CopyKey { recipient, ..KEY },
         mailbox: 3,
         text: Text::new(Vec::from_slice(alloc, b"hi\r\n")?)?,
+        flags: NO_FLAGS,
     };
     match deliver(mailbox, &copy) {
         Ok(r) => Ok(r.key() == copy.key && r.mailbox() == 3 && wanted == Ok((r.uid(), r.place()))),

@@ -24,6 +24,11 @@ const BOTH: Flags = Flags {
     ..SEEN
 };
 
+const STARRED: Flags = Flags {
+    flagged: true,
+    ..SEEN
+};
+
 const SMALL: Limits = Limits {
     messages: 8,
     ring: 16,
@@ -39,6 +44,8 @@ const GROWING: Limits = Limits {
 enum Act {
     // A copy for a recipient: the mailbox's number, the UID and the place.
     Deliver(u8, &'static [u8], Result<(u8, u32, usize), Refusal>),
+    // The same, of a copy that has flags.
+    Bring(u8, Flags, Result<(u8, u32, usize), Refusal>),
     Count(Status),
     Accepted(&'static [(CopyKey, u32)]),
     // Where the window begins, and its changes in one run.
@@ -67,11 +74,12 @@ const KEY: CopyKey = CopyKey {
     recipient: 0,
 };
 
-fn job(alloc: Global, recipient: u8, bytes: &[u8]) -> Result<Job, AllocError> {
+fn job(alloc: Global, recipient: u8, bytes: &[u8], flags: Flags) -> Result<Job, AllocError> {
     Ok(Job {
         key: CopyKey { recipient, ..KEY },
         mailbox: 3,
         text: Text::new(Vec::from_slice(alloc, bytes)?)?,
+        flags,
     })
 }
 
@@ -81,9 +89,10 @@ fn delivers(
     mailbox: &mut Mailbox,
     recipient: u8,
     bytes: &[u8],
+    flags: Flags,
     wanted: Result<(u8, u32, usize), Refusal>,
 ) -> Result<bool, AllocError> {
-    let copy = job(alloc, recipient, bytes)?;
+    let copy = job(alloc, recipient, bytes, flags)?;
     match mailbox.deliver(&copy) {
         Ok(r) => Ok(r.key() == copy.key && wanted == Ok((r.mailbox(), r.uid(), r.place()))),
         Err(refusal) => Ok(wanted == Err(refusal)),
@@ -148,7 +157,10 @@ fn stores_each(
 fn tells(alloc: Global, mailbox: &mut Mailbox, act: &Act) -> Result<bool, AllocError> {
     match act {
         Act::Deliver(recipient, bytes, wanted) => {
-            delivers(alloc, mailbox, *recipient, bytes, *wanted)
+            delivers(alloc, mailbox, *recipient, bytes, NO_FLAGS, *wanted)
+        }
+        Act::Bring(recipient, flags, wanted) => {
+            delivers(alloc, mailbox, *recipient, b"hi\r\n", *flags, *wanted)
         }
         Act::Count(status) => Ok(mailbox.status() == *status),
         Act::Accepted(copies) => Ok(has_accepted(mailbox, copies)),
@@ -206,7 +218,7 @@ fn play(
 
 // So many messages more.
 fn fill(alloc: Global, mailbox: &mut Mailbox, messages: u32) -> Result<(), AllocError> {
-    let copy = job(alloc, 0, b"hi\r\n")?;
+    let copy = job(alloc, 0, b"hi\r\n", NO_FLAGS)?;
     for _message in 0..messages {
         if mailbox.deliver(&copy).is_err() {
             return Err(AllocError);
@@ -328,6 +340,21 @@ const CASES: &[Case] = &[
         left: (0, (0, 4)),
     },
     Case {
+        name: "a copy comes with its flags",
+        limits: SMALL,
+        history: History::Kept,
+        first_uid: 1,
+        messages: 0,
+        opening: Opening {
+            count: 0,
+            uidnext: 1,
+            uidvalidity: 7,
+        },
+        acts: BROUGHT,
+        remove: false,
+        left: (0, (0, 6)),
+    },
+    Case {
         name: "an expunge shows what was pending and not its own",
         limits: SMALL,
         history: History::Kept,
@@ -420,6 +447,43 @@ const FLAGS: &[Act] = &[
     Act::Store(9, FlagOp::Set(NO_FLAGS), Ok(None)),
     Act::Feed(Ok(2)),
     Act::Lines(b"* 2 FETCH (UID 2 FLAGS (\\Seen))\r\n* 1 FETCH (UID 1 FLAGS (\\Deleted))\r\n"),
+];
+
+// That the message is there, and then its flags: what a client is shown of it, and what is counted.
+const BROUGHT: &[Act] = &[
+    Act::Bring(0, STARRED, Ok((3, 1, 0))),
+    Act::Window(0, &[Change::Add(1), Change::Flags(1, STARRED)]),
+    Act::Count(Status {
+        messages: 1,
+        uidnext: 2,
+        uidvalidity: 7,
+        unseen: 0,
+        deleted: 0,
+        size: 4,
+    }),
+    Act::Feed(Ok(2)),
+    Act::Lines(b"* 1 EXISTS\r\n* 1 FETCH (UID 1 FLAGS (\\Flagged \\Seen))\r\n"),
+    Act::Bring(1, DELETED, Ok((3, 2, 1))),
+    // A copy without a flag is one change.
+    Act::Bring(2, NO_FLAGS, Ok((3, 3, 2))),
+    Act::Kept(0, 5),
+    Act::Count(Status {
+        messages: 3,
+        uidnext: 4,
+        uidvalidity: 7,
+        unseen: 2,
+        deleted: 1,
+        size: 12,
+    }),
+    // It has \Seen already, so that reading it logs nothing.
+    Act::Read(1, true, Ok(Some((STARRED, false)))),
+    Act::Read(2, false, Ok(Some((DELETED, false)))),
+    Act::Feed(Ok(3)),
+    Act::Lines(b"* 2 EXISTS\r\n* 2 FETCH (UID 2 FLAGS (\\Deleted))\r\n* 3 EXISTS\r\n"),
+    Act::Expunge(None, Ok(1)),
+    Act::Feed(Ok(1)),
+    Act::Lines(b"* 2 EXPUNGE\r\n"),
+    Act::View(&[1, 3]),
 ];
 
 const EXPUNGES: &[Act] = &[

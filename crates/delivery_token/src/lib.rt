@@ -9,6 +9,7 @@ ghost use Rattle.std.specs.Prelude.{◌≡◌, ◌↔◌, IfOk, IsTrue};
 ghost use Rattle.delivery_token.specs.Keys.{Precedes};
 
 pub use log::{Noted, WorkerLog};
+use change_ring::Flags;
 use std::alloc::AllocError;
 use std::marker::Model;
 use std::sync::Arc;
@@ -74,12 +75,14 @@ impl Text {
     }
 }
 
-/// One recipient's copy of a message, on its way to a mailbox.
+/// One recipient's copy of a message, on its way to a mailbox, with the flags that it is to have
+/// there: none where LMTP brought it.
 #[derive(Drop)]
 pub struct Job {
     pub key: CopyKey,
     pub mailbox: u8,
     pub text: Text,
+    pub flags: Flags,
 }
 
 /// Why a copy is not stored.

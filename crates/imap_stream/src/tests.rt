@@ -5,6 +5,7 @@ ghost use Rattle.std.specs.Prelude.{◌≡◌, false};
 
 use crate::place::{Hush, Place};
 use crate::visit::{Visit, VisitFault};
+use change_ring::NO_FLAGS;
 use delivery_token::{CopyKey, Job, Text};
 use imap_session::{After, Folder};
 use line_io::{Sink, Watched};
@@ -224,6 +225,7 @@ fn copy(alloc: Global) -> Result<Job, AllocError> {
         },
         mailbox: 0,
         text: Text::new(Vec::from_slice(alloc, b"Return-Path: <s@a.example>\r\nhi\r\n")?)?,
+        flags: NO_FLAGS,
     })
 }
 

@@ -3,6 +3,7 @@ use Rattle.std.proofs.Common.{◌≡◌, ◌≢◌, ◌⊎◌, inl, inr, ℕ, ze
 use Rattle.std.proofs.lemmas.Bool.Decides.{eqb_tells}
 use Rattle.std.proofs.lemmas.List.Concat.{flat_map-append}
 use Rattle.std.proofs.lemmas.List.{get_or-set_same, get_or-set_other, map-append, length-take-le}
+use Rattle.change_ring.specs.Log.{no_flags}
 use Rattle.delivery_token.specs.declared.CopyKey.{CopyKey}
 use Rattle.delivery_token.specs.declared.Job.{Job}
 use Rattle.delivery_token.specs.declared.Verdict.{Verdict}
@@ -31,18 +32,18 @@ copies_length (k ∷ ks) [] text same = absurd (omega arith)
 copies_length (k ∷ ks) (m ∷ ms) text same = ap suc (copies_length ks ms text (omega arith))
 
 pub copies_next : (keys : List CopyKey) (mailboxes : List ℕ) (text : List ℕ) (k : CopyKey) (m : ℕ) → length mailboxes ≡ length keys
-    → copies (keys ++ k ∷ []) (mailboxes ++ m ∷ []) text ≡ copies keys mailboxes text ++ record { key = k; mailbox = m; text = text } ∷ []
+    → copies (keys ++ k ∷ []) (mailboxes ++ m ∷ []) text ≡ copies keys mailboxes text ++ record { key = k; mailbox = m; text = text; flags = no_flags } ∷ []
 copies_next [] [] text k m same = refl
 copies_next [] (x ∷ xs) text k m same = absurd (omega arith)
 copies_next (y ∷ ys) [] text k m same = absurd (omega arith)
-copies_next (y ∷ ys) (x ∷ xs) text k m same = ap (λ l. record { key = y; mailbox = x; text = text } ∷ l) (copies_next ys xs text k m (omega arith))
+copies_next (y ∷ ys) (x ∷ xs) text k m same = ap (λ l. record { key = y; mailbox = x; text = text; flags = no_flags } ∷ l) (copies_next ys xs text k m (omega arith))
 
 copies_at : (keys : List CopyKey) (mailboxes : List ℕ) (text : List ℕ) (i : ℕ) (k : CopyKey) (m : ℕ) → i < length keys → i < length mailboxes → k ≡ slice_index_or keys i k → m ≡ slice_index_or mailboxes i m
-    → (i < length (copies keys mailboxes text)) × (slice_index_or (copies keys mailboxes text) i (record { key = k; mailbox = m; text = text }) ≡ record { key = k; mailbox = m; text = text })
+    → (i < length (copies keys mailboxes text)) × (slice_index_or (copies keys mailboxes text) i (record { key = k; mailbox = m; text = text; flags = no_flags }) ≡ record { key = k; mailbox = m; text = text; flags = no_flags })
 copies_at [] mailboxes text i k m under within kis mis = absurd (omega arith)
 copies_at (x ∷ keys) [] text i k m under within kis mis = absurd (omega arith)
 copies_at (x ∷ keys) (y ∷ mailboxes) text zero k m under within kis mis =
-    (omega arith, ap (λ (z : CopyKey). let r : Job = record { key = z; mailbox = y; text = text } in r) (sym kis) ∙ ap (λ (n : ℕ). let r : Job = record { key = k; mailbox = n; text = text } in r) (sym mis))
+    (omega arith, ap (λ (z : CopyKey). let r : Job = record { key = z; mailbox = y; text = text; flags = no_flags } in r) (sym kis) ∙ ap (λ (n : ℕ). let r : Job = record { key = k; mailbox = n; text = text; flags = no_flags } in r) (sym mis))
 copies_at (x ∷ keys) (y ∷ mailboxes) text (suc i) k m under within kis mis =
     let r = copies_at keys mailboxes text i k m (omega arith) (omega arith) kis mis in ((let u = r.0 in omega (arith, u)), r.1)
 
@@ -54,7 +55,7 @@ fills_in keys mailboxes text i k m noted slots filled under within kis mis ke me
     let r = copies_at keys mailboxes text i k m under within kis mis in
     record {
       place = i;
-      copy = record { key = k; mailbox = m; text = text };
+      copy = record { key = k; mailbox = m; text = text; flags = no_flags };
       within = r.0;
       there = r.1;
       tells = ap (λ (z : CopyKey). let x : Noted = record { key = z; mailbox = noted.mailbox; verdict = noted.verdict } in x) (sym ke)
@@ -109,11 +110,11 @@ pub puts_next : (d : Directory) (p q : ℕ) (keys : List CopyKey) (mailboxes : L
     (slots more : List (Option Verdict)) (B : Verdict → Type 0)
     → length mailboxes ≡ length keys → i < length keys → k ≡ slice_index_or keys i k → m ≡ slice_index_or mailboxes i m
     → length slots ≡ i → more ≡ slots ++ verdict ∷ [] → length sents ≡ length before → q ≡ p
-    → MatchOption verdict (after ≡ slice_set sents (shard_of d m) (slice_index_or sents (shard_of d m) [] ++ Item q (record { key = k; mailbox = m; text = text }) ∷ [])) (λ v. (after ≡ sents) × B v)
+    → MatchOption verdict (after ≡ slice_set sents (shard_of d m) (slice_index_or sents (shard_of d m) [] ++ Item q (record { key = k; mailbox = m; text = text; flags = no_flags }) ∷ [])) (λ v. (after ≡ sents) × B v)
     → HavePut d p (copies (take i keys) (take i mailboxes) text) slots before sents
     → HavePut d p (copies (take (i + 1) keys) (take (i + 1) mailboxes) text) more before after
 puts_next d p q keys mailboxes text i k m before sents after verdict slots more B same under kis mis len new as_many number h so lane within =
-    let copy : Job = record { key = k; mailbox = m; text = text } in
+    let copy : Job = record { key = k; mailbox = m; text = text; flags = no_flags } in
     let lk : length (take i keys) ≡ i = length-take-le i keys (omega arith) in
     let lm : length (take i mailboxes) ≡ i = length-take-le i mailboxes (omega arith) in
     let cs = copies (take i keys) (take i mailboxes) text in
@@ -172,7 +173,7 @@ pub tries_next : (d : Directory) (rooms : List Room) (p q : ℕ) (keys : List Co
     → WereTried d rooms p (copies (take i keys) (take i mailboxes) text) slots before
     → WereTried d rooms p (copies (take (i + 1) keys) (take (i + 1) mailboxes) text) more before
 tries_next d rooms p q keys mailboxes text i k m before sents verdict slots more A B same under kis mis len new number h so tried lane within =
-    let copy : Job = record { key = k; mailbox = m; text = text } in
+    let copy : Job = record { key = k; mailbox = m; text = text; flags = no_flags } in
     let lk : length (take i keys) ≡ i = length-take-le i keys (omega arith) in
     let lm : length (take i mailboxes) ≡ i = length-take-le i mailboxes (omega arith) in
     let cs = copies (take i keys) (take i mailboxes) text in
@@ -250,7 +251,7 @@ pub notes_next : (keys : List CopyKey) (mailboxes : List ℕ) (text : List ℕ) 
     → was ≡ old ++ map note_of (zip (copies (take i keys) (take i mailboxes) text) (take i verdicts))
     → new ≡ old ++ map note_of (zip (copies (take (i + 1) keys) (take (i + 1) mailboxes) text) (take (i + 1) verdicts))
 notes_next keys mailboxes text verdicts i k m v old was new same as_many under kis mis vis is so =
-    let copy : Job = record { key = k; mailbox = m; text = text } in
+    let copy : Job = record { key = k; mailbox = m; text = text; flags = no_flags } in
     let lk : length (take i keys) ≡ i = length-take-le i keys (omega arith) in
     let lm : length (take i mailboxes) ≡ i = length-take-le i mailboxes (omega arith) in
     let lv : length (take i verdicts) ≡ i = length-take-le i verdicts (omega arith) in

@@ -1,5 +1,6 @@
 -- The copies of messages that were judged: what is noted of them, and which of them were put on a lane.
 use Rattle.std.specs.Prelude.{◌≡◌, ◌⊎◌, ℕ, suc, ◌==◌, ◌<◌, length, slice_index_or, slice_set, if◌then◌else◌, List, [], ◌∷◌, ◌++◌, map, zip, flat_map, Option, Some, None}
+use Rattle.change_ring.specs.Log.{no_flags}
 use Rattle.delivery_token.specs.declared.CopyKey.{CopyKey}
 use Rattle.delivery_token.specs.declared.Job.{Job}
 use Rattle.delivery_token.specs.declared.Verdict.{Verdict}
@@ -37,7 +38,7 @@ FoundFull room seat sent = (seen : List (Entry Job)) × WasFull room.producers r
 abbrev pub copies : List CopyKey → List ℕ → List ℕ → List Job
 copies [] mailboxes text = []
 copies (key ∷ keys) [] text = []
-copies (key ∷ keys) (mailbox ∷ mailboxes) text = record { key = key; mailbox = mailbox; text = text } ∷ copies keys mailboxes text
+copies (key ∷ keys) (mailbox ∷ mailboxes) text = record { key = key; mailbox = mailbox; text = text; flags = no_flags } ∷ copies keys mailboxes text
 
 abbrev pub copies_of : Submission → List Job
 copies_of m = copies m.keys m.mailboxes m.text

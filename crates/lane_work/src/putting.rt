@@ -2,6 +2,7 @@
 //! not belong here.
 
 ghost use Rattle.std.specs.Prelude.{◌≡◌, ◌≤◌, ◌<◌, ◌+◌, ℕ, ◌++◌, ◌∷◌, [], length, map, Some, None, MatchOption, OnOk, IfOk, slice_index_or, slice_set, vec_len, vec_capacity};
+ghost use Rattle.change_ring.specs.Log.{no_flags};
 ghost use Rattle.shard_queue.specs.declared.lane.Entry.TheVariants as entries;
 ghost use Rattle.shard_queue.specs.Seats.{IsProducer, sent, number_of};
 ghost use Rattle.envelope.specs.Directory.{shard_of};
@@ -12,6 +13,7 @@ ghost use Rattle.lane_work.specs.Copies.{FoundFull, HavePut, IsAtOnce, WereTried
 
 use crate::bells::Summons;
 use crate::desk::{Desk, Office};
+use change_ring::NO_FLAGS;
 use delivery_token::{CopyKey, Job, Refusal, Text, Verdict};
 use lmtp_machine::Submission;
 use pace::{Gate, Pace};
@@ -30,13 +32,18 @@ fn put_on<R: Wait>(
     requires { IsProducer lane.now seat.old }
     ensures seat { IsProducer lane.now seat.new × (number_of seat.new ≡ number_of seat.old) }
     ensures put { MatchOption result
-        (sent seat.new ≡ sent seat.old ++ entries.Item (number_of seat.old) (record { key = key; mailbox = mailbox; text = text.now }) ∷ [])
+        (sent seat.new ≡ sent seat.old ++ entries.Item (number_of seat.old) (record { key = key; mailbox = mailbox; text = text.now; flags = no_flags }) ∷ [])
         (λ v. (sent seat.new ≡ sent seat.old) × IsAtOnce (FoundFull (room_of lane.now) (number_of seat.old) (sent seat.old)) v) }
 {
     let Ok(text) = text.copy() else {
         return Some(Verdict::Refused(Refusal::NoMemory));
     };
-    let job = Job { key, mailbox, text };
+    let job = Job {
+        key,
+        mailbox,
+        text,
+        flags: NO_FLAGS,
+    };
     match lane.put_as(rt, seat, job) {
         Ok(()) => None,
         Err(Full(_)) => Some(Verdict::Refused(Refusal::Full)),
@@ -60,7 +67,7 @@ fn put_copy<R: Wait, G: Gate, S: Summons>(
     ensures same { SameButSeats desk.old desk.new }
     ensures put { MatchOption result
         (map sent desk.new.seats.items ≡ slice_set (map sent desk.old.seats.items) (shard_of office.now.directory mailbox)
-        (slice_index_or (map sent desk.old.seats.items) (shard_of office.now.directory mailbox) [] ++ entries.Item desk.old.number (record { key = key; mailbox = mailbox; text = text.now }) ∷ []))
+        (slice_index_or (map sent desk.old.seats.items) (shard_of office.now.directory mailbox) [] ++ entries.Item desk.old.number (record { key = key; mailbox = mailbox; text = text.now; flags = no_flags }) ∷ []))
         (λ v. (map sent desk.new.seats.items ≡ map sent desk.old.seats.items)
         × IsAtOnce (FoundFull (room_at (rooms_of office.now.lanes.items) (shard_of office.now.directory mailbox)) desk.old.number
         (slice_index_or (map sent desk.old.seats.items) (shard_of office.now.directory mailbox) [])) v) }

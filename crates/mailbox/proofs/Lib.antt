@@ -6,3 +6,4 @@ pub mod WindowMoves
 pub mod LetterLaws
 pub mod MarkLaws
 pub mod TakenLaws
+pub mod ArrivalLaws

@@ -196,7 +196,7 @@ change_rows uid ms flags = rows_reflagged uid flags ms
 
 -- ---- a message is read
 
-length_new : (uid : ℕ) (f g : Flags) (b : Bool) → flags_differ f g ≡ b → length (new_flags uid f g) ≡ (if b then 1 else 0)
+pub length_new : (uid : ℕ) (f g : Flags) (b : Bool) → flags_differ f g ≡ b → length (new_flags uid f g) ≡ (if b then 1 else 0)
 length_new uid f g true e = ap (λ (b : Bool). length (if b then SetFlags uid g ∷ [] else [])) e
 length_new uid f g false e = ap (λ (b : Bool). length (if b then SetFlags uid g ∷ [] else [])) e
 

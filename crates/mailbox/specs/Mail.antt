@@ -1,9 +1,9 @@
 -- A mailbox as contracts see it: all that it has now, and nothing of what it dropped.
-use Rattle.std.specs.Prelude.{◌≡◌, ℕ, ◌+◌, ◌==◌, nat_le, ◌||◌, ◌&&◌, not, Bool, List, [], ◌∷◌, length, map, filter, Option, Some, None, if◌then◌else◌}
+use Rattle.std.specs.Prelude.{◌≡◌, ℕ, ◌+◌, ◌==◌, nat_le, nat_lt, ◌||◌, ◌&&◌, not, Bool, List, [], ◌∷◌, length, map, filter, Option, Some, None, if◌then◌else◌}
 use Rattle.change_ring.specs.declared.change.Flags.{Flags}
 use Rattle.change_ring.specs.declared.flag_op.FlagOp.{FlagOp}
 use Rattle.change_ring.specs.Log.{Row}
-use Rattle.change_ring.specs.Logged.{flags_after}
+use Rattle.change_ring.specs.Logged.{arrival, flags_after}
 use Rattle.change_ring.specs.Window.{Window, total}
 use Rattle.cursor_set.specs.Cursors.{Cursors}
 use Rattle.delivery_token.specs.declared.CopyKey.{CopyKey}
@@ -32,9 +32,9 @@ pub record Mail : Type 0 where
 abbrev pub next_uid : Mail → ℕ
 next_uid m = m.first_uid + length m.accepted
 
--- no UID or no number of a change is left
-abbrev pub is_spent : Mail → Bool
-is_spent m = nat_le 4294967295 (next_uid m) || nat_le 4611686018427387904 (total m.window)
+-- no UID is left, or not as many numbers of changes as the arrival of a message with these flags takes
+abbrev pub is_spent : Flags → Mail → Bool
+is_spent flags m = nat_le 4294967295 (next_uid m) || nat_lt 4611686018427387904 (total m.window + length (arrival (next_uid m) flags))
 
 -- as many messages are there as may be
 abbrev pub is_full : Mail → Bool

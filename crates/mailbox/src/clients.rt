@@ -189,7 +189,7 @@ impl Mailbox {
 
     // Sets the flags of a message that has these flags, and logs that where they become others:
     // answers whether they did. Spent where the log has no room for it; nothing is then changed.
-    fn set_flags(&mut self, uid: u32, old: Flags, op: FlagOp) -> Result<bool, Spent>
+    pub(crate) fn set_flags(&mut self, uid: u32, old: Flags, op: FlagOp) -> Result<bool, Spent>
         requires there { option_map (λ (m : Kept). m.flags) (message_with uid self.old.messages) ≡ Some old }
         requires small { total self.old.window ≤ 2 ^ 62 }
         ensures spent { IsErr result ↔ IsTooMany self.old (flags_logged (rows self.old) uid op) }

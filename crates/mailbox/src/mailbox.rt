@@ -1,19 +1,21 @@
 //! The mailbox, and what is delivered to it. Each call that changes it is one event on every log for
 //! which it stands; the log itself is kept nowhere. What its clients do is told in `clients`.
 
-ghost use Rattle.std.specs.Prelude.{◌≡◌, ◌+◌, ◌<◌, ◌↔◌, [], ◌∷◌, ◌++◌, length, map, max, true, false, Err, OnOk, OnErr, IfOk};
+ghost use Rattle.std.specs.Prelude.{◌≡◌, ◌+◌, ◌^◌, ◌⊎◌, ◌<◌, ◌↔◌, [], ◌∷◌, ◌++◌, length, map, max, true, false, Err, OnOk, OnErr, IfOk, IfErr};
 ghost use Rattle.change_ring.specs.Log.{no_flags};
+ghost use Rattle.change_ring.specs.Logged.{arrival};
+ghost use Rattle.change_ring.specs.Window.{total};
 ghost use Rattle.mailbox.specs.Copies.{kept_of};
 ghost use Rattle.mailbox.specs.Counts.{unseen_count, deleted_count, bytes_in_all};
 ghost use Rattle.mailbox.specs.Events.{Logs, Moves};
-ghost use Rattle.mailbox.specs.Mail.{SameMailbox, next_uid, is_spent, is_full, texts_of};
+ghost use Rattle.mailbox.specs.Mail.{SameMailbox, next_uid, is_spent, is_full, texts_of, uids_of};
 ghost use Rattle.std.specs.List.Sorted.{IsStrictlyIncreasing};
 ghost use Rattle.mailbox.specs.Stands.{Stands};
 
 use crate::history::{Accepted, History};
 use crate::logging::log_change;
 use crate::messages::Messages;
-use change_ring::{Change, ChangeRing};
+use change_ring::{Change, ChangeRing, FlagOp, Flags, NO_FLAGS};
 use cursor_set::CursorSet;
 use delivery_token::{CopyKey, Job, Refusal, Text};
 use std::alloc::{AllocError, Global};
@@ -148,36 +150,36 @@ impl Mailbox {
         })
     }
 
-    fn is_spent(&self) -> bool
-        ensures { result ≡ is_spent self.now }
+    // Whether no UID is left, or the log has no room for all that a message with these flags brings.
+    fn is_spent(&self, flags: Flags) -> bool
+        ensures { result ≡ is_spent flags self.now }
     {
-        self.next >= u32::MAX || self.ring.total() >= 1 << 62
+        if self.next >= u32::MAX {
+            return true;
+        }
+        let left = (1 << 62) - self.ring.total();
+        if NO_FLAGS.differ_from(flags) {
+            left < 2
+        } else {
+            left < 1
+        }
     }
 
-    /// Delivers a copy: one change, which adds a message with the copy's text and the next UID
-    /// (RFC 9051, 2.3.1.1).
-    ///
-    /// Refused, in this order, as UidSpent where the next UID would be 4,294,967,295 or the log has
-    /// 2^62 changes, as MailboxFull where as many messages are there as may be, and as NoMemory
-    /// where memory is refused. The mailbox is then unchanged.
-    pub fn deliver(&mut self, job: &Job) -> Result<Receipt, Refusal>
-        ensures spent { (result ≡ Err Refusal.UidSpent) ↔ (is_spent self.old ≡ true) }
-        ensures full { (result ≡ Err Refusal.MailboxFull) ↔ ((is_spent self.old ≡ false) × (is_full self.old ≡ true)) }
-        ensures not_queued { (result ≡ Err Refusal.Full) → ⊥ }
+    // Adds a copy's message without flags: one change. MailboxFull or NoMemory; nothing is then changed.
+    // All room is made first, also for a mark of \Deleted.
+    fn add(&mut self, job: &Job) -> Result<Receipt, Refusal>
+        requires uid { next_uid self.old < 4294967295 }
+        requires room { total self.old.window < 2 ^ 62 }
+        ensures full { (result ≡ Err Refusal.MailboxFull) ↔ (is_full self.old ≡ true) }
+        ensures refused { IfErr result (λ why. (why ≡ Refusal.MailboxFull) ⊎ (why ≡ Refusal.NoMemory)) }
         ensures err { OnErr result (self.new ≡ self.old) }
-
-        // One change more, on every log for which the mailbox stood.
         ensures logged { OnOk result (Logs self.old self.new (Change.Add (next_uid self.old) ∷ [])) }
-        ensures accepted { OnOk result (self.new.accepted ≡ self.old.accepted ++ (job.now.key, next_uid self.old) ∷ []) }
         ensures message { OnOk result (self.new.messages ≡ self.old.messages ++ record { uid = next_uid self.old; flags = no_flags; text = job.now.text } ∷ []) }
+        ensures rising { OnOk result (IsStrictlyIncreasing (uids_of self.new.messages)) }
         ensures window { OnOk result (Moves self.old.cursors self.old.window self.new.window (Change.Add (next_uid self.old) ∷ [])) }
-        ensures cursors { OnOk result (self.new.cursors ≡ self.old.cursors) }
-        ensures same { OnOk result (SameMailbox self.old self.new) }
+        ensures rest { OnOk result (self.new ≡ record self.old { messages = self.new.messages; window = self.new.window; accepted = self.old.accepted ++ (job.now.key, next_uid self.old) ∷ [] }) }
         ensures receipt { IfOk result (λ r. r ≡ record { mailbox = self.old.number; key = job.now.key; uid = next_uid self.old; place = length self.old.accepted }) }
     {
-        if self.is_spent() {
-            return Err(Refusal::UidSpent);
-        }
         if self.messages.len() >= self.limit {
             return Err(Refusal::MailboxFull);
         }
@@ -203,6 +205,37 @@ impl Mailbox {
             uid,
             place,
         })
+    }
+
+    /// Delivers a copy: adds a message with the copy's text and the next UID, and gives it the copy's
+    /// flags (RFC 9051, 2.3.1.1 and 6.3.12). That it is there, and its flags where it has any, are
+    /// logged as one event.
+    ///
+    /// Refused, in this order, as UidSpent where the next UID would be 4,294,967,295 or the log, of
+    /// 2^62 changes at most, has no room for all of them, as MailboxFull where as many messages are
+    /// there as may be, and as NoMemory where memory is refused. The mailbox is then unchanged.
+    pub fn deliver(&mut self, job: &Job) -> Result<Receipt, Refusal>
+        ensures spent { (result ≡ Err Refusal.UidSpent) ↔ (is_spent job.now.flags self.old ≡ true) }
+        ensures full { (result ≡ Err Refusal.MailboxFull) ↔ ((is_spent job.now.flags self.old ≡ false) × (is_full self.old ≡ true)) }
+        ensures not_queued { (result ≡ Err Refusal.Full) → ⊥ }
+        ensures err { OnErr result (self.new ≡ self.old) }
+
+        // One event more, on every log for which the mailbox stood.
+        ensures logged { OnOk result (Logs self.old self.new (arrival (next_uid self.old) job.now.flags)) }
+        ensures accepted { OnOk result (self.new.accepted ≡ self.old.accepted ++ (job.now.key, next_uid self.old) ∷ []) }
+        ensures message { OnOk result (self.new.messages ≡ self.old.messages ++ record { uid = next_uid self.old; flags = job.now.flags; text = job.now.text } ∷ []) }
+        ensures window { OnOk result (Moves self.old.cursors self.old.window self.new.window (arrival (next_uid self.old) job.now.flags)) }
+        ensures cursors { OnOk result (self.new.cursors ≡ self.old.cursors) }
+        ensures same { OnOk result (SameMailbox self.old self.new) }
+        ensures receipt { IfOk result (λ r. r ≡ record { mailbox = self.old.number; key = job.now.key; uid = next_uid self.old; place = length self.old.accepted }) }
+    {
+        if self.is_spent(job.flags) {
+            return Err(Refusal::UidSpent);
+        }
+        let receipt = self.add(job)?;
+        // The message is there, and the log has room for its flags: this takes no memory.
+        let _ = self.set_flags(receipt.uid, NO_FLAGS, FlagOp::Set(job.flags));
+        Ok(receipt)
     }
 
     /// What STATUS tells of it now. It takes no memory.

@@ -4,9 +4,8 @@ use Rattle.std.specs.Prelude.{◌≡◌, ℕ, ◌+◌, ◌-◌, ◌^◌, ◌<◌
 use Rattle.change_ring.specs.declared.change.Change.{Change}
 use Rattle.change_ring.specs.declared.change.Flags.{Flags}
 use Rattle.change_ring.specs.declared.flag_op.FlagOp.{FlagOp}
-use Rattle.change_ring.specs.declared.change.Change.TheVariants.{Add}
-use Rattle.change_ring.specs.Log.{no_flags, replay, view_at}
-use Rattle.change_ring.specs.Logged.{flags_logged, removals, removals_if, seen_logged}
+use Rattle.change_ring.specs.Log.{replay, view_at}
+use Rattle.change_ring.specs.Logged.{arrival, flags_logged, removals, removals_if, seen_logged}
 use Rattle.change_ring.specs.Window.{changes_from, total}
 use Rattle.cursor_set.specs.Cursors.{Seat, Updates, held, in_slot, next_changes}
 use Rattle.cursor_set.specs.Lines.{lines}
@@ -36,11 +35,11 @@ pub record IsEvent (found left : Mail) (changes : List Change) : Type 0 where
   pub same : SameMailbox found left
   pub accepted : left.accepted ≡ found.accepted
 
--- The same, where one copy was delivered: the log went on by its message, and this copy alone was added to those that were accepted, under the next UID.
-pub record IsDelivery (found left : Mail) (key : CopyKey) : Type 0 where
+-- The same, where one copy was delivered: the log went on by its message's arrival, with these flags, and this copy alone was added to those that were accepted, under the next UID.
+pub record IsDelivery (found left : Mail) (key : CopyKey) (flags : Flags) : Type 0 where
   pub found_kept : IsKept found
   pub left_kept : IsKept left
-  pub logs : Logs found left (Add (next_uid found) ∷ [])
+  pub logs : Logs found left (arrival (next_uid found) flags)
   pub same : SameMailbox found left
   pub accepted : left.accepted ≡ found.accepted ++ (key, next_uid found) ∷ []
 
@@ -135,13 +134,13 @@ pub record Leaves (found : Mail) (seat : Seat) (remove : Bool) (gone : ℕ) (lef
   pub rest : left ≡ record found { messages = left.messages; window = left.window; cursors = left.cursors }
   pub went : gone ≡ length (removals_if remove (rows found))
 
--- The copy was delivered: its message is the last one, without a flag, and no cursor changed.
+-- The copy was delivered: its message is the last one, with the copy's flags, and no cursor changed.
 pub record Delivers (found : Mail) (job : Job) (receipt : Receipt) (left : Mail) : Type 0 where
-  pub event : IsDelivery found left job.key
-  pub uid_left : is_spent found ≡ false
+  pub event : IsDelivery found left job.key job.flags
+  pub uid_left : is_spent job.flags found ≡ false
   pub place_left : is_full found ≡ false
-  pub window : Moves found.cursors found.window left.window (Add (next_uid found) ∷ [])
-  pub messages : left.messages ≡ found.messages ++ record { uid = next_uid found; flags = no_flags; text = job.text } ∷ []
+  pub window : Moves found.cursors found.window left.window (arrival (next_uid found) job.flags)
+  pub messages : left.messages ≡ found.messages ++ record { uid = next_uid found; flags = job.flags; text = job.text } ∷ []
   pub cursors : left.cursors ≡ found.cursors
   pub answers : receipt ≡ record { mailbox = found.number; key = job.key; uid = next_uid found; place = length found.accepted }
 
@@ -175,12 +174,12 @@ LeavesNot Lapped m seat changes = ⊥
 LeavesNot Spent m seat changes = IsSome (held m.cursors seat) × IsTooMany m changes
 LeavesNot NoMemory m seat changes = ⊥
 
--- why a copy was not stored: the first of these that holds
-abbrev pub DeliversNot : Refusal → Mail → Type 0
-DeliversNot copy.Full m = ⊥
-DeliversNot copy.UidSpent m = is_spent m ≡ true
-DeliversNot copy.MailboxFull m = (is_spent m ≡ false) × (is_full m ≡ true)
-DeliversNot copy.NoMemory m = (is_spent m ≡ false) × (is_full m ≡ false)
+-- why a copy with these flags was not stored: the first of these that holds
+abbrev pub DeliversNot : Refusal → Flags → Mail → Type 0
+DeliversNot copy.Full flags m = ⊥
+DeliversNot copy.UidSpent flags m = is_spent flags m ≡ true
+DeliversNot copy.MailboxFull flags m = (is_spent flags m ≡ false) × (is_full m ≡ true)
+DeliversNot copy.NoMemory flags m = (is_spent flags m ≡ false) × (is_full m ≡ false)
 
 -- ---- by the answer
 
@@ -243,7 +242,7 @@ DoesLeave found seat remove (Err back) left = (back.0 ≡ seat) × IsKept found 
 
 abbrev pub DoesDeliver : Mail → Job → Result Receipt Refusal → Mail → Type 0
 DoesDeliver found job (Ok receipt) left = Delivers found job receipt left
-DoesDeliver found job (Err refusal) left = IsKept found × (left ≡ found) × DeliversNot refusal found
+DoesDeliver found job (Err refusal) left = IsKept found × (left ≡ found) × DeliversNot refusal job.flags found
 
 -- The view was looked at, or memory was refused though there is one, or the seat is a stranger. It is no event.
 abbrev pub DoesLook : Mail → Seat → Result (List ℕ) MailFault → Type 0

@@ -12,13 +12,15 @@ use cursor_set::{CursorSeat, FeedFault, NoMemory, Stranger};
 use delivery_token::{Job, Refusal};
 use mailbox::{MailFault, Mailbox, Opening, Receipt, Row, Status, View, every_mailbox_keeps};
 
-/// Delivers a copy: one change, which adds its message under the next UID (RFC 9051, 2.3.1.1). This
-/// copy alone is added to those that were accepted, and no client's cursor changes: clients are
-/// shown the message later.
+/// Delivers a copy: its message is added under the next UID, with the copy's flags (RFC 9051,
+/// 2.3.1.1 and 6.3.12), which is one event, of one change or, where it has a flag, of two. This copy
+/// alone is added to those that were accepted, and no client's cursor changes: clients are shown the
+/// message later.
 ///
-/// Refused, in this order, as UidSpent where the next UID would be 4,294,967,295 or the log has
-/// 2^62 changes, as MailboxFull where as many messages are there as may be, and as NoMemory where
-/// memory is refused; never as Full. The mailbox is then unchanged.
+/// Refused, in this order, as UidSpent where the next UID would be 4,294,967,295 or the log, of
+/// 2^62 changes at most, has no room for all of them, as MailboxFull where as many messages are
+/// there as may be, and as NoMemory where memory is refused; never as Full. The mailbox is then
+/// unchanged.
 pub fn deliver(mailbox: &mut Mailbox, job: &Job) -> Result<Receipt, Refusal>
     ensures { DoesDeliver mailbox.old job.now result mailbox.new }
 {

@@ -3,7 +3,7 @@
 
 use crate::desk::LockedDesk;
 use crate::life::{Step, live};
-use change_ring::{FlagOp, Flags};
+use change_ring::{FlagOp, Flags, NO_FLAGS};
 use delivery_token::{CopyKey, Job, Text};
 use imap_connection::ImapConnection;
 use imap_grammar::{Command, read_line};
@@ -100,6 +100,7 @@ fn copy(alloc: Global) -> Result<Job, AllocError> {
         },
         mailbox: 0,
         text: Text::new(Vec::from_slice(alloc, b"Return-Path: <s@a.example>\r\nhi\r\n")?)?,
+        flags: NO_FLAGS,
     })
 }
 

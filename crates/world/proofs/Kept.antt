@@ -28,7 +28,8 @@ use Rattle.world.specs.Law.{item_of, items, stored, held, due, accepted_of, pair
 use Rattle.world.proofs.Base.{Every, every_append, every_of_all, Rising, rising_push, part_append, part_front}
 use Rattle.world.proofs.Mails.{uids, base_within, window_full, shown_grows, shown_more}
 use Rattle.world.specs.Known.{key_in}
-use Rattle.change_ring.proofs.LogLaws.{FitsView-append, added-append, uids-rows_after}
+use Rattle.change_ring.specs.Logged.{arrival}
+use Rattle.change_ring.proofs.LogLaws.{FitsView-append, added-append, arrival-added, arrival-fits, uids-rows_after}
 use Rattle.change_ring.proofs.RangeLaws.{range-push}
 
 -- an entry of shard s's lane that is a copy has its producer's seat, and a mailbox of that shard
@@ -259,7 +260,7 @@ sessions_log k boxes m new cs more L (Some s) h = at_cases (λ b. IsShown b.log 
     (λ _. h)
 
 pub kept_delivered : (k : Config) (w : World) (s : ℕ) (c : Job) (new : Box) → Kept k w → w.hand s ≡ Taken c
-    → Logs k (w.box c.mailbox) (Add (next_uid k (w.box c.mailbox)) ∷ []) ((c, next_uid k (w.box c.mailbox)) ∷ []) new
+    → Logs k (w.box c.mailbox) (arrival (next_uid k (w.box c.mailbox)) c.flags) ((c, next_uid k (w.box c.mailbox)) ∷ []) new
     → Kept k (delivered w s c.mailbox new (reply_to c (Stored (next_uid k (w.box c.mailbox)))))
 kept_delivered k w s c new K was L = record {
   lanes = K.lanes;
@@ -283,8 +284,8 @@ kept_delivered k w s c new K was L = record {
       (λ here. rw append-nil (part_front (copies (accepted_of w p m)) (hand_copies p m (w.hand (shard_of k m))) (K.part p m)))
       (λ _. K.part p m));
   boxes = at_each (λ m b. BoxOk k b) w.box c.mailbox new K.boxes
-      (box_logs k (w.box c.mailbox) new _ _ (K.boxes c.mailbox) L (tt, tt) refl
-      (rw ((K.boxes c.mailbox).counted, length-append) (range-push k.first_uid (length (w.box c.mailbox).accepted))));
+      (box_logs k (w.box c.mailbox) new _ _ (K.boxes c.mailbox) L (arrival-fits _ (next_uid k (w.box c.mailbox)) c.flags) (arrival-added (next_uid k (w.box c.mailbox)) c.flags)
+      (rw (arrival-added (next_uid k (w.box c.mailbox)) c.flags, (K.boxes c.mailbox).counted, length-append) (range-push k.first_uid (length (w.box c.mailbox).accepted))));
   sessions = λ n. sessions_log k w.box c.mailbox new _ _ L (w.session n) (K.sessions n);
 }
   where

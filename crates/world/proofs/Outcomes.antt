@@ -4,9 +4,8 @@ use Rattle.std.proofs.lemmas.Bool.{cases_lt}
 use Rattle.shard_queue.specs.declared.lane.Entry.{Entry}
 use Rattle.delivery_token.specs.declared.Job.{Job}
 use Rattle.change_ring.specs.declared.change.Change.{Change}
-use Rattle.change_ring.specs.declared.change.Change.TheVariants.{Add}
 use Rattle.change_ring.specs.Log.{rows_of}
-use Rattle.change_ring.specs.Logged.{flags_logged, removals, seen_logged, removals_if}
+use Rattle.change_ring.specs.Logged.{arrival, flags_logged, removals, seen_logged, removals_if}
 use Rattle.change_ring.specs.Window.{BaseAfter}
 use Rattle.world.specs.World.{Config, World, Box, Session, Empty, Taken, Event, Put, PutEnd, Take, Deliver, Answer, Hear, Enter, Status, Read, Store, Expunge, Feed, Leave, Step, Allowed, put_joins, put_full, put_no_memory, end_joins, end_full, TakeStep, takes, take_empty, DeliverStep, delivers, deliver_spent, deliver_full, deliver_no_memory, answers, answer_full, hears_one, enters, enter_spent, enter_no_memory, MailStep, mails, mail_lapped, mail_spent, LeaveStep, leaves, leave_spent, Logs, reply_room, pending, next_uid, most_changes, most_entries, last_uid}
 
@@ -37,17 +36,17 @@ leave_outcome k w n s changes = go (cases_lt most_changes (length (w.box s.mailb
         (_, leaves b.0 b.1 refl)
 
 deliver_outcome : (k : Config) (w : World) (s : ℕ) (c : Job) → w.hand s ≡ Taken c → (v : World) × DeliverStep k w s v
-deliver_outcome k w s c was = go (cases_lt (next_uid k b) last_uid) (cases_lt (length b.log) most_changes) (cases_lt (length (rows_of b.log)) k.messages)
+deliver_outcome k w s c was = go (cases_lt (next_uid k b) last_uid) (cases_lt most_changes (length b.log + length (arrival (next_uid k b) c.flags))) (cases_lt (length (rows_of b.log)) k.messages)
   where
     b : Box
     b = w.box c.mailbox
 
-    go : (next_uid k b < last_uid) ⊎ (last_uid ≤ next_uid k b) → (length b.log < most_changes) ⊎ (most_changes ≤ length b.log) → (length (rows_of b.log) < k.messages) ⊎ (k.messages ≤ length (rows_of b.log)) → (v : World) × DeliverStep k w s v
+    go : (next_uid k b < last_uid) ⊎ (last_uid ≤ next_uid k b) → (most_changes < length b.log + length (arrival (next_uid k b) c.flags)) ⊎ (length b.log + length (arrival (next_uid k b) c.flags) ≤ most_changes) → (length (rows_of b.log) < k.messages) ⊎ (k.messages ≤ length (rows_of b.log)) → (v : World) × DeliverStep k w s v
     go (inr no_uid) h i = (_, deliver_spent c was (inl no_uid) refl)
-    go (inl uid) (inr no_room) i = (_, deliver_spent c was (inr no_room) refl)
-    go (inl uid) (inl room) (inr full) = (_, deliver_full c was (uid, room) full refl)
-    go (inl uid) (inl room) (inl free) =
-        let new : (new : Box) × Logs k b (Add (next_uid k b) ∷ []) ((c, next_uid k b) ∷ []) new = logged k b _ _ (omega arith) in
+    go (inl uid) (inl no_room) i = (_, deliver_spent c was (inr no_room) refl)
+    go (inl uid) (inr room) (inr full) = (_, deliver_full c was (uid, room) full refl)
+    go (inl uid) (inr room) (inl free) =
+        let new : (new : Box) × Logs k b (arrival (next_uid k b) c.flags) ((c, next_uid k b) ∷ []) new = logged k b _ _ room in
         (_, delivers c new.0 was (uid, room) free new.1 refl)
 
 take_outcome : (w : World) (s : ℕ) (es : List (Entry Job)) → w.hand s ≡ Empty → (w.lane s).waiting ≡ es → (v : World) × TakeStep w s v

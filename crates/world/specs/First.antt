@@ -1,5 +1,6 @@
 -- One run: a session selects an empty mailbox, one copy goes from its seat to that mailbox and is heard, and the session is shown it.
 use Rattle.std.specs.Prelude.{List, [], ◌∷◌}
+use Rattle.change_ring.specs.Log.{no_flags}
 use Rattle.delivery_token.specs.declared.CopyKey.{CopyKey}
 use Rattle.delivery_token.specs.declared.Job.{Job}
 use Rattle.delivery_token.specs.declared.log.Noted.{Noted}
@@ -16,7 +17,7 @@ one_key = record { seat = 0; serial = 0; message = 0; recipient = 0 }
 
 -- the copy
 abbrev pub one_copy : Job
-one_copy = record { key = one_key; mailbox = 0; text = 104 ∷ 105 ∷ [] }
+one_copy = record { key = one_key; mailbox = 0; text = 104 ∷ 105 ∷ []; flags = no_flags }
 
 -- the reply to it
 abbrev pub one_reply : Noted

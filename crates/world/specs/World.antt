@@ -15,8 +15,8 @@ use Rattle.change_ring.specs.declared.flag_op.FlagOp.{FlagOp}
 use Rattle.change_ring.specs.Log.{rows_of}
 use Rattle.change_ring.specs.Window.{BaseAfter}
 use Rattle.change_ring.specs.declared.change.Change.{Change}
-use Rattle.change_ring.specs.declared.change.Change.TheVariants.{Add}
-use Rattle.change_ring.specs.Logged.{flags_logged, seen_logged, removals, removals_if}
+use Rattle.change_ring.specs.declared.change.Flags.{Flags}
+use Rattle.change_ring.specs.Logged.{arrival, flags_logged, seen_logged, removals, removals_if}
 pub use Rattle.world.specs.declared.hand.Hand.{Hand}
 pub use Rattle.world.specs.declared.hand.Hand.TheVariants.{Empty, Taken, Done}
 
@@ -182,28 +182,28 @@ delivered w s m b r = record w { hand = set_at w.hand s (Done r); box = set_at w
 abbrev pub refused : World → ℕ → Noted → World
 refused w s r = record w { hand = set_at w.hand s (Done r) }
 
--- no UID is left, or no room in the log
-abbrev pub IsSpent : Config → Box → Type 0
-IsSpent k b = (last_uid ≤ next_uid k b) ⊎ (most_changes ≤ length b.log)
+-- no UID is left, or no room in the log for the arrival of a message with these flags
+abbrev pub IsSpent : Config → Flags → Box → Type 0
+IsSpent k flags b = (last_uid ≤ next_uid k b) ⊎ (most_changes < length b.log + length (arrival (next_uid k b) flags))
 
 -- there are both
-abbrev pub HasUid : Config → Box → Type 0
-HasUid k b = (next_uid k b < last_uid) × (length b.log < most_changes)
+abbrev pub HasUid : Config → Flags → Box → Type 0
+HasUid k flags b = (next_uid k b < last_uid) × (length b.log + length (arrival (next_uid k b) flags) ≤ most_changes)
 
 -- as many rows are there as may be
 abbrev pub is_full : Config → Box → Type 0
 is_full k b = k.messages ≤ length (rows_of b.log)
 
--- the copy in the hand of shard s is delivered: stored under the next UID, or refused as spent, then as full, then for want of memory
+-- the copy in the hand of shard s is delivered: stored under the next UID, with its flags, or refused as spent, then as full, then for want of memory
 pub data DeliverStep (k : Config) (w : World) (s : ℕ) (v : World) : Type 0 where
-  delivers : (c : Job) (b : Box) → w.hand s ≡ Taken c → HasUid k (w.box c.mailbox) → length (rows_of (w.box c.mailbox).log) < k.messages
-      → Logs k (w.box c.mailbox) (Add (next_uid k (w.box c.mailbox)) ∷ []) ((c, next_uid k (w.box c.mailbox)) ∷ []) b
+  delivers : (c : Job) (b : Box) → w.hand s ≡ Taken c → HasUid k c.flags (w.box c.mailbox) → length (rows_of (w.box c.mailbox).log) < k.messages
+      → Logs k (w.box c.mailbox) (arrival (next_uid k (w.box c.mailbox)) c.flags) ((c, next_uid k (w.box c.mailbox)) ∷ []) b
       → v ≡ delivered w s c.mailbox b (reply_to c (Stored (next_uid k (w.box c.mailbox)))) → DeliverStep k w s v
-  deliver_spent : (c : Job) → w.hand s ≡ Taken c → IsSpent k (w.box c.mailbox) → v ≡ refused w s (reply_to c (Refused UidSpent)) → DeliverStep k w s v
-  deliver_full : (c : Job) → w.hand s ≡ Taken c → HasUid k (w.box c.mailbox) → is_full k (w.box c.mailbox)
+  deliver_spent : (c : Job) → w.hand s ≡ Taken c → IsSpent k c.flags (w.box c.mailbox) → v ≡ refused w s (reply_to c (Refused UidSpent)) → DeliverStep k w s v
+  deliver_full : (c : Job) → w.hand s ≡ Taken c → HasUid k c.flags (w.box c.mailbox) → is_full k (w.box c.mailbox)
       → v ≡ refused w s (reply_to c (Refused MailboxFull)) → DeliverStep k w s v
   -- a growth was refused
-  deliver_no_memory : (c : Job) → w.hand s ≡ Taken c → HasUid k (w.box c.mailbox) → length (rows_of (w.box c.mailbox).log) < k.messages
+  deliver_no_memory : (c : Job) → w.hand s ≡ Taken c → HasUid k c.flags (w.box c.mailbox) → length (rows_of (w.box c.mailbox).log) < k.messages
       → v ≡ refused w s (reply_to c (Refused NoMemory)) → DeliverStep k w s v
 
 -- Replies

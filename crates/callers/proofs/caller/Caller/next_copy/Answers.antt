@@ -1,4 +1,5 @@
 use Rattle.std.proofs.Common.{◌≡◌, ◌∙◌, suc, ap, subst, drop, [], ◌∷◌, arith, length}
+use Rattle.change_ring.specs.Log.{no_flags}
 use Rattle.lmtp_machine.specs.Calls.{submission_of}
 use Rattle.callers.specs.Line.{Line}
 use Rattle.callers.specs.Caller.{copies}
@@ -24,7 +25,7 @@ returns-clause-some c =
     let n = c.self.inside.verdicts.items in
     let one = ap (drop (length n)) (copies-one c.self.inside.machine.pending s c.submission-submission.ensures) in (
       drop (suc (length n)) (copies s.keys s.mailboxes s.text),
-      subst (λ (h : Line). due h ≡ record { key = c.index.result.now; mailbox = c.index-2.result.now; text = c.submission-submission.result.now.text } ∷ drop (suc (length n)) (copies s.keys s.mailboxes s.text)) c.self.view_is
+      subst (λ (h : Line). due h ≡ record { key = c.index.result.now; mailbox = c.index-2.result.now; text = c.submission-submission.result.now.text; flags = no_flags } ∷ drop (suc (length n)) (copies s.keys s.mailboxes s.text)) c.self.view_is
           (one ∙ drop-copies (length n) s.keys s.mailboxes s.text c.index.result.now c.index-2.result.now (omega arith) (omega arith)
           (rw (c.len-place.ensures, c.self.inside.verdicts.ok.0) at c.index.ensures) (rw (c.len-place.ensures, c.self.inside.verdicts.ok.0) at c.index-2.ensures)),
     )
