@@ -12,19 +12,10 @@ ghost use Rattle.mailbox.specs.Counts.{unseen_count, bytes_in_all};
 ghost use Rattle.mailbox.specs.Letters.{letter_uids, message_of, messages_of, reflagged, without_message};
 ghost use Rattle.mailbox.specs.Mail.{message_with, texts_of, uids_of};
 
-use change_ring::Flags;
+use change_ring::{Flags, NO_FLAGS};
 use delivery_token::Text;
 use std::alloc::{AllocError, Global};
 use std::marker::Model;
-
-// The flags of a message that was delivered.
-const NO_FLAGS: Flags = Flags {
-    answered: false,
-    flagged: false,
-    deleted: false,
-    seen: false,
-    draft: false,
-};
 
 // A message, or the place of one that was taken out: that has no text any more.
 #[derive(Drop)]
