@@ -1,0 +1,4 @@
+pub mod Copies
+pub mod Verdicts
+pub mod Heard
+pub mod Laws

@@ -1,0 +1,43 @@
+-- The verdicts on the copies of one message, and how they come in.
+use Rattle.std.specs.Prelude.{◌≡◌, ℕ, ◌<◌, List, [], ◌∷◌, ◌++◌, length, map, slice_index_or, slice_set, Option, Some, None}
+use Rattle.delivery_token.specs.declared.CopyKey.{CopyKey}
+use Rattle.delivery_token.specs.declared.Verdict.{Verdict}
+use Rattle.delivery_token.specs.declared.Verdict.TheVariants.{Refused}
+use Rattle.delivery_token.specs.declared.Refusal.{Refusal}
+use Rattle.delivery_token.specs.declared.log.Noted.{Noted}
+
+-- of each copy that was put the verdict, or None while it is awaited; and for how many copies there is room
+pub record Verdicts : Type 0 where
+  pub slots : List (Option Verdict)
+  pub most : ℕ
+
+abbrev pub no_verdicts : ℕ → Verdicts
+no_verdicts most = record { slots = []; most = most }
+
+abbrev pub with_slots : List (Option Verdict) → Verdicts → Verdicts
+with_slots slots v = record { slots = slots; most = v.most }
+
+-- the next copy was put, and this was heard of it at once
+abbrev pub noted_put : Option Verdict → List (Option Verdict) → List (Option Verdict)
+noted_put verdict slots = slots ++ verdict ∷ []
+
+-- what is heard at once of a copy that is put: that it was refused, or nothing yet
+abbrev pub heard_verdict : Option Refusal → Option Verdict
+heard_verdict None = None
+heard_verdict (Some why) = Some (Refused why)
+
+-- the verdict is on a copy of the message that was put
+pub record IsAwaited (keys : List CopyKey) (slots : List (Option Verdict)) (r : Noted) : Type 0 where
+  pub within : r.key.recipient < length slots
+  pub known : r.key.recipient < length keys
+  pub same : (d : CopyKey) → slice_index_or keys r.key.recipient d ≡ r.key
+
+-- The verdict is noted at the place of its copy, where it is on one that was put, and nothing else is changed.
+pub data Hears (keys : List CopyKey) (slots : List (Option Verdict)) (r : Noted) (new : List (Option Verdict)) : Type 0 where
+  notes_it : IsAwaited keys slots r → new ≡ slice_set slots r.key.recipient (Some r.verdict) → Hears keys slots r new
+  passes_it : (IsAwaited keys slots r → ⊥) → new ≡ slots → Hears keys slots r new
+
+-- so many copies were put, and these are the verdicts on them
+pub record AreKnown (count : ℕ) (slots : List (Option Verdict)) (verdicts : List Verdict) : Type 0 where
+  pub all : length slots ≡ count
+  pub each : slots ≡ map (λ v. Some v) verdicts

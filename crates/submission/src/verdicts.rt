@@ -1,0 +1,134 @@
+//! A message that was submitted, where it lies, and the verdicts on its copies. No reply, no lane and no session is known here.
+
+ghost use Rattle.std.specs.Prelude.{◌≡◌, ◌<◌, ◌∷◌, [], ◌++◌, ℕ, List, length, true, false, None, Some, Ok, OnErr, IfOk, IfSome};
+ghost use Rattle.std.specs.List.{list_all};
+ghost use Rattle.std.specs.Option.{is_some};
+ghost use Rattle.change_ring.specs.Log.{no_flags};
+ghost use Rattle.delivery_token.specs.declared.Job.{Job};
+ghost use Rattle.delivery_token.specs.declared.Verdict.{Verdict};
+ghost use Rattle.submission.specs.Copies.{copies, due};
+ghost use Rattle.submission.specs.Verdicts.{AreKnown, Hears, no_verdicts, noted_put, with_slots};
+
+use delivery_token::{CopyKey, Noted, Text, Verdict};
+use std::alloc::{AllocError, Global};
+use std::marker::Model;
+
+/// A message that was submitted for its recipients, where it lies: the i-th key and the i-th mailbox are those of its i-th copy, and all
+/// have this text.
+#[derive(Clone, Copy)]
+pub struct Submitted<'a> {
+    pub keys: &'a [CopyKey],
+    pub mailboxes: &'a [u8],
+    pub text: &'a Text,
+}
+
+/// Of the copies of one message that were put, in their order, the verdict on each, or None while it is awaited.
+#[derive(Drop)]
+pub struct Verdicts {
+    slots: Vec<Option<Verdict>>,
+    // The most copies for which there is room.
+    most: usize,
+}
+
+impl Model for Verdicts {
+    ghost use Rattle.std.specs.Prelude.{◌≤◌, vec_capacity};
+    ghost use Rattle.submission.specs.Verdicts.{Verdicts};
+
+    ghost Value = { Verdicts };
+
+    ghost view = { λ v. record { slots = v.slots.items; most = v.most } };
+
+    ghost invariant = { λ v. v.most ≤ vec_capacity v.slots };
+}
+
+// Whether each verdict is there.
+fn are_all_there(slots: &[Option<Verdict>]) -> bool
+    ensures { result ≡ list_all is_some slots.now }
+{
+    slots.iter().all(|slot| slot.is_some())
+}
+
+impl Verdicts {
+    /// No copy was put yet, and there is room for the verdicts on so many.
+    ///
+    /// Errors: `AllocError` where memory for that room was refused.
+    pub fn with_room(alloc: Global, most: usize) -> Result<Verdicts, AllocError>
+        ensures { IfOk result (λ v. v ≡ no_verdicts most) }
+    {
+        let Ok(slots) = Vec::with_capacity(alloc, most) else {
+            return Err(AllocError);
+        };
+        Ok(Verdicts { slots, most })
+    }
+
+    /// The next copy of the message that is to be put: its key, its mailbox and its text. None where each was put.
+    pub fn next_copy<'a>(&self, message: Submitted<'a>) -> Option<(CopyKey, u8, &'a Text)>
+        ensures none { result ≡ None → due (copies message.entry.keys.now message.entry.mailboxes.now message.entry.text.now) self.now.slots ≡ [] }
+        ensures some { IfSome result (λ c. (others : List Job) × (due (copies message.entry.keys.now message.entry.mailboxes.now message.entry.text.now) self.now.slots
+            ≡ record { key = c.0; mailbox = c.1; text = c.2.now; flags = no_flags } ∷ others)) }
+    {
+        let place = self.slots.len();
+        if place >= message.keys.len() || place >= message.mailboxes.len() {
+            return None;
+        }
+        Some((message.keys[place], message.mailboxes[place], message.text))
+    }
+
+    /// Notes that the next copy was put: with its verdict, where that was heard at once. It takes no memory.
+    pub fn note_put(&mut self, verdict: Option<Verdict>)
+        requires { length self.old.slots < self.old.most }
+        ensures { self.new ≡ with_slots (noted_put verdict self.old.slots) self.old }
+    {
+        self.slots.push_reserved(verdict);
+    }
+
+    /// Notes a verdict that was heard at the place of its copy, where the message has a copy with that key there and it was put. Any other
+    /// changes nothing.
+    pub fn hear(&mut self, keys: &[CopyKey], noted: &Noted)
+        ensures hears { Hears keys.now self.old.slots noted.now self.new.slots }
+        ensures room { self.new.most ≡ self.old.most }
+    {
+        let place = usize::from(noted.key.recipient);
+        if place >= self.slots.len() || place >= keys.len() || keys[place] != noted.key {
+            return;
+        }
+        self.slots[place] = Some(noted.verdict);
+    }
+
+    /// Whether so many copies were put, and the verdict on each is known. It takes no memory.
+    pub fn are_known(&self, count: usize) -> bool
+        ensures known { result ≡ true → (vs : List Verdict) × AreKnown count self.now.slots vs }
+        ensures unknown { result ≡ false → (vs : List Verdict) → AreKnown count self.now.slots vs → ⊥ }
+    {
+        self.slots.len() == count && are_all_there(&self.slots)
+    }
+
+    /// The verdicts on so many copies, in their order. None where fewer or more were put, or one is still awaited.
+    ///
+    /// Errors: `AllocError` where memory was refused, and only where each verdict is known.
+    pub fn known(&self, count: usize) -> Result<Option<Vec<Verdict>>, AllocError>
+        ensures known { IfOk result (λ o. IfSome o (λ vs. AreKnown count self.now.slots vs.items)) }
+        ensures unknown { result ≡ Ok None → (vs : List Verdict) → AreKnown count self.now.slots vs → ⊥ }
+        ensures asks { OnErr result ((vs : List Verdict) × AreKnown count self.now.slots vs) }
+    {
+        // Only then memory is asked for: this is called after each verdict that was heard.
+        if !self.are_known(count) {
+            return Ok(None);
+        }
+        let mut known = Vec::with_capacity(*self.slots.allocator(), self.slots.len())?;
+        for slot in &self.slots {
+            match slot {
+                Some(verdict) => known.push(*verdict)?,
+                None => return Ok(None),
+            }
+        }
+        Ok(Some(known))
+    }
+
+    /// The message is done with: none of its copies is known any more. The room is kept.
+    pub fn clear(&mut self)
+        ensures { self.new ≡ with_slots [] self.old }
+    {
+        self.slots.clear();
+    }
+}
