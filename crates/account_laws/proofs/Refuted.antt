@@ -8,7 +8,7 @@ use Rattle.lane_work.specs.Talk.{Judged}
 use Rattle.lmtp_machine.specs.declared.reply.Reply.TheVariants.{Greeting, Okay, Bye}
 use Rattle.lmtp_machine.specs.Dialogue.{Phase, Start, Waiting, Standing, Setting, Submission, Event, Opened, Line, Starved, Answered, Shut, dialogue, fresh}
 use Rattle.account_laws.specs.Woven.{IsHeardAs, IsWholeDialogue, Woven, answers_of, none, line, submits}
-use Rattle.account_laws.specs.Rows.{alice, fifth}
+use Rattle.account_laws.specs.rows.Rows.{alice, fifth}
 use Rattle.account_laws.proofs.ToldLaws.{told_answers, told_awaited}
 use Rattle.account_laws.proofs.WovenLaws.{woven_messages}
 

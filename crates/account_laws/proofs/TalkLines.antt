@@ -8,7 +8,7 @@ use Rattle.envelope.specs.Directory.{Directory}
 use Rattle.lane_work.specs.Talk.{Judged, HasTaken, WholeTalk}
 use Rattle.lane_work.specs.Talk as talk
 use Rattle.line_io.specs.Wire.{IsCut, IsUncut, crlf, joined, wire_lines, wire_rest}
-use Rattle.line_io.specs.WireLaws.{cut_none, lines_are, reading_cut, uncut_nil}
+use Rattle.line_io.specs.inner.WireLaws.{cut_none, lines_are, reading_cut, uncut_nil}
 use Rattle.lmtp_machine.specs.declared.reply.Reply.{Reply}
 use Rattle.lmtp_machine.specs.declared.reply.Reply.TheVariants.{Greeting}
 use Rattle.lmtp_machine.specs.Conversation.{Conversation, Leads}

@@ -3,4 +3,4 @@ pub mod Conversing
 pub mod Storing
 pub mod Accounting
 pub mod Laws
-pub mod Rows
+pub mod rows

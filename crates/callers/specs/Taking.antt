@@ -10,7 +10,8 @@ use Rattle.envelope.specs.Directory.{Directory}
 use Rattle.lmtp_machine.specs.declared.connection.What.{What}
 use Rattle.lmtp_machine.specs.Dialogue.{Setting, Submission}
 use Rattle.lmtp_machine.specs.Conversation.{Conversation}
-use Rattle.lmtp_machine.specs.Calls.{Awaits, Taken}
+use Rattle.lmtp_machine.specs.Calls.{Awaits}
+use Rattle.lmtp_machine.specs.inner.Calls.{Taken}
 use Rattle.lmtp_machine.specs.declared.commands.Stage.TheVariants as stages
 use Rattle.callers.specs.Line.{Line}
 use Rattle.callers.specs.Caller.{copies_of, keys_of}

@@ -41,7 +41,7 @@ use Rattle.std_alloc.proofs.RawLayout.{as_raw, as_written}
 use Rattle.std_alloc.proofs.RcSteps.{word}
 use Rattle.std_alloc.proofs.VecSteps.El.{El, R, P, el_x, elτ, sz}
 use Rattle.std_alloc.proofs.VecSteps.Rows.{take_out, put_in, el_room, spare, snoc}
-use Rattle.change_ring.specs.Ownership.{cells_own}
+use Rattle.change_ring.specs.inner.Ownership.{cells_own}
 use Rattle.change_ring.specs.contracts.cells.Base as B-type
 use Rattle.change_ring.specs.contracts.cells.Cells as C-type
 

@@ -20,7 +20,7 @@ use denote.SharingLaws.{beside_shr_laws, said_shr_laws}
 use denote.Struct.Lending.{lent_at, lent_at_shr_laws, Lends, Lends-lies, Lends-said, Lends-first, Lends-both}
 use Rattle.core.specs.Mem.{type_size}
 use Rattle.core.specs.Allocator.{array_of, block_with_items}
-use Rattle.change_ring.specs.Ownership.{cells_own, cells_lent}
+use Rattle.change_ring.specs.inner.Ownership.{cells_own, cells_lent}
 
 pub cells_lent_laws : (R : RattleType) → RowLaws R → (p : Ptr) (n : ℕ) (xs : List R.Denot) → ShrLaws (cells_lent R p n xs)
 cells_lent_laws R L p n xs =

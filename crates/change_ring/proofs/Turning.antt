@@ -2,7 +2,7 @@
 use Rattle.std.proofs.Common.{◌≡◌, ℕ, suc, ◌+◌, ◌<◌, ◌≤◌, List, [], ◌∷◌, ◌++◌, length, take, drop, get_or, sym, ap, ap₂, ◌∙◌, arith, append_assoc, append-nil, drop-cons, drop_of_length-le, length-append, take_at}
 use Rattle.std.proofs.lemmas.List.{drop_at, length-take-le}
 use Rattle.change_ring.specs.declared.change.Change.{Change}
-use Rattle.change_ring.specs.Filled.{around}
+use Rattle.change_ring.specs.inner.Filled.{around}
 
 module _ (xs : List Change) (s : ℕ) (x : Change) (inside : s < length xs) where
   abbrev ys : List Change

@@ -1,5 +1,5 @@
 pub mod Filled
 pub mod Log
 pub mod Logged
-pub mod Ownership
 pub mod Window
+pub mod inner

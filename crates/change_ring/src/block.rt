@@ -3,7 +3,7 @@
 
 ghost use Rattle.std.specs.Prelude.{◌≡◌, ◌+◌, ◌<◌, ◌≤◌, List, [], ◌∷◌, ◌++◌, length, take, drop, slice_index_or, IfOk, OnOk, OnErr};
 ghost use Rattle.change_ring.specs.declared.change.Change.{Change};
-ghost use Rattle.change_ring.specs.Filled.{around};
+ghost use Rattle.change_ring.specs.inner.Filled.{around};
 
 use crate::cells::{Base, Cells, allocate, deallocate, grow};
 use crate::change::Change;

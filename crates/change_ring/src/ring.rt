@@ -5,7 +5,7 @@
 //! the first place until the block is full.
 
 ghost use Rattle.std.specs.Prelude.{◌≡◌, ◌+◌, ◌*◌, ◌^◌, ◌<◌, ◌≤◌, ◌↔◌, [], ◌∷◌, ◌++◌, length, IfOk, OnOk, OnErr, IsSome, is_some, IsErr, option_to_list, min, ◌==◌, ◌⊎◌};
-ghost use Rattle.change_ring.specs.Filled.{around};
+ghost use Rattle.change_ring.specs.inner.Filled.{around};
 ghost use Rattle.change_ring.specs.Window.{total, changes_from, capacity_after};
 
 use crate::block::Block;
@@ -35,7 +35,7 @@ pub struct ChangeRing {
 
 impl Model for ChangeRing {
     ghost use Rattle.std.specs.Prelude.{◌≡◌, ◌+◌, ◌<◌, ◌≤◌, ◌^◌, length};
-    ghost use Rattle.change_ring.specs.Filled.{around};
+    ghost use Rattle.change_ring.specs.inner.Filled.{around};
     ghost use Rattle.change_ring.specs.Window.{Window};
 
     ghost Value = { Window };

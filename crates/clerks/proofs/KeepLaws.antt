@@ -20,7 +20,8 @@ use Rattle.lane_work.specs.declared.consumer.Depot.{Depot}
 use Rattle.lane_work.specs.declared.consumer.Stall.{Stall}
 use Rattle.lane_work.proofs.AnswerLaws.{answers_close, torn_next}
 use Rattle.lane_work.proofs.SeatLaws.{ends_next}
-use Rattle.clerks.specs.Keeping.{IsAnswering, IsOnLane, Keeps, counted}
+use Rattle.clerks.specs.Keeping.{IsOnLane, counted}
+use Rattle.clerks.specs.inner.Keeping.{IsAnswering, Keeps}
 
 abbrev inside : {A : Type 0} → A → Option A → A
 inside a None = a

@@ -7,13 +7,13 @@ use Rattle.shard_queue.specs.declared.queue.Ended.{Ended}
 use Rattle.shard_queue.specs.declared.queue.ShardQueue.{ShardQueue}
 use Rattle.shard_queue.specs.declared.queue.ConsumerSeat.{ConsumerSeat}
 use Rattle.lane_seats.specs.Rooms.{AreRooms}
-use Rattle.lane_seats.specs.Rows.{EndedRows}
+use Rattle.lane_seats.specs.rows.Rows.{EndedRows}
 use Rattle.lane_seats.proofs.RowLaws.{none_ended}
 use Rattle.lane_work.specs.declared.consumer.Consumed.{Consumed}
 use Rattle.house_floor.specs.Crew.{AllAt, IsPost}
 use Rattle.house_floor.specs.declared.floor.Floor.{Floor}
 use Rattle.house_floor.specs.declared.floor.Post.{Post}
-use Rattle.clerks.specs.Rounds.{IsOwnPost}
+use Rattle.clerks.specs.inner.Rounds.{IsOwnPost}
 
 -- each post is of its own number
 pub own_posts : (floor : Floor) (n : ℕ) (ps : List Post) → AllAt (IsPost floor) n ps → All (IsOwnPost floor) ps

@@ -1,5 +1,4 @@
-pub mod Turns
 pub mod Service
 pub mod Keeping
 pub mod Staff
-pub mod Rounds
+pub mod inner

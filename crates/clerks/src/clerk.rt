@@ -54,7 +54,7 @@ impl<H: Hall> Model for Clerk<H> {
     ghost Value = { Service };
 
     ghost use Rattle.shard_queue.specs.Seats.{got, take_seen};
-    ghost use Rattle.clerks.specs.Keeping.{Keeps};
+    ghost use Rattle.clerks.specs.inner.Keeping.{Keeps};
 
     ghost view = { λ c. record { shard = c.stall.shard; took = got c.stall.seat; seen = take_seen c.stall.seat; ends = c.ends } };
 

@@ -6,8 +6,8 @@ ghost use Rattle.delivery_token.specs.declared.Job.{Job};
 ghost use Rattle.shard_queue.specs.declared.queue.ShardQueue.{ShardQueue};
 ghost use Rattle.lane_work.specs.declared.consumer.Depot.{Depot};
 ghost use Rattle.lane_seats.specs.Rooms.{AreRooms};
-ghost use Rattle.lane_seats.specs.Rows.{AreConsumers};
-ghost use Rattle.lane_seats.specs.SenderRows.{AreSenderEndedHands};
+ghost use Rattle.lane_seats.specs.rows.Rows.{AreConsumers};
+ghost use Rattle.lane_seats.specs.rows.SenderRows.{AreSenderEndedHands};
 ghost use Rattle.house_floor.specs.Crew.{AllAt, IsStand};
 ghost use Rattle.clerks.specs.Staff.{IsService};
 

@@ -8,10 +8,10 @@ ghost use Rattle.shard_queue.specs.Reply.{IsReceiver};
 ghost use Rattle.shard_queue.specs.Seats.{IsProducer, number_of};
 ghost use Rattle.lane_work.specs.Seats.{AreEnded, AreSeats};
 ghost use Rattle.lane_seats.specs.Rooms.{AreRooms};
-ghost use Rattle.lane_seats.specs.Rows.{AreConsumers, EndedRows};
+ghost use Rattle.lane_seats.specs.rows.Rows.{AreConsumers, EndedRows};
 ghost use Rattle.house_floor.specs.Crew.{AllAt, IsCrew, IsPost, IsStand};
 ghost use Rattle.house_floor.specs.Opening.{AreBaskets};
-ghost use Rattle.clerks.specs.Rounds.{AreSomeones, IsOwnPost};
+ghost use Rattle.clerks.specs.inner.Rounds.{AreSomeones, IsOwnPost};
 ghost use Rattle.clerks.specs.declared.tests.Left.{Left};
 
 use crate::{Clerk, Clerks, Dismissed, Hall, Staff, Unhindered, dismiss_all, hire_all, stand_down};

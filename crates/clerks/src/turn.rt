@@ -6,7 +6,7 @@ ghost use Rattle.shard_queue.specs.Reply.{sent_on};
 ghost use Rattle.shard_queue.specs.Seats.{IsConsumer, got};
 ghost use Rattle.lane_work.specs.Answering.{HaveAnswered};
 ghost use Rattle.lane_work.specs.Seats.{AreSenders};
-ghost use Rattle.clerks.specs.Turns.{Turned};
+ghost use Rattle.clerks.specs.inner.Turns.{Turned};
 
 use delivery_token::Job;
 use lane_work::{Depot, Stall, serve_copy};

@@ -5,6 +5,4 @@ pub mod Commands
 pub mod Fetches
 pub mod Talks
 pub mod Laws
-pub mod Rows
-pub mod WholeRows
-pub mod TalkRows
+pub mod rows

@@ -9,7 +9,8 @@ use Rattle.std.proofs.lemmas.List.Edits.{length-remove, get_or-remove_below, get
 use Rattle.std.proofs.lemmas.List.Elements.{All-from_recursion, recursion_from_All}
 use Rattle.std.proofs.lemmas.List.Sums.{prefix_len_is, prefix_len-le-length}
 use Rattle.std.proofs.lemmas.List.Kept.{AllPairs-from_increasing}
-use Rattle.cursor_set.specs.Leaving.{counted, below, AreIn}
+use Rattle.cursor_set.specs.Leaving.{counted, AreIn}
+use Rattle.cursor_set.specs.inner.Leaving.{below}
 use Rattle.cursor_set.specs.Lines.{place}
 use Rattle.cursor_set.proofs.Places.{Rises, Rises-from, Rises-to, Rises-first, all-first, not_falling, place_at}
 

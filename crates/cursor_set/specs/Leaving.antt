@@ -1,6 +1,5 @@
 -- A client's view while messages are taken out of it.
-use Rattle.std.specs.Prelude.{ℕ, ◌<◌, List, [], ◌∷◌, All, length, remove, nat_lt}
-use Rattle.std.specs.List.{prefix_len}
+use Rattle.std.specs.Prelude.{ℕ, ◌<◌, List, [], ◌∷◌, All, length, remove}
 use Rattle.std.specs.List.Sorted.{IsStrictlyIncreasing}
 
 -- the UIDs that count: all of the view but those at the indices that are gone, which rise; the last is taken out first,
@@ -8,10 +7,6 @@ use Rattle.std.specs.List.Sorted.{IsStrictlyIncreasing}
 abbrev pub counted : List ℕ → List ℕ → List ℕ
 counted [] view = view
 counted (index ∷ gone) view = remove (counted gone view) index
-
--- how many of these indices, which rise, are below this one
-abbrev pub below : ℕ → List ℕ → ℕ
-below index gone = prefix_len (λ i. nat_lt i index) gone
 
 -- the indices are of the view, and rise
 pub record AreIn (gone view : List ℕ) : Type 0 where

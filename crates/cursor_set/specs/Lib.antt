@@ -4,3 +4,4 @@ pub mod Leaving
 pub mod Legal
 pub mod Lines
 pub mod Opened
+pub mod inner

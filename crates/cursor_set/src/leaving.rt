@@ -6,7 +6,8 @@
 ghost use Rattle.std.specs.Prelude.{◌≡◌, ◌≢◌, ℕ, ◌+◌, ◌-◌, ◌<◌, ◌≤◌, [], ◌++◌, List, length, slice_index, remove, All, vec_len, vec_capacity, Contains};
 ghost use Rattle.std.specs.List.Sorted.{IsStrictlyIncreasing};
 ghost use Rattle.change_ring.specs.Log.{without};
-ghost use Rattle.cursor_set.specs.Leaving.{counted, below, AreIn};
+ghost use Rattle.cursor_set.specs.Leaving.{counted, AreIn};
+ghost use Rattle.cursor_set.specs.inner.Leaving.{below};
 ghost use Rattle.cursor_set.specs.Lines.{place};
 
 use crate::gap::Gap;

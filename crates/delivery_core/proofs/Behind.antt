@@ -12,7 +12,7 @@ use Rattle.delivery_core.specs.declared.client.Client.{Client}
 use Rattle.delivery_core.specs.Held.{Held, behind, behind_in, window_at}
 use Rattle.delivery_core.specs.Seated.{client_at, cursors_of, AreSeated}
 use Rattle.delivery_core.specs.Stands.{StandsFor, StandsForBox, StandsForClient}
-use Rattle.delivery_core.specs.Clients.{answer_of}
+use Rattle.delivery_core.specs.inner.Clients.{answer_of}
 use Rattle.delivery_core.proofs.Looks.{window_get}
 use Rattle.delivery_core.proofs.Mailed.{mailbox_within, session_at}
 use Rattle.delivery_core.proofs.SeatedLaws.{place_within}

@@ -24,9 +24,9 @@ use Rattle.mailbox.proofs.WindowMoves.{moves_base, moves_grows, moves_held, move
 use Rattle.world.specs.World.{Config, Box, HasUid, IsSpent, is_full, next_uid}
 use Rattle.world.specs.Law.{IsPart, pair_of, pairs}
 use Rattle.world.proofs.Base.{part_append}
-use Rattle.delivery_core.specs.Held.{AreKept}
+use Rattle.delivery_core.specs.inner.Held.{AreKept}
 use Rattle.delivery_core.specs.Stands.{StandsForBox, text_of, accepted_text}
-use Rattle.delivery_core.specs.Boxes.{verdict_of, BoxDelivers, stores, has_no_uid, has_no_place, has_no_memory}
+use Rattle.delivery_core.specs.inner.Boxes.{verdict_of, BoxDelivers, stores, has_no_uid, has_no_place, has_no_memory}
 
 pub same_uid : (k : Config) (b : Mail) (w : Box) → StandsForBox k b w → mail_uid b ≡ next_uid k w
 same_uid k b w S = omega (arith, S.first_uid, ap length S.accepted, length-map w.accepted pair_of)

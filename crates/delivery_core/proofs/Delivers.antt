@@ -10,7 +10,7 @@ use Rattle.world.specs.declared.hand.Hand.TheVariants.{Taken, Done}
 use Rattle.world.proofs.Known.{HandKnown, known_always}
 use Rattle.delivery_core.specs.Held.{Held}
 use Rattle.delivery_core.specs.Stands.{EachAt, StandsFor, StandsForBox}
-use Rattle.delivery_core.specs.Boxes.{BoxDelivers, stores, has_no_uid, has_no_place, has_no_memory}
+use Rattle.delivery_core.specs.inner.Boxes.{BoxDelivers, stores, has_no_uid, has_no_place, has_no_memory}
 use Rattle.delivery_core.specs.Seated.{cursors_of}
 use Rattle.delivery_core.proofs.Follow.{each_here, each_set, next_same, reached_step}
 use Rattle.delivery_core.proofs.SeatedLaws.{cursors_same}

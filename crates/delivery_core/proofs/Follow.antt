@@ -6,7 +6,8 @@ use Rattle.shard_queue.proofs.AtLaws.{at_cases}
 use Rattle.world.specs.World.{Config, World, Event, Step, Steps, IsWorld, empty_world}
 use Rattle.world.proofs.Always.{steps_join, always}
 use Rattle.delivery_core.specs.Held.{Held}
-use Rattle.delivery_core.specs.Stands.{EachAt, StandsFor, IsNext, Reached, Follows, Runs, Lives}
+use Rattle.delivery_core.specs.Stands.{EachAt, StandsFor, IsNext, Reached, Follows}
+use Rattle.delivery_core.specs.inner.Stands.{Runs, Lives}
 use Rattle.delivery_token.specs.declared.CopyKey.{CopyKey}
 
 -- an element is changed, and what is said of its place holds of it

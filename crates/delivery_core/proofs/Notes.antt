@@ -11,7 +11,7 @@ use Rattle.shard_queue.specs.declared.lane.Entry.TheVariants.{Item}
 use Rattle.delivery_core.specs.Held.{Held}
 use Rattle.delivery_core.specs.Changes.{Hears}
 use Rattle.delivery_core.specs.Load.{entry_load, lane_load}
-use Rattle.delivery_core.specs.Puts.{LanePuts, joins, has_no_room, has_no_memory}
+use Rattle.delivery_core.specs.inner.Puts.{LanePuts, joins, has_no_room, has_no_memory}
 
 abbrev notes : List Book → List (List Noted)
 notes books = map (λ (b : Book). b.notes) books

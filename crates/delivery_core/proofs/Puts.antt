@@ -18,7 +18,7 @@ use Rattle.world.specs.World.{Config, World, Steps, Put, PutStep, MayPut, put_jo
 use Rattle.delivery_core.specs.Held.{Held}
 use Rattle.delivery_core.specs.Stands.{EachAt, StandsFor, IsNext}
 use Rattle.shard_queue.specs.Plain.{StandsForLane}
-use Rattle.delivery_core.specs.Puts.{LanePuts, joins, has_no_room, has_no_memory}
+use Rattle.delivery_core.specs.inner.Puts.{LanePuts, joins, has_no_room, has_no_memory}
 use Rattle.delivery_core.proofs.Follow.{each_here, each_set, each_but, reached_step, set_back}
 use Rattle.shard_queue.proofs.PlainLaws.{lane_put}
 

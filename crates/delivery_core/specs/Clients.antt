@@ -7,8 +7,6 @@ use Rattle.change_ring.specs.declared.flag_op.FlagOp.{FlagOp}
 use Rattle.change_ring.specs.Log.{Row, replay, rows_of, view_at}
 use Rattle.change_ring.specs.Logged.{flags_logged, removals, removals_if, seen_logged}
 use Rattle.cursor_set.specs.Lines.{lines}
-use Rattle.cursor_set.specs.declared.set.FeedFault.{FeedFault}
-use Rattle.cursor_set.specs.declared.set.FeedFault.TheVariants as lapse
 use Rattle.mailbox.specs.Events.{was_logged}
 use Rattle.mailbox.specs.declared.clients.MailFault.{MailFault}
 use Rattle.mailbox.specs.declared.clients.MailFault.TheVariants.{Stranger, Lapped, Spent, NoMemory}
@@ -123,10 +121,3 @@ pub record IsStatus (k : Config) (b : Box) (status : Status) : Type 0 where
   pub unseen : status.unseen ≡ count_by (λ (row : Row). not row.flags.seen) (rows_of b.log)
   pub deleted : status.deleted ≡ count_by (λ (row : Row). row.flags.deleted) (rows_of b.log)
   pub size : status.size ≡ sum_by (λ (row : Row). length (text_with row.uid b.accepted)) (rows_of b.log)
-
--- a feed's answer, with its fault as one of all calls
-abbrev pub answer_of : Result ℕ FeedFault → Result ℕ MailFault
-answer_of (Ok n) = Ok n
-answer_of (Err lapse.Stranger) = Err Stranger
-answer_of (Err lapse.Lapped) = Err Lapped
-answer_of (Err lapse.NoMemory) = Err NoMemory

@@ -1,13 +1,12 @@
 -- What the delivery side holds, as lists: for each shard its lane and its hand, for each seat its reply lane, what it heard and the least
 -- key that it may use next, the mailboxes, and for each session the client that it has, where it entered a mailbox.
-use Rattle.std.specs.Prelude.{◌≡◌, All, ℕ, ◌-◌, Bool, false, not, List, [], map, slice_index_or, Option, Some, None}
+use Rattle.std.specs.Prelude.{ℕ, ◌-◌, Bool, false, not, List, [], map, slice_index_or, Option, Some, None}
 use Rattle.std.specs.List.{list_any}
 use Rattle.delivery_token.specs.declared.CopyKey.{CopyKey}
 use Rattle.delivery_token.specs.declared.Job.{Job}
 use Rattle.delivery_token.specs.declared.log.Noted.{Noted}
 use Rattle.delivery_token.specs.Book.{Book}
 use Rattle.shard_queue.specs.Waits.{Waits}
-use Rattle.mailbox.specs.declared.history.History.TheVariants.{Kept}
 use Rattle.mailbox.specs.Mail.{Mail}
 use Rattle.world.specs.declared.hand.Hand.{Hand}
 use Rattle.change_ring.specs.declared.change.Change.{Change}
@@ -24,10 +23,6 @@ pub record Held : Type 0 where
   pub boxes : List Mail
   pub next : List CopyKey
   pub clients : List (Option Client)
-
--- each mailbox keeps which copies it took
-abbrev pub AreKept : List Mail → Type 0
-AreKept boxes = All (λ (b : Mail). b.history ≡ Kept) boxes
 
 -- the verdicts that a seat has heard, in order
 abbrev pub notes_of : Held → ℕ → List Noted

@@ -1,6 +1,6 @@
 -- When the delivery side stands for a world: what it holds is that world's. The rest of the world, all that was ever sent, taken and
 -- logged, it need not hold.
-use Rattle.std.specs.Prelude.{◌≡◌, ℕ, ◌<◌, ◌≤◌, ◌++◌, List, length, map, slice_index_or, All, Option, Some, None}
+use Rattle.std.specs.Prelude.{◌≡◌, ℕ, ◌<◌, ◌≤◌, List, length, map, slice_index_or, All, Option, Some, None}
 use Rattle.delivery_token.specs.Keys.{Below}
 use Rattle.delivery_token.specs.declared.CopyKey.{CopyKey}
 use Rattle.delivery_token.specs.declared.Job.{Job}
@@ -8,7 +8,7 @@ use Rattle.shard_queue.specs.Plain.{StandsForLane}
 use Rattle.mailbox.specs.Mail.{Mail, Message}
 use Rattle.mailbox.specs.Stands.{Stands}
 use Rattle.world.specs.World.{Config, World, Box, Session, Event, Step, Steps, IsWorld, EntryBelow, reply_room}
-use Rattle.world.specs.Law.{Headline, IsPart, pairs}
+use Rattle.world.specs.Law.{IsPart, pairs}
 use Rattle.delivery_core.specs.declared.client.Client.{Client}
 use Rattle.delivery_core.specs.Seated.{AreSeated, cursors_of}
 use Rattle.delivery_core.specs.Held.{Held}
@@ -90,14 +90,6 @@ pub record StandsFor (k : Config) (h : Held) (w : World) : Type 0 where
 abbrev pub Follows : Config → Held → List Event → Held → Type 0
 Follows k old events new = (w : World) → StandsFor k old w → (v : World) × Steps k w events v × StandsFor k new v
 
--- From each world that the old one stood for, some events lead to one that the new one stands for.
-abbrev pub Runs : Config → Held → Held → Type 0
-Runs k old new = (w : World) → StandsFor k old w → (events : List Event) × (v : World) × Steps k w events v × StandsFor k new v
-
 -- In no world that it stood for does this event change anything.
 abbrev pub Idle : Config → Held → Event → Type 0
 Idle k old event = (w v : World) → StandsFor k old w → Step k w event v → v ≡ w
-
--- Whatever events led to a world that the old one stood for, some more lead to one that the new one stands for, and the headline holds of it.
-abbrev pub Lives : Config → Held → Held → Type 0
-Lives k old new = (events : List Event) (w : World) → IsWorld k events w → StandsFor k old w → (more : List Event) × (v : World) × IsWorld k (events ++ more) v × StandsFor k new v × Headline k v

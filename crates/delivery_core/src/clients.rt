@@ -10,7 +10,8 @@ ghost use Rattle.mailbox.specs.Events.{in_set};
 ghost use Rattle.mailbox.specs.Mail.{Mail, SameMailbox};
 ghost use Rattle.world.specs.World.{Box, Config, World, Expunge, Feed, Leave, Read, Selected, Store, pending};
 ghost use Rattle.delivery_core.specs.Changes.{SameCounts, SameDelivery};
-ghost use Rattle.delivery_core.specs.Clients.{Alters, Does, Enters, Expunges, Feeds, IsStatus, Leaves, Makes, Reads, Sees, answer_of};
+ghost use Rattle.delivery_core.specs.Clients.{Alters, Does, Enters, Expunges, Feeds, IsStatus, Leaves, Makes, Reads, Sees};
+ghost use Rattle.delivery_core.specs.inner.Clients.{answer_of};
 ghost use Rattle.delivery_core.specs.Held.{behind, client_of, pending_for, view_of};
 ghost use Rattle.delivery_core.specs.Stands.{StandsFor};
 

@@ -10,10 +10,12 @@ ghost use Rattle.delivery_token.specs.Log.{heard_at_once};
 ghost use Rattle.delivery_core.specs.Held.{has_ended, is_ended};
 ghost use Rattle.delivery_core.specs.Load.{load};
 ghost use Rattle.delivery_core.specs.Seated.{cursors_of};
-ghost use Rattle.delivery_core.specs.Puts.{IsNextKey, LanePuts};
+ghost use Rattle.delivery_core.specs.Puts.{IsNextKey};
+ghost use Rattle.delivery_core.specs.inner.Puts.{LanePuts};
 ghost use Rattle.delivery_token.specs.Keys.{AtLeast, past};
-ghost use Rattle.delivery_core.specs.Stands.{EachAt, Follows, Idle, Lives, StandsFor, StandsForBox};
-ghost use Rattle.delivery_core.specs.Boxes.{verdict_of, BoxDelivers};
+ghost use Rattle.delivery_core.specs.Stands.{EachAt, Follows, Idle, StandsFor, StandsForBox};
+ghost use Rattle.delivery_core.specs.inner.Stands.{Lives};
+ghost use Rattle.delivery_core.specs.inner.Boxes.{verdict_of, BoxDelivers};
 ghost use Rattle.delivery_core.specs.Settled.{IsFor};
 ghost use Rattle.delivery_core.specs.New.{IsNewBox, first_key};
 ghost use Rattle.delivery_token.specs.Book.{Book};
@@ -59,7 +61,8 @@ pub struct DeliveryCore {
 
 impl Model for DeliveryCore {
     ghost use Rattle.std.specs.Prelude.{◌≡◌, length};
-    ghost use Rattle.delivery_core.specs.Held.{AreKept, Held};
+    ghost use Rattle.delivery_core.specs.Held.{Held};
+    ghost use Rattle.delivery_core.specs.inner.Held.{AreKept};
     ghost use Rattle.delivery_core.specs.Seated.{AreSeated, cursors_of};
 
     ghost Value = { Held };

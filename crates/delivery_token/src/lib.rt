@@ -8,8 +8,8 @@ mod log;
 ghost use Rattle.std.specs.Prelude.{◌≡◌, ◌↔◌, IfOk, IsTrue};
 ghost use Rattle.delivery_token.specs.Keys.{Precedes};
 
-pub use log::{Noted, WorkerLog};
 use change_ring::Flags;
+pub use log::{Noted, WorkerLog};
 use std::alloc::AllocError;
 use std::marker::Model;
 use std::sync::Arc;

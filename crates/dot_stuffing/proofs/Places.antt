@@ -6,9 +6,10 @@ use Rattle.std.proofs.lemmas.List.Concat.{flat_map-append}
 use Rattle.std.proofs.lemmas.List.Elements.{All-push}
 use Rattle.std.proofs.lemmas.Bool.{eqb-true, eq-eqb}
 use Rattle.line_io.specs.Wire.{EndsInCr, crlf, joined, wire_lines, wire_rest}
-use Rattle.line_io.specs.WireLaws.{wire_more, wire_end}
+use Rattle.line_io.specs.inner.WireLaws.{wire_more, wire_end}
 use Rattle.dot_stuffing.specs.Data.{dot, undotted, Plain}
-use Rattle.dot_stuffing.specs.Unstuffing.{IsAt, after, known, text_so_far, IsOpenAt}
+use Rattle.dot_stuffing.specs.Unstuffing.{IsAt, known, text_so_far, IsOpenAt}
+use Rattle.dot_stuffing.specs.inner.Unstuffing.{after}
 use Rattle.dot_stuffing.specs.declared.place.Place.{Place}
 use Rattle.dot_stuffing.specs.declared.place.Place.TheVariants.{Start, Dot, DotCr, Inside, Cr}
 

@@ -7,7 +7,8 @@ use Rattle.std.proofs.lemmas.List.{take_more, length-take-le, get_or-take}
 use Rattle.memchr.specs.Find.{OccursAt}
 use Rattle.line_io.proofs.Appended.{take_two_of}
 use Rattle.dot_stuffing.specs.Data.{Plain}
-use Rattle.dot_stuffing.specs.Unstuffing.{after, after_two, text_so_far, Collects, IsOpenAt, StandsFor, Tells, Unstuffing}
+use Rattle.dot_stuffing.specs.Unstuffing.{text_so_far, Collects, IsOpenAt, StandsFor, Tells, Unstuffing}
+use Rattle.dot_stuffing.specs.inner.Unstuffing.{after, after_two}
 use Rattle.dot_stuffing.specs.declared.place.Place.{Place}
 use Rattle.dot_stuffing.specs.declared.place.Place.TheVariants.{Start, Cr, Inside}
 use Rattle.dot_stuffing.specs.declared.Progress.{Progress}

@@ -6,7 +6,7 @@ use Rattle.std.proofs.lemmas.List.Concat.{flat_map-append}
 use Rattle.std.proofs.lemmas.List.Elements.{All-push, All-map, All-weaker}
 use Rattle.std.proofs.lemmas.Bool.{eqb-true, eq-eqb}
 use Rattle.line_io.specs.Wire.{EndsInCr, IsUncut, crlf, joined, wire_lines, wire_rest}
-use Rattle.line_io.specs.WireLaws.{wire_more, wire_end, wire_join, wire_joined, reading_cut, uncut_cons, uncut_nil}
+use Rattle.line_io.specs.inner.WireLaws.{wire_more, wire_end, wire_join, wire_joined, reading_cut, uncut_cons, uncut_nil}
 use Rattle.dot_stuffing.specs.Data.{dot, dotted, undotted, stuffed, EndsWhole, IsOpen, Plain}
 
 -- nothing comes after the last CRLF

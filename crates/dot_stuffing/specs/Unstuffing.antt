@@ -1,11 +1,9 @@
 -- What an `Unstuffer` is seen as, and what its answers say of the whole data.
-use Rattle.std.specs.Prelude.{◌≡◌, ◌≢◌, ℕ, ◌<◌, ◌≤◌, List, [], ◌∷◌, ◌++◌, length, map, Contains, Bool, true, false, Option, None, Some, ◌==◌, ◌&&◌, if◌then◌else◌}
+use Rattle.std.specs.Prelude.{◌≡◌, ◌≢◌, ℕ, ◌<◌, ◌≤◌, List, [], ◌∷◌, ◌++◌, length, map, Contains, Bool, true, false, Option, None, Some}
 use Rattle.line_io.specs.Wire.{EndsInCr, joined, wire_lines, wire_rest}
 use Rattle.dot_stuffing.specs.Data.{undotted, IsOpen, Plain}
 use Rattle.dot_stuffing.specs.declared.place.Place.{Place}
 use Rattle.dot_stuffing.specs.declared.place.Place.TheVariants.{Start, Dot, DotCr, Inside, Cr}
-use Rattle.dot_stuffing.specs.declared.place.Next.{Next}
-use Rattle.dot_stuffing.specs.declared.place.Next.TheVariants.{Silent, Adds, AddsBoth, Ends}
 use Rattle.dot_stuffing.specs.declared.Outcome.{Outcome}
 use Rattle.dot_stuffing.specs.declared.Outcome.TheVariants.{Nul, TooBig, NoMemory, Ok}
 use Rattle.dot_stuffing.specs.declared.Progress.{Progress}
@@ -18,14 +16,6 @@ IsAt Dot rest = rest ≡ 46 ∷ []
 IsAt DotCr rest = rest ≡ 46 ∷ 13 ∷ []
 IsAt Inside rest = (rest ≢ []) × (rest ≢ 46 ∷ []) × (EndsInCr rest → ⊥)
 IsAt Cr rest = (rest ≢ 46 ∷ 13 ∷ []) × EndsInCr rest
-
--- the place after a byte of the text
-abbrev pub after : ℕ → Place
-after byte = (if byte == 13 then Cr else Inside)
-
--- the place after two bytes of the text, the second of which is no dot that a line begins with
-abbrev pub after_two : (first second : ℕ) → Place
-after_two first second = (if second == 13 then Cr else if (first == 13) && (second == 10) then Start else Inside)
 
 -- of the line that has not ended, what is known to be text: after a dot and a CR the line may be the end
 abbrev pub known : Place → List ℕ → List ℕ
@@ -40,14 +30,6 @@ text_so_far place wire = joined (map undotted (wire_lines wire)) ++ known place 
 pub record IsOpenAt (place : Place) (wire : List ℕ) : Type 0 where
   pub is_open : IsOpen wire
   pub at : IsAt place (wire_rest wire)
-
--- what a byte more does to the text
-abbrev pub Leads : Place → ℕ → Next → List ℕ → Type 0
-Leads place byte (Silent next) wire = IsOpenAt next (wire ++ byte ∷ []) × (text_so_far next (wire ++ byte ∷ []) ≡ text_so_far place wire)
-Leads place byte (Adds next) wire = IsOpenAt next (wire ++ byte ∷ []) × (text_so_far next (wire ++ byte ∷ []) ≡ text_so_far place wire ++ byte ∷ [])
-Leads place byte (AddsBoth next) wire =
-    IsOpenAt next (wire ++ byte ∷ []) × (text_so_far next (wire ++ byte ∷ []) ≡ (text_so_far place wire ++ 13 ∷ []) ++ byte ∷ [])
-Leads place byte Ends wire = Plain (wire ++ byte ∷ []) (text_so_far place wire)
 
 -- what a `Buffer` holds: the text so far, and what stands before it
 pub record Buffered : Type 0 where
@@ -76,12 +58,6 @@ IsBehind c front = c.no_memory ≡ false → c.front ≡ front
 pub record Collects (c : Collected) (text : List ℕ) : Type 0 where
   pub nul : c.has_nul ≡ true → Contains text 0
   pub no_nul : c.has_nul ≡ false → Contains text 0 → ⊥
-  pub big : c.is_big ≡ true → c.max < length text
-  pub not_big : c.is_big ≡ false → (c.count ≡ length text) × (length text ≤ c.max)
-  pub bytes : c.is_big ≡ false → c.no_memory ≡ false → c.bytes ≡ text
-
--- the same but for NULs: as many bytes came, and these are kept
-pub record Keeps (c : Collected) (text : List ℕ) : Type 0 where
   pub big : c.is_big ≡ true → c.max < length text
   pub not_big : c.is_big ≡ false → (c.count ≡ length text) × (length text ≤ c.max)
   pub bytes : c.is_big ≡ false → c.no_memory ≡ false → c.bytes ≡ text

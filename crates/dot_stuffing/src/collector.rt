@@ -2,7 +2,8 @@
 //! knows lines or dots.
 
 ghost use Rattle.std.specs.Prelude.{◌≡◌, ℕ, List, [], ◌∷◌, ◌++◌, true, false, Contains, flat_map};
-ghost use Rattle.dot_stuffing.specs.Unstuffing.{Collects, IsBehind, IsOutcome, Keeps};
+ghost use Rattle.dot_stuffing.specs.Unstuffing.{Collects, IsBehind, IsOutcome};
+ghost use Rattle.dot_stuffing.specs.inner.Unstuffing.{Keeps};
 
 use crate::buffer::Buffer;
 use crate::{NUL, Outcome};

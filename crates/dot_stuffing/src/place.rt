@@ -1,7 +1,8 @@
 //! Where in a line the wire stands, and what one byte more does. No text is kept here.
 
 ghost use Rattle.std.specs.Prelude.{◌≡◌, ◌+◌, ℕ, List, length, slice_index};
-ghost use Rattle.dot_stuffing.specs.Unstuffing.{IsOpenAt, Leads, after, after_two};
+ghost use Rattle.dot_stuffing.specs.Unstuffing.{IsOpenAt};
+ghost use Rattle.dot_stuffing.specs.inner.Unstuffing.{Leads, after, after_two};
 
 use crate::{CR, DOT, LF};
 

@@ -5,7 +5,8 @@ use Rattle.std.specs.List.{list_any, prefix_len}
 use Rattle.std.specs.Char.{eq_ignore_ascii_case}
 use Rattle.std.specs.Str.{str_eq_ignore_ascii_case as is_same}
 use Rattle.envelope.specs.Directory.{is_home, is_same_folder, wanted, folder_named, is_plus}
-use Rattle.envelope.specs.LocalPart.{past_user, says_folder_after}
+use Rattle.envelope.specs.LocalPart.{past_user}
+use Rattle.envelope.specs.inner.LocalPart.{says_folder_after}
 
 -- a value's parts at its first +
 abbrev front : List ℕ → ℕ

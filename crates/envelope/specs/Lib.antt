@@ -6,4 +6,5 @@ pub mod Directory
 pub mod Names
 pub mod LocalPart
 pub mod Word
-pub mod Rows
+pub mod inner
+pub mod rows

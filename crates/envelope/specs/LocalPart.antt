@@ -1,7 +1,7 @@
 -- How the value of a local part is read, byte by byte; nobody has to believe this file.
-use Rattle.std.specs.Prelude.{ℕ, Bool, false, List, [], ◌∷◌, Option, Some, None, ◌||◌, not, if◌then◌else◌}
+use Rattle.std.specs.Prelude.{ℕ, false, List, [], ◌∷◌, Option, Some, None, ◌||◌, not, if◌then◌else◌}
 use Rattle.std.specs.Char.{eq_ignore_ascii_case}
-use Rattle.envelope.specs.Directory.{unquoted, is_plus, folder_named, is_same_folder}
+use Rattle.envelope.specs.Directory.{unquoted, is_plus}
 use Rattle.envelope.specs.declared.local_part.LocalValue.{LocalValue}
 
 -- what is left of a value
@@ -13,12 +13,3 @@ abbrev pub past_user : List ℕ → List ℕ → Option (List ℕ)
 past_user [] value = Some value
 past_user (u ∷ us) [] = None
 past_user (u ∷ us) (c ∷ cs) = if is_plus c || not (eq_ignore_ascii_case c u) then None else past_user us cs
-
--- what follows the user says this folder
-abbrev pub says_folder : List ℕ → Option (List ℕ) → Bool
-says_folder [] folder = is_same_folder None folder
-says_folder (b ∷ name) folder = if is_plus b then is_same_folder (folder_named name) folder else false
-
-abbrev pub says_folder_after : Option (List ℕ) → Option (List ℕ) → Bool
-says_folder_after None folder = false
-says_folder_after (Some rest) folder = says_folder rest folder

@@ -8,7 +8,7 @@ use Rattle.change_ring.specs.declared.change.Flags.{Flags}
 use Rattle.change_ring.specs.Log.{shown}
 use Rattle.cursor_set.specs.Lines.{lines, line, place, flag_words, spaced}
 use Rattle.line_io.specs.Wire.{IsCut, crlf, wire_lines, wire_rest}
-use Rattle.line_io.specs.WireLaws.{cut_end, cut_more, cut_none, reading_cut}
+use Rattle.line_io.specs.inner.WireLaws.{cut_end, cut_more, cut_none, reading_cut}
 use Rattle.mailbox.specs.declared.clients.MailFault.{MailFault}
 use Rattle.mailbox.specs.declared.clients.MailFault.TheVariants.{Stranger, Lapped, Spent, NoMemory}
 use Rattle.mailbox.specs.declared.clients.Opening.{Opening}

@@ -11,8 +11,8 @@ use Rattle.shard_queue.specs.declared.reply.ReceiverSeat.{ReceiverSeat}
 use Rattle.shard_queue.specs.Reply.{IsReceiver, sent_on}
 use Rattle.shard_queue.specs.Seats.{IsConsumer, sent}
 use Rattle.lane_work.specs.Seats.{AreSeats, AreSenders}
-use Rattle.lane_seats.specs.Rows.{AreConsumers, AreHands}
-use Rattle.lane_seats.specs.SenderRows.{AreReceivers, AreSenderHands}
+use Rattle.lane_seats.specs.rows.Rows.{AreConsumers, AreHands}
+use Rattle.lane_seats.specs.rows.SenderRows.{AreReceivers, AreSenderHands}
 use Rattle.house_floor.specs.Crew.{AllAt}
 
 -- a worker's seats on all lanes, which have put nothing

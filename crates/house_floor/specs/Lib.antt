@@ -1,4 +1,4 @@
 pub mod Users
 pub mod Crew
 pub mod Opening
-pub mod Making
+pub mod inner

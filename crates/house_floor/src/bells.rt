@@ -2,7 +2,7 @@
 //! may look at. Who rings them, and who sleeps on them, stands in the crates below.
 
 ghost use Rattle.std.specs.Prelude.{◌≡◌, ◌<◌, IfOk, length, vec_len};
-ghost use Rattle.house_floor.specs.Making.{AreBells};
+ghost use Rattle.house_floor.specs.inner.Making.{AreBells};
 
 use crate::floor::Visit;
 use crate::users::inbox_numbered;

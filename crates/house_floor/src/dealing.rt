@@ -3,10 +3,10 @@
 
 ghost use Rattle.std.specs.Prelude.{◌≡◌, ◌≤◌, [], All, length, map, vec_len, vec_capacity};
 ghost use Rattle.house_floor.specs.Crew.{AllAt, IsPost, IsStand};
-ghost use Rattle.house_floor.specs.Making.{AreUndealt};
+ghost use Rattle.house_floor.specs.inner.Making.{AreUndealt};
 ghost use Rattle.lane_seats.specs.Rooms.{AreRooms};
-ghost use Rattle.lane_seats.specs.Rows.{AreConsumers, AreHands};
-ghost use Rattle.lane_seats.specs.SenderRows.{AreReceivers, AreSenderHands};
+ghost use Rattle.lane_seats.specs.rows.Rows.{AreConsumers, AreHands};
+ghost use Rattle.lane_seats.specs.rows.SenderRows.{AreReceivers, AreSenderHands};
 ghost use Rattle.shard_queue.specs.Reply.{received, senders_of};
 ghost use Rattle.shard_queue.specs.Seats.{got, producers_of};
 

@@ -2,7 +2,7 @@
 //! refused nothing has to be undone. What can't be let go stands in `stock`.
 
 ghost use Rattle.std.specs.Prelude.{◌≡◌, ◌<◌, ◌≤◌, [], IfOk, length, vec_len, vec_capacity};
-ghost use Rattle.house_floor.specs.Making.{AreFittings, ArePapers};
+ghost use Rattle.house_floor.specs.inner.Making.{AreFittings, ArePapers};
 
 use crate::bells::{Bells, hang_bells};
 use crate::floor::Visit;

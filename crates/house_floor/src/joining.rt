@@ -5,7 +5,7 @@ ghost use Rattle.shard_queue.specs.Reply.{room_of, senders_of};
 ghost use Rattle.shard_queue.specs.Seats.{capacity_of, producers_of};
 ghost use Rattle.house_floor.specs.declared.floor.Visit.{Visit};
 ghost use Rattle.house_floor.specs.Crew.{IsCrew};
-ghost use Rattle.house_floor.specs.Making.{AreCrewLists, AreFittings, AreStock, AreUndealt, IsHall};
+ghost use Rattle.house_floor.specs.inner.Making.{AreCrewLists, AreFittings, AreStock, AreUndealt, IsHall};
 ghost use Rattle.house_floor.specs.Opening.{AreBaskets, IsFloor, reply_room};
 
 use crate::dealing::{Undealt, deal_out};

@@ -3,7 +3,7 @@
 //! all that was made by then is spent. What may be let go stands in `fittings`.
 
 ghost use Rattle.std.specs.Prelude.{◌≡◌, ◌<◌, ◌≤◌, [], IfOk, OnOk, vec_len, vec_capacity};
-ghost use Rattle.house_floor.specs.Making.{AreEmptyLists, AreLists, AreStock};
+ghost use Rattle.house_floor.specs.inner.Making.{AreEmptyLists, AreLists, AreStock};
 ghost use Rattle.house_floor.specs.Opening.{AreNoSpares, AreSpares};
 
 use crate::floor::{Post, Stand};

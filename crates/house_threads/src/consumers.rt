@@ -3,7 +3,8 @@
 ghost use Rattle.std.specs.Prelude.{ℕ, ◌≡◌, ◌≤◌, ◌<◌, ◌+◌, [], length, vec_len, vec_capacity};
 ghost use Rattle.std.specs.Mem.{manually_drop_value};
 ghost use Rattle.house_floor.specs.Crew.{AllAt, IsStand};
-ghost use Rattle.house_threads.specs.Crew.{IsKept, IsServiceOf};
+ghost use Rattle.house_threads.specs.Crew.{IsServiceOf};
+ghost use Rattle.house_threads.specs.inner.Crew.{IsKept};
 
 use crate::aside::step_aside;
 use crate::parcels::{Manned, mark, packed};

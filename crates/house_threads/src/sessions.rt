@@ -2,7 +2,8 @@
 
 ghost use Rattle.std.specs.Prelude.{ℕ, ◌≡◌, ◌≤◌, ◌<◌, [], true, IfSome, length, vec_len, vec_capacity};
 ghost use Rattle.house_floor.specs.Crew.{AllAt, AreVisits};
-ghost use Rattle.house_threads.specs.Crew.{IsGuest, IsVisitOf};
+ghost use Rattle.house_threads.specs.Crew.{IsVisitOf};
+ghost use Rattle.house_threads.specs.inner.Crew.{IsGuest};
 
 use house_floor::{Floor, Visit, inbox_numbered};
 use pace::Gate;

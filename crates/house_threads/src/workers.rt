@@ -3,7 +3,8 @@
 ghost use Rattle.std.specs.Prelude.{ℕ, ◌≡◌, ◌≤◌, ◌<◌, ◌+◌, [], length, vec_len, vec_capacity};
 ghost use Rattle.std.specs.Mem.{manually_drop_value};
 ghost use Rattle.house_floor.specs.Crew.{AllAt, IsHouse, IsPost};
-ghost use Rattle.house_threads.specs.Crew.{IsHired, IsWorkOf};
+ghost use Rattle.house_threads.specs.Crew.{IsWorkOf};
+ghost use Rattle.house_threads.specs.inner.Crew.{IsHired};
 
 use crate::aside::stand_down;
 use crate::parcels::{Manned, mark, packed};

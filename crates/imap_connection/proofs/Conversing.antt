@@ -8,7 +8,8 @@ use Rattle.imap_session.specs.declared.standing.After.{After}
 use Rattle.imap_session.specs.declared.standing.After.TheVariants.{Bye}
 use Rattle.imap_connection.specs.declared.connection.Fed.{Fed}
 use Rattle.imap_session.specs.Exchange.{Call, Answer, Standing, may_send, waits_for}
-use Rattle.imap_connection.specs.Dialogue.{Answered, AnswersLine, Converses, Dialogue, Link, StandsFor, Takes, begins, ends, goes_on, has_ended, parts, reads, silent, too_long}
+use Rattle.imap_connection.specs.Dialogue.{Answered, AnswersLine, Converses, Dialogue, Link, StandsFor, goes_on, parts, reads, silent, too_long}
+use Rattle.imap_connection.specs.inner.Dialogue.{Takes, begins, ends, has_ended}
 
 -- what was written for a line is what is said of it alone
 said_alone : {S : Type 0} (step : S → Call → Answer → S → Type 0) (now : Standing) (line : List ℕ) (old new : S) (before after : List ℕ) (how : After) (next : Standing)

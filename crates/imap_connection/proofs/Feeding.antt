@@ -3,7 +3,7 @@ use Rattle.std.proofs.Common.{◌≡◌, ℕ, List, [], ◌∷◌, ◌++◌, tak
 use Rattle.std.specs.Prelude.{All}
 use Rattle.std.proofs.lemmas.List.Elements.{All-head}
 use Rattle.line_io.specs.Wire.{EndsInCr, IsUncut, crlf, joined, wire_lines, wire_rest}
-use Rattle.line_io.specs.WireLaws.{lines_are, reading_cut, uncut_nil}
+use Rattle.line_io.specs.inner.WireLaws.{lines_are, reading_cut, uncut_nil}
 use Rattle.line_io.specs.Cutting.{Cutter, EndsLine}
 use Rattle.line_io.specs.Cutting as cutting
 use Rattle.imap_session.specs.Exchange.{Standing}

@@ -1,10 +1,9 @@
 -- The bytes of an IMAP client, cut into lines, and what is answered to each of them.
-use Rattle.std.specs.Prelude.{◌≡◌, ℕ, ◌+◌, ◌<◌, ◌≤◌, List, [], ◌∷◌, ◌++◌, ◌⊎◌, length, take, true, false, Option, Some, None}
-use Rattle.line_io.specs.Wire.{IsUncut, crlf, joined}
+use Rattle.std.specs.Prelude.{◌≡◌, ℕ, ◌+◌, ◌<◌, ◌≤◌, List, [], ◌∷◌, ◌++◌, ◌⊎◌, length, take, Option, Some, None}
+use Rattle.line_io.specs.Wire.{IsUncut, joined}
 use Rattle.line_io.specs.Cutting as cutting
 use Rattle.imap_session.specs.declared.standing.After.{After}
 use Rattle.imap_session.specs.declared.standing.After.TheVariants.{Bye}
-use Rattle.imap_connection.specs.declared.connection.Fed.{Fed}
 use Rattle.imap_connection.specs.declared.connection.Progress.{Progress}
 use Rattle.imap_session.specs.Exchange.{Call, Answer, Standing, waits_for}
 use Rattle.imap_session.specs.Commands.{turn_of_long_line}
@@ -34,14 +33,6 @@ pub record StandsFor (link : Link) (d : Dialogue) : Type 0 where
 pub data AnswersLine {S : Type 0} (step : S → Call → Answer → S → Type 0) (now : Standing) (line : List ℕ) (old new : S) (before after : List ℕ) (how : After) (next : Standing) : Type 0 where
   reads : length line + 2 ≤ most_bytes → Answers step now line old new before after how next → AnswersLine step now line old new before after how next
   too_long : most_bytes < length line + 2 → new ≡ old → after ≡ before ++ (turn_of_long_line now).bytes → how ≡ (turn_of_long_line now).after → next ≡ (turn_of_long_line now).standing → AnswersLine step now line old new before after how next
-
--- What a call took of a piece: nothing where the session has ended, all of it where no line ends in it, or the end of the line that has begun, which was answered.
-pub data Takes {S : Type 0} (step : S → Call → Answer → S → Type 0) (d : Dialogue) (piece : List ℕ) (old new : S) (before after : List ℕ) (fed : Fed) (link : Link) : Type 0 where
-  has_ended : d.standing.ended ≡ true → fed.used ≡ 0 → fed.after ≡ Bye → new ≡ old → after ≡ before → StandsFor link d → Takes step d piece old new before after fed link
-  begins : d.standing.ended ≡ false → fed.used ≡ length piece → fed.after ≡ waits_for d.standing.idling → new ≡ old → after ≡ before
-      → StandsFor link (record { standing = d.standing; begun = d.begun ++ piece }) → Takes step d piece old new before after fed link
-  ends : (line : List ℕ) (next : Standing) → d.standing.ended ≡ false → d.begun ++ take fed.used piece ≡ line ++ crlf → IsUncut line
-      → AnswersLine step d.standing line old new before after fed.after next → StandsFor link (record { standing = next; begun = [] }) → Takes step d piece old new before after fed link
 
 -- ---- lines, one after the other
 

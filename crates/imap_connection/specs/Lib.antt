@@ -1,1 +1,2 @@
 pub mod Dialogue
+pub mod inner

@@ -7,7 +7,8 @@ ghost use Rattle.imap_session.specs.Exchange.{Feed, Refused, is_idling, may_send
 ghost use Rattle.imap_session.specs.Commands.{greeting, most_changes};
 ghost use Rattle.imap_session.specs.Store.{IdleTurns, Starves};
 ghost use Rattle.mailbox.specs.declared.clients.MailFault.{MailFault};
-ghost use Rattle.imap_connection.specs.Dialogue.{Dialogue, StandsFor, Takes, Took, Turns, tag_len};
+ghost use Rattle.imap_connection.specs.Dialogue.{Dialogue, StandsFor, Took, Turns, tag_len};
+ghost use Rattle.imap_connection.specs.inner.Dialogue.{Takes};
 
 use imap_session::{After, Folder, Selected, Session, SessionFault, Store};
 use line_io::{LineCutter, What};

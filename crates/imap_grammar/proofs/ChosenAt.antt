@@ -9,7 +9,7 @@ use Rattle.std.proofs.lemmas.List.{take-append-drop, length-drop, length-take-le
 use Rattle.std.proofs.lemmas.List.Elements.{All-weaker}
 use Rattle.std.proofs.lemmas.List.Folds.{list_any_none}
 use Rattle.imap_grammar.specs.Sets.{at_places}
-use Rattle.imap_grammar.specs.Choosing.{is_within, is_covered}
+use Rattle.imap_grammar.specs.inner.Choosing.{is_within, is_covered}
 use Rattle.imap_grammar.specs.declared.places.PlaceRange.{PlaceRange}
 
 outside : (range : PlaceRange) (p : ℕ) → (range.first ≤ p → p ≤ range.last → ⊥) → is_within range p ≡ false

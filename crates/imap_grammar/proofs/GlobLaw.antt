@@ -8,7 +8,7 @@ use Rattle.envelope.proofs.Words.{both_true}
 use Rattle.envelope.specs.Bytes.{is_not_slash}
 use Rattle.envelope.specs.Grammar.{Many}
 use Rattle.imap_grammar.specs.Answers.{Glob, end, any, level, same, some_rest, after_byte, matches, is_listed, name_answer, listed, asks_for_root, root_answer, list_answer}
-use Rattle.imap_grammar.specs.Globs.{is_wild, at_byte}
+use Rattle.imap_grammar.specs.inner.Globs.{is_wild, at_byte}
 
 -- ---- one byte of a pattern
 

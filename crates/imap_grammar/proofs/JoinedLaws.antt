@@ -9,7 +9,7 @@ use Rattle.std.specs.Io.{StartsWith}
 use Rattle.std.proofs.lemmas.List.{take-append-le, take-take, take_at, map-append}
 use Rattle.cursor_set.specs.Lines.{spaced}
 use Rattle.envelope.specs.Reading.{words}
-use Rattle.imap_grammar.specs.Joined.{lead, joined, is_none}
+use Rattle.imap_grammar.specs.inner.Joined.{lead, joined, is_none}
 
 others_joined : (w : List ℕ) (ws : List (List ℕ)) → spaced (w ∷ ws) ≡ w ++ joined false ws
 others_joined w [] = sym (none w)

@@ -2,12 +2,10 @@ pub mod Bytes
 pub mod Numbers
 pub mod Cuts
 pub mod Sets
-pub mod Choosing
 pub mod Items
 pub mod Verbs
 pub mod Grammar
 pub mod Reading
 pub mod Answers
-pub mod Joined
-pub mod Globs
-pub mod Rows
+pub mod inner
+pub mod rows

@@ -9,7 +9,7 @@ ghost use Rattle.imap_grammar.specs.Grammar.{section_word, status_word};
 ghost use Rattle.imap_grammar.specs.Items.{fetch_item_of, fetch_items_of, status_item_of, status_items_of};
 ghost use Rattle.imap_grammar.specs.Answers.{header, section, part, origin_text, is_crlf, literal, body_text, item_text, uid_first, flags_last, answered, marks_seen, is_uid, is_flags, status_number, status_text, row_answer, status_answer};
 ghost use Rattle.cursor_set.specs.Lines.{spaced};
-ghost use Rattle.imap_grammar.specs.Joined.{lead, joined, is_none};
+ghost use Rattle.imap_grammar.specs.inner.Joined.{lead, joined, is_none};
 
 use crate::items::{
     FetchItem, FetchItems, Section, Span, StatusItem, StatusItems, fetch_item, status_item,

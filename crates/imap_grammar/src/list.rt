@@ -4,7 +4,7 @@
 ghost use Rattle.std.specs.Prelude.{◌≡◌, ◌+◌, ◌<◌, ◌≤◌, ◌++◌, length, drop, IfOk, OnOk, OnErr, [], List, ℕ, map, flat_map, vec_capacity};
 ghost use Rattle.std.specs.Io.{StartsWith};
 ghost use Rattle.imap_grammar.specs.Answers.{matches, is_listed, listed, asks_for_root, list_answer, name_answer};
-ghost use Rattle.imap_grammar.specs.Globs.{is_wild, at_byte, Reached};
+ghost use Rattle.imap_grammar.specs.inner.Globs.{is_wild, at_byte, Reached};
 
 use crate::name::Name;
 use line_io::append_parts;

@@ -4,7 +4,7 @@
 ghost use Rattle.std.specs.Prelude.{◌≡◌, ℕ, ◌+◌, ◌-◌, ◌<◌, ◌≤◌, ◌++◌, ◌∷◌, List, IfOk, All, length, drop, slice_index};
 ghost use Rattle.std.specs.List.Sorted.{IsNonDecreasing, IsNonDecreasingBy};
 ghost use Rattle.imap_grammar.specs.declared.places.PlaceRange.{PlaceRange};
-ghost use Rattle.imap_grammar.specs.Choosing.{places_of, is_within, is_covered};
+ghost use Rattle.imap_grammar.specs.inner.Choosing.{places_of, is_within, is_covered};
 ghost use Rattle.imap_grammar.specs.Sets.{numeric, is_between, is_named, at_places};
 
 use crate::ranges::numeric_of;

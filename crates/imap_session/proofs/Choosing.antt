@@ -8,7 +8,7 @@ use Rattle.imap_grammar.specs.declared.view.Named.{Named}
 use Rattle.imap_session.specs.Exchange as ex
 use Rattle.imap_session.specs.Exchange.{Call, Answer, Looked, Exchange, Standing}
 use Rattle.imap_session.specs.Commands.{on_set, on_chosen, says}
-use Rattle.imap_session.specs.Store.{Reaches}
+use Rattle.imap_session.specs.inner.Store.{Reaches}
 use Rattle.imap_session.proofs.Runs.{reaches_look}
 
 pub reaches_chosen : {S : Type 0} (step : S → Call → Answer → S → Type 0) (by_uid : Bool) (set : List SeqRange) (next : List ℕ → List ℕ → Exchange) (view uids : List ℕ) (s : S) (text : List ℕ)

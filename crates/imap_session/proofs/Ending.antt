@@ -9,7 +9,8 @@ use Rattle.imap_session.specs.declared.standing.Selected.{Selected}
 use Rattle.imap_session.specs.Exchange as ex
 use Rattle.imap_session.specs.Exchange.{Call, Answer, Exchange, Folder, Standing, Turn, Event, played, refused, saying, closed, tagged, refusal_text, refusal_after, nothing_more}
 use Rattle.imap_session.specs.Commands.{on_found, wrong_state, on_command}
-use Rattle.imap_session.specs.Store.{Met, Reaches, Stops, Does, Moves, Plays, after_command, ending, last_words, after_result, onward}
+use Rattle.imap_session.specs.Store.{Met}
+use Rattle.imap_session.specs.inner.Store.{Reaches, Stops, Does, Moves, Plays, after_command, ending, last_words, after_result, onward}
 use Rattle.imap_session.proofs.Runs.{Met-append, reaches_here, reaches_put}
 
 -- what is done where the selected mailbox stays

@@ -7,7 +7,7 @@ use Rattle.imap_grammar.specs.declared.command.Fetch.{Fetch}
 use Rattle.imap_session.specs.Exchange as ex
 use Rattle.imap_session.specs.Exchange.{Call, Answer, Found, Refused, Exchange, Standing}
 use Rattle.imap_session.specs.Commands.{on_found, fetched, fetching}
-use Rattle.imap_session.specs.Store.{Reaches, Stops}
+use Rattle.imap_session.specs.inner.Store.{Reaches, Stops}
 use Rattle.imap_session.proofs.Runs.{reaches_read, reaches_write, reaches_then, stops_write, stops_then}
 
 -- a message that is there: its answer is what is left to write

@@ -13,7 +13,8 @@ use Rattle.imap_session.specs.declared.standing.After.TheVariants.{Go, Idle, Bye
 use Rattle.imap_session.specs.declared.standing.Selected.{Selected}
 use Rattle.imap_session.specs.Exchange.{Answer, Call, Standing, Starved, closed, tagged}
 use Rattle.imap_session.specs.Commands.{completed, fault_text, on_command, on_idle_line, on_read, says, showing, turn_of, turn_while}
-use Rattle.imap_session.specs.Store.{Answers, Does, Plays, Reaches, after_result, is_idle, last, last_words}
+use Rattle.imap_session.specs.Store.{Answers}
+use Rattle.imap_session.specs.inner.Store.{Does, Plays, Reaches, after_result, is_idle, last, last_words}
 use Rattle.imap_session.proofs.Ending.{moves_still, plays_moved}
 use Rattle.imap_session.proofs.Runs.{reaches_here}
 

@@ -2,4 +2,5 @@ pub mod Exchange
 pub mod Commands
 pub mod Store
 pub mod Shows
-pub mod Rows
+pub mod inner
+pub mod rows

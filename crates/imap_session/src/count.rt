@@ -6,7 +6,7 @@ ghost use Rattle.imap_grammar.specs.Answers.{list_answer, status_answer};
 ghost use Rattle.imap_grammar.specs.declared.command.Command.TheVariants as commands;
 ghost use Rattle.imap_session.specs.Exchange.{Exchange, Count, Folder as Place, Write};
 ghost use Rattle.imap_session.specs.Commands.{completed, counting, on_folder, showing, wanting};
-ghost use Rattle.imap_session.specs.Store.{Does, last};
+ghost use Rattle.imap_session.specs.inner.Store.{Does, last};
 
 use crate::expunge::show_pending;
 use crate::folders::find_folder;

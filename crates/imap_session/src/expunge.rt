@@ -6,7 +6,7 @@ ghost use Rattle.std.specs.Vec.{vec_capacity};
 ghost use Rattle.imap_grammar.specs.declared.command.Command.TheVariants as commands;
 ghost use Rattle.imap_session.specs.Exchange.{Exchange, Expunge, Feed};
 ghost use Rattle.imap_session.specs.Commands.{completed, expunge_set, showing, unlimited};
-ghost use Rattle.imap_session.specs.Store.{Does, last};
+ghost use Rattle.imap_session.specs.inner.Store.{Does, last};
 
 use crate::show::{purge, show};
 use crate::standing::Selected;

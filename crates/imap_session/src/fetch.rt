@@ -6,7 +6,7 @@ ghost use Rattle.imap_grammar.specs.Answers.{row_answer};
 ghost use Rattle.imap_grammar.specs.Sets.{named_at};
 ghost use Rattle.imap_session.specs.Exchange.{Exchange, Read, Write};
 ghost use Rattle.imap_session.specs.Commands.{on_found, fetched, fetching, messages_done, on_set};
-ghost use Rattle.imap_session.specs.Store.{Does, last};
+ghost use Rattle.imap_session.specs.inner.Store.{Does, last};
 ghost use Rattle.imap_grammar.specs.declared.command.Command.TheVariants as commands;
 
 use crate::say::hold_room;

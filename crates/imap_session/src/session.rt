@@ -50,7 +50,8 @@ impl Session {
     ghost use Rattle.std.specs.Vec.{vec_capacity};
     ghost use Rattle.imap_session.specs.Exchange.{Feed, Refused, closed, is_idling, may_send, refusal_text, tagged};
     ghost use Rattle.imap_session.specs.Commands.{greeting, long_line_text, most_changes, on_command, on_idle_line, turn_of_long_line};
-    ghost use Rattle.imap_session.specs.Store.{Answers, IdleTurns, Plays, Starves, is_idle, room_for};
+    ghost use Rattle.imap_session.specs.Store.{Answers, IdleTurns, Starves, room_for};
+    ghost use Rattle.imap_session.specs.inner.Store.{Plays, is_idle};
 
     /// The session of a client whose mailboxes have these names. It has selected none. Where two have the same name, the first is found.
     pub fn new(folders: Vec<Folder>) -> Session

@@ -5,7 +5,8 @@ ghost use Rattle.std.specs.Prelude.{◌≡◌, ◌≢◌, ◌+◌, ◌≤◌, �
 ghost use Rattle.std.specs.Option.{option_copied};
 ghost use Rattle.std.specs.Vec.{vec_capacity};
 ghost use Rattle.imap_session.specs.Exchange.{Exchange, Expunge, Feed};
-ghost use Rattle.imap_session.specs.Store.{Does, Feeds};
+ghost use Rattle.imap_session.specs.Store.{Feeds};
+ghost use Rattle.imap_session.specs.inner.Store.{Does};
 
 use crate::store::Store;
 use mailbox::MailFault;

@@ -5,7 +5,7 @@ ghost use Rattle.std.specs.Prelude.{◌≡◌, ◌↔◌, ◌+◌, ◌≤◌, �
 ghost use Rattle.std.specs.Vec.{vec_capacity};
 ghost use Rattle.imap_grammar.specs.declared.command.Command.TheVariants as commands;
 ghost use Rattle.imap_session.specs.Commands.{completed, fault_text, on_command, on_idle_line, showing};
-ghost use Rattle.imap_session.specs.Store.{Does, Moves, after_command, after_result, ending, is_idle, last, last_words};
+ghost use Rattle.imap_session.specs.inner.Store.{Does, Moves, after_command, after_result, ending, is_idle, last, last_words};
 
 use crate::count::{count_mailbox, list_folders};
 use crate::expunge::show_pending;

@@ -7,7 +7,8 @@ use Rattle.session_thread.specs.Life.{Moment, moment}
 use Rattle.imap_session.specs.declared.standing.After.{After}
 use Rattle.imap_stream.specs.declared.visit.VisitFault.{VisitFault}
 use Rattle.imap_stream.specs.declared.visit.VisitFault.TheVariants.{NoMemory, Write}
-use Rattle.imap_stream.specs.Visits.{LeadsTo, Looks, SendsAll, SendsFirst, ShowsAll, ShowsInPart, Tells, VisitState, cut, cut_in_part, in_part, is_over, whole}
+use Rattle.imap_stream.specs.Visits.{LeadsTo, SendsAll, SendsFirst, ShowsAll, ShowsInPart, Tells, VisitState, is_over}
+use Rattle.imap_stream.specs.inner.Visits.{Looks, cut, cut_in_part, in_part, whole}
 
 -- each dialogue was led by P, behind what stood in the room before
 abbrev pub Led : (Moment → Moment → Type 0) → VisitState → List ℕ → List ℕ → VisitState → Type 0

@@ -91,14 +91,6 @@ pub record Tells (P : Moment → Moment → Type 0) (Sends : VisitState → List
   pub leads : LeadsTo P old said new
   pub sends : Sends old said new
 
--- A visit that wasn't over had a look: its client was shown what there is, or what there was memory for. What was said was sent, or its first
--- bytes where the output failed.
-pub data Looks (old new : VisitState) : Type 0 where
-  whole : Tells ShowsAll SendsAll old new → Looks old new
-  in_part : Tells (ShowsInPart new.room) SendsAll old new → Looks old new
-  cut : Tells ShowsAll SendsFirst old new → Looks old new
-  cut_in_part : Tells (ShowsInPart new.room) SendsFirst old new → Looks old new
-
 -- ---- the first and the last words
 
 -- The client was greeted (RFC 9051, 7.1.4), and nothing else was done: its session is in no mailbox, and its line has not begun.

@@ -3,7 +3,8 @@
 //! call of the visit, and no clause says more; who starts the threads stands above.
 
 ghost use Rattle.std.specs.Prelude.{◌≡◌, false, true, IfErr};
-ghost use Rattle.imap_stream.specs.Visits.{Looks, is_over};
+ghost use Rattle.imap_stream.specs.Visits.{is_over};
+ghost use Rattle.imap_stream.specs.inner.Visits.{Looks};
 
 use crate::visit::Visit;
 use imap_session::After;

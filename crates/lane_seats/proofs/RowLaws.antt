@@ -8,7 +8,7 @@ use Rattle.shard_queue.specs.declared.queue.Ended.{Ended}
 use Rattle.shard_queue.specs.declared.queue.ConsumerSeat.{ConsumerSeat}
 use Rattle.shard_queue.specs.Seats.{IsProducer, IsEnded, IsConsumer, number_of, sent, producers_of, numbers}
 use Rattle.lane_work.specs.Seats.{AreSeats, AreEnded}
-use Rattle.lane_seats.specs.Rows.{AreLeft, AreHands, Rows, AreConsumers, EndedRows, AreIn, AllIn, AreEndedHands, Keep}
+use Rattle.lane_seats.specs.rows.Rows.{AreLeft, AreHands, Rows, AreConsumers, EndedRows, AreIn, AllIn, AreEndedHands, Keep}
 use Rattle.lane_seats.proofs.StepLaws.{StepTo, ahead}
 
 -- ---- lanes that are made

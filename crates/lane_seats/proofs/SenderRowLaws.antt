@@ -9,7 +9,7 @@ use Rattle.shard_queue.specs.declared.reply.ReceiverSeat.{ReceiverSeat}
 use Rattle.shard_queue.specs.Reply.{IsSender, IsSenderEnded, IsReceiver, sender_number, sent_on, senders_of}
 use Rattle.shard_queue.specs.Seats.{numbers}
 use Rattle.lane_work.specs.Seats.{AreSenders, AreSendersEnded}
-use Rattle.lane_seats.specs.SenderRows.{AreSendersLeft, AreSenderHands, SenderRows, AreReceivers, SenderEndedRows, AreSendersIn, AllSendersIn, AreSenderEndedHands, KeepSenders}
+use Rattle.lane_seats.specs.rows.SenderRows.{AreSendersLeft, AreSenderHands, SenderRows, AreReceivers, SenderEndedRows, AreSendersIn, AllSendersIn, AreSenderEndedHands, KeepSenders}
 use Rattle.lane_seats.proofs.StepLaws.{StepTo, ahead}
 
 -- ---- channels that are made

@@ -17,8 +17,8 @@ use Rattle.shard_queue.specs.Lane.{of}
 use Rattle.shard_queue.specs.Seats.{said, got, history, producers_of, capacity_of}
 use Rattle.lane_work.specs.Account.{Account, Premises}
 use Rattle.lane_work.specs.Seats.{AreEnded, AreSendersEnded}
-use Rattle.lane_seats.specs.Rows.{AreIn}
-use Rattle.lane_seats.specs.SenderRows.{AreSendersIn}
+use Rattle.lane_seats.specs.rows.Rows.{AreIn}
+use Rattle.lane_seats.specs.rows.SenderRows.{AreSendersIn}
 use Rattle.lane_seats.specs.ChannelClosings.{AreChannelsClosed}
 use Rattle.lane_seats.specs.Closings.{AreClosed}
 

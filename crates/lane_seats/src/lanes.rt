@@ -4,7 +4,7 @@
 ghost use Rattle.std.specs.Prelude.{◌≡◌, ◌<◌, ◌≤◌, ◌+◌, ℕ, suc, [], length, map, All, IfOk, MatchOption, vec_len, vec_capacity};
 ghost use Rattle.shard_queue.specs.Seats.{sent, got, capacity_of, producers_of};
 ghost use Rattle.lane_work.specs.Seats.{AreSeats};
-ghost use Rattle.lane_seats.specs.Rows.{Rows, AreHands, AreConsumers, EndedRows, AreIn, Keep, AllIn, AllStayEnded, StayEnded};
+ghost use Rattle.lane_seats.specs.rows.Rows.{Rows, AreHands, AreConsumers, EndedRows, AreIn, Keep, AllIn, AllStayEnded, StayEnded};
 ghost use Rattle.lane_seats.specs.Closings.{AreClosed, IsTorn};
 ghost use Rattle.lane_seats.specs.Rooms.{AreRooms};
 

@@ -5,7 +5,7 @@ ghost use Rattle.std.specs.Prelude.{◌≡◌, ◌≤◌, [], length, map, All, 
 ghost use Rattle.shard_queue.specs.Seats.{IsConsumer, IsEnded, IsProducer, ended_number, number_of};
 ghost use Rattle.lane_work.specs.Seats.{AreEnded, AreSeats};
 ghost use Rattle.lane_seats.specs.Rooms.{AreHandRooms};
-ghost use Rattle.lane_seats.specs.Rows.{AreConsumers, AreEndedHands, AreHands};
+ghost use Rattle.lane_seats.specs.rows.Rows.{AreConsumers, AreEndedHands, AreHands};
 
 use crate::{
     Hands, Lanes, Rooms, SeatRooms, close_lanes, collect_all, deal_all, make_lanes, make_rooms,

@@ -4,7 +4,7 @@ use Rattle.std.proofs.Math.Seq.{get_or-append_seam}
 use Rattle.std.proofs.lemmas.List.{get_or-append-add, get_or-take, length-take-le}
 use Rattle.std.proofs.lemmas.List.Elements.{All-cons, All-nil}
 use Rattle.line_io.specs.Wire.{IsUncut, joined, crlf, wire_lines, wire_rest}
-use Rattle.line_io.specs.WireLaws.{lines_are, reading_cut}
+use Rattle.line_io.specs.inner.WireLaws.{lines_are, reading_cut}
 
 -- a CRLF stands at no place
 pub uncut_each : (bytes : List ℕ) → ((k : ℕ) → k + 1 < length bytes → get_or bytes k 0 ≡ 13 → get_or bytes (k + 1) 0 ≡ 10 → ⊥) → IsUncut bytes

@@ -4,7 +4,7 @@ use Rattle.std.specs.Prelude.{Some, None, if◌then◌else◌}
 use Rattle.std.proofs.lemmas.List.{same_from_push, take_all, length_push, take_at, length-take}
 use Rattle.std.proofs.Math.Seq.{take-suc, take-append-add}
 use Rattle.line_io.specs.Wire.{EndsInCr, IsCut, wire_lines, wire_rest}
-use Rattle.line_io.specs.WireLaws.{cut_more, cut_end, reading_cut, lines_are, wire_more}
+use Rattle.line_io.specs.inner.WireLaws.{cut_more, cut_end, reading_cut, lines_are, wire_more}
 use Rattle.line_io.proofs.Appended.{take_two_of}
 use Rattle.line_io.specs.Cutting.{Cutter, StandsFor, EndsLine, Tells}
 use Rattle.line_io.specs.declared.What.{What}

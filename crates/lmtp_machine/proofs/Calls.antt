@@ -10,7 +10,8 @@ use Rattle.lmtp_machine.specs.declared.connection.What.TheVariants.{More, Submit
 use Rattle.lmtp_machine.specs.Replies.{wire, reply_text}
 use Rattle.lmtp_machine.specs.Dialogue.{Setting, Submission, Turn, turn}
 use Rattle.lmtp_machine.specs.Conversation.{Conversation, Leads, ◌⨾◌, none}
-use Rattle.lmtp_machine.specs.Calls.{Follows, Taken, Tells}
+use Rattle.lmtp_machine.specs.Calls.{Follows, Tells}
+use Rattle.lmtp_machine.specs.inner.Calls.{Taken}
 use Rattle.lmtp_machine.proofs.Pieces.{any_pieces}
 
 pub wire-append : (host : List ℕ) (a b : List Reply) → wire host (a ++ b) ≡ wire host a ++ wire host b

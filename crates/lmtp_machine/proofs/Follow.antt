@@ -6,7 +6,7 @@ use Rattle.std.proofs.lemmas.List.{append-nil, same_from_push, length-replicate}
 use Rattle.std.proofs.lemmas.List.Elements.{All-nil, All-append, All-head, All-tail}
 use Rattle.std.proofs.lemmas.List.Concat.{flat_map-append}
 use Rattle.line_io.specs.Wire.{crlf, IsCut, IsUncut, EndsInCr, joined, wire_lines, wire_rest}
-use Rattle.line_io.specs.WireLaws.{reading_cut, lines_are, wire_join, wire_joined, uncut_nil}
+use Rattle.line_io.specs.inner.WireLaws.{reading_cut, lines_are, wire_join, wire_joined, uncut_nil}
 use Rattle.line_io.specs.Cutting.{Cutter, EndsLine}
 use Rattle.line_io.specs.Cutting.{StandsFor as HasTaken}
 use Rattle.dot_stuffing.specs.Data.{dot, Plain}
@@ -27,9 +27,10 @@ use Rattle.lmtp_machine.specs.Message.{plain, outcome, return_path}
 use Rattle.lmtp_machine.specs.Standing.{CommandState, standing_of, phase_of, IsOpen, Takes}
 use Rattle.lmtp_machine.specs.Dialogue.{Phase, Start, Ready, Transaction, Data, Waiting, Ended, Standing, Setting, Submission, Event, Line, Starved, Turn, turn, dialogue, on_event, on_line, on_command_line, on_outcome, at_end, is_dot}
 use Rattle.lmtp_machine.specs.Conversation.{Conversation, Heard, none, line, starved, IsListening, MayHear, EachMayBeHeard, ◌⨾◌}
-use Rattle.lmtp_machine.specs.Machine.{Machine, IsPending, BetweenLines, WithinData, IsHere, StandsFor}
+use Rattle.lmtp_machine.specs.Machine.{Machine, BetweenLines, WithinData, IsHere, StandsFor}
+use Rattle.lmtp_machine.specs.inner.Machine.{IsPending}
 use Rattle.lmtp_machine.specs.Calls.{Follows, Tells, IsQuiet}
-use Rattle.lmtp_machine.specs.Ending.{Becomes, Does, IsBetween, what_of}
+use Rattle.lmtp_machine.specs.inner.Ending.{Becomes, Does, IsBetween, what_of}
 use Rattle.lmtp_machine.proofs.Pieces.{goes_on, heard-append, may-append}
 use Rattle.lmtp_machine.proofs.Turns.{IsGoing, Spoken, line_spoken, too_long, outcome_is, is_refused}
 

@@ -24,7 +24,8 @@ use Rattle.lmtp_machine.specs.declared.connection.What.{What}
 use Rattle.lmtp_machine.specs.Message.{outcome, plain, sender_text}
 use Rattle.lmtp_machine.specs.Dialogue.{Phase, Start, Ready, Transaction, Data, Waiting, Ended, Standing, Setting, Submission, Event, Opened, Line, Starved, Answered, Shut, Turn, turn, dialogue, fresh, last_number, keys_from, cleared, is_dot, on_event, on_mail, on_recipient, on_rcpt, on_data, on_command, on_reading, on_command_line, on_outcome, at_end, on_data_line, on_line, on_starved, on_verdicts, fault_reply}
 use Rattle.lmtp_machine.specs.Conversation.{Conversation, Leads}
-use Rattle.lmtp_machine.specs.Calls.{Follows, Taken}
+use Rattle.lmtp_machine.specs.Calls.{Follows}
+use Rattle.lmtp_machine.specs.inner.Calls.{Taken}
 use Rattle.lmtp_machine.specs.Kept.{IsKeptAt, Kept, IsMessage, AreMessages, Numbered, KeptAfter}
 
 -- ---- a look-up finds a mailbox of the directory

@@ -3,7 +3,7 @@ use Rattle.std.proofs.Common.{◌≡◌, ◌⊎◌, inl, inr, ℕ, List, [], ◌
 use Rattle.std.specs.Prelude.{codes}
 use Rattle.envelope.specs.Directory.{Directory}
 use Rattle.line_io.specs.Wire.{IsCut, joined, wire_lines, wire_rest}
-use Rattle.line_io.specs.WireLaws.{lines_are, reading_cut}
+use Rattle.line_io.specs.inner.WireLaws.{lines_are, reading_cut}
 use Rattle.lmtp_machine.specs.Dialogue.{Standing, Setting, Event, Line, Starved, Turn, dialogue, on_event}
 use Rattle.lmtp_machine.specs.Conversation.{◌⨾◌, Heard, none, line, starved, IsListening, EachMayBeHeard}
 use Rattle.lmtp_machine.specs.Laws.{AnyPlace}

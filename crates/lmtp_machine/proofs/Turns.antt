@@ -19,7 +19,7 @@ use Rattle.lmtp_machine.specs.declared.reply.Reply.{Reply}
 use Rattle.lmtp_machine.specs.declared.reply.Reply.TheVariants.{LineTooLong, TooManyRecipients, RecipientOk, ShuttingDown, SenderOk}
 use Rattle.lmtp_machine.specs.Message.{outcome, sender_text}
 use Rattle.lmtp_machine.specs.Dialogue.{Phase, Start, Ready, Transaction, Data, Waiting, Ended, Turn, turn, last_number, cleared, on_mail, on_recipient, on_rcpt, on_data, on_command, on_reading, on_command_line, fault_reply}
-use Rattle.lmtp_machine.specs.Ending.{Becomes, so, starved}
+use Rattle.lmtp_machine.specs.inner.Ending.{Becomes, so, starved}
 
 -- no verdicts are awaited, and data has a recipient
 abbrev pub IsGoing : Phase → Type 0

@@ -65,13 +65,3 @@ pub record Follows (Stands : Conversation → Type 0) (setting : Setting) (host 
 pub record Happens (Stands : Conversation → Type 0) (setting : Setting) (host : List ℕ) (directory : Directory) (before : Conversation) (event : Event) (old new : List ℕ) : Type 0 where
   pub stands : Stands (led_by setting directory before event)
   pub said : new ≡ old ++ wire host (on_event setting directory before.standing event).replies
-
--- several calls: all bytes so far lead from the conversation before to one for which the connection stands
-pub record Taken (Stands : Conversation → Type 0) (setting : Setting) (host : List ℕ) (directory : Directory) (before : Conversation) (bytes old new : List ℕ) (what : What) (pending : List Submission) : Type 0 where
-  pub turn : Turn
-  pub after : Conversation
-  pub leads : Leads setting directory before bytes turn after
-  pub stands : Stands after
-  pub said : new ≡ old ++ wire host turn.replies
-  pub tells : Tells what turn
-  pub submits : pending ≡ turn.submissions

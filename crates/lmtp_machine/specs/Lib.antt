@@ -5,7 +5,7 @@ pub mod Standing
 pub mod Conversation
 pub mod Machine
 pub mod Calls
-pub mod Ending
 pub mod Kept
 pub mod Laws
-pub mod Rows
+pub mod inner
+pub mod rows

@@ -1,5 +1,5 @@
 -- What an LMTP machine is seen as, and the conversations for which it stands.
-use Rattle.std.specs.Prelude.{◌≡◌, ℕ, Bool, true, false, ◌<◌, List, [], ◌∷◌, ◌++◌, length, All}
+use Rattle.std.specs.Prelude.{◌≡◌, ℕ, Bool, true, false, ◌<◌, List, [], ◌++◌, length, All}
 use Rattle.line_io.specs.Wire.{IsUncut, joined}
 use Rattle.line_io.specs.Cutting.{Cutter}
 use Rattle.line_io.specs.Cutting.{StandsFor as HasTaken}
@@ -50,11 +50,6 @@ IsHere _ m c = BetweenLines m c
 pub record StandsFor (m : Machine) (c : Conversation) : Type 0 where
   pub open_end : IsUncut c.unfinished
   pub here : IsHere m.commands.stage m c
-
--- where verdicts are awaited, a message is pending, with a key for each recipient
-abbrev pub IsPending : Stage → List ℕ → List Submission → Type 0
-IsPending stages.Waiting recipients pending = (s : Submission) × (pending ≡ s ∷ []) × (length s.keys ≡ length recipients)
-IsPending _ recipients pending = pending ≡ []
 
 -- within a message's data, which has begun and not ended
 abbrev pub is_data : Phase → Bool

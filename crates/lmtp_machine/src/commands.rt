@@ -48,7 +48,8 @@ pub struct Commands {
 
 impl Model for Commands {
     ghost use Rattle.std.specs.Prelude.{◌≤◌, vec_capacity};
-    ghost use Rattle.lmtp_machine.specs.Standing.{CommandState, HasNumber};
+    ghost use Rattle.lmtp_machine.specs.Standing.{CommandState};
+    ghost use Rattle.lmtp_machine.specs.inner.Standing.{HasNumber};
 
     ghost Value = { CommandState };
 

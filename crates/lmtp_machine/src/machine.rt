@@ -12,7 +12,7 @@ ghost use Rattle.lmtp_machine.specs.Message.{plain, return_path};
 ghost use Rattle.dot_stuffing.specs.Unstuffing.{IsBehind};
 ghost use Rattle.lmtp_machine.specs.Dialogue.{keys_from, on_outcome};
 ghost use Rattle.lmtp_machine.specs.Replies.{wire, IsBrief};
-ghost use Rattle.lmtp_machine.specs.Ending.{Becomes, Does, what_of};
+ghost use Rattle.lmtp_machine.specs.inner.Ending.{Becomes, Does, what_of};
 ghost use Rattle.lmtp_machine.specs.Calls.{Awaits, Follows, Happens, Moves, submission_of};
 
 use crate::commands::{Commands, Stage};
@@ -47,7 +47,8 @@ pub struct LmtpMachine {
 impl Model for LmtpMachine {
     ghost use Rattle.std.specs.Prelude.{◌≡◌, ◌<◌, ◌∷◌, [], length, None};
     ghost use Rattle.std.specs.Option.{option_map, option_to_list};
-    ghost use Rattle.lmtp_machine.specs.Machine.{Machine, IsPending};
+    ghost use Rattle.lmtp_machine.specs.Machine.{Machine};
+    ghost use Rattle.lmtp_machine.specs.inner.Machine.{IsPending};
     ghost use Rattle.lmtp_machine.specs.Calls.{submission_of};
 
     ghost Value = { Machine };

@@ -23,7 +23,7 @@ use Rattle.lmtp_stream.specs.declared.outcome.Ending.TheVariants.{Quit, Gone, St
 use Rattle.lmtp_stream.specs.declared.outcome.TalkFault.{TalkFault}
 use Rattle.lmtp_stream.specs.declared.outcome.TalkFault.TheVariants.{Read, Write, NoMemory, Torn}
 use Rattle.lmtp_stream.specs.declared.piece.Next.TheVariants as nexts
-use Rattle.lmtp_stream.specs.Pieces.{TookPiece, SaidByThen}
+use Rattle.lmtp_stream.specs.inner.Pieces.{TookPiece, SaidByThen}
 use Rattle.lmtp_stream.specs.Streaming.{AreSent, AreCutShort, AreGivenUp, SaysLast, EndsBy, IsPlayed, last_words}
 use Rattle.lmtp_stream.proofs.LastWords.{goes_on}
 

@@ -17,7 +17,7 @@ use Rattle.lane_work.specs.Speaking.{Stands}
 use Rattle.lane_work.proofs.TalkLaws.{piece_more, split_there}
 use Rattle.lmtp_stream.specs.declared.piece.Next.{Next}
 use Rattle.lmtp_stream.specs.declared.piece.Next.TheVariants as nexts
-use Rattle.lmtp_stream.specs.Pieces.{TookPiece, SaidByThen}
+use Rattle.lmtp_stream.specs.inner.Pieces.{TookPiece, SaidByThen}
 
 module _ (d : Directory) (rooms : List Room) (p : ℕ) (done : List Judged) (bytes piece : List ℕ) (m : Machine) (out : List ℕ) (keeps : List (Job × Verdict) → Type 0) (heard : List (Entry Noted)) (sent : List (List (Entry Job))) where
   -- one turn more

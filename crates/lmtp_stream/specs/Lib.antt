@@ -1,2 +1,2 @@
 pub mod Streaming
-pub mod Pieces
+pub mod inner

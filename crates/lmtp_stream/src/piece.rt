@@ -10,7 +10,7 @@ ghost use Rattle.lane_work.specs.Seats.{AreSeats};
 ghost use Rattle.lane_work.specs.Ends.{CountsEnds};
 ghost use Rattle.lane_work.specs.Speaking.{Stands};
 ghost use Rattle.lane_work.specs.Copies.{rooms_of};
-ghost use Rattle.lmtp_stream.specs.Pieces.{TookPiece, SaidByThen};
+ghost use Rattle.lmtp_stream.specs.inner.Pieces.{TookPiece, SaidByThen};
 
 use delivery_token::Noted;
 use lane_work::{Desk, Notebook, Office, Stop, Summons, turn};

@@ -10,7 +10,8 @@ use Rattle.change_ring.specs.Logged.{removals}
 use Rattle.change_ring.specs.Window.{Window, IsWindowOf, total}
 use Rattle.cursor_set.specs.Cursors.{Cursors}
 use Rattle.cursor_set.proofs.Places.{Rises}
-use Rattle.mailbox.specs.Events.{GoesOn, Moves}
+use Rattle.mailbox.specs.Events.{Moves}
+use Rattle.mailbox.specs.inner.Events.{GoesOn}
 use Rattle.mailbox.proofs.WindowMoves.{Moves-append, moves_logged}
 use Rattle.mailbox.specs.Mail.{Message, row_of, uids_of, remaining}
 

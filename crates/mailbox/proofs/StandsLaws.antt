@@ -21,7 +21,8 @@ use Rattle.cursor_set.proofs.LegalLaws.{legal_log, legal_rises}
 use Rattle.cursor_set.proofs.OpenedLemmas.{held_in_slot}
 use Rattle.cursor_set.proofs.Places.{Rises, Rises-from, Rises-to}
 use Rattle.delivery_token.specs.declared.CopyKey.{CopyKey}
-use Rattle.mailbox.specs.Events.{GoesOn, Logs}
+use Rattle.mailbox.specs.Events.{Logs}
+use Rattle.mailbox.specs.inner.Events.{GoesOn}
 use Rattle.mailbox.specs.Mail.{Mail, Message, row_of, uids_of, accepted_uids, next_uid}
 use Rattle.mailbox.specs.Stands.{Stands, IsShown, next_of}
 

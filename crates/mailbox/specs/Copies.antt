@@ -1,5 +1,5 @@
 -- The copies that a mailbox took: all of them, whether or not they can be read.
-use Rattle.std.specs.Prelude.{◌≡◌, ◌≤◌, ℕ, List, []}
+use Rattle.std.specs.Prelude.{ℕ, List, []}
 use Rattle.delivery_token.specs.declared.CopyKey.{CopyKey}
 use Rattle.mailbox.specs.declared.history.History.{History}
 use Rattle.mailbox.specs.declared.history.History.TheVariants.{Kept, Unkept}
@@ -9,10 +9,6 @@ pub record Copies : Type 0 where
   pub history : History
   pub items : List (CopyKey × ℕ)
   pub spare : ℕ
-
--- one more can be taken without memory
-abbrev pub HasRoom : Copies → Type 0
-HasRoom c = c.history ≡ Kept → 1 ≤ c.spare
 
 -- what can be read of them: all where they are kept, and else none
 abbrev pub kept_of : History → List (CopyKey × ℕ) → List (CopyKey × ℕ)

@@ -3,7 +3,7 @@ use Rattle.std.specs.Prelude.{◌≡◌, ℕ, ◌+◌, ◌*◌, ◌<◌, ◌≤�
 use Rattle.std.specs.List.{list_any}
 use Rattle.change_ring.specs.declared.change.Change.{Change}
 use Rattle.change_ring.specs.Log.{no_flags}
-use Rattle.change_ring.specs.Window.{Window, IsWindowOf, total}
+use Rattle.change_ring.specs.Window.{Window, total}
 use Rattle.change_ring.specs.declared.flag_op.FlagOp.{FlagOp}
 use Rattle.change_ring.specs.declared.flag_op.FlagOp.TheVariants.{Insert}
 use Rattle.cursor_set.specs.Cursors.{Cursors, Seat, held, open_numbers}
@@ -17,10 +17,6 @@ Logs old new changes = (log : List Change) → Stands old log → Stands new (lo
 -- the call logged nothing
 abbrev pub KeepsLog : Mail → Mail → Type 0
 KeepsLog old new = (log : List Change) → Stands old log → Stands new log
-
--- the window went on by these changes, on every log that it was the window of
-abbrev pub GoesOn : Window → Window → List Change → Type 0
-GoesOn old new changes = (log : List Change) → IsWindowOf old log → IsWindowOf new (log ++ changes)
 
 -- One change went into the window. There was room for it; or there was none, some client is still to be shown the oldest change, and the room was
 -- doubled, up to the most; or there was none, and the oldest change was dropped.

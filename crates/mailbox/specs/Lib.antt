@@ -1,9 +1,6 @@
 pub mod Copies
 pub mod Mail
 pub mod Stands
-pub mod Seen
 pub mod Events
 pub mod Counts
-pub mod Choices
-pub mod Letters
-pub mod Marks
+pub mod inner

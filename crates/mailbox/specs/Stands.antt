@@ -23,10 +23,6 @@ pub record Stands (m : Mail) (log : List Change) : Type 0 where
   pub numbered : accepted_uids m ≡ range_with_len m.first_uid (length m.accepted)
   pub cursors : (slot : ℕ) (o : Open) → in_slot m.cursors slot ≡ Some o → IsShown log o
 
--- it stands for some log, whose first changes nobody knows
-abbrev pub IsSound : Mail → Type 0
-IsSound m = (log : List Change) × Stands m log
-
 -- the next n changes of the log from a number on
 abbrev pub next_of : List Change → ℕ → ℕ → List Change
 next_of log at n = take n (drop at log)

@@ -4,7 +4,7 @@
 ghost use Rattle.std.specs.Prelude.{◌≡◌, ◌==◌, option_map};
 ghost use Rattle.std.specs.List.Sorted.{IsNonDecreasing};
 ghost use Rattle.std.specs.List.{list_any};
-ghost use Rattle.mailbox.specs.Choices.{IsFound, passes};
+ghost use Rattle.mailbox.specs.inner.Choices.{IsFound, passes};
 ghost use Rattle.mailbox.specs.Events.{in_set};
 
 // Which messages with \Deleted may go.

@@ -2,7 +2,8 @@
 //! there at run time. Messages, which come and go, are not told here.
 
 ghost use Rattle.std.specs.Prelude.{◌≡◌, [], ◌∷◌, ◌++◌, OnOk, IsOk};
-ghost use Rattle.mailbox.specs.Copies.{HasRoom, kept_of};
+ghost use Rattle.mailbox.specs.Copies.{kept_of};
+ghost use Rattle.mailbox.specs.inner.Copies.{HasRoom};
 
 use delivery_token::CopyKey;
 use http_server::Log;

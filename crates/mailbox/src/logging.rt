@@ -4,7 +4,8 @@
 ghost use Rattle.std.specs.Prelude.{◌≡◌, ◌^◌, ◌<◌, ◌≤◌, ◌↔◌, [], ◌∷◌, length, Contains, OnOk, OnErr, IsErr};
 ghost use Rattle.change_ring.specs.Window.{total};
 ghost use Rattle.cursor_set.specs.Cursors.{open_numbers};
-ghost use Rattle.mailbox.specs.Events.{GoesOn, Moves};
+ghost use Rattle.mailbox.specs.Events.{Moves};
+ghost use Rattle.mailbox.specs.inner.Events.{GoesOn};
 
 use change_ring::{Change, ChangeRing, Spent};
 use cursor_set::CursorSet;

@@ -76,11 +76,11 @@ pub struct Mailbox {
 impl Model for Mailbox {
     ghost use Rattle.std.specs.Prelude.{◌≡◌, ◌+◌, ◌≤◌, ◌<◌, length};
     ghost use Rattle.mailbox.specs.Mail.{Mail, next_uid};
-    ghost use Rattle.mailbox.specs.Stands.{IsSound};
+    ghost use Rattle.mailbox.specs.inner.Stands.{IsSound};
 
     ghost Value = { Mail };
 
-    ghost use Rattle.mailbox.specs.Seen.{mail_of};
+    ghost use Rattle.mailbox.specs.inner.Seen.{mail_of};
 
     ghost view = { mail_of };
 

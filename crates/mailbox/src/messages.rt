@@ -4,11 +4,11 @@
 ghost use Rattle.std.specs.Prelude.{◌≡◌, ◌<◌, false, [], ◌∷◌, ◌++◌, length, map, All, IfOk, OnOk, OnErr, option_map, vec_len, vec_capacity};
 ghost use Rattle.std.specs.List.Sorted.{IsStrictlyIncreasing};
 ghost use Rattle.change_ring.specs.Log.{no_flags, without};
-ghost use Rattle.mailbox.specs.Choices.{IsFound, passes};
+ghost use Rattle.mailbox.specs.inner.Choices.{IsFound, passes};
 ghost use Rattle.mailbox.specs.Counts.{unseen_count, deleted_count, bytes_in_all};
-ghost use Rattle.mailbox.specs.Letters.{message_of, reflagged};
+ghost use Rattle.mailbox.specs.inner.Letters.{message_of, reflagged};
 ghost use Rattle.mailbox.specs.Mail.{message_with, remaining, texts_of, uids_of};
-ghost use Rattle.mailbox.specs.Marks.{marked_of, put_in, remarked, without_each};
+ghost use Rattle.mailbox.specs.inner.Marks.{marked_of, put_in, remarked, without_each};
 
 use crate::choice::Choice;
 use crate::letters::Letters;
@@ -28,7 +28,7 @@ pub(crate) struct Messages {
 impl Model for Messages {
     ghost use Rattle.std.specs.Prelude.{List};
     ghost use Rattle.mailbox.specs.Mail.{Message};
-    ghost use Rattle.mailbox.specs.Marks.{AreMarked};
+    ghost use Rattle.mailbox.specs.inner.Marks.{AreMarked};
 
     ghost Value = { List Message };
 

@@ -9,10 +9,11 @@ ghost use Rattle.change_ring.specs.Logged.{removals, removals_if};
 ghost use Rattle.change_ring.specs.Window.{changes_from, total};
 ghost use Rattle.cursor_set.specs.Cursors.{Updates, after_showing, held};
 ghost use Rattle.cursor_set.specs.Lines.{lines};
-ghost use Rattle.mailbox.specs.Choices.{IsFound, passes};
-ghost use Rattle.mailbox.specs.Events.{GoesOn, IsCurrent, IsLapped, IsStranger, IsTooMany, KeepsLog, Logs, Moves, in_set};
+ghost use Rattle.mailbox.specs.inner.Choices.{IsFound, passes};
+ghost use Rattle.mailbox.specs.Events.{IsCurrent, IsLapped, IsStranger, IsTooMany, KeepsLog, Logs, Moves, in_set};
+ghost use Rattle.mailbox.specs.inner.Events.{GoesOn};
 ghost use Rattle.mailbox.specs.Mail.{remaining, rows};
-ghost use Rattle.mailbox.specs.Marks.{gone_of};
+ghost use Rattle.mailbox.specs.inner.Marks.{gone_of};
 ghost use Rattle.mailbox.specs.Stands.{Stands};
 
 use crate::choice::Choice;

@@ -14,7 +14,8 @@ use Rattle.mailbox.specs.declared.clients.MailFault.TheVariants.{Stranger, Lappe
 use Rattle.mailbox.specs.Events.{IsCurrent, IsLapped, IsStranger, IsTooMany, KeepsLog, Logs, Moves, in_set}
 use Rattle.mailbox.specs.Mail.{Mail, Message, SameMailbox, remaining, rows}
 use Rattle.mailbox.specs.Stands.{IsKept, Stands, next_of}
-use Rattle.mailbox_holds.specs.Holds.{DoesExpunge, DoesFeed, IsEvent, IsRefused, IsSeated, Refuses, answer_of}
+use Rattle.mailbox_holds.specs.Holds.{DoesExpunge, DoesFeed, IsEvent, IsRefused, IsSeated, Refuses}
+use Rattle.mailbox_holds.specs.inner.Holds.{answer_of}
 use Rattle.mailbox_holds.proofs.Seating.{current, seated, seated_on, seats_on}
 
 -- ---- answers

@@ -9,8 +9,6 @@ use Rattle.change_ring.specs.Logged.{arrival, flags_logged, removals, removals_i
 use Rattle.change_ring.specs.Window.{changes_from, total}
 use Rattle.cursor_set.specs.Cursors.{Seat, Updates, held, in_slot, next_changes}
 use Rattle.cursor_set.specs.Lines.{lines}
-use Rattle.cursor_set.specs.declared.set.FeedFault.{FeedFault}
-use Rattle.cursor_set.specs.declared.set.FeedFault.TheVariants as lapse
 use Rattle.delivery_token.specs.declared.CopyKey.{CopyKey}
 use Rattle.delivery_token.specs.declared.Job.{Job}
 use Rattle.delivery_token.specs.declared.Refusal.{Refusal}
@@ -182,13 +180,6 @@ DeliversNot copy.MailboxFull flags m = (is_spent flags m ≡ false) × (is_full 
 DeliversNot copy.NoMemory flags m = (is_spent flags m ≡ false) × (is_full m ≡ false)
 
 -- ---- by the answer
-
--- a feed's answer, with its fault as one of all calls
-abbrev pub answer_of : Result ℕ FeedFault → Result ℕ MailFault
-answer_of (Ok n) = Ok n
-answer_of (Err lapse.Stranger) = Err Stranger
-answer_of (Err lapse.Lapped) = Err Lapped
-answer_of (Err lapse.NoMemory) = Err NoMemory
 
 abbrev pub DoesRead : Mail → Seat → ℕ → Bool → Result (Option Row) MailFault → Mail → Type 0
 DoesRead found seat uid mark_seen (Ok row) left = Reads found seat uid mark_seen row left

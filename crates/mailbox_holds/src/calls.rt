@@ -5,7 +5,8 @@ ghost use Rattle.std.specs.Prelude.{◌≡◌, ◌≢◌, ◌≤◌, Ok, Err, If
 ghost use Rattle.std.specs.List.Sorted.{IsStrictlyIncreasing};
 ghost use Rattle.std.specs.Option.{option_copied};
 ghost use Rattle.std.specs.Vec.{vec_capacity};
-ghost use Rattle.mailbox_holds.specs.Holds.{Counts, DoesAlter, DoesDeliver, DoesEnter, DoesExpunge, DoesFeed, DoesLeave, DoesLook, DoesRead, answer_of};
+ghost use Rattle.mailbox_holds.specs.Holds.{Counts, DoesAlter, DoesDeliver, DoesEnter, DoesExpunge, DoesFeed, DoesLeave, DoesLook, DoesRead};
+ghost use Rattle.mailbox_holds.specs.inner.Holds.{answer_of};
 
 use change_ring::{FlagOp, Flags};
 use cursor_set::{CursorSeat, FeedFault, NoMemory, Stranger};

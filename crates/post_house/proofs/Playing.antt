@@ -15,8 +15,9 @@ use Rattle.script.proofs.Once.{wrote_beginning}
 use Rattle.script.proofs.RunLaws.{run_unbegun}
 use Rattle.serving.specs.declared.fault.ServeFault.{ServeFault}
 use Rattle.serving.specs.declared.fault.ServeFault.TheVariants as serve_faults
-use Rattle.post_house.specs.Playing.{Played}
-use Rattle.post_house.specs.Status.{IsStatus, config_failure, run_failure, serve_failure, status_of}
+use Rattle.post_house.specs.inner.Playing.{Played}
+use Rattle.post_house.specs.Status.{config_failure, run_failure, serve_failure, status_of}
+use Rattle.post_house.specs.inner.Status.{IsStatus}
 use Rattle.post_house.specs.declared.failure.Failure.{Failure}
 use Rattle.post_house.specs.declared.failure.Failure.TheVariants as failures
 

@@ -1,3 +1,3 @@
 pub mod Status
 pub mod Asking
-pub mod Playing
+pub mod inner

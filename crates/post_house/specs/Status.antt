@@ -1,5 +1,5 @@
 -- The exit statuses of the program.
-use Rattle.std.specs.Prelude.{ℕ, [], ◌∷◌, Contains, Result, Ok, Err}
+use Rattle.std.specs.Prelude.{ℕ}
 use Rattle.house.specs.declared.config.ConfigFault.{ConfigFault}
 use Rattle.house.specs.declared.config.ConfigFault.TheVariants as config_faults
 use Rattle.post_house.specs.declared.failure.Failure.{Failure}
@@ -8,10 +8,6 @@ use Rattle.script.specs.declared.run.RunFault.{RunFault}
 use Rattle.script.specs.declared.run.RunFault.TheVariants as run_faults
 use Rattle.serving.specs.declared.fault.ServeFault.{ServeFault}
 use Rattle.serving.specs.declared.fault.ServeFault.TheVariants as serve_faults
-
--- all went well, the command line, the settings, a device, memory, a server that was torn
-abbrev pub IsStatus : ℕ → Type 0
-IsStatus n = Contains (0 ∷ 2 ∷ 3 ∷ 4 ∷ 5 ∷ 6 ∷ []) n
 
 abbrev pub status_of : Failure → ℕ
 status_of (Config fault) = 3
@@ -39,13 +35,3 @@ serve_failure serve_faults.Device = Device
 serve_failure serve_faults.Spawn = Device
 serve_failure serve_faults.NoMemory = NoMemory
 serve_failure serve_faults.Torn = Torn
-
--- the exit status of a script that was played, or of why it wasn't, or not to its end
-abbrev pub status_for : Result (Unit {0}) Failure → ℕ
-status_for (Ok done) = 0
-status_for (Err failure) = status_of failure
-
--- the exit status of a server that was stopped, or of why it didn't serve
-abbrev pub status_served : Result (Unit {0}) ServeFault → ℕ
-status_served (Ok done) = 0
-status_served (Err fault) = status_of (serve_failure fault)

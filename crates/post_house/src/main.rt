@@ -13,8 +13,9 @@ ghost use Rattle.script.specs.Promise.{WroteOnce};
 ghost use Rattle.house.specs.Settings.{IsInRange, config_fault, setup_of};
 ghost use Rattle.house.specs.declared.config.ConfigFault.{ConfigFault};
 ghost use Rattle.post_house.specs.Asking.{IsAskedInRange};
-ghost use Rattle.post_house.specs.Playing.{HasDone, HasDoneAsked, HasServed, Played, RanScript};
-ghost use Rattle.post_house.specs.Status.{IsStatus, status_of};
+ghost use Rattle.post_house.specs.inner.Playing.{HasDone, HasDoneAsked, HasServed, Played, RanScript};
+ghost use Rattle.post_house.specs.Status.{status_of};
+ghost use Rattle.post_house.specs.inner.Status.{IsStatus};
 
 use crate::arguments::{Asked, asked_of};
 use crate::failure::{Failure, device_or_memory};

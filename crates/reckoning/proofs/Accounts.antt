@@ -21,7 +21,7 @@ use Rattle.lane_work.specs.declared.worker.Fate.{Fate}
 use Rattle.lane_work.specs.declared.worker.Fate.TheVariants as fates
 use Rattle.lane_work.specs.declared.worker.Worked.{Worked}
 use Rattle.lane_work.proofs.HistoryLaws.{account_of_history}
-use Rattle.lane_seats.specs.Rows.{AllIn, AreIn}
+use Rattle.lane_seats.specs.rows.Rows.{AllIn, AreIn}
 use Rattle.lane_seats.proofs.CloseLaws as lanes
 use Rattle.lane_seats.proofs.ChannelCloseLaws as channels
 use Rattle.house_floor.specs.Crew.{AllAt}

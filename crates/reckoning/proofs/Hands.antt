@@ -9,8 +9,8 @@ use Rattle.shard_queue.specs.declared.queue.Ended.{Ended}
 use Rattle.shard_queue.specs.declared.queue.ShardQueue.{ShardQueue}
 use Rattle.shard_queue.specs.declared.reply.SenderEnded.{SenderEnded}
 use Rattle.lane_seats.specs.Rooms.{AreRooms}
-use Rattle.lane_seats.specs.Rows.{AreEndedHands}
-use Rattle.lane_seats.specs.SenderRows.{AreSenderEndedHands}
+use Rattle.lane_seats.specs.rows.Rows.{AreEndedHands}
+use Rattle.lane_seats.specs.rows.SenderRows.{AreSenderEndedHands}
 use Rattle.lane_seats.proofs.RowLaws as lanes
 use Rattle.lane_seats.proofs.SenderRowLaws as channels
 

@@ -6,9 +6,9 @@ use Rattle.shard_queue.specs.Seats.{got}
 use Rattle.lane_work.specs.Consuming.{items_of}
 use Rattle.lane_work.specs.declared.consumer.Consumed.{Consumed}
 use Rattle.lane_work.specs.declared.worker.Worked.{Worked}
-use Rattle.lane_seats.specs.Rows.{AreEndedHands}
-use Rattle.lane_seats.specs.Rows as rows
-use Rattle.lane_seats.specs.SenderRows.{AreReceivers, AreSenderEndedHands}
+use Rattle.lane_seats.specs.rows.Rows.{AreEndedHands}
+use Rattle.lane_seats.specs.rows.Rows as rows
+use Rattle.lane_seats.specs.rows.SenderRows.{AreReceivers, AreSenderEndedHands}
 use Rattle.house_floor.specs.Crew.{AllAt}
 use Rattle.house_floor.specs.declared.floor.Floor.{Floor}
 use Rattle.house_threads.specs.Crew.{IsServiceOf, IsWorkOf, Plans}

@@ -12,8 +12,8 @@ use Rattle.shard_queue.specs.declared.reply.ReplyClosed.{ReplyClosed}
 use Rattle.shard_queue.specs.declared.reply.SenderEnded.{SenderEnded}
 use Rattle.lane_seats.specs.ChannelClosings.{AreChannelsClosed, AreChannelsTorn}
 use Rattle.lane_seats.specs.Closings.{AreClosed, IsTorn}
-use Rattle.lane_seats.specs.Rows.{AllIn}
-use Rattle.lane_seats.specs.SenderRows.{AllSendersIn}
+use Rattle.lane_seats.specs.rows.Rows.{AllIn}
+use Rattle.lane_seats.specs.rows.SenderRows.{AllSendersIn}
 
 -- Each lane was closed, with what is left of all workers' seats there.
 abbrev pub AreClosedWith : List (ShardQueue Job) → List (List (Ended Job)) → List (ConsumerSeat Job) → List (Closed Job) → Type 0

@@ -4,7 +4,7 @@
 ghost use Rattle.std.specs.Prelude.{◌≡◌, ◌<◌, ◌≤◌, ◌+◌, [], All, length, sum_by, vec_len, vec_capacity};
 ghost use Rattle.house_floor.specs.Opening.{AreBaskets};
 ghost use Rattle.house_threads.specs.Crew.{IsSpendable};
-ghost use Rattle.reckoning.specs.Spending.{HasGrown};
+ghost use Rattle.reckoning.specs.inner.Spending.{HasGrown};
 
 use crate::remains::{Remains, remains_of};
 use delivery_token::{Job, Noted};

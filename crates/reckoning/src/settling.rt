@@ -3,8 +3,8 @@
 
 ghost use Rattle.std.specs.Prelude.{◌≡◌, IfErr, IfOk, map, vec_len};
 ghost use Rattle.house_floor.specs.Opening.{AreBaskets};
-ghost use Rattle.lane_seats.specs.Rows.{AreConsumers, AreEndedHands};
-ghost use Rattle.lane_seats.specs.SenderRows.{AreReceivers, AreSenderEndedHands};
+ghost use Rattle.lane_seats.specs.rows.Rows.{AreConsumers, AreEndedHands};
+ghost use Rattle.lane_seats.specs.rows.SenderRows.{AreReceivers, AreSenderEndedHands};
 ghost use Rattle.reckoning.specs.Settling.{IsSettled, IsWhyNot, IsGathered};
 
 use crate::close::{close_all_channels, close_all_lanes};

@@ -26,7 +26,8 @@ use Rattle.reckoning.specs.declared.settling.Books.{Books}
 use Rattle.reckoning.proofs.Accounts.{account_of, at_place, copies_taken, mapped_at}
 use Rattle.reckoning.proofs.Parts.{seats_of, some_at}
 use Rattle.running_house.specs.Agree as report
-use Rattle.running_house.specs.Agree.{Agrees, IsFloorFor}
+use Rattle.running_house.specs.Agree.{Agrees}
+use Rattle.running_house.specs.inner.Agree.{IsFloorFor}
 use Rattle.running_house.specs.Plan.{connections_of, premises_for}
 use Rattle.running_house.specs.declared.plan.Plan.{Plan}
 use Rattle.running_house.specs.declared.plan.Report.{Report}

@@ -7,16 +7,11 @@ use Rattle.agreement.specs.Lists.{ListsAgree}
 use Rattle.shard_queue.specs.declared.lane.Entry.{Entry}
 use Rattle.shard_queue.specs.Closing.{IsWhole}
 use Rattle.shard_queue.specs.Lane.{of}
-use Rattle.shard_queue.specs.Reply.{reply_history, room_of, senders_of}
-use Rattle.shard_queue.specs.Seats.{capacity_of, history, numbers, producers_of}
+use Rattle.shard_queue.specs.Reply.{reply_history}
+use Rattle.shard_queue.specs.Seats.{history, numbers}
 use Rattle.lane_work.specs.Account.{Account}
 use Rattle.lane_work.specs.Consuming.{items_of}
-use Rattle.lane_work.specs.Speaking.{premises_of}
-use Rattle.mailbox.specs.declared.history.History.TheVariants.{Kept}
-use Rattle.house_floor.specs.Crew.{IsHouse}
 use Rattle.house_floor.specs.Opening.{reply_room}
-use Rattle.house_floor.specs.declared.floor.Floor.{Floor}
-use Rattle.house_floor.specs.declared.opening.Sizes.{Sizes}
 use Rattle.house_threads.specs.Crew.{WasVisited}
 use Rattle.house_floor.specs.declared.floor.Visit.{Visit}
 use Rattle.running_house.specs.Plan.{connections_of, premises_for}
@@ -52,28 +47,6 @@ answers r = map reply_history r.closed.channels.items
 -- the copies that were taken from each lane
 abbrev pub copies_taken : Report → List (List Job)
 copies_taken r = map items_of (histories r)
-
--- ---- the house
-
--- the sizes of this plan's house
-pub record AreSizesFor (plan : Plan) (sizes : Sizes) : Type 0 where
-  pub host : sizes.host.now ≡ plan.config.host.items
-  pub max_message : sizes.max_message ≡ plan.config.max_message
-  pub workers : sizes.workers ≡ length plan.workers.items
-  pub depth : sizes.depth ≡ plan.config.depth
-  pub ring : 0 < sizes.limits.ring
-  -- what was accepted is compared, so it is kept
-  pub history : sizes.history ≡ Kept
-  pub turns : sizes.turns ≡ plan.turns
-
--- this is the floor of this plan's house
-pub record IsFloorFor (plan : Plan) (floor : Floor) : Type 0 where
-  pub house : IsHouse floor (length plan.workers.items)
-  pub premises : premises_of floor.office ≡ premises_for plan
-  pub mailboxes : length floor.depot.mailboxes.items ≡ length (premises_for plan).directory.homes
-  pub turns : floor.turns ≡ plan.turns
-  pub lanes : All (λ q. (capacity_of q ≡ plan.config.depth) × (producers_of q ≡ length plan.workers.items)) floor.office.lanes.items
-  pub channels : All (λ c. (room_of c ≡ reply_room) × (senders_of c ≡ plan.config.shards)) floor.depot.channels.items
 
 -- ---- the report
 

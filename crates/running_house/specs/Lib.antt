@@ -1,3 +1,4 @@
 pub mod Plan
 pub mod Agree
 pub mod Tells
+pub mod inner

@@ -6,7 +6,8 @@ ghost use Rattle.house_floor.specs.Crew.{AllAt};
 ghost use Rattle.house_floor.specs.Opening.{AreBaskets};
 ghost use Rattle.house_threads.specs.Crew.{IsServiceOf, IsVisitOf, IsWorkOf, LeavesAll};
 ghost use Rattle.reckoning.specs.Settling.{wants};
-ghost use Rattle.running_house.specs.Agree.{Agrees, IsFloorFor, accepted_of, notes_of, texts_of};
+ghost use Rattle.running_house.specs.Agree.{Agrees, accepted_of, notes_of, texts_of};
+ghost use Rattle.running_house.specs.inner.Agree.{IsFloorFor};
 ghost use Rattle.running_house.specs.Plan.{of_reckoning};
 
 use crate::plan::{Plan, Report, WorkFault};

@@ -2,7 +2,8 @@
 
 ghost use Rattle.std.specs.Prelude.{◌≡◌, ◌<◌, ◌≤◌, None, IfErr, IfOk, length};
 ghost use Rattle.house.specs.Settings.{IsInRange};
-ghost use Rattle.running_house.specs.Agree.{Agrees, AreSizesFor};
+ghost use Rattle.running_house.specs.Agree.{Agrees};
+ghost use Rattle.running_house.specs.inner.Agree.{AreSizesFor};
 ghost use Rattle.running_house.specs.Plan.{IsFault, most_workers, plan_fault};
 
 use crate::plan::{Plan, Report, WorkFault, directory_for};

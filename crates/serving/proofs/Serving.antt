@@ -4,7 +4,7 @@ use Rattle.std.specs.Prelude.{IfErr, OnOk, is_err}
 use Rattle.std.specs.Io.KnownBytes.{Appends}
 use Rattle.line_io.specs.declared.sink.SendFault.{SendFault}
 use Rattle.house.specs.declared.config.ConfigFault.{ConfigFault}
-use Rattle.serving.specs.Faults.{IsOfSocket}
+use Rattle.serving.specs.inner.Faults.{IsOfSocket}
 use Rattle.serving.specs.declared.fault.ServeFault.{ServeFault}
 use Rattle.serving.specs.declared.fault.ServeFault.TheVariants as faults
 

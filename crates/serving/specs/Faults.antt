@@ -1,17 +1,10 @@
 -- How faults of the settings are told by a server.
-use Rattle.std.specs.Prelude.{⊤}
 use Rattle.house.specs.declared.config.ConfigFault.{ConfigFault}
 use Rattle.house.specs.declared.config.ConfigFault.TheVariants as settings
 use Rattle.serving.specs.declared.fault.ServeFault.{ServeFault}
-use Rattle.serving.specs.declared.fault.ServeFault.TheVariants.{Config, Device, NoMemory}
+use Rattle.serving.specs.declared.fault.ServeFault.TheVariants.{Config, NoMemory}
 
 -- want of memory is no fault of the settings
 abbrev pub of_config : ConfigFault → ServeFault
 of_config settings.NoMemory = NoMemory
 of_config fault = Config fault
-
--- what sockets and memory for them may come to
-abbrev pub IsOfSocket : ServeFault → Type 0
-IsOfSocket Device = ⊤
-IsOfSocket NoMemory = ⊤
-IsOfSocket fault = ⊥

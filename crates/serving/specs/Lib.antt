@@ -1,2 +1,3 @@
 pub mod Announcing
 pub mod Faults
+pub mod inner

@@ -1,7 +1,8 @@
 //! Why a house doesn't serve. Plain data.
 
 ghost use Rattle.std.specs.Prelude.{◌≡◌};
-ghost use Rattle.serving.specs.Faults.{IsOfSocket, of_config};
+ghost use Rattle.serving.specs.Faults.{of_config};
+ghost use Rattle.serving.specs.inner.Faults.{IsOfSocket};
 
 use house::ConfigFault;
 use std::alloc::AllocError;

@@ -1,7 +1,7 @@
 //! The listeners of a server, on the ports that its settings say. What comes in there is served elsewhere.
 
 ghost use Rattle.std.specs.Prelude.{◌≡◌, ◌≤◌, ◌+◌, IfErr, IfOk, vec_len};
-ghost use Rattle.serving.specs.Faults.{IsOfSocket};
+ghost use Rattle.serving.specs.inner.Faults.{IsOfSocket};
 
 use crate::fault::{ServeFault, device_or_memory};
 use loopback::{Listening, Pause};

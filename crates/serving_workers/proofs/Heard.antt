@@ -6,12 +6,12 @@ use Rattle.shard_queue.specs.declared.queue.ShardQueue.{ShardQueue}
 use Rattle.delivery_token.specs.declared.Job.{Job}
 use Rattle.lane_work.specs.Seats.{AreEnded}
 use Rattle.lane_work.specs.declared.worker.Worked.{Worked}
-use Rattle.lane_seats.specs.Rows.{AreEndedHands}
-use Rattle.lane_seats.specs.SenderRows.{AreReceivers}
+use Rattle.lane_seats.specs.rows.Rows.{AreEndedHands}
+use Rattle.lane_seats.specs.rows.SenderRows.{AreReceivers}
 use Rattle.house_floor.specs.Crew.{AllAt}
 use Rattle.house_floor.specs.declared.floor.Floor.{Floor}
 use Rattle.reckoning.proofs.Parts.{from_here, past_all, some_at}
-use Rattle.serving_workers.specs.Leaving.{HasHeard}
+use Rattle.serving_workers.specs.inner.Leaving.{HasHeard}
 
 ended_length : (qs : List (ShardQueue Job)) (p : ℕ) (es : List (Ended Job)) → AreEnded qs p es → length es ≡ length qs
 ended_length [] p [] h = refl

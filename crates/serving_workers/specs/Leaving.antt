@@ -5,7 +5,6 @@ use Rattle.delivery_token.specs.declared.log.Noted.{Noted}
 use Rattle.shard_queue.specs.declared.ends.ReplyChannel.{ReplyChannel}
 use Rattle.shard_queue.specs.Reply.{IsReceiver}
 use Rattle.lane_work.specs.Seats.{AreEnded}
-use Rattle.lane_work.specs.declared.worker.Worked.{Worked}
 use Rattle.house_floor.specs.declared.floor.Floor.{Floor}
 use Rattle.serving_workers.specs.declared.accepting.Served.{Served}
 use Rattle.serving_workers.specs.declared.threads.Hired.{Hired}
@@ -20,8 +19,3 @@ pub record IsServed (floor : Floor) (n : ℕ) (s : Served) : Type 0 where
 abbrev pub IsHired : Floor → ℕ → Hired → Type 0
 IsHired floor n (There h) = (h.promise.floor.now ≡ floor) × (h.promise.number ≡ n)
 IsHired floor n (Here s) = IsServed floor n (manually_drop_value s)
-
--- what worker n leaves once it has heard the end of each shard: the same, and no more is asked of it
-pub record HasHeard (floor : Floor) (n : ℕ) (w : Worked) : Type 0 where
-  pub ended : AreEnded floor.office.lanes.items n w.ended.items
-  pub receiver : (channel : ReplyChannel Noted) → slice_get floor.depot.channels.items n ≡ Some channel → IsReceiver channel w.receiver

@@ -2,11 +2,12 @@
 //! left. No thread runs any more.
 
 ghost use Rattle.std.specs.Prelude.{◌≡◌, ◌<◌, ◌≤◌, [], All, Some, length, map, true, vec_len, vec_capacity};
-ghost use Rattle.lane_seats.specs.Rows.{AreConsumers, AreEndedHands};
-ghost use Rattle.lane_seats.specs.SenderRows.{AreReceivers, AreSenderEndedHands};
+ghost use Rattle.lane_seats.specs.rows.Rows.{AreConsumers, AreEndedHands};
+ghost use Rattle.lane_seats.specs.rows.SenderRows.{AreReceivers, AreSenderEndedHands};
 ghost use Rattle.house_floor.specs.Crew.{AllAt, IsHouse};
 ghost use Rattle.house_floor.specs.Opening.{AreBaskets};
-ghost use Rattle.serving_workers.specs.Leaving.{HasHeard, IsServed};
+ghost use Rattle.serving_workers.specs.Leaving.{IsServed};
+ghost use Rattle.serving_workers.specs.inner.Leaving.{HasHeard};
 
 use crate::accepting::Served;
 use clerks::{Dismissed, Unhindered};

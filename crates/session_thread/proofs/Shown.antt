@@ -16,7 +16,8 @@ use Rattle.mailbox_holds.specs.Holds.{DoesAlter, DoesExpunge, DoesFeed, DoesRead
 use Rattle.imap_session.specs.Exchange.{Alter, Altered, Answer, Feed, Expunge, Found, Read}
 use Rattle.imap_session.specs.Store.{Feeds, Expunges, answer}
 use Rattle.session_thread.specs.declared.desk.Entry.{Entry}
-use Rattle.session_thread.specs.Locks.{Holds, Place, ShowsOf, UnderLock, refused_here, seated_at}
+use Rattle.session_thread.specs.Locks.{Holds, Place, UnderLock}
+use Rattle.session_thread.specs.inner.Locks.{ShowsOf, refused_here, seated_at}
 
 -- ---- of the log
 

@@ -1,5 +1,6 @@
 use Rattle.std.proofs.Common.{◌≡◌, ◌∙◌, ◌+◌, ap, subst, take, refl, [], ℕ, arith, length, length-drop}
-use Rattle.lmtp_machine.specs.Calls.{Awaits, Tells, Taken}
+use Rattle.lmtp_machine.specs.Calls.{Awaits, Tells}
+use Rattle.lmtp_machine.specs.inner.Calls.{Taken}
 use Rattle.lmtp_machine.specs.Dialogue.{Phase, Start, Ready, Transaction, Data, Waiting, Ended, turn}
 use Rattle.lmtp_machine.specs.Machine.{StandsFor}
 use Rattle.lmtp_machine.specs.declared.connection.What.{What}

@@ -1,7 +1,7 @@
 use Rattle.std.proofs.Common.{◌≡◌, ◌-◌, ◌≤◌, take, length, []}
 use Rattle.lmtp_machine.specs.Conversation.{Conversation}
 use Rattle.lmtp_machine.specs.declared.connection.What.{What}
-use Rattle.lmtp_machine.specs.Calls.{Taken}
+use Rattle.lmtp_machine.specs.inner.Calls.{Taken}
 use Rattle.lmtp_machine.specs.Machine.{StandsFor}
 use Rattle.callers.specs.CallerStands.{IsAwaited}
 use Rattle.callers.proofs.caller.take_all.Given as goal

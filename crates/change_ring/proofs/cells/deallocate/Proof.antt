@@ -41,7 +41,7 @@ use Rattle.std_alloc.proofs.RcSteps.{word, word-Good}
 use Rattle.std_alloc.proofs.VecSteps.El.{El, R, P, args, elτ, sz}
 use Rattle.std_alloc.proofs.VecSteps.Rows.{all_room}
 use Rattle.std_alloc.proofs.VecSteps.Shapes.{after}
-use Rattle.change_ring.specs.Ownership.{cells_own}
+use Rattle.change_ring.specs.inner.Ownership.{cells_own}
 use Rattle.change_ring.proofs.Memory.{Cr, Bs, mark, block_had}
 use Rattle.change_ring.proofs.cells.Base.TheLaws as base-laws
 use Rattle.change_ring.proofs.cells.Cells.TheLaws as cells-laws

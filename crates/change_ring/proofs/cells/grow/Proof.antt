@@ -50,7 +50,7 @@ use Rattle.std_alloc.proofs.RcSteps.{word, word-Good, first_Good}
 use Rattle.std_alloc.proofs.ResultValues.{ok_of, err_of}
 use Rattle.std_alloc.proofs.VecSteps.El.{El, R, P, args, el_x, elτ, sz}
 use Rattle.std_alloc.proofs.VecSteps.Shapes.{after, head, arm_body}
-use Rattle.change_ring.specs.Ownership.{cells_own}
+use Rattle.change_ring.specs.inner.Ownership.{cells_own}
 use Rattle.change_ring.proofs.Memory.{Cr, Bs, word_made, block_had, block_made}
 use Rattle.change_ring.proofs.cells.Base.TheLaws as base-laws
 use Rattle.change_ring.specs.contracts.cells.grow as F

@@ -2,7 +2,7 @@ use Rattle.std.proofs.Common.{rules, ◌≡◌, subst, map, vec_len, arith}
 use Rattle.std.proofs.lemmas.List.{length-map}
 use Rattle.std.specs.Mem.{manually_drop_value}
 use Rattle.lane_seats.proofs.RowLaws.{ended_hand_length, ended_length}
-use Rattle.clerks.specs.Rounds.{AreSomeones}
+use Rattle.clerks.specs.inner.Rounds.{AreSomeones}
 use Rattle.clerks.specs.declared.tests.Left.{Left}
 use Rattle.clerks.proofs.RoundLaws.{popped}
 use Rattle.clerks.proofs.tests.collect_all.Goals as goal

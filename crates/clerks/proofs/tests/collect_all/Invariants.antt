@@ -1,7 +1,7 @@
 use Rattle.std.proofs.Common.{◌≡◌, ◌≤◌, ◌+◌, All, map, vec_len, vec_capacity}
 use Rattle.std.specs.Mem.{manually_drop_value}
-use Rattle.lane_seats.specs.Rows.{EndedRows}
-use Rattle.clerks.specs.Rounds.{AreSomeones}
+use Rattle.lane_seats.specs.rows.Rows.{EndedRows}
+use Rattle.clerks.specs.inner.Rounds.{AreSomeones}
 use Rattle.clerks.specs.declared.tests.Left.{Left}
 use Rattle.clerks.proofs.tests.collect_all.Given as goal
 

@@ -1,6 +1,6 @@
 use Rattle.std.proofs.Common.{rules, subst, sym}
 use Rattle.std.specs.Mem.{manually_drop_value}
-use Rattle.clerks.specs.Rounds.{IsOwnPost}
+use Rattle.clerks.specs.inner.Rounds.{IsOwnPost}
 use Rattle.clerks.proofs.RoundLaws.{alone, own_posts, popped}
 use Rattle.clerks.proofs.StaffLaws.{one_more}
 use Rattle.clerks.proofs.tests.pack_all.Goals as goal

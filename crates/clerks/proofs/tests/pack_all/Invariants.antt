@@ -1,6 +1,6 @@
 use Rattle.std.proofs.Common.{◌≡◌, ◌≤◌, ◌+◌, All, vec_len, vec_capacity}
 use Rattle.std.specs.Mem.{manually_drop_value}
-use Rattle.clerks.specs.Rounds.{IsOwnPost}
+use Rattle.clerks.specs.inner.Rounds.{IsOwnPost}
 use Rattle.clerks.proofs.tests.pack_all.Given as goal
 
 abbrev pub invariant-loop-post : goal.invariant-loop-post

@@ -1,6 +1,6 @@
 use Rattle.std.proofs.Common.{rules, ◌≡◌, ◌<◌, ◌+◌, ◌∙◌, length, arith}
 use Rattle.house_floor.specs.Crew.{IsStand}
-use Rattle.house_threads.specs.Crew.{IsKept}
+use Rattle.house_threads.specs.inner.Crew.{IsKept}
 use Rattle.house_threads.proofs.Places.{first_at, more_at}
 use Rattle.house_threads.proofs.consumers.start_consumers.Goals as goal
 

@@ -1,6 +1,6 @@
 use Rattle.std.proofs.Common.{◌≡◌, ◌≤◌, ◌+◌, length, vec_len, vec_capacity}
 use Rattle.house_floor.specs.Crew.{AllAt, IsStand}
-use Rattle.house_threads.specs.Crew.{IsKept}
+use Rattle.house_threads.specs.inner.Crew.{IsKept}
 use Rattle.house_threads.proofs.consumers.start_consumers.Given as goal
 
 abbrev pub invariant-loop-place : goal.invariant-loop-place

@@ -1,7 +1,8 @@
 use Rattle.std.proofs.Common.{rules, ◌≡◌, ◌∷◌, sym, subst, vec_len, arith}
 use Rattle.std.specs.Vec.Iter.{into_iter_items}
 use Rattle.house_floor.specs.Crew.{AllAt}
-use Rattle.house_threads.specs.Crew.{IsGuest, IsVisitOf}
+use Rattle.house_threads.specs.Crew.{IsVisitOf}
+use Rattle.house_threads.specs.inner.Crew.{IsGuest}
 use Rattle.house_threads.proofs.Places.{head_at, more_at}
 use Rattle.house_threads.proofs.sessions.join_sessions.Goals as goal
 

@@ -1,7 +1,8 @@
 use Rattle.std.proofs.Common.{◌≡◌, ◌≤◌, ◌+◌, vec_len, vec_capacity}
 use Rattle.std.specs.Vec.Iter.{into_iter_items, into_iter_len}
 use Rattle.house_floor.specs.Crew.{AllAt}
-use Rattle.house_threads.specs.Crew.{IsGuest, IsVisitOf}
+use Rattle.house_threads.specs.Crew.{IsVisitOf}
+use Rattle.house_threads.specs.inner.Crew.{IsGuest}
 use Rattle.house_threads.proofs.sessions.join_sessions.Given as goal
 
 abbrev pub invariant-loop-guest : goal.invariant-loop-guest

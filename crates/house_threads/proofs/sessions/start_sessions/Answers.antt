@@ -1,5 +1,5 @@
 use Rattle.std.proofs.Common.{rules, ◌≡◌, ◌+◌, ◌∙◌, length, arith}
-use Rattle.house_threads.specs.Crew.{IsGuest}
+use Rattle.house_threads.specs.inner.Crew.{IsGuest}
 use Rattle.house_threads.proofs.Places.{more_at}
 use Rattle.house_threads.proofs.sessions.start_sessions.Goals as goal
 

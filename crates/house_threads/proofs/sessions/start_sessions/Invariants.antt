@@ -1,6 +1,6 @@
 use Rattle.std.proofs.Common.{◌≡◌, ◌≤◌, length, vec_len, vec_capacity}
 use Rattle.house_floor.specs.Crew.{AllAt}
-use Rattle.house_threads.specs.Crew.{IsGuest}
+use Rattle.house_threads.specs.inner.Crew.{IsGuest}
 use Rattle.house_threads.proofs.sessions.start_sessions.Given as goal
 
 abbrev pub invariant-loop-place : goal.invariant-loop-place

@@ -1,7 +1,8 @@
 use Rattle.std.proofs.Common.{rules, ◌≡◌, ◌∷◌, sym, subst, vec_len, arith}
 use Rattle.std.specs.Vec.Iter.{into_iter_items}
 use Rattle.house_floor.specs.Crew.{AllAt}
-use Rattle.house_threads.specs.Crew.{IsHired, IsWorkOf}
+use Rattle.house_threads.specs.Crew.{IsWorkOf}
+use Rattle.house_threads.specs.inner.Crew.{IsHired}
 use Rattle.house_threads.proofs.Places.{head_at, more_at}
 use Rattle.house_threads.proofs.workers.join_workers.Goals as goal
 

@@ -1,7 +1,8 @@
 use Rattle.std.proofs.Common.{◌≡◌, ◌≤◌, ◌+◌, vec_len, vec_capacity}
 use Rattle.std.specs.Vec.Iter.{into_iter_items, into_iter_len}
 use Rattle.house_floor.specs.Crew.{AllAt}
-use Rattle.house_threads.specs.Crew.{IsHired, IsWorkOf}
+use Rattle.house_threads.specs.Crew.{IsWorkOf}
+use Rattle.house_threads.specs.inner.Crew.{IsHired}
 use Rattle.house_threads.proofs.workers.join_workers.Given as goal
 
 abbrev pub invariant-loop-one : goal.invariant-loop-one

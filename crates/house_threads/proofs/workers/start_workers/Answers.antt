@@ -1,6 +1,6 @@
 use Rattle.std.proofs.Common.{rules, ◌≡◌, ◌<◌, ◌+◌, ◌∙◌, length, arith}
 use Rattle.house_floor.specs.Crew.{IsPost}
-use Rattle.house_threads.specs.Crew.{IsHired}
+use Rattle.house_threads.specs.inner.Crew.{IsHired}
 use Rattle.house_threads.proofs.Places.{first_at, more_at}
 use Rattle.house_threads.proofs.workers.start_workers.Goals as goal
 

@@ -1,6 +1,6 @@
 use Rattle.std.proofs.Common.{◌≡◌, ◌≤◌, ◌+◌, length, vec_len, vec_capacity}
 use Rattle.house_floor.specs.Crew.{AllAt, IsPost}
-use Rattle.house_threads.specs.Crew.{IsHired}
+use Rattle.house_threads.specs.inner.Crew.{IsHired}
 use Rattle.house_threads.proofs.workers.start_workers.Given as goal
 
 abbrev pub invariant-loop-place : goal.invariant-loop-place

@@ -1,6 +1,6 @@
 use Rattle.std.proofs.Common.{ℕ, List, true, ◌++◌}
 use Rattle.std.specs.Prelude.{map}
-use Rattle.imap_grammar.specs.Joined.{joined}
+use Rattle.imap_grammar.specs.inner.Joined.{joined}
 use Rattle.imap_grammar.specs.Answers.{item_text, uid_first, flags_last}
 use Rattle.imap_grammar.proofs.JoinedLaws.{on_err, three_joined, three_written, two_behind, starts_behind}
 use Rattle.imap_grammar.proofs.answers.put_answered.Goals as goal

@@ -2,7 +2,7 @@ use Rattle.std.proofs.Common.{◌≡◌, ◌++◌, ◌≤◌, drop}
 use Rattle.std.specs.Prelude.{◌&&◌, map, vec_capacity}
 use Rattle.std.specs.Io.{StartsWith}
 use Rattle.imap_grammar.specs.Answers.{item_text}
-use Rattle.imap_grammar.specs.Joined.{joined, is_none}
+use Rattle.imap_grammar.specs.inner.Joined.{joined, is_none}
 use Rattle.imap_grammar.proofs.answers.put_items.Given as goal
 
 abbrev pub invariant-loop-item : goal.invariant-loop-item

@@ -6,7 +6,7 @@ use Rattle.std.specs.Io.{StartsWith}
 use Rattle.imap_grammar.specs.Items.{status_items_of}
 use Rattle.imap_grammar.specs.Answers.{status_text}
 use Rattle.cursor_set.specs.Lines.{spaced}
-use Rattle.imap_grammar.specs.Joined.{joined}
+use Rattle.imap_grammar.specs.inner.Joined.{joined}
 use Rattle.imap_grammar.proofs.answers.put_status_items.Given as goal
 
 abbrev pub invariant-loop-word : goal.invariant-loop-word

@@ -1,5 +1,5 @@
 use Rattle.std.proofs.Common.{◌≡◌, ◌+◌, ◌≤◌, length, drop}
-use Rattle.imap_grammar.specs.Globs.{Reached}
+use Rattle.imap_grammar.specs.inner.Globs.{Reached}
 use Rattle.imap_grammar.proofs.list.matches.Given as goal
 
 abbrev pub invariant-loop-at : goal.invariant-loop-at

@@ -1,6 +1,6 @@
 use Rattle.std.proofs.Common.{rules, List, ℕ, ◌++◌, ◌+◌, ◌-◌, ◌≤◌, ◌≡◌, drop, take, ap, sym, ◌∙◌, append_assoc, arith}
 use Rattle.imap_grammar.specs.Sets.{at_places}
-use Rattle.imap_grammar.specs.Choosing.{is_covered}
+use Rattle.imap_grammar.specs.inner.Choosing.{is_covered}
 use Rattle.imap_grammar.proofs.ChosenAt.{chosen_past, chosen_here}
 use Rattle.imap_grammar.proofs.places.choose_range.Goals as goal
 

@@ -1,6 +1,6 @@
 use Rattle.std.proofs.Common.{◌≡◌, ◌≤◌, ◌+◌, ◌-◌, ◌++◌, drop, length}
 use Rattle.imap_grammar.specs.Sets.{at_places}
-use Rattle.imap_grammar.specs.Choosing.{is_covered}
+use Rattle.imap_grammar.specs.inner.Choosing.{is_covered}
 use Rattle.imap_grammar.proofs.places.chosen_at.Given as goal
 
 abbrev pub invariant-loop-range : goal.invariant-loop-range

@@ -1,6 +1,6 @@
 use Rattle.std.proofs.Common.{◌≡◌, ℕ, ◌+◌, ◌<◌, length, take, get_or}
 use Rattle.imap_grammar.specs.Sets.{is_named}
-use Rattle.imap_grammar.specs.Choosing.{is_covered}
+use Rattle.imap_grammar.specs.inner.Choosing.{is_covered}
 use Rattle.imap_grammar.proofs.places.places_of_named_uids.Given as goal
 
 abbrev pub invariant-loop-range : goal.invariant-loop-range

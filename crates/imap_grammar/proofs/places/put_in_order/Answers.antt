@@ -1,6 +1,6 @@
 use Rattle.std.proofs.Common.{rules, sym}
 use Rattle.std.proofs.lemmas.List.Sorted.{IsNonDecreasingBy-from_sort_by_key, list_any-IsPermutation}
-use Rattle.imap_grammar.specs.Choosing.{is_within}
+use Rattle.imap_grammar.specs.inner.Choosing.{is_within}
 use Rattle.imap_grammar.proofs.places.put_in_order.Goals as goal
 
 pub returns-clause-order : goal.returns-clause-order

@@ -1,6 +1,6 @@
 use Rattle.std.proofs.Common.{rules, ◌≡◌, ◌∙◌, ℕ, ◌+◌, ◌<◌, List, length, get_or, arith, ap}
 use Rattle.imap_grammar.specs.Sets.{at_places, is_named, last_uid}
-use Rattle.imap_grammar.specs.Choosing.{is_covered}
+use Rattle.imap_grammar.specs.inner.Choosing.{is_covered}
 use Rattle.imap_grammar.specs.declared.places.PlaceRange.{PlaceRange}
 use Rattle.imap_grammar.proofs.ChosenAt.{chosen_by_number}
 use Rattle.imap_grammar.proofs.ranges.uids_in.Goals as goal

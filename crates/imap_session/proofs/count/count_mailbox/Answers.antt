@@ -1,5 +1,5 @@
 use Rattle.std.proofs.Common.{◌≡◌, [], ◌∙◌}
-use Rattle.imap_session.specs.Store.{last}
+use Rattle.imap_session.specs.inner.Store.{last}
 use Rattle.imap_session.proofs.Runs.{stops_write}
 use Rattle.imap_session.proofs.Naming.{does_wanting}
 use Rattle.imap_session.proofs.count.count_mailbox.Goals as goal

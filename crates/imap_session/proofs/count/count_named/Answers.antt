@@ -3,7 +3,7 @@ use Rattle.std.specs.Borrow.{Bor}
 use Rattle.imap_grammar.specs.declared.command.Command.TheVariants as commands
 use Rattle.imap_session.specs.Exchange.{Exchange, Standing, Folder}
 use Rattle.imap_session.specs.Commands.{completed, counting}
-use Rattle.imap_session.specs.Store.{last}
+use Rattle.imap_session.specs.inner.Store.{last}
 use Rattle.imap_session.proofs.Naming.{does_found, reaches_missing}
 use Rattle.imap_session.proofs.count.count_named.Goals as goal
 

@@ -2,7 +2,7 @@ use Rattle.std.proofs.Common.{ℕ, List, Ok, Err}
 use Rattle.std.specs.Borrow.{Bor}
 use Rattle.imap_grammar.specs.declared.command.Command.TheVariants as commands
 use Rattle.imap_session.specs.Commands.{completed, showing}
-use Rattle.imap_session.specs.Store.{last}
+use Rattle.imap_session.specs.inner.Store.{last}
 use Rattle.imap_session.proofs.Naming.{starves_write, writes_then}
 use Rattle.imap_session.proofs.count.list_folders.Goals as goal
 

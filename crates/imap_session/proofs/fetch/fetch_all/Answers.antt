@@ -2,7 +2,7 @@ use Rattle.std.proofs.Common.{rules, ◌≡◌, ◌+◌, ◌<◌, ◌≤◌, tru
 use Rattle.std.proofs.lemmas.List.{drop_all}
 use Rattle.imap_session.specs.Exchange.{Exchange}
 use Rattle.imap_session.specs.Commands.{fetching}
-use Rattle.imap_session.specs.Store.{Reaches}
+use Rattle.imap_session.specs.inner.Store.{Reaches}
 use Rattle.imap_session.proofs.Choosing.{as_many, message_at}
 use Rattle.imap_session.proofs.Runs.{reaches_here, stops_then}
 use Rattle.imap_session.proofs.Fetching.{fetches_more, fetching_next}

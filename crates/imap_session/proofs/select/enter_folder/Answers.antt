@@ -1,7 +1,7 @@
 use Rattle.std.proofs.Common.{ℕ, List, Ok, Err}
 use Rattle.std.specs.Borrow.{Bor}
 use Rattle.imap_session.specs.Commands.{opened}
-use Rattle.imap_session.specs.Store.{last}
+use Rattle.imap_session.specs.inner.Store.{last}
 use Rattle.imap_session.proofs.Naming.{entering_then, starves_write, tells_opening}
 use Rattle.imap_session.proofs.select.enter_folder.Goals as goal
 

@@ -1,6 +1,6 @@
 use Rattle.std.proofs.Common.{ℕ, List, [], Err, ◌∙◌}
 use Rattle.std.specs.Borrow.{Bor}
-use Rattle.imap_session.specs.Store.{last}
+use Rattle.imap_session.specs.inner.Store.{last}
 use Rattle.imap_session.specs.Commands.{entering, on_folder}
 use Rattle.imap_session.proofs.Runs.{stops_write}
 use Rattle.imap_session.proofs.Naming.{moves_wanting, selects}

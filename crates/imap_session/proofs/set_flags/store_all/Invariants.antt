@@ -3,7 +3,7 @@ use Rattle.std.specs.Vec.{vec_capacity}
 use Rattle.imap_grammar.specs.Sets.{named_at}
 use Rattle.imap_session.specs.Exchange.{Exchange, Standing}
 use Rattle.imap_session.specs.Commands.{storing}
-use Rattle.imap_session.specs.Store.{Reaches}
+use Rattle.imap_session.specs.inner.Store.{Reaches}
 use Rattle.imap_session.proofs.set_flags.store_all.Given as goal
 
 abbrev pub invariant-loop-message : goal.invariant-loop-message

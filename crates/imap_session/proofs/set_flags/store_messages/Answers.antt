@@ -3,7 +3,7 @@ use Rattle.imap_grammar.specs.Sets.{named_at, named_in}
 use Rattle.imap_grammar.specs.declared.command.Command.TheVariants as commands
 use Rattle.imap_session.specs.Exchange.{Exchange}
 use Rattle.imap_session.specs.Commands.{storing, messages_done}
-use Rattle.imap_session.specs.Store.{last}
+use Rattle.imap_session.specs.inner.Store.{last}
 use Rattle.imap_session.proofs.Runs.{stops_look, stops_then, reaches_then}
 use Rattle.imap_session.proofs.Saying.{does_then}
 use Rattle.imap_session.proofs.Choosing.{chosen_none, chosen_some, reaches_chosen, reaches_too_high}

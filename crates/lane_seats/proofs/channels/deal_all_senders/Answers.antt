@@ -3,7 +3,7 @@ use Rattle.std.proofs.lemmas.List.{length-map, map-append}
 use Rattle.std.proofs.lemmas.List.Elements.{All-drop}
 use Rattle.delivery_token.specs.declared.log.Noted.{Noted}
 use Rattle.shard_queue.specs.declared.reply.SenderSeat.{SenderSeat}
-use Rattle.lane_seats.specs.SenderRows.{AreSenderHands, SenderRows}
+use Rattle.lane_seats.specs.rows.SenderRows.{AreSenderHands, SenderRows}
 use Rattle.lane_seats.proofs.StepLaws.{list}
 use Rattle.lane_seats.proofs.SenderRowLaws.{hands_next, none_left}
 use Rattle.lane_seats.proofs.channels.deal_all_senders.Goals as goal

@@ -1,5 +1,5 @@
 use Rattle.std.proofs.Common.{◌≡◌, ◌≤◌, ◌+◌, [], All, length, map, vec_len, vec_capacity}
-use Rattle.lane_seats.specs.SenderRows.{AreSenderHands, SenderRows}
+use Rattle.lane_seats.specs.rows.SenderRows.{AreSenderHands, SenderRows}
 use Rattle.lane_seats.proofs.StepLaws.{list}
 use Rattle.lane_seats.proofs.channels.deal_all_senders.Given as goal
 

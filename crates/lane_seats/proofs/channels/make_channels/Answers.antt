@@ -5,7 +5,7 @@ use Rattle.delivery_token.specs.declared.log.Noted.{Noted}
 use Rattle.shard_queue.specs.declared.ends.ReplyChannel.{ReplyChannel}
 use Rattle.shard_queue.specs.declared.reply.ReceiverSeat.{ReceiverSeat}
 use Rattle.shard_queue.specs.Reply.{received, room_of, senders_of}
-use Rattle.lane_seats.specs.SenderRows.{SenderRows, AreReceivers}
+use Rattle.lane_seats.specs.rows.SenderRows.{SenderRows, AreReceivers}
 use Rattle.lane_seats.proofs.StepLaws.{list}
 use Rattle.lane_seats.proofs.SenderRowLaws.{all_left, receivers_next, rows_next}
 use Rattle.lane_seats.proofs.channels.make_channels.Goals as goal

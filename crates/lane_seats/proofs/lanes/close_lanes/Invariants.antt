@@ -1,7 +1,7 @@
 use Rattle.std.proofs.Common.{◌≡◌, ◌≤◌, ◌+◌, ◌++◌, List, map, true, false, vec_len, vec_capacity}
 use Rattle.delivery_token.specs.declared.Job.{Job}
 use Rattle.shard_queue.specs.declared.queue.Closed.{Closed}
-use Rattle.lane_seats.specs.Rows.{AreConsumers, EndedRows}
+use Rattle.lane_seats.specs.rows.Rows.{AreConsumers, EndedRows}
 use Rattle.lane_seats.specs.Closings.{AreClosed, IsTorn}
 use Rattle.lane_seats.proofs.lanes.close_lanes.Given as goal
 

@@ -2,7 +2,7 @@ use Rattle.std.proofs.Common.{◌≡◌, ◌≤◌, ◌+◌, ℕ, List, All, map
 use Rattle.delivery_token.specs.declared.Job.{Job}
 use Rattle.shard_queue.specs.declared.queue.ShardQueue.{ShardQueue}
 use Rattle.shard_queue.specs.declared.queue.Ended.{Ended}
-use Rattle.lane_seats.specs.Rows.{AllIn, AreEndedHands, EndedRows, Keep}
+use Rattle.lane_seats.specs.rows.Rows.{AllIn, AreEndedHands, EndedRows, Keep}
 use Rattle.lane_seats.proofs.StepLaws.{list}
 use Rattle.lane_seats.proofs.lanes.collect_all.Given as goal
 

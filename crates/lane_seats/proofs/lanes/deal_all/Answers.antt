@@ -3,7 +3,7 @@ use Rattle.std.proofs.lemmas.List.{length-map, map-append}
 use Rattle.std.proofs.lemmas.List.Elements.{All-drop}
 use Rattle.delivery_token.specs.declared.Job.{Job}
 use Rattle.shard_queue.specs.declared.queue.ProducerSeat.{ProducerSeat}
-use Rattle.lane_seats.specs.Rows.{AreHands, Rows}
+use Rattle.lane_seats.specs.rows.Rows.{AreHands, Rows}
 use Rattle.lane_seats.proofs.StepLaws.{list}
 use Rattle.lane_seats.proofs.RowLaws.{hands_next, none_left}
 use Rattle.lane_seats.proofs.lanes.deal_all.Goals as goal

@@ -1,5 +1,5 @@
 use Rattle.std.proofs.Common.{◌≡◌, ◌≤◌, ◌+◌, [], All, length, map, vec_len, vec_capacity}
-use Rattle.lane_seats.specs.Rows.{AreHands, Rows}
+use Rattle.lane_seats.specs.rows.Rows.{AreHands, Rows}
 use Rattle.lane_seats.proofs.StepLaws.{list}
 use Rattle.lane_seats.proofs.lanes.deal_all.Given as goal
 

@@ -5,7 +5,7 @@ use Rattle.delivery_token.specs.declared.Job.{Job}
 use Rattle.shard_queue.specs.declared.queue.ShardQueue.{ShardQueue}
 use Rattle.shard_queue.specs.declared.queue.ConsumerSeat.{ConsumerSeat}
 use Rattle.shard_queue.specs.Seats.{got, capacity_of, producers_of}
-use Rattle.lane_seats.specs.Rows.{Rows, AreConsumers}
+use Rattle.lane_seats.specs.rows.Rows.{Rows, AreConsumers}
 use Rattle.lane_seats.proofs.StepLaws.{list}
 use Rattle.lane_seats.proofs.RowLaws.{all_left, consumers_next, rows_next}
 use Rattle.lane_seats.proofs.lanes.make_lanes.Goals as goal

@@ -1,6 +1,6 @@
 use Rattle.std.proofs.Common.{◌≡◌, ◌≤◌, [], All, map, vec_len, vec_capacity}
 use Rattle.shard_queue.specs.Seats.{got, capacity_of, producers_of}
-use Rattle.lane_seats.specs.Rows.{Rows, AreConsumers}
+use Rattle.lane_seats.specs.rows.Rows.{Rows, AreConsumers}
 use Rattle.lane_seats.proofs.lanes.make_lanes.Given as goal
 
 abbrev pub invariant-loop : goal.invariant-loop

@@ -4,7 +4,7 @@ use Rattle.std.proofs.lemmas.List.Elements.{All-map, All-weaker}
 use Rattle.delivery_token.specs.declared.Job.{Job}
 use Rattle.shard_queue.specs.declared.queue.Ended.{Ended}
 use Rattle.lane_seats.specs.Rooms.{AreRooms}
-use Rattle.lane_seats.specs.Rows.{AreEndedHands}
+use Rattle.lane_seats.specs.rows.Rows.{AreEndedHands}
 use Rattle.lane_seats.proofs.StepLaws.{list}
 use Rattle.lane_seats.proofs.RowLaws.{none_ended}
 use Rattle.lane_seats.proofs.tests.close_after.Goals as goal

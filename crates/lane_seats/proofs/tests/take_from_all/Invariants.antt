@@ -1,4 +1,4 @@
-use Rattle.lane_seats.specs.Rows.{AreConsumers}
+use Rattle.lane_seats.specs.rows.Rows.{AreConsumers}
 use Rattle.lane_seats.proofs.tests.take_from_all.Given as goal
 
 abbrev pub invariant-loop-lane : goal.invariant-loop-lane

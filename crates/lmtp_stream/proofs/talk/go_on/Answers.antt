@@ -11,7 +11,7 @@ use Rattle.lmtp_stream.specs.declared.outcome.Ending.TheVariants.{Quit, Gone}
 use Rattle.lmtp_stream.specs.declared.outcome.TalkFault.{TalkFault}
 use Rattle.lmtp_stream.specs.declared.outcome.TalkFault.TheVariants.{Read}
 use Rattle.lmtp_stream.specs.declared.piece.Next.{Next}
-use Rattle.lmtp_stream.specs.Pieces.{SaidByThen, TookPiece}
+use Rattle.lmtp_stream.specs.inner.Pieces.{SaidByThen, TookPiece}
 use Rattle.lmtp_stream.specs.Streaming.{AreCutShort, AreGivenUp, IsPlayed}
 use Rattle.lmtp_stream.proofs.LastWords.{has_ended}
 use Rattle.lmtp_stream.proofs.Taking.{longer}

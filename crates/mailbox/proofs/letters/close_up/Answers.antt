@@ -2,7 +2,7 @@ use Rattle.std.proofs.Common.{rules, of_calls, ◌≡◌, ◌∙◌, ap}
 use Rattle.std.specs.Prelude.{is_some}
 use Rattle.std.proofs.lemmas.Fn.{filter_same}
 use Rattle.mailbox.specs.declared.letters.Letter.{Letter}
-use Rattle.mailbox.specs.Letters.{letter_uids, messages_of}
+use Rattle.mailbox.specs.inner.Letters.{letter_uids, messages_of}
 use Rattle.mailbox.proofs.LetterLaws.{messages_there, there, uids_there}
 use Rattle.mailbox.proofs.letters.close_up.Goals as goal
 

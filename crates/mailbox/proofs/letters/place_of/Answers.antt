@@ -4,7 +4,7 @@ use Rattle.std.proofs.lemmas.Fn.{always_returns_same}
 use Rattle.std.proofs.lemmas.List.Sorted.{IsPartitionedBy-ltb}
 use Rattle.cursor_set.proofs.Places.{Rises-from}
 use Rattle.mailbox.specs.declared.letters.Letter.{Letter}
-use Rattle.mailbox.specs.Letters.{letter_uids}
+use Rattle.mailbox.specs.inner.Letters.{letter_uids}
 use Rattle.mailbox.proofs.LetterLaws.{absent, uids_do_not_fall}
 use Rattle.mailbox.proofs.letters.place_of.Goals as goal
 

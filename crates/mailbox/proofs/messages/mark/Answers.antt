@@ -3,7 +3,7 @@ use Rattle.std.specs.Prelude.{if◌then◌else◌, insert}
 use Rattle.std.specs.List.Sorted.{IsStrictlyIncreasing}
 use Rattle.std.proofs.lemmas.Fn.{always_returns_same}
 use Rattle.std.proofs.lemmas.List.Sorted.{IsPartitionedBy-ltb}
-use Rattle.mailbox.specs.Marks.{put_in}
+use Rattle.mailbox.specs.inner.Marks.{put_in}
 use Rattle.mailbox.proofs.MarkLaws.{not_falling, put_at}
 use Rattle.mailbox.proofs.messages.mark.Goals as goal
 

@@ -1,9 +1,9 @@
 use Rattle.std.proofs.Common.{◌≡◌, ◌+◌, ℕ, Bool, List, get_or, take, ap, sym, ◌∙◌}
 use Rattle.std.specs.Prelude.{if◌then◌else◌}
 use Rattle.std.proofs.lemmas.List.{take_more}
-use Rattle.mailbox.specs.Choices.{passes}
-use Rattle.mailbox.specs.Letters.{without_message}
-use Rattle.mailbox.specs.Marks.{without_each}
+use Rattle.mailbox.specs.inner.Choices.{passes}
+use Rattle.mailbox.specs.inner.Letters.{without_message}
+use Rattle.mailbox.specs.inner.Marks.{without_each}
 use Rattle.mailbox.proofs.TakenLaws.{each_more}
 use Rattle.mailbox.proofs.messages.remove_each.Goals as goal
 use Rattle.mailbox.proofs.messages.remove_each.Goals.{then-has, else-has}

@@ -1,6 +1,6 @@
 use Rattle.std.proofs.Common.{◌≡◌, take}
-use Rattle.mailbox.specs.Choices.{passes}
-use Rattle.mailbox.specs.Marks.{without_each}
+use Rattle.mailbox.specs.inner.Choices.{passes}
+use Rattle.mailbox.specs.inner.Marks.{without_each}
 use Rattle.mailbox.proofs.messages.remove_each.Given as goal
 
 -- those of the first UIDs are gone

@@ -4,8 +4,8 @@ use Rattle.std.proofs.lemmas.List.{drop_more}
 use Rattle.change_ring.specs.declared.ring.Spent.{Spent}
 use Rattle.change_ring.specs.declared.change.Change.TheVariants.{Gone}
 use Rattle.change_ring.specs.Window.{Window}
-use Rattle.mailbox.specs.Choices.{passes}
-use Rattle.mailbox.specs.Marks.{gone_of}
+use Rattle.mailbox.specs.inner.Choices.{passes}
+use Rattle.mailbox.specs.inner.Marks.{gone_of}
 use Rattle.mailbox.proofs.RemovalLaws.{IsLogging, one_logged, room_left}
 use Rattle.mailbox.proofs.TakenLaws.{told, untold}
 use Rattle.mailbox.proofs.removal.log_removals.Goals as goal

@@ -1,6 +1,6 @@
 use Rattle.std.proofs.Common.{drop}
-use Rattle.mailbox.specs.Choices.{passes}
-use Rattle.mailbox.specs.Marks.{gone_of}
+use Rattle.mailbox.specs.inner.Choices.{passes}
+use Rattle.mailbox.specs.inner.Marks.{gone_of}
 use Rattle.mailbox.proofs.RemovalLaws.{IsLogging}
 use Rattle.mailbox.proofs.removal.log_removals.Given as goal
 

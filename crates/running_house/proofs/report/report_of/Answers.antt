@@ -1,8 +1,8 @@
 use Rattle.std.proofs.Common.{◌==◌, ◌∙◌, map, sym, ap, subst, arith}
 use Rattle.lane_work.specs.declared.consumer.Consumed.{Consumed}
 use Rattle.lane_work.specs.declared.worker.Worked.{Worked}
-use Rattle.lane_seats.specs.Rows as rows
-use Rattle.lane_seats.specs.SenderRows.{AreReceivers, AreSenderEndedHands}
+use Rattle.lane_seats.specs.rows.Rows as rows
+use Rattle.lane_seats.specs.rows.SenderRows.{AreReceivers, AreSenderEndedHands}
 use Rattle.reckoning.proofs.Parts.{consumers_of, ended_of, receivers_of, sender_hands_of}
 use Rattle.agreement.specs.Lists.{ListsAgree}
 use Rattle.reckoning.specs.Settling.{IsSettled, are_said}

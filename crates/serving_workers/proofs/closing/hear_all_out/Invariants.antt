@@ -1,6 +1,7 @@
 use Rattle.std.proofs.Common.{◌≡◌, ◌≤◌, ◌+◌, vec_len, vec_capacity}
 use Rattle.house_floor.specs.Crew.{AllAt}
-use Rattle.serving_workers.specs.Leaving.{HasHeard, IsServed}
+use Rattle.serving_workers.specs.Leaving.{IsServed}
+use Rattle.serving_workers.specs.inner.Leaving.{HasHeard}
 use Rattle.serving_workers.proofs.closing.hear_all_out.Given as goal
 
 abbrev pub invariant-loop-number : goal.invariant-loop-number

@@ -38,7 +38,7 @@ use Rattle.std_alloc.proofs.RcSteps.{word, word-Good}
 use Rattle.std_alloc.proofs.VecSteps.El.{El, R, args, el_lawful, elτ, sz}
 use Rattle.std_alloc.proofs.VecSteps.Rows.{el_in}
 use Rattle.std_alloc.proofs.VecSteps.Shapes.{after}
-use Rattle.change_ring.specs.Ownership.{cells_own}
+use Rattle.change_ring.specs.inner.Ownership.{cells_own}
 use Rattle.change_ring.proofs.Memory.{Cr, Bs, alone, items_at, room_past, with_place, Fills, place_out, block_had, block_made}
 use Rattle.change_ring.proofs.cells.Base.TheLaws as base-laws
 use Rattle.change_ring.specs.contracts.cells.Cells.write as F

@@ -1,7 +1,7 @@
 use Rattle.std.proofs.Common.{◌∙◌, ap, arith, subst, sym}
 use Rattle.std.specs.Prelude.{slice_index_or}
 use Rattle.mailbox.specs.Mail.{Mail}
-use Rattle.delivery_core.specs.Clients.{answer_of}
+use Rattle.delivery_core.specs.inner.Clients.{answer_of}
 use Rattle.delivery_core.specs.Held.{Held}
 use Rattle.delivery_core.specs.Stands.{StandsFor}
 use Rattle.delivery_core.proofs.Calls.{not_strange}

@@ -2,7 +2,8 @@ use Rattle.std.proofs.Common.{◌≡◌, ◌∙◌, ap, arith, subst, sym}
 use Rattle.std.specs.Prelude.{slice_index_or}
 use Rattle.mailbox.specs.declared.clients.MailFault.TheVariants.{Spent}
 use Rattle.mailbox.specs.Mail.{Mail}
-use Rattle.delivery_core.specs.Held.{AreKept, Held}
+use Rattle.delivery_core.specs.Held.{Held}
+use Rattle.delivery_core.specs.inner.Held.{AreKept}
 use Rattle.delivery_core.specs.Seated.{AreSeated, cursors_of}
 use Rattle.delivery_core.specs.Stands.{StandsFor}
 use Rattle.delivery_core.proofs.Gone.{leave_fault, leave_follows, leave_refused, leave_seated, leave_stays, left_only}

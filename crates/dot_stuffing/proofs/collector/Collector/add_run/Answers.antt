@@ -1,7 +1,8 @@
 use Rattle.std.proofs.Common.{◌≡◌, ◌∙◌, ℕ, List, ◌++◌, Bool, true, false, ap, sym, subst, refl, inl, inr}
 use Rattle.std.specs.Prelude.{◌||◌, Contains}
 use Rattle.std.proofs.lemmas.List.Elements.{Contains-append_left, Contains-append_right, Contains-append_cases}
-use Rattle.dot_stuffing.specs.Unstuffing.{Collected, Collects, IsBehind, Keeps}
+use Rattle.dot_stuffing.specs.Unstuffing.{Collected, Collects, IsBehind}
+use Rattle.dot_stuffing.specs.inner.Unstuffing.{Keeps}
 use Rattle.dot_stuffing.proofs.collector.Collector.add_run.Goals as goal
 
 -- NULs of a text, and of bytes behind it

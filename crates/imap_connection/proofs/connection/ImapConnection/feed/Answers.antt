@@ -6,7 +6,8 @@ use Rattle.line_io.specs.Cutting.{EndsLine}
 use Rattle.imap_session.specs.Exchange.{Standing, waits_for}
 use Rattle.imap_session.specs.Store.{Answers}
 use Rattle.imap_session.specs.Commands.{long_line_text, turn_of_long_line}
-use Rattle.imap_connection.specs.Dialogue.{Link, begins, ends, most_bytes, reads, too_long}
+use Rattle.imap_connection.specs.Dialogue.{Link, most_bytes, reads, too_long}
+use Rattle.imap_connection.specs.inner.Dialogue.{begins, ends}
 use Rattle.imap_connection.proofs.Feeding.{has_begun, line_ends, some_same, stands_anew}
 use Rattle.imap_connection.proofs.connection.ImapConnection.feed.Goals as goal
 

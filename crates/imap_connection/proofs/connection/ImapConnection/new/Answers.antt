@@ -1,4 +1,4 @@
-use Rattle.line_io.specs.WireLaws.{uncut_nil}
+use Rattle.line_io.specs.inner.WireLaws.{uncut_nil}
 use Rattle.imap_connection.proofs.connection.ImapConnection.new.Goals as goal
 
 pub returns : goal.returns

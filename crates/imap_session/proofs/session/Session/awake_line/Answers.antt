@@ -2,7 +2,7 @@ use Rattle.std.proofs.Common.{◌≡◌, ◌++◌, codes, Err, List, ℕ, Ok, �
 use Rattle.imap_grammar.specs.Reading.{read}
 use Rattle.imap_session.specs.Exchange.{tagged}
 use Rattle.imap_session.specs.Commands.{fault_text, on_command}
-use Rattle.imap_session.specs.Store.{Plays}
+use Rattle.imap_session.specs.inner.Store.{Plays}
 use Rattle.imap_session.proofs.Lines.{answers_command, answers_fault, answers_idle}
 use Rattle.imap_session.proofs.session.Session.awake_line.Goals as goal
 

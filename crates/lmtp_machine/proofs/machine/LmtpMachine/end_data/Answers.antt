@@ -6,9 +6,10 @@ use Rattle.dot_stuffing.specs.declared.Outcome.TheVariants as outcomes
 use Rattle.lmtp_machine.specs.Message.{return_path, stored_text}
 use Rattle.lmtp_machine.specs.Standing.{CommandState, standing_of}
 use Rattle.lmtp_machine.specs.Dialogue.{Waiting, Standing, Submission, keys_from}
-use Rattle.lmtp_machine.specs.Machine.{Machine, IsPending}
+use Rattle.lmtp_machine.specs.Machine.{Machine}
+use Rattle.lmtp_machine.specs.inner.Machine.{IsPending}
 use Rattle.lmtp_machine.specs.Calls.{submission_of}
-use Rattle.lmtp_machine.specs.Ending.{so, IsBetween}
+use Rattle.lmtp_machine.specs.inner.Ending.{so, IsBetween}
 use Rattle.lmtp_machine.proofs.Kept.{keys_length}
 use Rattle.lmtp_machine.proofs.machine.LmtpMachine.end_data.Goals as goal
 

@@ -14,7 +14,7 @@ use Rattle.lmtp_machine.specs.Standing.{IsOpen}
 use Rattle.lmtp_machine.specs.Machine.{Machine}
 use Rattle.lmtp_machine.specs.Message.{return_path}
 use Rattle.lmtp_machine.specs.Calls.{submission_of}
-use Rattle.lmtp_machine.specs.Ending.{what_of}
+use Rattle.lmtp_machine.specs.inner.Ending.{what_of}
 use Rattle.lmtp_machine.proofs.Follow.{line_follows, more_follows, no_data_begins, open_pending, long_takes, takes_as, cutter_of}
 use Rattle.lmtp_machine.proofs.machine.LmtpMachine.feed_commands.Goals as goal
 use Rattle.lmtp_machine.proofs.machine.LmtpMachine.feed_commands.Goals.{in-NeedMore, in-TooLong, in-Line}

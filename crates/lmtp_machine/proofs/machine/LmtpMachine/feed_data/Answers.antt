@@ -8,9 +8,10 @@ use Rattle.std.specs.Option.{option_map, option_to_list}
 use Rattle.lmtp_machine.specs.contracts.machine.LmtpMachine.{the_view}
 use Rattle.lmtp_machine.specs.Calls.{submission_of}
 use Rattle.lmtp_machine.specs.Dialogue.{on_outcome}
-use Rattle.lmtp_machine.specs.Machine.{Machine, IsPending}
+use Rattle.lmtp_machine.specs.Machine.{Machine}
+use Rattle.lmtp_machine.specs.inner.Machine.{IsPending}
 use Rattle.lmtp_machine.specs.Message.{return_path}
-use Rattle.lmtp_machine.specs.Ending.{Becomes, Does}
+use Rattle.lmtp_machine.specs.inner.Ending.{Becomes, Does}
 use Rattle.lmtp_machine.proofs.Follow.{data_more_follows, data_done_follows}
 use Rattle.lmtp_machine.proofs.machine.LmtpMachine.feed_data.Goals as goal
 

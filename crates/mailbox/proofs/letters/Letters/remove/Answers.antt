@@ -1,6 +1,6 @@
 use Rattle.std.proofs.Common.{◌-◌, length, not, ap, ◌∙◌, sym, subst, arith}
 use Rattle.std.specs.List.Sorted.{IsStrictlyIncreasing}
-use Rattle.mailbox.specs.Letters.{message_of, messages_of}
+use Rattle.mailbox.specs.inner.Letters.{message_of, messages_of}
 use Rattle.mailbox.proofs.LetterLaws.{AreCounted-remove, AreCounted-same, bytes_there, length_without, number_of, unseen_there, without_none}
 use Rattle.mailbox.proofs.letters.Letters.remove.Goals as goal
 

@@ -3,7 +3,7 @@ use Rattle.std.specs.Prelude.{Result, Ok, Err, None, IfErr, OnOk}
 use Rattle.change_ring.specs.declared.change.Change.{Change}
 use Rattle.cursor_set.specs.Cursors.{Cursors, Seat, Updates, held}
 use Rattle.mailbox.specs.Mail.{Mail}
-use Rattle.mailbox.specs.Seen.{mail_of}
+use Rattle.mailbox.specs.inner.Seen.{mail_of}
 use Rattle.mailbox.specs.Stands.{Stands}
 use Rattle.mailbox.proofs.StandsLaws.{Stands-close}
 use Rattle.mailbox.proofs.mailbox.Mailbox.close.Goals as goal

@@ -1,9 +1,9 @@
 use Rattle.std.proofs.Common.{ap, sym, ◌∙◌, length, List, ℕ}
 use Rattle.std.specs.Prelude.{count_by}
 use Rattle.change_ring.specs.Logged.{removals}
-use Rattle.mailbox.specs.Choices.{passes}
+use Rattle.mailbox.specs.inner.Choices.{passes}
 use Rattle.mailbox.specs.Mail.{Mail, rows}
-use Rattle.mailbox.specs.Marks.{marked_of}
+use Rattle.mailbox.specs.inner.Marks.{marked_of}
 use Rattle.mailbox.proofs.TakenLaws.{gone_marked, gone_number}
 use Rattle.mailbox.proofs.mailbox.Mailbox.count_removals.Goals as goal
 

@@ -7,7 +7,7 @@ use Rattle.change_ring.specs.Logged.{removals}
 use Rattle.change_ring.specs.Window.{changes_from, total}
 use Rattle.cursor_set.specs.Lines.{lines}
 use Rattle.cursor_set.specs.Cursors.{Cursors, Open, Updates, after_showing, held}
-use Rattle.mailbox.specs.Choices.{passes}
+use Rattle.mailbox.specs.inner.Choices.{passes}
 use Rattle.mailbox.specs.Mail.{Mail, rows}
 use Rattle.mailbox.specs.Stands.{Stands}
 use Rattle.mailbox.proofs.mailbox.Mailbox.expunge.Goals as goal

@@ -8,7 +8,7 @@ use Rattle.cursor_set.proofs.OpenedLemmas.{held_in_slot}
 use Rattle.change_ring.specs.declared.change.Change.{Change}
 use Rattle.mailbox.specs.Mail.{Mail}
 use Rattle.mailbox.specs.Stands.{Stands, next_of}
-use Rattle.mailbox.specs.Seen.{mail_of}
+use Rattle.mailbox.specs.inner.Seen.{mail_of}
 use Rattle.mailbox.proofs.Seats.{held_at, held_some}
 use Rattle.mailbox.proofs.StandsLaws.{Stands-feed, lines-log, pending-legal}
 use Rattle.mailbox.proofs.mailbox.Mailbox.feed.Goals as goal

@@ -3,7 +3,7 @@ use Rattle.change_ring.specs.Window.{total}
 use Rattle.cursor_set.specs.Cursors.{Updates}
 use Rattle.mailbox.specs.Mail.{Mail, uids_of}
 use Rattle.mailbox.specs.Stands.{Stands}
-use Rattle.mailbox.specs.Seen.{mail_of}
+use Rattle.mailbox.specs.inner.Seen.{mail_of}
 use Rattle.mailbox.proofs.Seats.{known_by}
 use Rattle.mailbox.proofs.StandsLaws.{Stands-enter}
 use Rattle.mailbox.proofs.mailbox.Mailbox.open_cursor.Goals as goal

@@ -4,7 +4,7 @@ use Rattle.change_ring.specs.declared.change.Flags.{Flags}
 use Rattle.change_ring.specs.Logged.{flags_after, seen_logged}
 use Rattle.mailbox.specs.Events.{Moves, mark, was_logged}
 use Rattle.mailbox.specs.declared.clients.Row.{Row}
-use Rattle.mailbox.specs.Letters.{message_of}
+use Rattle.mailbox.specs.inner.Letters.{message_of}
 use Rattle.mailbox.specs.Mail.{Message, message_with, rows}
 use Rattle.mailbox.proofs.MessageLaws.{seen_none, seen_after_none, with_seen}
 use Rattle.mailbox.proofs.StandsLaws.{Logs-nothing}

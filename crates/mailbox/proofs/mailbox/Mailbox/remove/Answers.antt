@@ -3,11 +3,12 @@ use Rattle.change_ring.specs.declared.change.Change.{Change}
 use Rattle.change_ring.specs.Logged.{removals}
 use Rattle.change_ring.specs.Window.{total}
 use Rattle.cursor_set.proofs.Places.{Rises-from}
-use Rattle.mailbox.specs.Choices.{passes}
-use Rattle.mailbox.specs.Events.{GoesOn, Moves}
+use Rattle.mailbox.specs.inner.Choices.{passes}
+use Rattle.mailbox.specs.Events.{Moves}
+use Rattle.mailbox.specs.inner.Events.{GoesOn}
 use Rattle.mailbox.specs.Mail.{Mail, remaining, row_of, rows, uids_of}
-use Rattle.mailbox.specs.Marks.{gone_of}
-use Rattle.mailbox.specs.Seen.{mail_of}
+use Rattle.mailbox.specs.inner.Marks.{gone_of}
+use Rattle.mailbox.specs.inner.Seen.{mail_of}
 use Rattle.mailbox.specs.Stands.{Stands}
 use Rattle.mailbox.proofs.MarkLaws.{length_remaining}
 use Rattle.mailbox.proofs.RemovalLaws.{gone_adds, removals_fit, rows_removed}

@@ -9,10 +9,11 @@ use Rattle.change_ring.specs.Logged.{flags_after, flags_differ, flags_logged}
 use Rattle.change_ring.specs.Window.{total}
 use Rattle.cursor_set.proofs.Places.{Rises-from}
 use Rattle.mailbox.specs.Events.{Moves, was_logged}
-use Rattle.mailbox.specs.Letters.{reflagged}
+use Rattle.mailbox.specs.inner.Letters.{reflagged}
 use Rattle.mailbox.specs.Mail.{Mail, Message, flagged, message_with, row_of, rows, uids_of}
-use Rattle.mailbox.specs.Seen.{mail_of}
-use Rattle.mailbox.specs.Stands.{Stands, IsSound}
+use Rattle.mailbox.specs.inner.Seen.{mail_of}
+use Rattle.mailbox.specs.Stands.{Stands}
+use Rattle.mailbox.specs.inner.Stands.{IsSound}
 use Rattle.mailbox.specs.declared.mailbox.Mailbox.TheInside.{Inside as kept_mail}
 use Rattle.mailbox.proofs.MarkLaws.{length_reflagged}
 use Rattle.mailbox.proofs.MessageLaws.{IsFound, found_by, stay_logged, stay_flagged, change_logged, change_fits, change_rows}

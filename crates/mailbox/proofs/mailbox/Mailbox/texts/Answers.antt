@@ -2,7 +2,7 @@ use Rattle.std.proofs.Common.{◌≡◌, ◌∙◌, List, [], ◌∷◌, map, sy
 use Rattle.std.specs.List.Sorted.{IsStrictlyIncreasing}
 use Rattle.std.proofs.lemmas.Result.{IfOk-weaker}
 use Rattle.mailbox.specs.Mail.{Mail, Message, texts_of, uids_of}
-use Rattle.mailbox.specs.Seen.{mail_of}
+use Rattle.mailbox.specs.inner.Seen.{mail_of}
 use Rattle.mailbox.proofs.StandsLaws.{Stands-rising}
 use Rattle.mailbox.proofs.mailbox.Mailbox.texts.Goals as goal
 

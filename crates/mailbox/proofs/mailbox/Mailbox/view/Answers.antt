@@ -1,4 +1,4 @@
-use Rattle.mailbox.specs.Seen.{mail_of}
+use Rattle.mailbox.specs.inner.Seen.{mail_of}
 use Rattle.mailbox.proofs.StandsLaws.{Stands-shown_rises}
 use Rattle.mailbox.proofs.mailbox.Mailbox.view.Goals as goal
 

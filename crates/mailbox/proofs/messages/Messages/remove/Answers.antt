@@ -1,9 +1,9 @@
 use Rattle.std.proofs.Common.{rules, of_calls, ◌≡◌, ℕ, List, filter, not, ap, sym, ◌∙◌, length, arith}
 use Rattle.std.proofs.lemmas.Fn.{filter_same}
 use Rattle.cursor_set.proofs.Places.{Rises-from}
-use Rattle.mailbox.specs.Choices.{passes}
+use Rattle.mailbox.specs.inner.Choices.{passes}
 use Rattle.mailbox.specs.Mail.{Message, remaining, uids_of}
-use Rattle.mailbox.specs.Marks.{marked_of, without_each}
+use Rattle.mailbox.specs.inner.Marks.{marked_of, without_each}
 use Rattle.mailbox.proofs.MarkLaws.{length_remaining}
 use Rattle.mailbox.proofs.TakenLaws.{each_taken, marks_left}
 use Rattle.mailbox.proofs.messages.Messages.remove.Goals as goal

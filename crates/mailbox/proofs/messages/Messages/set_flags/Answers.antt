@@ -3,7 +3,7 @@ use Rattle.std.specs.List.Sorted.{IsStrictlyIncreasing}
 use Rattle.change_ring.specs.declared.change.Flags.{Flags}
 use Rattle.cursor_set.proofs.Places.{Rises-from, Rises-to}
 use Rattle.mailbox.specs.Mail.{Message, message_with, uids_of}
-use Rattle.mailbox.specs.Marks.{AreMarked, marked_of, remarked}
+use Rattle.mailbox.specs.inner.Marks.{AreMarked, marked_of, remarked}
 use Rattle.mailbox.proofs.LetterLaws.{flags_of_none, flags_of_one, reflagged_none}
 use Rattle.mailbox.proofs.MarkLaws.{length_reflagged, marked_less, marked_rises, marked_set}
 use Rattle.mailbox.proofs.messages.Messages.set_flags.Goals as goal

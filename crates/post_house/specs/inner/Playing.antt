@@ -6,7 +6,7 @@ use Rattle.house.specs.State.{State}
 use Rattle.house.specs.declared.config.Config.{Config}
 use Rattle.house.specs.declared.config.ConfigFault.{ConfigFault}
 use Rattle.post_house.specs.Asking.{IsAskedInRange}
-use Rattle.post_house.specs.Status.{status_for, status_served}
+use Rattle.post_house.specs.inner.Status.{status_for, status_served}
 use Rattle.post_house.specs.declared.arguments.Asked.{Asked}
 use Rattle.post_house.specs.declared.arguments.Asked.TheVariants.{Script, Serve}
 use Rattle.post_house.specs.declared.failure.Failure.{Failure}

@@ -2,7 +2,7 @@
 use Rattle.std.specs.Prelude.{◌≡◌, ℕ, List, [], ◌++◌, take, true, false}
 use Rattle.std.proofs.Common.{◌∙◌, ap, sym, subst}
 use Rattle.line_io.specs.Wire.{EndsInCr, wire_rest}
-use Rattle.line_io.specs.WireLaws.{wire_join}
+use Rattle.line_io.specs.inner.WireLaws.{wire_join}
 use Rattle.line_io.specs.Cutting.{Cutter, StandsFor}
 
 -- between two lines a cutter stands also for a stream with whole lines more, which another took, as mail data

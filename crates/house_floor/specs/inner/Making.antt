@@ -4,8 +4,8 @@ use Rattle.delivery_token.specs.declared.Job.{Job}
 use Rattle.delivery_token.specs.declared.log.Noted.{Noted}
 use Rattle.envelope.specs.Directory.{Directory}
 use Rattle.lane_seats.specs.Rooms.{AreHandRooms, AreRooms, AreSeatRooms}
-use Rattle.lane_seats.specs.Rows.{AreConsumers, Rows}
-use Rattle.lane_seats.specs.SenderRows.{AreReceivers, SenderRows}
+use Rattle.lane_seats.specs.rows.Rows.{AreConsumers, Rows}
+use Rattle.lane_seats.specs.rows.SenderRows.{AreReceivers, SenderRows}
 use Rattle.shard_queue.specs.declared.queue.ShardQueue.{ShardQueue}
 use Rattle.shard_queue.specs.declared.ends.ReplyChannel.{ReplyChannel}
 use Rattle.shard_queue.specs.Reply.{received, room_of, senders_of}

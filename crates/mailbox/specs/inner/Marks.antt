@@ -3,7 +3,7 @@ use Rattle.std.specs.Prelude.{◌≡◌, ◌≤◌, ℕ, Bool, true, false, List
 use Rattle.change_ring.specs.declared.change.Change.{Change}
 use Rattle.change_ring.specs.declared.change.Change.TheVariants.{Gone}
 use Rattle.change_ring.specs.Log.{without}
-use Rattle.mailbox.specs.Letters.{without_message}
+use Rattle.mailbox.specs.inner.Letters.{without_message}
 use Rattle.mailbox.specs.Mail.{Message, uids_of}
 use Rattle.mailbox.specs.declared.messages.Messages.TheInside.{Inside}
 

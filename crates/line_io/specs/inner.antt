@@ -1,0 +1,2 @@
+pub mod CuttingLaws
+pub mod WireLaws

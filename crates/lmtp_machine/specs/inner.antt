@@ -1,0 +1,4 @@
+pub mod Calls
+pub mod Ending
+pub mod Machine
+pub mod Standing

@@ -1,0 +1,7 @@
+pub mod Choices
+pub mod Copies
+pub mod Events
+pub mod Letters
+pub mod Marks
+pub mod Seen
+pub mod Stands
