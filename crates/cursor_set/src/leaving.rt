@@ -3,7 +3,7 @@
 //! It is closed over them once they are many, and at the end. Which lines tell of it is told in
 //! `lines`.
 
-ghost use Rattle.std.specs.Prelude.{◌≡◌, ◌≢◌, ℕ, ◌+◌, ◌-◌, ◌<◌, ◌≤◌, [], ◌++◌, List, length, slice_index, remove, All, vec_len, vec_capacity, Contains};
+ghost use Rattle.std.specs.Prelude.{◌≡◌, ◌≢◌, true, ℕ, ◌+◌, ◌-◌, ◌<◌, ◌≤◌, ◌↔◌, [], ◌++◌, List, length, slice_index, remove, All, vec_len, vec_capacity, Contains};
 ghost use Rattle.std.specs.List.Sorted.{IsStrictlyIncreasing};
 ghost use Rattle.change_ring.specs.Log.{without};
 ghost use Rattle.cursor_set.specs.Leaving.{counted, AreIn};
@@ -148,10 +148,21 @@ fn index_near(view: &[u32], uid: u32, near: usize) -> usize
     ensures within { result < length view.now }
     ensures there { slice_index view.now result ≡ uid }
 {
+    if is_next(view, uid, near) {
+        return near + 1;
+    }
     if near < view.len() && view[near] <= uid {
         return near + index_of(&view[near..], uid);
     }
     index_of(view, uid)
+}
+
+// Whether a UID of a view stands right behind the index `near`: it does where one message after
+// another is told of.
+fn is_next(view: &[u32], uid: u32, near: usize) -> bool
+    ensures { (result ≡ true) ↔ ((near + 1 < length view.now) × (slice_index view.now (near + 1) ≡ uid)) }
+{
+    near < view.len().saturating_sub(1) && view[near + 1] == uid
 }
 
 // The index of a UID in a view, which rises.

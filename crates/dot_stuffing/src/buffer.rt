@@ -65,6 +65,17 @@ impl Buffer {
         Ok(())
     }
 
+    /// Makes room for so many bytes more, as far as memory is given: where there is none, for three times as many as there was room for,
+    /// so that a long text is moved seldom. Memory that isn't written to isn't taken from the system, and the rest is given back at the end.
+    fn make_room(&mut self, more: usize)
+        ensures { self.new ≡ self.old }
+    {
+        let room = self.bytes.capacity();
+        if more > room - self.bytes.len() {
+            let _ = self.bytes.reserve(more.max(room.saturating_mul(3)));
+        }
+    }
+
     /// Adds bytes to the text at once.
     ///
     /// Errors: `AllocError` where memory was refused; nothing was added.
@@ -72,6 +83,7 @@ impl Buffer {
         ensures ok { OnOk result (self.new ≡ record self.old { bytes = self.old.bytes ++ run.now }) }
         ensures err { OnErr result (self.new ≡ self.old) }
     {
+        self.make_room(run.len());
         self.bytes.extend_from_slice(run)
     }
 
