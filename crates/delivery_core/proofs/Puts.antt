@@ -2,7 +2,7 @@
 use Rattle.std.proofs.Common.{◌≡◌, inl, inr, true, false, not, ℕ, ◌%◌, ◌<◌, List, [], ◌∷◌, ◌++◌, length, get_or, set, refl, sym, ap, subst, ◌∙◌, arith, length-set, Some, None, All}
 use Rattle.std.proofs.lemmas.List.Elements.{All-push, All-weaker}
 use Rattle.shard_queue.specs.Lane.{put}
-use Rattle.delivery_token.specs.Keys.{Below}
+use Rattle.delivery_token.specs.Keys.{Below, AtLeast, past}
 use Rattle.shard_queue.proofs.AtLaws.{at_cases}
 use Rattle.delivery_token.specs.declared.CopyKey.{CopyKey}
 use Rattle.delivery_token.specs.declared.Job.{Job}
@@ -18,7 +18,7 @@ use Rattle.world.specs.World.{Config, World, Steps, Put, PutStep, MayPut, put_jo
 use Rattle.delivery_core.specs.Held.{Held}
 use Rattle.delivery_core.specs.Stands.{EachAt, StandsFor, IsNext}
 use Rattle.shard_queue.specs.Plain.{StandsForLane}
-use Rattle.delivery_core.specs.Puts.{LanePuts, joins, has_no_room, has_no_memory, AtLeast, past}
+use Rattle.delivery_core.specs.Puts.{LanePuts, joins, has_no_room, has_no_memory}
 use Rattle.delivery_core.proofs.Follow.{each_here, each_set, each_but, reached_step, set_back}
 use Rattle.shard_queue.proofs.PlainLaws.{lane_put}
 

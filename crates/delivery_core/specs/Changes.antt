@@ -22,11 +22,6 @@ pub record Hears (old new : Held) (seat : ℕ) (more : List Noted) : Type 0 wher
   pub here : notes_of new seat ≡ notes_of old seat ++ more
   pub others : (p : ℕ) → p ≢ seat → notes_of new p ≡ notes_of old p
 
--- what a seat hears at once of a copy that it put: that it was refused, where it was
-abbrev pub heard_at_once : CopyKey → ℕ → Option Refusal → List Noted
-heard_at_once key mailbox None = []
-heard_at_once key mailbox (Some why) = record { key = key; mailbox = mailbox; verdict = Refused why } ∷ []
-
 -- nothing changed of what lies between seats and mailboxes
 pub record SameDelivery (old new : Held) : Type 0 where
   pub lanes : new.lanes ≡ old.lanes

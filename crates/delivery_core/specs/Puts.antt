@@ -16,14 +16,6 @@ pub data LanePuts (old : Waits Job) (p : ℕ) (c : Job) (new : Waits Job) (why :
   -- there was room, and a growth was refused
   has_no_memory : length old.waiting < old.capacity → why ≡ Some NoMemory → new ≡ old → LanePuts old p c new why
 
--- y or a key after it
-abbrev pub AtLeast : CopyKey → CopyKey → Type 0
-AtLeast y key = (y ≡ key) ⊎ Below y key
-
--- the key of the next recipient
-abbrev pub past : CopyKey → CopyKey
-past key = record { seat = key.seat; serial = key.serial; message = key.message; recipient = key.recipient + 1 }
-
 -- The seat may put a copy with this key: the seat, the mailbox and a shard are there, and the key is the next one or a later one of its own.
 pub record IsNextKey (h : Held) (key : CopyKey) (mailbox : ℕ) : Type 0 where
   pub seat : key.seat < length h.replies

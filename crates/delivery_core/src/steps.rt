@@ -4,11 +4,13 @@
 ghost use Rattle.std.specs.Prelude.{max, replicate, None, ◌≡◌, ℕ, ◌⊎◌, ◌%◌, ◌+◌, ◌++◌, ◌<◌, ◌≤◌, ◌↔◌, [], ◌∷◌, length, OnOk, OnErr, Err, IfOk, IfSome, IsSome, IsTrue, option_map, slice_index_or, slice_set};
 ghost use Rattle.world.specs.World.{Answer, Box, Config, Deliver, Hear, Put, PutEnd, Take, empty_world, in_hand};
 ghost use Rattle.shard_queue.specs.Plain.{MayPutMore, taken_entry};
-ghost use Rattle.delivery_core.specs.Changes.{CannotEnd, Ends, Hears, SameCounts, heard_at_once};
+ghost use Rattle.delivery_core.specs.Changes.{CannotEnd, Ends, Hears, SameCounts};
+ghost use Rattle.delivery_token.specs.Log.{heard_at_once};
 ghost use Rattle.delivery_core.specs.Held.{has_ended, is_ended};
 ghost use Rattle.delivery_core.specs.Load.{load};
 ghost use Rattle.delivery_core.specs.Seated.{cursors_of};
-ghost use Rattle.delivery_core.specs.Puts.{AtLeast, IsNextKey, LanePuts, past};
+ghost use Rattle.delivery_core.specs.Puts.{IsNextKey, LanePuts};
+ghost use Rattle.delivery_token.specs.Keys.{AtLeast, past};
 ghost use Rattle.delivery_core.specs.Stands.{EachAt, Follows, Idle, Lives, StandsFor, StandsForBox};
 ghost use Rattle.delivery_core.specs.Boxes.{verdict_of, BoxDelivers};
 ghost use Rattle.delivery_core.specs.Settled.{IsFor};

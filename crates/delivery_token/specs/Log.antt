@@ -1,6 +1,7 @@
 -- What the verdicts that were noted say of a mailbox.
-use Rattle.std.specs.Prelude.{ℕ, List, Option, Some, None, filter_map, ◌==◌, if◌then◌else◌}
+use Rattle.std.specs.Prelude.{ℕ, List, [], ◌∷◌, Option, Some, None, filter_map, ◌==◌, if◌then◌else◌}
 use Rattle.delivery_token.specs.declared.CopyKey.{CopyKey}
+use Rattle.delivery_token.specs.declared.Refusal.{Refusal}
 use Rattle.delivery_token.specs.declared.Verdict.{Verdict}
 use Rattle.delivery_token.specs.declared.Verdict.TheVariants.{Stored, Refused}
 use Rattle.delivery_token.specs.declared.log.Noted.{Noted}
@@ -17,3 +18,8 @@ stored_for mailbox noted = stored_pair mailbox noted noted.verdict
 -- key and UID of each copy that was stored in the mailbox, in the order of the notes
 abbrev pub stored_in : ℕ → List Noted → List (CopyKey × ℕ)
 stored_in mailbox notes = filter_map (stored_for mailbox) notes
+
+-- what a seat hears at once of a copy that it put: that it was refused, where it was
+abbrev pub heard_at_once : CopyKey → ℕ → Option Refusal → List Noted
+heard_at_once key mailbox None = []
+heard_at_once key mailbox (Some why) = record { key = key; mailbox = mailbox; verdict = Refused why } ∷ []

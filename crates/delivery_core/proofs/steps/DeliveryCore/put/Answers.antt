@@ -2,7 +2,7 @@ use Rattle.std.proofs.Common.{◌≡◌, ◌∙◌, sym, refl, ap, subst, arith,
 use Rattle.shard_queue.specs.Waits.{Waits}
 use Rattle.delivery_token.specs.declared.Job.{Job}
 use Rattle.delivery_core.specs.Held.{Held}
-use Rattle.delivery_core.specs.Puts.{past}
+use Rattle.delivery_token.specs.Keys.{past}
 use Rattle.delivery_core.specs.Stands.{StandsFor}
 use Rattle.delivery_core.proofs.Follow.{get_or-any}
 use Rattle.delivery_core.proofs.Notes.{hears_none, hears_more, put_load}
