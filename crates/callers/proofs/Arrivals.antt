@@ -3,11 +3,11 @@ use Rattle.std.proofs.Common.{ℕ, ◌++◌, List, ap}
 use Rattle.delivery_token.specs.declared.CopyKey.{CopyKey}
 use Rattle.delivery_token.specs.declared.log.Noted.{Noted}
 use Rattle.callers.specs.Line.{Line}
-use Rattle.callers.specs.Caller.{Caller, Setup, more_waits}
+use Rattle.callers.specs.Caller.{Caller, Terms, more_waits}
 use Rattle.callers.specs.Taking.{with_more}
 use Rattle.callers.specs.CallerStands.{StandsForCaller}
 
-pub more_stands : (k : Setup) (seat : ℕ) (next : CopyKey) (heard : List Noted) (h : Line) (b : Caller) (piece : List ℕ) → StandsForCaller k seat next heard h b
+pub more_stands : (k : Terms) (seat : ℕ) (next : CopyKey) (heard : List Noted) (h : Line) (b : Caller) (piece : List ℕ) → StandsForCaller k seat next heard h b
     → StandsForCaller k seat next heard (with_more piece h) (more_waits b piece)
 more_stands k seat next heard h b piece s = record {
   serial = s.serial;

@@ -1,7 +1,6 @@
 -- What a connection's steps come to, from the machine's own promises.
 use Rattle.std.proofs.Common.{◌≡◌, ℕ, zero, suc, ◌+◌, ◌<◌, ◌≤◌, Bool, true, false, List, [], ◌∷◌, ◌++◌, length, drop, refl, ap, sym, ◌∙◌, subst, arith, Option, Some, None}
 use Rattle.std.proofs.lemmas.List.{append-nil}
-use Rattle.change_ring.specs.Log.{no_flags}
 use Rattle.delivery_token.specs.declared.CopyKey.{CopyKey}
 use Rattle.delivery_token.specs.declared.Verdict.{Verdict}
 use Rattle.delivery_token.specs.declared.log.Noted.{Noted}
@@ -12,8 +11,7 @@ use Rattle.lmtp_machine.specs.Replies.{wire}
 use Rattle.lmtp_machine.specs.Dialogue as dialogue
 use Rattle.lmtp_machine.specs.Dialogue.{Phase, Start, Ready, Transaction, Data, Waiting, Ended, Standing, Setting, Submission, Turn, on_event}
 use Rattle.lmtp_machine.specs.Conversation.{Conversation, IsListening, opened}
-use Rattle.lmtp_machine.specs.Calls.{Happens, Tells}
-use Rattle.lmtp_machine.specs.inner.Calls.{Taken}
+use Rattle.lmtp_machine.specs.Calls.{Happens, Taken, Tells}
 use Rattle.lmtp_machine.specs.Kept.{AreMessages, IsMessage}
 use Rattle.lmtp_machine.specs.Machine.{Machine, StandsFor}
 use Rattle.lmtp_machine.specs.declared.commands.Stage.TheVariants as stages
@@ -21,14 +19,17 @@ use Rattle.lmtp_machine.proofs.Calls.{nothing_taken}
 use Rattle.lmtp_machine.proofs.Follow.{still_listens}
 use Rattle.lmtp_machine.proofs.Kept.{taken_keeps, event_keeps}
 use Rattle.callers.specs.Line.{Line}
-use Rattle.callers.specs.Talk.{Talk, marked, prints_all, prints_none}
-use Rattle.callers.specs.Caller.{Caller, IsAnswered, Leaves, Setup, copies, copies_of, goes, greeted, keys_of, meets, setting_of, stays, told, works, waits, answers, stalls, talks, lingers, fades, unread}
+use Rattle.callers.specs.Talk.{Talk}
+use Rattle.callers.specs.Caller.{Caller, IsAnswered, Terms, answers, copies_of, fades, greeted, keys_of, lingers, meets, setting_of, stalls, talks, unread, waits, with_unsaid, works}
 use Rattle.callers.specs.Taking.{AreKnown, TakenBy, with_all_said, with_nobody_there}
-use Rattle.delivery_core.specs.Puts.{AtLeast}
-use Rattle.callers.specs.CallerStands.{IsAwaited, IsThere, SlotsFor, Proceeded, StandsForCaller, WentOn, WorkedOff}
-use Rattle.callers.specs.CallerSteps.{IsAnswer, SaidVerdicts, TookWhatWaits}
-use Rattle.callers.proofs.Copies.{copies-one, keys-one, no-key, none-due}
-use Rattle.callers.proofs.Slots.{all-full, heard-for, later-message, no-slots}
+use Rattle.delivery_token.specs.Keys.{AtLeast}
+use Rattle.submission.specs.Heard.{SlotsFor}
+use Rattle.callers.specs.CallerStands.{IsAwaited, Proceeded, StandsForCaller, WentOn, WorkedOff}
+use Rattle.callers.specs.CallerSteps.{SaidVerdicts}
+use Rattle.submission.proofs.Copies.{all_put, no-key}
+use Rattle.submission.proofs.Slots.{all-full, heard-for, no-slots}
+use Rattle.callers.proofs.Copies.{copies-one, keys-one, none-due}
+use Rattle.callers.proofs.Keys.{later-message}
 
 -- nothing was put of a message that isn't there
 none_put : (heard : List Noted) (slots : List (Option Verdict)) (pending : List Submission) → pending ≡ [] → SlotsFor heard (keys_of pending) slots → slots ≡ []
@@ -51,24 +52,26 @@ awaits More turn pending phase t e p = subst (λ (ss : List Submission). IsAwait
 awaits Submit turn pending phase t e p = subst (λ (ss : List Submission). IsAwaited ss phase) (sym (e ∙ t.only)) (refl, p ∙ t.waits)
 awaits Quit turn pending phase t e p = subst (λ (ss : List Submission). IsAwaited ss phase) (sym (e ∙ t.0)) (λ n q. let a : Ended ≡ Waiting n = sym (p ∙ t.1) ∙ q in cc)
 
-module _ (k : Setup) (seat : ℕ) (next : CopyKey) (heard : List Noted) where
-  took : (b : Caller) (h : Line) (m : Machine) (bytes left said : List ℕ) (result : Option What) (what : What)
+module _ (k : Terms) (seat : ℕ) (next : CopyKey) (heard : List Noted) where
+  took : (whole : Bool) (b : Caller) (h : Line) (m : Machine) (bytes left said : List ℕ) (what : What)
       → StandsForCaller k seat next heard h b → h.machine.pending ≡ [] → h.waits ≡ bytes ++ left → m.setting ≡ h.machine.setting → m.host ≡ h.machine.host
-      → (result ≡ Some More → left ≡ []) → IsAnswer result what
+      → (whole ≡ true → what ≡ More → left ≡ [])
       → Taken (StandsFor m) (setting_of k seat b.serial) k.host k.directory b.talk.at bytes h.unsaid said what m.pending
-      → TookWhatWaits k seat next heard b result (record { serial = h.serial; gone = h.gone; machine = m; waits = left; unsaid = said; verdicts = h.verdicts })
-  took b h m bytes left said result what s quiet split es eh all is t =
+      → WorkedOff k whole seat next heard b what (record { serial = h.serial; gone = h.gone; machine = m; waits = left; unsaid = said; verdicts = h.verdicts })
+  took whole b h m bytes left said what s quiet split es eh all t =
       let none = none_put heard h.verdicts b.talk.pending (sym s.pending ∙ quiet) s.verdicts in
       let after = taken_keeps (StandsFor m) (setting_of k seat b.serial) k.host k.directory b.talk.at bytes h.unsaid said what m.pending s.kept t in
       let first : s.message ≡ b.talk.at.standing.submitted = subst (λ (ss : List Submission). AreMessages (setting_of k seat b.serial) k.directory s.message ss b.talk.at.standing.submitted) (sym s.pending ∙ quiet) s.numbered in
       record {
-        turn = t.turn;
-        what = what;
-        after = record { at = t.after; waits = left; unsaid = said; pending = m.pending };
-        works = record { taken = bytes; waited = sym s.waits ∙ split; leads = t.leads; tells = t.tells; submits = t.submits };
-        said = t.said ∙ ap (λ (l : List ℕ). l ++ wire k.host t.turn.replies) s.unsaid;
-        all = all;
-        is = is;
+        after = record { serial = b.serial; gone = b.gone; talk = record { at = t.after; waits = left; unsaid = said; pending = m.pending }; to_put = copies_of t.turn.submissions };
+        works = record {
+          turn = t.turn;
+          talk = record { at = t.after; waits = left; unsaid = said; pending = m.pending };
+          works = record { taken = bytes; waited = sym s.waits ∙ split; leads = t.leads; tells = t.tells; submits = t.submits };
+          said = t.said ∙ ap (λ (l : List ℕ). l ++ wire k.host t.turn.replies) s.unsaid;
+          all = all;
+          is = refl;
+        };
         stands = record {
           serial = s.serial;
           gone = s.gone;
@@ -88,155 +91,39 @@ module _ (k : Setup) (seat : ℕ) (next : CopyKey) (heard : List Noted) where
         };
       }
 
-  pub took_what_waits : (b : Caller) (h : Line) (m : Machine) (bytes left said : List ℕ) (result : Option What)
+  -- by the machine's own setting
+  own : (b : Caller) (h : Line) (m : Machine) (bytes said : List ℕ) (what : What) → StandsForCaller k seat next heard h b
+      → Taken (StandsFor m) h.machine.setting h.machine.host k.directory b.talk.at bytes h.unsaid said what m.pending
+      → Taken (StandsFor m) (setting_of k seat b.serial) k.host k.directory b.talk.at bytes h.unsaid said what m.pending
+  own b h m bytes said what s t =
+      subst (λ (n : List ℕ). Taken (StandsFor m) (setting_of k seat b.serial) n k.directory b.talk.at bytes h.unsaid said what m.pending) s.host
+      (subst (λ (x : Setting). Taken (StandsFor m) x h.machine.host k.directory b.talk.at bytes h.unsaid said what m.pending) s.setting t)
+
+  pub took_all : (b : Caller) (h : Line) (m : Machine) (bytes left said : List ℕ) (what : What)
       → StandsForCaller k seat next heard h b → h.machine.pending ≡ [] → h.waits ≡ bytes ++ left → m.setting ≡ h.machine.setting → m.host ≡ h.machine.host
-      → (result ≡ Some More → left ≡ [])
-      → TakenBy (StandsFor m) h.machine.setting h.machine.host k.directory b.talk.at bytes h.unsaid said result m.pending
-      → TookWhatWaits k seat next heard b result (record { serial = h.serial; gone = h.gone; machine = m; waits = left; unsaid = said; verdicts = h.verdicts })
-  took_what_waits b h m bytes left said None s quiet split es eh all t =
-      took b h m bytes left said None t.0 s quiet split es eh all tt
-      (subst (λ (n : List ℕ). Taken (StandsFor m) (setting_of k seat b.serial) n k.directory b.talk.at bytes h.unsaid said t.0 m.pending) s.host
-      (subst (λ (x : Setting). Taken (StandsFor m) x h.machine.host k.directory b.talk.at bytes h.unsaid said t.0 m.pending) s.setting t.1))
-  took_what_waits b h m bytes left said (Some what) s quiet split es eh all t =
-      took b h m bytes left said (Some what) what s quiet split es eh all refl
-      (subst (λ (n : List ℕ). Taken (StandsFor m) (setting_of k seat b.serial) n k.directory b.talk.at bytes h.unsaid said what m.pending) s.host
-      (subst (λ (x : Setting). Taken (StandsFor m) x h.machine.host k.directory b.talk.at bytes h.unsaid said what m.pending) s.setting t))
+      → (what ≡ More → left ≡ []) → TakenBy (StandsFor m) h.machine.setting h.machine.host k.directory b.talk.at bytes h.unsaid said (Some what) m.pending
+      → WorkedOff k true seat next heard b what (record { serial = h.serial; gone = h.gone; machine = m; waits = left; unsaid = said; verdicts = h.verdicts })
+  took_all b h m bytes left said what s quiet split es eh all t = took true b h m bytes left said what s quiet split es eh (λ w. all) (own b h m bytes said what s t)
+
+  -- memory was wanting
+  pub took_part : (b : Caller) (h : Line) (m : Machine) (bytes left said : List ℕ)
+      → StandsForCaller k seat next heard h b → h.machine.pending ≡ [] → h.waits ≡ bytes ++ left → m.setting ≡ h.machine.setting → m.host ≡ h.machine.host
+      → TakenBy (StandsFor m) h.machine.setting h.machine.host k.directory b.talk.at bytes h.unsaid said None m.pending
+      → (what : What) × WorkedOff k false seat next heard b what (record { serial = h.serial; gone = h.gone; machine = m; waits = left; unsaid = said; verdicts = h.verdicts })
+  took_part b h m bytes left said s quiet split es eh t =
+      (t.0, took false b h m bytes left said t.0 s quiet split es eh (λ w. absurd (let y : false ≡ true = w in cc)) (own b h m bytes said t.0 s t.1))
 
   -- nothing waits, and the dialogue goes on
   pub took_nothing : (b : Caller) (h : Line) → StandsForCaller k seat next heard h b → h.machine.pending ≡ [] → h.waits ≡ [] → (h.machine.commands.stage ≡ stages.Ended → ⊥)
-      → TookWhatWaits k seat next heard b (Some More) h
+      → WorkedOff k true seat next heard b More h
   took_nothing b h s quiet none going =
       let unawaited : IsAwaited [] b.talk.at.standing.phase = subst (λ (ss : List Submission). IsAwaited ss b.talk.at.standing.phase) (sym s.pending ∙ quiet) s.awaited in
       let listens : IsListening b.talk.at.standing.phase = still_listens h.machine b.talk.at s.machine going unawaited in
-      subst (λ (l : List ℕ). TookWhatWaits k seat next heard b (Some More) (record { serial = h.serial; gone = h.gone; machine = h.machine; waits = l; unsaid = h.unsaid; verdicts = h.verdicts })) (sym none)
-      (took_what_waits b h h.machine [] [] h.unsaid (Some More) s quiet none refl refl (λ _. refl)
+      subst (λ (l : List ℕ). WorkedOff k true seat next heard b More (record { serial = h.serial; gone = h.gone; machine = h.machine; waits = l; unsaid = h.unsaid; verdicts = h.verdicts })) (sym none)
+      (took_all b h h.machine [] [] h.unsaid More s quiet none refl refl (λ _. refl)
       (nothing_taken (StandsFor h.machine) h.machine.setting h.machine.host k.directory b.talk.at h.unsaid More h.machine.pending s.machine.open_end s.machine quiet (refl, listens)))
 
-  -- ---- printing what was said
-
-  gone_or_there : (whole : Bool) (b : Caller) (what : What) (after : Talk) (turn : Turn) (h : Line)
-      → after.unsaid ≡ [] → StandsForCaller k seat next heard h (record { serial = b.serial; gone = b.gone; talk = after; to_put = copies_of turn.submissions })
-      → (o : Option Caller) × Leaves whole b what after turn.submissions o × IsThere k seat next heard what h o
-  gone_or_there whole b More after turn h e s = (Some (record { serial = b.serial; gone = b.gone; talk = after; to_put = copies_of turn.submissions }), stays (λ w q. let x : More ≡ Quit = q in cc) refl, ((λ q. let x : More ≡ Quit = q in cc), s))
-  gone_or_there whole b Submit after turn h e s = (Some (record { serial = b.serial; gone = b.gone; talk = after; to_put = copies_of turn.submissions }), stays (λ w q. let x : Submit ≡ Quit = q in cc) refl, ((λ q. let x : Submit ≡ Quit = q in cc), s))
-  gone_or_there whole b Quit after turn h e s = (None, goes refl e refl, refl)
-
-  abbrev silent_talk : Talk → Talk
-  silent_talk t = record { at = t.at; waits = t.waits; unsaid = []; pending = t.pending }
-
-  stands_silent : (h : Line) (b : Caller) → StandsForCaller k seat next heard h b → StandsForCaller k seat next heard (with_all_said h) (told b)
-  stands_silent h b s = record {
-    serial = s.serial;
-    gone = s.gone;
-    setting = s.setting;
-    host = s.host;
-    machine = s.machine;
-    waits = s.waits;
-    unsaid = refl;
-    pending = s.pending;
-    to_put = s.to_put;
-    verdicts = s.verdicts;
-    awaited = s.awaited;
-    kept = s.kept;
-    message = s.message;
-    numbered = s.numbered;
-    ahead = s.ahead;
-  }
-
-  printed_all : (number : ℕ) (h : Line) (said : List ℕ) (b : Caller) (w : Talk) → number ≡ seat + 1 → h.unsaid ≡ w.unsaid → w.unsaid ≡ b.talk.unsaid ++ said → marked number h.unsaid ≡ marked (seat + 1) (b.talk.unsaid ++ said)
-  printed_all number h said b w e f g = ap (λ (n : ℕ). marked n h.unsaid) e ∙ ap (marked (seat + 1)) (f ∙ g)
-
-  pub worked_whole : (number : ℕ) (b : Caller) (h : Line) (what : What) (old new : List ℕ) → number ≡ seat + 1 → TookWhatWaits k seat next heard b (Some what) h → new ≡ old ++ marked number h.unsaid
-      → WorkedOff k true seat next heard b what (with_all_said h) old new
-  worked_whole number b h what old new e w p =
-      let after = silent_talk w.after in
-      let t = gone_or_there true b w.what after w.turn (with_all_said h) refl (stands_silent h _ w.stands) in
-      record {
-        left = t.0;
-        printed = marked number h.unsaid;
-        talks = record {
-          turn = w.turn;
-          what = w.what;
-          after = after;
-          works = record { taken = w.works.taken; waited = w.works.waited; leads = w.works.leads; tells = w.works.tells; submits = w.works.submits };
-          prints = prints_all refl (printed_all number h (wire k.host w.turn.replies) b w.after e w.stands.unsaid w.said);
-          all = λ x. record { said = refl; taken = λ m. w.all (ap (λ (v : What). Some v) (w.is ∙ m)) };
-          leaves = t.1;
-        };
-        there = subst (λ (v : What). IsThere k seat next heard v (with_all_said h) t.0) (sym w.is) t.2;
-        out = p;
-      }
-
-  -- memory was wanting, and all that was said is printed
-  pub worked_part : (number : ℕ) (b : Caller) (h : Line) (result : Option What) (old new : List ℕ) → number ≡ seat + 1 → TookWhatWaits k seat next heard b result h → new ≡ old ++ marked number h.unsaid
-      → WorkedOff k false seat next heard b More (with_all_said h) old new
-  worked_part number b h result old new e w p =
-      let after = silent_talk w.after in
-      record {
-        left = Some (record { serial = b.serial; gone = b.gone; talk = after; to_put = copies_of w.turn.submissions });
-        printed = marked number h.unsaid;
-        talks = record {
-          turn = w.turn;
-          what = w.what;
-          after = after;
-          works = record { taken = w.works.taken; waited = w.works.waited; leads = w.works.leads; tells = w.works.tells; submits = w.works.submits };
-          prints = prints_all refl (printed_all number h (wire k.host w.turn.replies) b w.after e w.stands.unsaid w.said);
-          all = λ x. absurd (let y : false ≡ true = x in cc);
-          leaves = stays (λ x q. let y : false ≡ true = x in cc) refl;
-        };
-        there = ((λ q. let x : More ≡ Quit = q in cc), stands_silent h _ w.stands);
-        out = p;
-      }
-
-  -- printing was refused
-  pub worked_unprinted : (b : Caller) (h : Line) (result : Option What) (old new : List ℕ) → TookWhatWaits k seat next heard b result h → new ≡ old
-      → WorkedOff k false seat next heard b More h old new
-  worked_unprinted b h result old new w p =
-      record {
-        left = Some (record { serial = b.serial; gone = b.gone; talk = w.after; to_put = copies_of w.turn.submissions });
-        printed = [];
-        talks = record {
-          turn = w.turn;
-          what = w.what;
-          after = w.after;
-          works = w.works;
-          prints = prints_none w.said refl;
-          all = λ x. absurd (let y : false ≡ true = x in cc);
-          leaves = stays (λ x q. let y : false ≡ true = x in cc) refl;
-        };
-        there = ((λ q. let x : More ≡ Quit = q in cc), w.stands);
-        out = p ∙ sym (append-nil old);
-      }
-
-  -- ---- going on
-
-  pub went_works : (whole : Bool) (b : Caller) (h new_h : Line) (what : What) (old new : List ℕ) → StandsForCaller k seat next heard h b → h.machine.pending ≡ []
-      → WorkedOff k whole seat next heard b what new_h old new → WentOn k whole seat next heard b what new_h old new
-  went_works whole b h new_h what old new s quiet w = record { left = w.left; printed = w.printed; goes = works (sym s.pending ∙ quiet) w.talks; there = w.there; out = w.out }
-
-  some_pending : (ss ts : List Submission) → ss ≡ ts → length ss ≡ 1 → 0 < length ts
-  some_pending ss ts e h = let l = ap (λ (x : List Submission). length x) e in omega (arith, l, h)
-
-  pub went_answers : (whole : Bool) (b : Caller) (vs : List Verdict) (h m new_h : Line) (what : What) (old new : List ℕ) → StandsForCaller k seat next heard h b → length h.machine.pending ≡ 1
-      → SaidVerdicts k seat next heard b vs m → WorkedOff k whole seat next heard (meets k seat b (dialogue.Answered vs)) what new_h old new → WentOn k whole seat next heard b what new_h old new
-  went_answers whole b vs h m new_h what old new s one said w =
-      record { left = w.left; printed = w.printed; goes = answers vs (some_pending _ _ s.pending one) said.answered w.talks; there = w.there; out = w.out }
-
-  pub went_stalls : (b : Caller) (h : Line) (old new : List ℕ) → StandsForCaller k seat next heard h b → new ≡ old → WentOn k false seat next heard b More h old new
-  went_stalls b h old new s e = record {
-    left = Some b;
-    printed = [];
-    goes = stalls refl refl refl;
-    there = ((λ q. let x : More ≡ Quit = q in cc), s);
-    out = e ∙ sym (append-nil old);
-  }
-
-  -- all copies of the one message are put where none is left
-  all_put : (i : ℕ) (keys : List CopyKey) (mailboxes text : List ℕ) → length mailboxes ≡ length keys → drop i (copies keys mailboxes text) ≡ [] → length keys ≤ i
-  all_put i [] ms t e h = omega arith
-  all_put i (k ∷ ks) [] t e h = absurd (omega (arith, e))
-  all_put zero (k ∷ ks) (m ∷ ms) t e h = absurd (let x : record { key = k; mailbox = m; text = t; flags = no_flags } ∷ copies ks ms t ≡ [] = h in cc)
-  all_put (suc i) (k ∷ ks) (m ∷ ms) t e h = let r = all_put i ks ms t (omega (arith, e)) h in omega (arith, r)
+  -- ---- verdicts that are known
 
   the_one : (setting : Setting) (directory : Directory) (message submitted : ℕ) (phase : Phase) (pending : List Submission) → length pending ≡ 1 → AreMessages setting directory message pending submitted → IsAwaited pending phase
       → (s : Submission) × (pending ≡ s ∷ []) × IsMessage setting directory message s × (message + 1 ≡ submitted) × (phase ≡ Waiting (length s.keys))
@@ -244,27 +131,37 @@ module _ (k : Setup) (seat : ℕ) (next : CopyKey) (heard : List Noted) where
   the_one setting directory message submitted phase (s ∷ []) one n a = (s, refl, n.0, n.1, a.1)
   the_one setting directory message submitted phase (s ∷ t ∷ ss) one n a = absurd (omega (arith, one))
 
-  -- before every verdict is known, what was said is printed, and that is all
-  pub went_waits : (number : ℕ) (b : Caller) (h : Line) (old new : List ℕ) → number ≡ seat + 1 → StandsForCaller k seat next heard h b → length h.machine.pending ≡ 1
-      → ((vs : List Verdict) → AreKnown h vs → ⊥) → new ≡ old ++ marked number h.unsaid → WentOn k true seat next heard b Submit (with_all_said h) old new
-  went_waits number b h old new e s one unknown p = record {
-    left = Some (told b);
-    printed = marked number h.unsaid;
-    goes = waits (some_pending _ _ s.pending one) unanswered refl (ap (λ (n : ℕ). marked n h.unsaid) e ∙ ap (marked (seat + 1)) s.unsaid);
-    there = ((λ q. let x : Submit ≡ Quit = q in cc), stands_silent h b s);
-    out = p;
-  }
-    where
-      unanswered : (vs : List Verdict) → IsAnswered heard b vs → ⊥
-      unanswered vs a =
-          let f = all-full heard (keys_of b.talk.pending) h.verdicts vs s.verdicts a.each in
-          let o = the_one (setting_of k seat b.serial) k.directory s.message b.talk.at.standing.submitted b.talk.at.standing.phase b.talk.pending (ap (λ (x : List Submission). length x) (sym s.pending) ∙ one) s.numbered s.awaited in
-          let c = ap (drop (length h.verdicts)) (copies-one b.talk.pending o.0 o.1) in
-          let p = all_put (length h.verdicts) o.0.keys o.0.mailboxes o.0.text o.2.as_many (sym c ∙ sym s.to_put ∙ a.put) in
-          let q = ap (λ (ks : List CopyKey). length ks) (ap keys_of s.pending ∙ keys-one b.talk.pending o.0 o.1) in
-          let r = s.verdicts.few in
-          let t = ap (λ (ss : List Submission). length (keys_of ss)) s.pending in
-          unknown f.0 (record { all = omega (arith, p, q, r, t); each = f.1 })
+  -- where none is left to put, each key has its slot
+  counted : (submitted n : ℕ) (setting : Setting) (message : ℕ) (phase : Phase) (pending : List Submission) → AreMessages setting k.directory message pending submitted → IsAwaited pending phase
+      → drop n (copies_of pending) ≡ [] → length (keys_of pending) ≤ n
+  counted submitted n setting message phase [] m a e = omega arith
+  counted submitted n setting message phase (x ∷ xs) m a e =
+      let one : length (x ∷ xs) ≡ 1 = let l = ap (λ (ss : List Submission). length ss) a.0 in omega (arith, l) in
+      let o = the_one setting k.directory message submitted phase (x ∷ xs) one m a in
+      let c = ap (drop n) (copies-one (x ∷ xs) o.0 o.1) in
+      let p = all_put n o.0.keys o.0.mailboxes o.0.text o.2.as_many (sym c ∙ e) in
+      let q = ap (λ (ks : List CopyKey). length ks) (keys-one (x ∷ xs) o.0 o.1) in
+      omega (arith, p, q)
+
+  -- what was heard is known
+  known_of : (b : Caller) (h : Line) (vs : List Verdict) → StandsForCaller k seat next heard h b → IsAnswered heard b vs → (us : List Verdict) × AreKnown h us
+  known_of b h vs s a =
+      let f = all-full heard (keys_of b.talk.pending) h.verdicts vs s.verdicts a.each in
+      let n = counted b.talk.at.standing.submitted (length h.verdicts) (setting_of k seat b.serial) s.message b.talk.at.standing.phase b.talk.pending s.numbered s.awaited (sym s.to_put ∙ a.put) in
+      let r = s.verdicts.few in
+      let t = ap (λ (ss : List Submission). length (keys_of ss)) s.pending in
+      (f.0, record { all = omega (arith, n, r, t); each = f.1 })
+
+  -- what is known was heard
+  answered_of : (b : Caller) (h : Line) (vs : List Verdict) → StandsForCaller k seat next heard h b → AreKnown h vs → IsAnswered heard b vs
+  answered_of b h vs s known =
+      let a = known.all in
+      let t = ap (λ (ss : List Submission). length (keys_of ss)) s.pending in
+      let long : length (keys_of b.talk.pending) ≤ length h.verdicts = omega (arith, a, t) in
+      record {
+        put = s.to_put ∙ none-due (length h.verdicts) b.talk.pending long;
+        each = heard-for heard (keys_of b.talk.pending) h.verdicts vs s.verdicts long known.each;
+      }
 
   -- the verdicts are said
   pub said_verdicts : (b : Caller) (h : Line) (m : Machine) (vs : List Verdict) (said : List ℕ) → StandsForCaller k seat next heard h b → 0 < length b.talk.pending → length h.machine.pending ≡ 1 → AreKnown h vs
@@ -307,62 +204,50 @@ module _ (k : Setup) (seat : ℕ) (next : CopyKey) (heard : List Noted) where
       answered_number : (vs : List Verdict) (phase : Phase) (submitted message count : ℕ) → phase ≡ Waiting count → message + 1 ≡ submitted → message < (dialogue.on_verdicts phase submitted vs).standing.submitted
       answered_number vs phase submitted message count e f = let x : (dialogue.on_verdicts phase submitted vs).standing.submitted ≡ submitted = ap (λ (p : Phase). (dialogue.on_verdicts p submitted vs).standing.submitted) e in omega (arith, x, f)
 
-  -- ---- a caller whose peer is gone
+  -- ---- going on
 
-  pub proceeds : (whole : Bool) (b : Caller) (what : What) (h new_h : Line) (old new : List ℕ) → StandsForCaller k seat next heard h b → h.gone ≡ false
-      → WentOn k whole seat next heard b what new_h old new → Proceeded k whole seat next heard b what new_h old new
-  proceeds whole b what h new_h old new s live w = record { left = w.left; printed = w.printed; goes = talks (sym s.gone ∙ live) w.goes; there = w.there; out = w.out }
+  pub went_works : (whole : Bool) (b : Caller) (h new_h : Line) (what : What) → StandsForCaller k seat next heard h b → h.machine.pending ≡ []
+      → WorkedOff k whole seat next heard b what new_h → WentOn k whole seat next heard b what new_h
+  went_works whole b h new_h what s quiet w = record { after = w.after; goes = works (sym s.pending ∙ quiet) w.works; stands = w.stands }
 
-  -- where none is left to put, each key has its slot
-  counted : (submitted n : ℕ) (setting : Setting) (message : ℕ) (phase : Phase) (pending : List Submission) → AreMessages setting k.directory message pending submitted → IsAwaited pending phase
-      → drop n (copies_of pending) ≡ [] → length (keys_of pending) ≤ n
-  counted submitted n setting message phase [] m a e = omega arith
-  counted submitted n setting message phase (x ∷ xs) m a e =
-      let one : length (x ∷ xs) ≡ 1 = let l = ap (λ (ss : List Submission). length ss) a.0 in omega (arith, l) in
-      let o = the_one setting k.directory message submitted phase (x ∷ xs) one m a in
-      let c = ap (drop n) (copies-one (x ∷ xs) o.0 o.1) in
-      let p = all_put n o.0.keys o.0.mailboxes o.0.text o.2.as_many (sym c ∙ e) in
-      let q = ap (λ (ks : List CopyKey). length ks) (keys-one (x ∷ xs) o.0 o.1) in
-      omega (arith, p, q)
+  some_pending : (ss ts : List Submission) → ss ≡ ts → length ss ≡ 1 → 0 < length ts
+  some_pending ss ts e h = let l = ap (λ (x : List Submission). length x) e in omega (arith, l, h)
 
-  -- what was heard is known
-  known_of : (b : Caller) (h : Line) (vs : List Verdict) → StandsForCaller k seat next heard h b → IsAnswered heard b vs → (us : List Verdict) × AreKnown h us
-  known_of b h vs s a =
-      let f = all-full heard (keys_of b.talk.pending) h.verdicts vs s.verdicts a.each in
-      let n = counted b.talk.at.standing.submitted (length h.verdicts) (setting_of k seat b.serial) s.message b.talk.at.standing.phase b.talk.pending s.numbered s.awaited (sym s.to_put ∙ a.put) in
-      let r = s.verdicts.few in
-      let t = ap (λ (ss : List Submission). length (keys_of ss)) s.pending in
-      (f.0, record { all = omega (arith, n, r, t); each = f.1 })
+  pub went_answers : (whole : Bool) (b : Caller) (vs : List Verdict) (h m new_h : Line) (what : What) → StandsForCaller k seat next heard h b → length h.machine.pending ≡ 1
+      → SaidVerdicts k seat next heard b vs m → WorkedOff k whole seat next heard (meets k seat b (dialogue.Answered vs)) what new_h → WentOn k whole seat next heard b what new_h
+  went_answers whole b vs h m new_h what s one said w =
+      record { after = w.after; goes = answers vs (some_pending _ _ s.pending one) said.answered w.works; stands = w.stands }
 
-  -- what is known was heard
-  answered_of : (b : Caller) (h : Line) (vs : List Verdict) → StandsForCaller k seat next heard h b → AreKnown h vs → IsAnswered heard b vs
-  answered_of b h vs s known =
-      let a = known.all in
-      let t = ap (λ (ss : List Submission). length (keys_of ss)) s.pending in
-      let long : length (keys_of b.talk.pending) ≤ length h.verdicts = omega (arith, a, t) in
-      record {
-        put = s.to_put ∙ none-due (length h.verdicts) b.talk.pending long;
-        each = heard-for heard (keys_of b.talk.pending) h.verdicts vs s.verdicts long known.each;
-      }
+  pub went_stalls : (b : Caller) (h : Line) → StandsForCaller k seat next heard h b → WentOn k false seat next heard b More h
+  went_stalls b h s = record { after = b; goes = stalls refl refl refl; stands = s }
 
-  pub lingered : (b : Caller) (h : Line) (old : List ℕ) → StandsForCaller k seat next heard h b → h.gone ≡ true
-      → ((vs : List Verdict) → AreKnown h vs → ⊥) → Proceeded k true seat next heard b Submit h old old
-  lingered b h old s gone unknown = record {
-    left = Some b;
-    printed = [];
-    goes = lingers (sym s.gone ∙ gone) (λ vs a. let u = known_of b h vs s a in unknown u.0 u.1) refl refl;
-    there = ((λ q. let x : Submit ≡ Quit = q in cc), s);
-    out = sym (append-nil old);
+  -- before every verdict is known nothing is done
+  pub went_waits : (b : Caller) (h : Line) → StandsForCaller k seat next heard h b → length h.machine.pending ≡ 1
+      → ((vs : List Verdict) → AreKnown h vs → ⊥) → WentOn k true seat next heard b Submit h
+  went_waits b h s one unknown = record {
+    after = b;
+    goes = waits (some_pending _ _ s.pending one) (λ vs a. let u = known_of b h vs s a in unknown u.0 u.1) refl refl;
+    stands = s;
   }
 
-  pub faded : (b : Caller) (h : Line) (old : List ℕ) → StandsForCaller k seat next heard h b → h.gone ≡ true
-      → (vs : List Verdict) × AreKnown h vs → Proceeded k true seat next heard b Quit h old old
-  faded b h old s gone known = record {
-    left = None;
-    printed = [];
-    goes = fades known.0 (sym s.gone ∙ gone) (answered_of b h known.0 s known.1) refl refl;
-    there = refl;
-    out = sym (append-nil old);
+  -- ---- a caller whose peer may be gone
+
+  pub proceeds : (whole : Bool) (b : Caller) (what : What) (h new_h : Line) → StandsForCaller k seat next heard h b → h.gone ≡ false
+      → WentOn k whole seat next heard b what new_h → Proceeded k whole seat next heard b what new_h
+  proceeds whole b what h new_h s live w = record { after = w.after; proceeds = talks (sym s.gone ∙ live) w.goes; stands = w.stands }
+
+  pub lingered : (b : Caller) (h : Line) → StandsForCaller k seat next heard h b → h.gone ≡ true → h.unsaid ≡ [] → ((vs : List Verdict) → AreKnown h vs → ⊥) → Proceeded k true seat next heard b Submit h
+  lingered b h s gone silent unknown = record {
+    after = b;
+    proceeds = lingers (sym s.gone ∙ gone) (sym s.unsaid ∙ silent) (λ vs a. let u = known_of b h vs s a in unknown u.0 u.1) refl refl;
+    stands = s;
+  }
+
+  pub faded : (b : Caller) (h : Line) → StandsForCaller k seat next heard h b → h.gone ≡ true → h.unsaid ≡ [] → ((vs : List Verdict) × AreKnown h vs) → Proceeded k true seat next heard b Quit h
+  faded b h s gone silent known = record {
+    after = b;
+    proceeds = fades known.0 (sym s.gone ∙ gone) (sym s.unsaid ∙ silent) (answered_of b h known.0 s known.1) refl refl;
+    stands = s;
   }
 
   pub unread_stands : (h : Line) (b : Caller) → StandsForCaller k seat next heard h b → StandsForCaller k seat next heard (with_nobody_there h) (unread b)
@@ -373,6 +258,26 @@ module _ (k : Setup) (seat : ℕ) (next : CopyKey) (heard : List Noted) where
     host = s.host;
     machine = s.machine;
     waits = refl;
+    unsaid = refl;
+    pending = s.pending;
+    to_put = s.to_put;
+    verdicts = s.verdicts;
+    awaited = s.awaited;
+    kept = s.kept;
+    message = s.message;
+    numbered = s.numbered;
+    ahead = s.ahead;
+  }
+
+  -- all that it said is printed
+  pub printed_stands : (h : Line) (b : Caller) → StandsForCaller k seat next heard h b → StandsForCaller k seat next heard (with_all_said h) (with_unsaid [] b)
+  printed_stands h b s = record {
+    serial = s.serial;
+    gone = s.gone;
+    setting = s.setting;
+    host = s.host;
+    machine = s.machine;
+    waits = s.waits;
     unsaid = refl;
     pending = s.pending;
     to_put = s.to_put;

@@ -1,41 +1,15 @@
--- The copies of a submission, one after another.
+-- The copies of the one message at hand.
 use Rattle.std.proofs.Common.{◌≡◌, ℕ, zero, suc, ◌<◌, ◌≤◌, ◌⊎◌, inl, inr, List, [], ◌∷◌, length, drop, ap, ◌∙◌, arith, length-append, length-drop}
 use Rattle.std.specs.Prelude.{All}
 use Rattle.std.proofs.lemmas.List.Elements.{All-head}
-use Rattle.std.specs.Prelude.{slice_index_or}
 use Rattle.std.proofs.lemmas.List.{append-nil}
 use Rattle.std.proofs.Math.Seq.{drop-nil}
-use Rattle.change_ring.specs.Log.{no_flags}
 use Rattle.delivery_token.specs.declared.CopyKey.{CopyKey}
+use Rattle.delivery_token.specs.declared.Job.{Job}
 use Rattle.lmtp_machine.specs.Dialogue.{Submission}
-use Rattle.callers.specs.Caller.{copies, copies_of, keys_of}
-
-pub length-copies : (keys : List CopyKey) (mailboxes text : List ℕ) → length (copies keys mailboxes text) ≤ length keys
-length-copies [] mailboxes text = omega arith
-length-copies (k ∷ ks) [] text = omega arith
-length-copies (k ∷ ks) (m ∷ ms) text = let h = length-copies ks ms text in omega (arith, h)
-
--- the copy at a place, and those behind it
-pub drop-copies : (i : ℕ) (keys : List CopyKey) (mailboxes text : List ℕ) (key : CopyKey) (mailbox : ℕ) → i < length keys → i < length mailboxes
-    → key ≡ slice_index_or keys i key → mailbox ≡ slice_index_or mailboxes i mailbox
-    → drop i (copies keys mailboxes text) ≡ record { key = key; mailbox = mailbox; text = text; flags = no_flags } ∷ drop (suc i) (copies keys mailboxes text)
-drop-copies i [] ms t k m h l e f = absurd (omega arith)
-drop-copies i (a ∷ ks) [] t k m h l e f = absurd (omega arith)
-drop-copies zero (a ∷ ks) (b ∷ ms) t k m h l e f = let ea : k ≡ a = e in let eb : m ≡ b = f in cc
-drop-copies (suc i) (a ∷ ks) (b ∷ ms) t k m h l e f = drop-copies i ks ms t k m (omega arith) (omega arith) e f
-
--- behind the last copy
-pub no-key : (i : ℕ) (keys : List CopyKey) (mailboxes text : List ℕ) → length keys ≤ i → drop i (copies keys mailboxes text) ≡ []
-no-key i [] ms t h = drop-nil i
-no-key i (a ∷ ks) [] t h = drop-nil i
-no-key zero (a ∷ ks) (b ∷ ms) t h = absurd (omega arith)
-no-key (suc i) (a ∷ ks) (b ∷ ms) t h = no-key i ks ms t (omega arith)
-
-pub no-mailbox : (i : ℕ) (keys : List CopyKey) (mailboxes text : List ℕ) → length mailboxes ≤ i → drop i (copies keys mailboxes text) ≡ []
-no-mailbox i [] ms t h = drop-nil i
-no-mailbox i (a ∷ ks) [] t h = drop-nil i
-no-mailbox zero (a ∷ ks) (b ∷ ms) t h = absurd (omega arith)
-no-mailbox (suc i) (a ∷ ks) (b ∷ ms) t h = no-mailbox i ks ms t (omega arith)
+use Rattle.submission.specs.Copies.{copies}
+use Rattle.submission.proofs.Copies.{length-copies}
+use Rattle.callers.specs.Caller.{copies_of, keys_of}
 
 -- one submission alone
 pub copies-one : (ss : List Submission) (s : Submission) → ss ≡ s ∷ [] → copies_of ss ≡ copies s.keys s.mailboxes s.text
@@ -65,7 +39,7 @@ none-due n ss h = let f = few-copies ss in none-left n (copies_of ss) (omega (ar
 
 -- where one submission of few keys is pending, fewer than 100 copies were put where some are still to be put
 pub few-due : (n : ℕ) (ss : List Submission) → (length ss ≡ 1) ⊎ (ss ≡ []) → All (λ (s : Submission). length s.keys ≤ 100) ss → 0 < length (drop n (copies_of ss)) → n < 100
-few-due n [] h few more = absurd (let e : drop n (copies_of []) ≡ [] = drop-nil n in omega (arith, ap length e, more))
+few-due n [] h few more = absurd (let e : drop n (copies_of []) ≡ [] = drop-nil {A = Job} n in omega (arith, ap length e, more))
 few-due n (s ∷ []) h few more =
     let l = length-copies s.keys s.mailboxes s.text in
     let e = ap length (append-nil (copies s.keys s.mailboxes s.text)) in

@@ -1,6 +1,7 @@
 -- How the work that is left becomes less.
-use Rattle.std.proofs.Common.{◌≡◌, ℕ, suc, ◌+◌, ◌*◌, ◌<◌, ◌≤◌, List, [], ◌∷◌, ◌++◌, length, drop, refl, ap, ◌∙◌, arith, Option, Some, None, length-drop, length-append, append-nil}
-use Rattle.std.proofs.Math.Seq.{drop-nil}
+use Rattle.std.proofs.Common.{◌≡◌, Bool, true, false, nat_eq, sym, ℕ, suc, ◌+◌, ◌*◌, ◌<◌, ◌≤◌, List, [], ◌∷◌, ◌++◌, length, drop, refl, ap, ◌∙◌, arith, Option, Some, None, length-drop, length-append, append-nil}
+use Rattle.std.proofs.lemmas.Bool.{eqb-true}
+use Rattle.std.proofs.Math.Seq.{drop-length, drop-nil}
 use Rattle.std.proofs.lemmas.List.Elements.{All-head}
 use Rattle.delivery_token.specs.declared.Job.{Job}
 use Rattle.delivery_token.specs.declared.Verdict.{Verdict}
@@ -10,9 +11,10 @@ use Rattle.lmtp_machine.specs.Dialogue.{Submission}
 use Rattle.callers.specs.Line.{Line}
 use Rattle.callers.specs.Taking.{line_effort}
 use Rattle.callers.specs.Few.{AreFew}
-use Rattle.callers.specs.Caller.{copies, copies_of}
+use Rattle.submission.specs.Copies.{copies}
+use Rattle.callers.specs.Caller.{copies_of}
 use Rattle.callers.specs.Taking.{AwaitsIn, due, noted_put}
-use Rattle.callers.proofs.Copies.{length-copies}
+use Rattle.submission.proofs.Copies.{length-copies}
 
 -- at most 100 copies of one message are still to be put
 few_copies : (n : ℕ) (ss : List Submission) → length ss ≤ 1 → AreFew ss → length (drop n (copies_of ss)) ≤ 100
@@ -29,16 +31,13 @@ no_copies : (n : ℕ) (ss : List Submission) → ss ≡ [] → length (drop n (c
 no_copies n ss e = ap (λ (x : List Submission). length (drop n (copies_of x))) e ∙ ap length (drop-nil {A = Job} n)
 
 -- bytes were taken: where copies are to be put now, one byte at least was
-pub took_less : (came : List ℕ) (from used n : ℕ) (what : Option What) (before after : List Submission) → before ≡ [] → from + used ≤ length came → (what ≡ Some Submit → 0 < used) → AwaitsIn what after → AreFew after
-    → 501 * length (drop (from + used) came) + 5 * length (drop n (copies_of after)) ≤ 501 * length (drop from came) + 5 * length (drop n (copies_of before))
-took_less came from used n None before after e l m a f =
-    let d = length-drop (from + used) came in let g = length-drop from came in let z = no_copies n after a in omega (arith, d, g, z)
-took_less came from used n (Some More) before after e l m a f =
-    let d = length-drop (from + used) came in let g = length-drop from came in let z = no_copies n after a in omega (arith, d, g, z)
-took_less came from used n (Some Submit) before after e l m a f =
-    let d = length-drop (from + used) came in let g = length-drop from came in let z = few_copies n after (omega (arith, a)) f in let p = m refl in omega (arith, d, g, z, p, l)
-took_less came from used n (Some Quit) before after e l m a f =
-    let d = length-drop (from + used) came in let g = length-drop from came in let z = no_copies n after a in omega (arith, d, g, z)
+pub took_less : (waits : List ℕ) (used n : ℕ) (what : Option What) (before after : List Submission) → before ≡ [] → used ≤ length waits → (what ≡ Some Submit → 0 < used) → AwaitsIn what after → AreFew after
+    → 501 * length (drop used waits) + 5 * length (drop n (copies_of after)) ≤ 501 * length waits + 5 * length (drop n (copies_of before))
+took_less waits used n None before after e l m a f = let d = length-drop used waits in let z = no_copies n after a in omega (arith, d, z)
+took_less waits used n (Some More) before after e l m a f = let d = length-drop used waits in let z = no_copies n after a in omega (arith, d, z)
+took_less waits used n (Some Submit) before after e l m a f =
+    let d = length-drop used waits in let z = few_copies n after (omega (arith, a)) f in let p = m refl in omega (arith, d, z, p, l)
+took_less waits used n (Some Quit) before after e l m a f = let d = length-drop used waits in let z = no_copies n after a in omega (arith, d, z)
 
 -- a copy was put
 drop_one : {A : Type 0} (n : ℕ) (xs : List A) → 0 < length (drop n xs) → length (drop (suc n) xs) + 1 ≡ length (drop n xs)
@@ -50,3 +49,12 @@ put_less v h more =
     let d = drop_one (length h.verdicts) (copies_of h.machine.pending) more in
     let s = ap (λ (n : ℕ). length (drop n (copies_of h.machine.pending))) e in
     omega (arith, d, s)
+
+-- ---- what waits
+
+pub empty_of : (xs : List ℕ) (b : Bool) → b ≡ nat_eq (length xs) 0 → b ≡ true → xs ≡ []
+empty_of [] b e f = refl
+empty_of (x ∷ xs) b e f = absurd (let y = eqb-true (length (x ∷ xs)) 0 (sym e ∙ f) in omega (arith, y))
+
+pub all_dropped : (n : ℕ) (xs : List ℕ) → n ≡ length xs → drop n xs ≡ []
+all_dropped n xs e = ap (λ (m : ℕ). drop m xs) e ∙ drop-length xs

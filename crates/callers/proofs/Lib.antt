@@ -1,6 +1,5 @@
 pub mod Copies
-pub mod Slots
-pub mod Working
+pub mod Keys
 pub mod Callers
 pub mod Putting
 pub mod Efforts

@@ -5,24 +5,28 @@ use Rattle.std.proofs.lemmas.Bool.Decides.{eqb_tells}
 use Rattle.std.proofs.lemmas.List.Elements.{Contains-append_left, Contains-push, Contains-push_cases, All-contains, All-head, All-tail}
 use Rattle.std.proofs.Math.Seq.{get_or-append_seam}
 use Rattle.std.proofs.lemmas.List.{get_or_append_left}
-use Rattle.change_ring.specs.Log.{no_flags}
-use Rattle.delivery_token.specs.Keys.{Below}
+use Rattle.delivery_token.specs.Log.{heard_at_once}
+use Rattle.delivery_token.specs.Keys.{Below, AtLeast, past}
 use Rattle.delivery_token.specs.declared.CopyKey.{CopyKey}
 use Rattle.delivery_token.specs.declared.Job.{Job}
 use Rattle.delivery_token.specs.declared.Refusal.{Refusal}
 use Rattle.delivery_token.specs.declared.Verdict.{Verdict}
 use Rattle.delivery_token.specs.declared.Verdict.TheVariants.{Refused}
 use Rattle.delivery_token.specs.declared.log.Noted.{Noted}
-use Rattle.delivery_core.specs.Changes.{heard_at_once}
-use Rattle.delivery_core.specs.Puts.{AtLeast, past}
 use Rattle.envelope.specs.Directory.{Directory}
 use Rattle.lmtp_machine.specs.Dialogue.{Phase, Setting, Submission, keys_from}
 use Rattle.lmtp_machine.specs.Kept.{AreMessages, IsMessage}
+use Rattle.submission.specs.Copies.{copies}
+use Rattle.submission.specs.Heard.{SlotsFor}
+use Rattle.submission.specs.Laws.{TellPlaces}
+use Rattle.submission.specs.Verdicts.{Hears, heard_verdict}
+use Rattle.submission.proofs.Copies.{behind_front, front_key, front_mailbox, front_within, length-copies}
+use Rattle.submission.proofs.Slots.{hears_slots, slot_more, slot_now, slots_push}
 use Rattle.callers.specs.Line.{Line}
-use Rattle.callers.specs.Caller.{Caller, Setup, copies, copies_of, keys_of, setting_of}
-use Rattle.callers.specs.Taking.{HearsSlot, IsAwaitedBy, due, heard_verdict, noted_put, notes_it, passes_it}
-use Rattle.callers.specs.CallerStands.{IsAwaited, SlotFor, SlotsFor, StandsForCaller}
-use Rattle.callers.proofs.Copies.{copies-one, keys-one, length-copies}
+use Rattle.callers.specs.Caller.{Caller, Terms, copies_of, keys_of, setting_of}
+use Rattle.callers.specs.Taking.{HearsVerdict, due, noted_put}
+use Rattle.callers.specs.CallerStands.{IsAwaited, StandsForCaller}
+use Rattle.callers.proofs.Copies.{copies-one, keys-one}
 
 -- ---- keys by their places
 
@@ -35,61 +39,10 @@ key_at setting message j (suc i) (m ∷ ms) d h =
     let e : (j + 1) + i ≡ j + suc i = omega arith in
     key_at setting message (j + 1) i ms d (omega arith) ∙ ap (λ (n : ℕ). record { seat = setting.seat; serial = setting.serial; message = message; recipient = n }) e
 
-pub front_within : {A : Type 0} (n : ℕ) (xs : List A) (y : A) (ys : List A) → drop n xs ≡ y ∷ ys → n < length xs
-front_within zero [] y ys e = absurd (let x : [] ≡ y ∷ ys = e in cc)
-front_within (suc n) [] y ys e = absurd (let x : [] ≡ y ∷ ys = e in cc)
-front_within zero (x ∷ xs) y ys e = omega arith
-front_within (suc n) (x ∷ xs) y ys e = let h = front_within n xs y ys e in omega (arith, h)
-
-pub behind_front : {A : Type 0} (n : ℕ) (xs : List A) (y : A) (ys : List A) → drop n xs ≡ y ∷ ys → drop (suc n) xs ≡ ys
-behind_front zero [] y ys e = absurd (let x : [] ≡ y ∷ ys = e in cc)
-behind_front (suc n) [] y ys e = absurd (let x : [] ≡ y ∷ ys = e in cc)
-behind_front zero (x ∷ xs) y ys e = let h : xs ≡ ys = cc in h
-behind_front (suc n) (x ∷ xs) y ys e = behind_front n xs y ys e
-
--- the key of the copy at a place
-pub front_key : (n : ℕ) (keys : List CopyKey) (mailboxes text : List ℕ) (c : Job) (cs : List Job) (d : CopyKey) → drop n (copies keys mailboxes text) ≡ c ∷ cs → get_or keys n d ≡ c.key
-front_key n [] ms t c cs d e = absurd (let l = front_within n [] c cs e in omega (arith, l))
-front_key n (k ∷ ks) [] t c cs d e = absurd (let l = front_within n [] c cs e in omega (arith, l))
-front_key zero (k ∷ ks) (m ∷ ms) t c cs d e = let h : record { key = k; mailbox = m; text = t; flags = no_flags } ≡ c = cc in ap (λ (j : Job). j.key) h
-front_key (suc n) (k ∷ ks) (m ∷ ms) t c cs d e = front_key n ks ms t c cs d e
-
--- the mailbox of the copy at a place
-pub front_mailbox : (n : ℕ) (keys : List CopyKey) (mailboxes text : List ℕ) (c : Job) (cs : List Job) (most : ℕ) → All (λ m. m < most) mailboxes → drop n (copies keys mailboxes text) ≡ c ∷ cs → c.mailbox < most
-front_mailbox n [] ms t c cs most a e = absurd (let l = front_within n [] c cs e in omega (arith, l))
-front_mailbox n (k ∷ ks) [] t c cs most a e = absurd (let l = front_within n [] c cs e in omega (arith, l))
-front_mailbox zero (k ∷ ks) (m ∷ ms) t c cs most a e = let h : record { key = k; mailbox = m; text = t; flags = no_flags } ≡ c = cc in let q = ap (λ (j : Job). j.mailbox) h in let p = All-head (λ m. m < most) m ms a in omega (arith, p, q)
-front_mailbox (suc n) (k ∷ ks) (m ∷ ms) t c cs most a e = front_mailbox n ks ms t c cs most (All-tail (λ m. m < most) m ms a) e
-
 below_itself : (a : CopyKey) → Below a a → ⊥
 below_itself a (inl h) = omega (arith, h)
 below_itself a (inr (e, inl h)) = omega (arith, h)
 below_itself a (inr (e, inr h)) = omega (arith, h.1)
-
--- ---- slots
-
--- what was heard before, where what is heard now is of another key
-slot_more : (heard : List Noted) (key : CopyKey) (slot : Option Verdict) (r : Noted) → SlotFor heard key slot → r.key ≢ key → SlotFor (heard ++ r ∷ []) key slot
-slot_more heard key (Some v) r s n = (s.0, Contains-append_left heard (r ∷ []) _ s.1)
-slot_more heard key None r s n = λ x c e. elim (Contains-push_cases heard r x c) [ inl h ↦ s x h e | inr h ↦ n (ap (λ (y : Noted). y.key) h ∙ e) ]
-
--- the slot of what is heard now
-slot_now : (heard : List Noted) (key : CopyKey) (r : Noted) → r.key ≡ key → SlotFor (heard ++ r ∷ []) key (Some r.verdict)
-slot_now heard key r e = (r.mailbox, subst (λ (x : CopyKey). Contains (heard ++ r ∷ []) (record { key = x; mailbox = r.mailbox; verdict = r.verdict })) e (Contains-push heard r))
-
--- one slot more
-slots_push : (heard : List Noted) (keys : List CopyKey) (slots : List (Option Verdict)) (slot : Option Verdict) → length slots < length keys
-    → ((i : ℕ) (key : CopyKey) (d : Option Verdict) → i < length slots → SlotFor heard (get_or keys i key) (get_or slots i d)) → ((key : CopyKey) → SlotFor heard (get_or keys (length slots) key) slot) → SlotsFor heard keys (slots ++ slot ∷ [])
-slots_push heard keys slots slot lt old new = record {
-  few = let l = length-append slots (slot ∷ []) in omega (arith, l, lt);
-  each = λ i key d h. one i key d h (eqb_tells i (length slots));
-}
-  where
-    one : (i : ℕ) (key : CopyKey) (d : Option Verdict) → i < length (slots ++ slot ∷ []) → ((eqb i (length slots) ≡ true) × (i ≡ length slots)) ⊎ ((eqb i (length slots) ≡ false) × (i ≢ length slots)) → SlotFor heard (get_or keys i key) (get_or (slots ++ slot ∷ []) i d)
-    one i key d h (inl (b, e)) = subst (λ (j : ℕ). SlotFor heard (get_or keys j key) (get_or (slots ++ slot ∷ []) j d)) (sym e) (subst (λ (x : Option Verdict). SlotFor heard (get_or keys (length slots) key) x) (sym (get_or-append_seam slots slot [] d)) (new key))
-    one i key d h (inr (b, ne)) =
-        let l : i < length slots = let m = length-append slots (slot ∷ []) in omega (arith, h, m, ne) in
-        subst (λ (x : Option Verdict). SlotFor heard (get_or keys i key) x) (sym (get_or_append_left slots (slot ∷ []) d i l)) (old i key d l)
 
 -- ---- a copy was put
 
@@ -105,7 +58,7 @@ few_pending [] phase a = omega arith
 few_pending (s ∷ ss) phase a = let e = ap (λ (l : List Submission). length l) a.0 in omega (arith, e)
 
 -- what is known of the copy that is next: its key is that of its place
-pub record IsNextCopy (k : Setup) (seat : ℕ) (h : Line) (b : Caller) (message : ℕ) (c : Job) (others : List Job) : Type 0 where
+pub record IsNextCopy (k : Terms) (seat : ℕ) (h : Line) (b : Caller) (message : ℕ) (c : Job) (others : List Job) : Type 0 where
   pub key : c.key ≡ record { seat = seat; serial = b.serial; message = message; recipient = length h.verdicts }
   pub room : length h.verdicts < length (keys_of b.talk.pending)
   pub few : length (keys_of b.talk.pending) ≤ 100
@@ -115,7 +68,7 @@ pub record IsNextCopy (k : Setup) (seat : ℕ) (h : Line) (b : Caller) (message 
   pub rest : drop (suc (length h.verdicts)) (copies_of b.talk.pending) ≡ others
   pub mailbox : c.mailbox < length k.directory.homes
 
-module _ (k : Setup) (seat : ℕ) (next : CopyKey) (heard : List Noted) where
+module _ (k : Terms) (seat : ℕ) (next : CopyKey) (heard : List Noted) where
   pub next_copy : (h : Line) (b : Caller) (c : Job) (others : List Job) → (s : StandsForCaller k seat next heard h b) → due h ≡ c ∷ others → IsNextCopy k seat h b s.message c others
   next_copy h b c others s e =
       let n = length h.verdicts in
@@ -198,49 +151,12 @@ module _ (k : Setup) (seat : ℕ) (next : CopyKey) (heard : List Noted) where
           ∙ ap (λ (n : ℕ). record { seat = seat; serial = b.serial; message = s.message; recipient = n }) z
       at (t ∷ u ∷ us) few m i d lt = absurd (omega (arith, few))
 
-  heard_slots : (b : Caller) (h : Line) (r : Noted) (g : Line) → (s : StandsForCaller k seat next heard h b) → HearsSlot h r g
-      → (os : List (Option Verdict)) × (g ≡ record { serial = h.serial; gone = h.gone; machine = h.machine; waits = h.waits; unsaid = h.unsaid; verdicts = os }) × (length os ≡ length h.verdicts) × SlotsFor (heard ++ r ∷ []) (keys_of b.talk.pending) os
-  heard_slots b h r g s (notes_it a e) = (
-    set h.verdicts r.key.recipient (Some r.verdict),
-    e,
-    length-set h.verdicts r.key.recipient (Some r.verdict),
-    record { few = let l = length-set h.verdicts r.key.recipient (Some r.verdict) in let f = s.verdicts.few in omega (arith, l, f); each = λ j key d lt. one j key d lt (eqb_tells j r.key.recipient) },
-  )
-    where
-      here : (d : CopyKey) → get_or (keys_of b.talk.pending) r.key.recipient d ≡ r.key
-      here d = ap (λ (ss : List Submission). get_or (keys_of ss) r.key.recipient d) (sym s.pending) ∙ a.same d
-
-      one : (j : ℕ) (key : CopyKey) (d : Option Verdict) → j < length (set h.verdicts r.key.recipient (Some r.verdict)) → ((eqb j r.key.recipient ≡ true) × (j ≡ r.key.recipient)) ⊎ ((eqb j r.key.recipient ≡ false) × (j ≢ r.key.recipient))
-          → SlotFor (heard ++ r ∷ []) (get_or (keys_of b.talk.pending) j key) (get_or (set h.verdicts r.key.recipient (Some r.verdict)) j d)
-      one j key d lt (inl (t, e)) = subst (λ (i : ℕ). SlotFor (heard ++ r ∷ []) (get_or (keys_of b.talk.pending) i key) (get_or (set h.verdicts r.key.recipient (Some r.verdict)) i d)) (sym e)
-          (subst (λ (x : Option Verdict). SlotFor (heard ++ r ∷ []) (get_or (keys_of b.talk.pending) r.key.recipient key) x) (sym (get_or-set_same h.verdicts r.key.recipient (Some r.verdict) d a.within))
-          (slot_now heard (get_or (keys_of b.talk.pending) r.key.recipient key) r (sym (here key))))
-      one j key d lt (inr (t, ne)) =
-          let l = length-set h.verdicts r.key.recipient (Some r.verdict) in
-          let f = s.verdicts.few in
-          let m : j < length h.verdicts = omega (arith, lt, l) in
-          subst (λ (x : Option Verdict). SlotFor (heard ++ r ∷ []) (get_or (keys_of b.talk.pending) j key) x) (sym (get_or-set_other h.verdicts r.key.recipient j (Some r.verdict) d ne))
-          (slot_more heard (get_or (keys_of b.talk.pending) j key) (get_or h.verdicts j d) r (s.verdicts.each j key d m)
-          (λ e. ne (sym (ap (λ (q : CopyKey). q.recipient) (e ∙ numbers b h s j key (omega (arith, m, f)))))))
-  heard_slots b h r g s (passes_it isnt e) =
-      (h.verdicts, e, refl, record { few = s.verdicts.few; each = λ j key d lt. slot_more heard (get_or (keys_of b.talk.pending) j key) (get_or h.verdicts j d) r (s.verdicts.each j key d lt) (λ e. isnt (awaited j key lt e)) })
-    where
-      awaited : (j : ℕ) (key : CopyKey) → j < length h.verdicts → r.key ≡ get_or (keys_of b.talk.pending) j key → IsAwaitedBy h r
-      awaited j key lt e =
-          let f = s.verdicts.few in
-          let n : r.key.recipient ≡ j = ap (λ (q : CopyKey). q.recipient) (e ∙ numbers b h s j key (omega (arith, lt, f))) in
-          let p = ap (λ (ss : List Submission). length (keys_of ss)) s.pending in
-          record {
-            within = omega (arith, n, lt);
-            known = omega (arith, n, lt, f, p);
-            same = λ d. ap (λ (ss : List Submission). get_or (keys_of ss) r.key.recipient d) s.pending ∙ ap (λ (i : ℕ). get_or (keys_of b.talk.pending) i d) n
-                ∙ numbers b h s j d (omega (arith, lt, f)) ∙ sym (numbers b h s j key (omega (arith, lt, f))) ∙ sym e;
-          }
-
-  pub heard_stands : (b : Caller) (h : Line) (r : Noted) (g : Line) (now : List Noted) → StandsForCaller k seat next heard h b → HearsSlot h r g → now ≡ heard ++ r ∷ [] → StandsForCaller k seat next now g b
+  pub heard_stands : (b : Caller) (h : Line) (r : Noted) (g : Line) (now : List Noted) → StandsForCaller k seat next heard h b → HearsVerdict h r g → now ≡ heard ++ r ∷ [] → StandsForCaller k seat next now g b
   heard_stands b h r g now s q en =
-      let o = heard_slots b h r g s q in
-      subst (λ (x : Line). StandsForCaller k seat next now x b) (sym o.1) (record {
+      let tell : TellPlaces (keys_of b.talk.pending) = λ i d lt. ap (λ (x : CopyKey). x.recipient) (numbers b h s i d lt) in
+      let keys = ap keys_of s.pending in
+      let o = hears_slots heard (keys_of b.talk.pending) h.verdicts r g.verdicts tell s.verdicts (subst (λ (x : List CopyKey). Hears x h.verdicts r g.verdicts) keys q.hears) in
+      subst (λ (x : Line). StandsForCaller k seat next now x b) (sym q.rest) (record {
         serial = s.serial;
         gone = s.gone;
         setting = s.setting;
@@ -249,11 +165,11 @@ module _ (k : Setup) (seat : ℕ) (next : CopyKey) (heard : List Noted) where
         waits = s.waits;
         unsaid = s.unsaid;
         pending = s.pending;
-        to_put = s.to_put ∙ ap (λ (m : ℕ). drop m (copies_of b.talk.pending)) (sym o.2);
-        verdicts = subst (λ (x : List Noted). SlotsFor x (keys_of b.talk.pending) o.0) (sym en) o.3;
+        to_put = s.to_put ∙ ap (λ (m : ℕ). drop m (copies_of b.talk.pending)) (sym o.many);
+        verdicts = subst (λ (x : List Noted). SlotsFor x (keys_of b.talk.pending) g.verdicts) (sym en) o.hold;
         awaited = s.awaited;
         kept = s.kept;
         message = s.message;
         numbered = s.numbered;
-        ahead = subst (λ (m : ℕ). AtLeast next (record { seat = seat; serial = b.serial; message = s.message; recipient = m })) (sym o.2) s.ahead;
+        ahead = subst (λ (m : ℕ). AtLeast next (record { seat = seat; serial = b.serial; message = s.message; recipient = m })) (sym o.many) s.ahead;
       })

@@ -1,23 +1,22 @@
--- Who talks to a house: a connection at its seat, and what it does by itself with the bytes that came and the verdicts that were heard.
-use Rattle.std.specs.Prelude.{◌≡◌, ℕ, ◌+◌, ◌<◌, Bool, true, false, List, [], ◌∷◌, ◌++◌, Contains, length, Option, Some, None}
-use Rattle.change_ring.specs.Log.{no_flags}
+-- A connection of the house at its seat, and what it does by itself with the bytes that came and the verdicts that were heard.
+use Rattle.std.specs.Prelude.{◌≡◌, ℕ, ◌+◌, ◌<◌, Bool, true, false, List, [], ◌∷◌, ◌++◌, length}
 use Rattle.delivery_token.specs.declared.CopyKey.{CopyKey}
 use Rattle.delivery_token.specs.declared.Job.{Job}
 use Rattle.delivery_token.specs.declared.Verdict.{Verdict}
 use Rattle.delivery_token.specs.declared.log.Noted.{Noted}
 use Rattle.envelope.specs.Directory.{Directory}
-use Rattle.world.specs.World.{Config}
 use Rattle.lmtp_machine.specs.declared.connection.What.{What}
-use Rattle.lmtp_machine.specs.declared.connection.What.TheVariants.{Quit}
+use Rattle.lmtp_machine.specs.declared.connection.What.TheVariants.{More, Submit, Quit}
 use Rattle.lmtp_machine.specs.Replies.{wire}
 use Rattle.lmtp_machine.specs.Dialogue as dialogue
 use Rattle.lmtp_machine.specs.Dialogue.{Setting, Submission, on_event}
 use Rattle.lmtp_machine.specs.Conversation.{led_by, opened}
-use Rattle.callers.specs.Talk.{Talk, WorksOff, Prints, IsWhole, marked}
+use Rattle.submission.specs.Copies.{copies}
+use Rattle.submission.specs.Heard.{AreAnswered}
+use Rattle.callers.specs.Talk.{Talk, WorksOff}
 
--- what is settled at the start
-pub record Setup : Type 0 where
-  pub config : Config
+-- on which terms connections are served: by this directory, with this host's name, and up to so many bytes a message
+pub record Terms : Type 0 where
   pub directory : Directory
   pub host : List ℕ
   pub max_message : ℕ
@@ -30,22 +29,10 @@ pub record Caller : Type 0 where
   pub talk : Talk
   pub to_put : List Job
 
-abbrev pub setting_of : Setup → ℕ → ℕ → Setting
+abbrev pub setting_of : Terms → ℕ → ℕ → Setting
 setting_of k seat serial = record { seat = seat; serial = serial; max_message = k.max_message }
 
--- the i-th verdict is the one that was heard for the i-th key
-abbrev pub HeardFor : List Noted → List CopyKey → List Verdict → Type 0
-HeardFor heard [] [] = Unit {0}
-HeardFor heard [] (v ∷ vs) = ⊥
-HeardFor heard (key ∷ keys) [] = ⊥
-HeardFor heard (key ∷ keys) (v ∷ vs) = ((m : ℕ) × Contains heard (record { key = key; mailbox = m; verdict = v })) × HeardFor heard keys vs
-
--- the copies of a submission, in the order of its recipients
-abbrev pub copies : List CopyKey → List ℕ → List ℕ → List Job
-copies [] mailboxes text = []
-copies (key ∷ keys) [] text = []
-copies (key ∷ keys) (mailbox ∷ mailboxes) text = record { key = key; mailbox = mailbox; text = text; flags = no_flags } ∷ copies keys mailboxes text
-
+-- the copies of the messages at hand, of which there is one at most, and their keys
 abbrev pub copies_of : List Submission → List Job
 copies_of [] = []
 copies_of (s ∷ ss) = copies s.keys s.mailboxes s.text ++ copies_of ss
@@ -55,27 +42,20 @@ keys_of [] = []
 keys_of (s ∷ ss) = s.keys ++ keys_of ss
 
 -- every copy of the message at hand was put, and for each a verdict was heard
-pub record IsAnswered (heard : List Noted) (b : Caller) (verdicts : List Verdict) : Type 0 where
-  pub put : b.to_put ≡ []
-  pub each : HeardFor heard (keys_of b.talk.pending) verdicts
+abbrev pub IsAnswered : List Noted → Caller → List Verdict → Type 0
+IsAnswered heard b verdicts = AreAnswered heard b.to_put (keys_of b.talk.pending) verdicts
 
--- who stands at the seat after a turn: one whose dialogue ended and who has said all is gone, and what waited is dropped
-pub data Leaves (whole : Bool) (b : Caller) (what : What) (after : Talk) (submitted : List Submission) (o : Option Caller) : Type 0 where
-  goes : what ≡ Quit → after.unsaid ≡ [] → o ≡ None → Leaves whole b what after submitted o
-  stays : (whole ≡ true → what ≡ Quit → ⊥) → o ≡ Some (record { serial = b.serial; gone = b.gone; talk = after; to_put = copies_of submitted }) → Leaves whole b what after submitted o
-
--- The caller works off what waits, and this is printed, with what was still to be said. `whole` says that memory wasn't wanting.
-pub record Talks (k : Setup) (whole : Bool) (seat : ℕ) (b : Caller) (o : Option Caller) (printed : List ℕ) : Type 0 where
+-- It takes what waits, as far as that goes: what it says stands behind what it had still to say. `whole` says that memory wasn't wanting.
+pub record Works (k : Terms) (whole : Bool) (seat : ℕ) (b : Caller) (what : What) (after : Caller) : Type 0 where
   pub turn : dialogue.Turn
-  pub what : What
-  pub after : Talk
-  pub works : WorksOff (setting_of k seat b.serial) k.directory b.talk turn what after
-  pub prints : Prints (seat + 1) k.host b.talk after turn printed
-  pub all : whole ≡ true → IsWhole what after
-  pub leaves : Leaves whole b what after turn.submissions o
+  pub talk : Talk
+  pub works : WorksOff (setting_of k seat b.serial) k.directory b.talk turn what talk
+  pub said : talk.unsaid ≡ b.talk.unsaid ++ wire k.host turn.replies
+  pub all : whole ≡ true → what ≡ More → talk.waits ≡ []
+  pub is : after ≡ record { serial = b.serial; gone = b.gone; talk = talk; to_put = copies_of turn.submissions }
 
 -- something that isn't a line happens to the dialogue, before more is worked off
-abbrev pub meets : Setup → ℕ → Caller → dialogue.Event → Caller
+abbrev pub meets : Terms → ℕ → Caller → dialogue.Event → Caller
 meets k seat b event =
     let setting = setting_of k seat b.serial in
     record {
@@ -99,32 +79,32 @@ more_waits b piece = record {
 }
 
 -- a new connection at a seat, which is greeted
-abbrev pub greeted : Setup → ℕ → ℕ → Caller
+abbrev pub greeted : Terms → ℕ → ℕ → Caller
 greeted k seat serial = meets k seat (record { serial = serial; gone = false; to_put = []; talk = record { at = opened; waits = []; unsaid = []; pending = [] } }) dialogue.Opened
 
--- all that it said is printed
-abbrev pub told : Caller → Caller
-told b = record {
+-- so much of what it said is still to be printed
+abbrev pub with_unsaid : List ℕ → Caller → Caller
+with_unsaid unsaid b = record {
   serial = b.serial;
   gone = b.gone;
   to_put = b.to_put;
-  talk = record { at = b.talk.at; waits = b.talk.waits; unsaid = []; pending = b.talk.pending };
+  talk = record { at = b.talk.at; waits = b.talk.waits; unsaid = unsaid; pending = b.talk.pending };
 }
 
--- The caller goes on as far as it can, by what its seat has heard: where verdicts are awaited it waits for the last one, and
--- says them all; then it works off what waits. What was said and isn't printed yet is printed whatever is awaited.
-pub data GoesOn (k : Setup) (whole : Bool) (seat : ℕ) (heard : List Noted) (b : Caller) (o : Option Caller) (printed : List ℕ) : Type 0 where
-  works : b.talk.pending ≡ [] → Talks k whole seat b o printed → GoesOn k whole seat heard b o printed
-  waits : 0 < length b.talk.pending → ((vs : List Verdict) → IsAnswered heard b vs → ⊥) → o ≡ Some (told b) → printed ≡ marked (seat + 1) b.talk.unsaid → GoesOn k whole seat heard b o printed
-  answers : (vs : List Verdict) → 0 < length b.talk.pending → IsAnswered heard b vs → Talks k whole seat (meets k seat b (dialogue.Answered vs)) o printed → GoesOn k whole seat heard b o printed
-  -- memory was refused before anything was said or printed
-  stalls : whole ≡ false → o ≡ Some b → printed ≡ [] → GoesOn k whole seat heard b o printed
+-- It goes on as far as it can, by what its seat has heard: where verdicts are awaited it waits for the last one, and says them all; then it
+-- takes what waits.
+pub data GoesOn (k : Terms) (whole : Bool) (seat : ℕ) (heard : List Noted) (b : Caller) (what : What) (after : Caller) : Type 0 where
+  works : b.talk.pending ≡ [] → Works k whole seat b what after → GoesOn k whole seat heard b what after
+  waits : 0 < length b.talk.pending → ((vs : List Verdict) → IsAnswered heard b vs → ⊥) → what ≡ Submit → after ≡ b → GoesOn k whole seat heard b what after
+  answers : (vs : List Verdict) → 0 < length b.talk.pending → IsAnswered heard b vs → Works k whole seat (meets k seat b (dialogue.Answered vs)) what after → GoesOn k whole seat heard b what after
+  -- memory was refused before anything was said
+  stalls : whole ≡ false → what ≡ More → after ≡ b → GoesOn k whole seat heard b what after
 
--- The caller does what it can now: it goes on, or, where its peer is gone, it leaves as soon as every copy was put and each verdict is heard.
-pub data Proceeds (k : Setup) (whole : Bool) (seat : ℕ) (heard : List Noted) (b : Caller) (o : Option Caller) (printed : List ℕ) : Type 0 where
-  talks : b.gone ≡ false → GoesOn k whole seat heard b o printed → Proceeds k whole seat heard b o printed
-  lingers : b.gone ≡ true → ((vs : List Verdict) → IsAnswered heard b vs → ⊥) → o ≡ Some b → printed ≡ [] → Proceeds k whole seat heard b o printed
-  fades : (vs : List Verdict) → b.gone ≡ true → IsAnswered heard b vs → o ≡ None → printed ≡ [] → Proceeds k whole seat heard b o printed
+-- It does what it can now: it goes on; or, where its peer is gone, it has nothing to say, and is done as soon as every copy was put and each verdict is heard.
+pub data Proceeds (k : Terms) (whole : Bool) (seat : ℕ) (heard : List Noted) (b : Caller) (what : What) (after : Caller) : Type 0 where
+  talks : b.gone ≡ false → GoesOn k whole seat heard b what after → Proceeds k whole seat heard b what after
+  lingers : b.gone ≡ true → b.talk.unsaid ≡ [] → ((vs : List Verdict) → IsAnswered heard b vs → ⊥) → what ≡ Submit → after ≡ b → Proceeds k whole seat heard b what after
+  fades : (vs : List Verdict) → b.gone ≡ true → b.talk.unsaid ≡ [] → IsAnswered heard b vs → what ≡ Quit → after ≡ b → Proceeds k whole seat heard b what after
 
 -- the peer is gone: what waited and what was still to be printed is dropped
 abbrev pub unread : Caller → Caller

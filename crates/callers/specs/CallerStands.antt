@@ -1,27 +1,15 @@
 -- When a connection stands for a caller of the scene.
-use Rattle.std.specs.Prelude.{◌≡◌, ℕ, ◌+◌, ◌<◌, ◌≤◌, ◌++◌, slice_index_or, Bool, List, [], ◌∷◌, drop, length, Contains, Option, Some, None}
+use Rattle.std.specs.Prelude.{◌≡◌, ℕ, Bool, List, [], ◌∷◌, drop, length}
 use Rattle.delivery_token.specs.declared.CopyKey.{CopyKey}
-use Rattle.delivery_token.specs.declared.Verdict.{Verdict}
 use Rattle.delivery_token.specs.declared.log.Noted.{Noted}
-use Rattle.delivery_core.specs.Puts.{AtLeast}
+use Rattle.delivery_token.specs.Keys.{AtLeast}
+use Rattle.submission.specs.Heard.{SlotsFor}
 use Rattle.lmtp_machine.specs.declared.connection.What.{What}
-use Rattle.lmtp_machine.specs.declared.connection.What.TheVariants.{Quit}
 use Rattle.lmtp_machine.specs.Dialogue.{Phase, Waiting, Submission}
 use Rattle.lmtp_machine.specs.Kept.{Kept, AreMessages}
 use Rattle.lmtp_machine.specs.Machine as machine
-use Rattle.envelope.specs.Directory.{Directory}
 use Rattle.callers.specs.Line.{Line}
-use Rattle.callers.specs.Caller.{Setup, Caller, GoesOn, Proceeds, Talks, setting_of, copies_of, keys_of}
-
--- what was heard for a key: this verdict, or none yet
-abbrev pub SlotFor : List Noted → CopyKey → Option Verdict → Type 0
-SlotFor heard key (Some v) = (m : ℕ) × Contains heard (record { key = key; mailbox = m; verdict = v })
-SlotFor heard key None = (r : Noted) → Contains heard r → r.key ≡ key → ⊥
-
--- the same for the first of these keys, as many as there are slots
-pub record SlotsFor (heard : List Noted) (keys : List CopyKey) (slots : List (Option Verdict)) : Type 0 where
-  pub few : length slots ≤ length keys
-  pub each : (i : ℕ) (key : CopyKey) (slot : Option Verdict) → i < length slots → SlotFor heard (slice_index_or keys i key) (slice_index_or slots i slot)
+use Rattle.callers.specs.Caller.{Caller, GoesOn, Proceeds, Terms, Works, copies_of, keys_of, setting_of}
 
 -- verdicts are awaited exactly where a message was submitted
 abbrev pub IsAwaited : List Submission → Phase → Type 0
@@ -29,7 +17,7 @@ IsAwaited [] phase = (n : ℕ) → phase ≡ Waiting n → ⊥
 IsAwaited (s ∷ ss) phase = (ss ≡ []) × (phase ≡ Waiting (length s.keys))
 
 -- the connection stands for this caller, whose seat has heard these verdicts and may use keys from `next` on
-pub record StandsForCaller (k : Setup) (seat : ℕ) (next : CopyKey) (heard : List Noted) (h : Line) (b : Caller) : Type 0 where
+pub record StandsForCaller (k : Terms) (seat : ℕ) (next : CopyKey) (heard : List Noted) (h : Line) (b : Caller) : Type 0 where
   pub serial : h.serial ≡ b.serial
   pub gone : h.gone ≡ b.gone
   pub setting : h.machine.setting ≡ setting_of k seat b.serial
@@ -47,36 +35,20 @@ pub record StandsForCaller (k : Setup) (seat : ℕ) (next : CopyKey) (heard : Li
   pub numbered : AreMessages (setting_of k seat b.serial) k.directory message b.talk.pending b.talk.at.standing.submitted
   pub ahead : AtLeast next (record { seat = seat; serial = b.serial; message = message; recipient = length h.verdicts })
 
--- a connection's own settings are those of the house
-pub record IsOf (k : Setup) (number seat : ℕ) (directory : Directory) : Type 0 where
-  pub numbered : number ≡ seat + 1
-  pub looks_up : directory ≡ k.directory
+-- After a caller proceeded: the connection stands for what it is then.
+pub record Proceeded (k : Terms) (whole : Bool) (seat : ℕ) (next : CopyKey) (heard : List Noted) (b : Caller) (what : What) (h : Line) : Type 0 where
+  pub after : Caller
+  pub proceeds : Proceeds k whole seat heard b what after
+  pub stands : StandsForCaller k seat next heard h after
 
--- after a caller went on: it is gone, or stands there still
-abbrev pub IsThere : Setup → ℕ → CopyKey → List Noted → What → Line → Option Caller → Type 0
-IsThere k seat next heard what h None = what ≡ Quit
-IsThere k seat next heard what h (Some b) = (what ≡ Quit → ⊥) × StandsForCaller k seat next heard h b
+-- The same, where its peer is there.
+pub record WentOn (k : Terms) (whole : Bool) (seat : ℕ) (next : CopyKey) (heard : List Noted) (b : Caller) (what : What) (h : Line) : Type 0 where
+  pub after : Caller
+  pub goes : GoesOn k whole seat heard b what after
+  pub stands : StandsForCaller k seat next heard h after
 
--- From this caller the connection worked off what waited and printed this, and stands for the caller after it.
-pub record WorkedOff (k : Setup) (whole : Bool) (seat : ℕ) (next : CopyKey) (heard : List Noted) (b : Caller) (what : What) (h : Line) (old new : List ℕ) : Type 0 where
-  pub left : Option Caller
-  pub printed : List ℕ
-  pub talks : Talks k whole seat b left printed
-  pub there : IsThere k seat next heard what h left
-  pub out : new ≡ old ++ printed
-
--- The same, where verdicts may be awaited.
-pub record WentOn (k : Setup) (whole : Bool) (seat : ℕ) (next : CopyKey) (heard : List Noted) (b : Caller) (what : What) (h : Line) (old new : List ℕ) : Type 0 where
-  pub left : Option Caller
-  pub printed : List ℕ
-  pub goes : GoesOn k whole seat heard b left printed
-  pub there : IsThere k seat next heard what h left
-  pub out : new ≡ old ++ printed
-
--- The same, where its peer may be gone.
-pub record Proceeded (k : Setup) (whole : Bool) (seat : ℕ) (next : CopyKey) (heard : List Noted) (b : Caller) (what : What) (h : Line) (old new : List ℕ) : Type 0 where
-  pub left : Option Caller
-  pub printed : List ℕ
-  pub goes : Proceeds k whole seat heard b left printed
-  pub there : IsThere k seat next heard what h left
-  pub out : new ≡ old ++ printed
+-- The same, where nothing is awaited.
+pub record WorkedOff (k : Terms) (whole : Bool) (seat : ℕ) (next : CopyKey) (heard : List Noted) (b : Caller) (what : What) (h : Line) : Type 0 where
+  pub after : Caller
+  pub works : Works k whole seat b what after
+  pub stands : StandsForCaller k seat next heard h after

@@ -1,17 +1,10 @@
 -- A connection of the house: where its dialogue stands, what waits to be taken, and what was said and not printed yet.
-use Rattle.std.specs.Prelude.{◌≡◌, ℕ, List, [], ◌++◌}
+use Rattle.std.specs.Prelude.{◌≡◌, ℕ, List, ◌++◌}
 use Rattle.envelope.specs.Directory.{Directory}
-use Rattle.line_io.specs.Marks as marks
 use Rattle.lmtp_machine.specs.declared.connection.What.{What}
-use Rattle.lmtp_machine.specs.declared.connection.What.TheVariants.{More}
-use Rattle.lmtp_machine.specs.Replies.{wire}
 use Rattle.lmtp_machine.specs.Dialogue.{Setting, Submission, Turn}
 use Rattle.lmtp_machine.specs.Conversation.{Conversation, Leads}
 use Rattle.lmtp_machine.specs.Calls.{Tells}
-
--- each line that connection n says, marked with an L and its number
-abbrev pub marked : ℕ → List ℕ → List ℕ
-marked n said = marks.marked 76 n said
 
 -- where the dialogue stands; the bytes that came and are not taken yet; what was said and is not printed yet; the message whose
 -- verdicts are awaited, if there is one
@@ -28,14 +21,3 @@ pub record WorksOff (setting : Setting) (directory : Directory) (before : Talk) 
   pub leads : Leads setting directory before.at taken turn after.at
   pub tells : Tells what turn
   pub submits : after.pending ≡ turn.submissions
-
--- What was printed, with what is still to be printed, is what was to be printed before and what was said since: all of it or nothing.
-pub data Prints (n : ℕ) (host : List ℕ) (before after : Talk) (turn : Turn) (printed : List ℕ) : Type 0 where
-  prints_all : after.unsaid ≡ [] → printed ≡ marked n (before.unsaid ++ wire host turn.replies) → Prints n host before after turn printed
-  -- a growth was refused
-  prints_none : after.unsaid ≡ before.unsaid ++ wire host turn.replies → printed ≡ [] → Prints n host before after turn printed
-
--- all that was said is printed, and nothing waits that may be taken
-pub record IsWhole (what : What) (after : Talk) : Type 0 where
-  pub said : after.unsaid ≡ []
-  pub taken : what ≡ More → after.waits ≡ []

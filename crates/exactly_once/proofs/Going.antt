@@ -17,12 +17,14 @@ use Rattle.world.specs.World.{Config, World, Steps}
 use Rattle.world.specs.Law.{Headline}
 use Rattle.world.proofs.Always.{always}
 use Rattle.world.proofs.Base.{all_of_every, every_weaker, rising_pair}
-use Rattle.callers.specs.Caller.{Setup, Caller, more_waits, greeted}
-use Rattle.visitors.specs.Visitor.{Visitor, Speaks, Prints, prints_all, prints_none}
-use Rattle.visitors.specs.Visitor.{marked as marked_session}
+use Rattle.callers.specs.Caller.{Caller, more_waits, greeted}
+use Rattle.house.specs.Setup.{Setup, terms_of}
+use Rattle.visitors.specs.Visitor.{Visitor}
+use Rattle.house.specs.Printing.{Speaks, Prints, prints_all, prints_none}
+use Rattle.house.specs.Printing.{marked_session}
 use Rattle.visitors.specs.Visitor.{greeted as greeted_visitor, more_waits as visitor_more_waits}
 use Rattle.visitors.specs.Folders.{folders_of}
-use Rattle.visitors.proofs.Carried.{speaks_carried}
+use Rattle.house.proofs.Carried.{speaks_carried}
 use Rattle.imap_session.specs.Exchange as calls
 use Rattle.imap_session.specs.Store.{Met}
 use Rattle.session_store.specs.Meets.{Meets}
@@ -131,7 +133,7 @@ bytes_did k told s e seat piece t printed own ok (opens there free more not o g 
     let later : s.next seat + 1 ≡ next seat = sym (set_at-same s.next seat (s.next seat + 1)) in
     let fresh : CallerOk k seat (s.world.heard seat) (s.next seat) (told seat) None = subst (CallerOk k seat (s.world.heard seat) (s.next seat) (told seat)) free (ok.callers seat) in
     rw after (caller_did k told s e s.world seat o next printed ok (stays k.config s.world s.world refl) own (one_later s.next seat) (s.next seat) (ap (serial_of (s.next seat)) (sym free))
-    (proceeds_spoke k false seat (s.world.heard seat) (next seat) (told seat) (more_waits (greeted k seat (s.next seat)) piece) o printed
+    (proceeds_spoke k false seat (s.world.heard seat) (next seat) (told seat) (more_waits (greeted (terms_of k) seat (s.next seat)) piece) o printed
     (greeted_talking k seat (s.next seat) (s.world.heard seat) (told seat) (next seat) (omega (arith, later)) fresh) g))
 bytes_did k told s e seat piece t printed own ok (goes_on b there read o g after) =
     let r = stays k.config s.world s.world refl in

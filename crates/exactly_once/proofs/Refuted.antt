@@ -3,7 +3,7 @@ use Rattle.std.proofs.Common.{◌≡◌, ℕ, ◌≢◌, List, [], ◌∷◌, Al
 use Rattle.std.specs.Borrow.{Bor}
 use Rattle.delivery_token.specs.declared.log.Noted.{Noted}
 use Rattle.world.specs.World.{World}
-use Rattle.callers.specs.Caller.{Setup}
+use Rattle.house.specs.Setup.{Setup}
 use Rattle.house.specs.declared.event.Event.TheVariants.{Bytes, Say, Take}
 use Rattle.house.specs.Scene.{Scene, seat_of}
 use Rattle.exactly_once.specs.Promise.{Entry, IsOwn, Lines, Replies, Said, TellsOnce, verdicts_of}

@@ -14,7 +14,9 @@ use Rattle.lmtp_machine.specs.Conversation.{Conversation, Leads}
 use Rattle.lmtp_machine.specs.Kept.{AreMessages, Kept}
 use Rattle.lmtp_machine.proofs.Kept.{event_keeps, fresh_kept, leads_keeps}
 use Rattle.callers.specs.Talk.{Talk, marked, prints_all, prints_none, Prints}
-use Rattle.callers.specs.Caller.{Setup, Caller, Leaves, Talks, GoesOn, Proceeds, IsAnswered, goes, stays, works, waits, answers, stalls, talks, lingers, fades, greeted, keys_of, meets, setting_of, unread}
+use Rattle.callers.specs.Caller.{Caller, GoesOn, Proceeds, IsAnswered, works, waits, answers, stalls, talks, lingers, fades, greeted, keys_of, meets, setting_of, unread}
+use Rattle.house.specs.Printing.{Leaves, goes, stays}
+use Rattle.house.specs.Setup.{Setup, terms_of}
 use Rattle.exactly_once.specs.Promise as promise
 use Rattle.exactly_once.specs.Promise.{Said, Other, reply_of, verdict_in}
 use Rattle.exactly_once.proofs.Quiet.{Quiet, quiet_not, lines_quiet}
@@ -72,7 +74,7 @@ pub record IsTalking (k : Setup) (seat serial : ℕ) (heard : List Noted) (next 
   pub is : unsaid ≡ bytes_of k said
   pub message : ℕ
   pub in_order : AreTold seat heard serial message (told ++ verdicts said)
-  pub numbered : AreMessages (setting_of k seat serial) k.directory message pending standing.submitted
+  pub numbered : AreMessages (setting_of (terms_of k) seat serial) k.directory message pending standing.submitted
   pub kept : Kept k.directory standing
   pub older : serial < next
   pub own : AreOf serial said
@@ -152,12 +154,12 @@ silent k seat serial heard next told o printed c e = record { said = []; is = e;
 
 -- The dialogue went on from where nothing is awaited.
 went_on : (k : Setup) (seat serial : ℕ) (heard : List Noted) (next : ℕ) (told : List Noted) (at after : Conversation) (unsaid taken : List ℕ) (turn : Turn)
-    → IsTalking k seat serial heard next told at.standing unsaid [] → Leads (setting_of k seat serial) k.directory at taken turn after
+    → IsTalking k seat serial heard next told at.standing unsaid [] → Leads (setting_of (terms_of k) seat serial) k.directory at taken turn after
     → IsTalking k seat serial heard next told after.standing (unsaid ++ wire k.host turn.replies) turn.submissions
 went_on k seat serial heard next told at after unsaid taken turn t l =
-    let quiet : Quiet turn.replies = subst (λ (x : Turn). Quiet x.replies) (sym l.turns) (lines_quiet (setting_of k seat serial) k.directory at.standing l.heard) in
+    let quiet : Quiet turn.replies = subst (λ (x : Turn). Quiet x.replies) (sym l.turns) (lines_quiet (setting_of (terms_of k) seat serial) k.directory at.standing l.heard) in
     let more = others turn.replies quiet in
-    let keeps = leads_keeps (setting_of k seat serial) k.directory at taken turn after l t.kept in
+    let keeps = leads_keeps (setting_of (terms_of k) seat serial) k.directory at taken turn after l t.kept in
     let here : t.message ≡ at.standing.submitted = t.numbered in
     record {
       said = t.said ++ more.said;
@@ -210,12 +212,12 @@ pub record Says (heard : List Noted) (pending : List Submission) (vs : List Verd
 
 -- none of them, or all
 verdicts_said : (k : Setup) (seat serial : ℕ) (heard told : List Noted) (first : ℕ) (pending : List Submission) (vs : List Verdict) (phase : Phase) (n : ℕ)
-    → AreMessages (setting_of k seat serial) k.directory first pending n → (h : Heard heard (keys_of pending) vs) → AreTold seat heard serial first told
+    → AreMessages (setting_of (terms_of k) seat serial) k.directory first pending n → (h : Heard heard (keys_of pending) vs) → AreTold seat heard serial first told
     → Says heard pending vs (on_verdicts phase n vs).replies told seat serial n
 verdicts_said k seat serial heard told first pending vs phase n messages h t = by_phase phase
   where
     all : AreTold seat heard serial n (told ++ h.notes)
-    all = told_more seat serial heard (setting_of k seat serial) k.directory first n pending vs told refl refl messages h t
+    all = told_more seat serial heard (setting_of (terms_of k) seat serial) k.directory first n pending vs told refl refl messages h t
 
     none_said : Says heard pending vs [] told seat serial n
     none_said = record { said = []; is = refl; in_order = subst (AreTold seat heard serial n) (sym (append-nil told)) (told_front seat heard serial n told h.notes all); own = tt }
@@ -225,7 +227,7 @@ verdicts_said k seat serial heard told first pending vs phase n messages h t = b
       said = map promise.Verdict h.notes;
       is = notes_replies h.notes ∙ ap (λ (x : List Verdict). map verdict_reply x) h.verdicts_are;
       in_order = subst (λ (x : List Noted). AreTold seat heard serial n (told ++ x)) (sym (notes_said h.notes)) all;
-      own = subst (Every (λ n. n.key.serial ≡ serial)) (sym (notes_said h.notes)) (of_connection heard (setting_of k seat serial) k.directory first n pending vs messages h);
+      own = subst (Every (λ n. n.key.serial ≡ serial)) (sym (notes_said h.notes)) (of_connection heard (setting_of (terms_of k) seat serial) k.directory first n pending vs messages h);
     }
     by_phase Start = none_said
     by_phase Ready = none_said
@@ -243,13 +245,13 @@ same_number Ended n vs = refl
 
 answers_talking : (k : Setup) (seat : ℕ) (heard : List Noted) (next : ℕ) (told : List Noted) (b : Caller) (vs : List Verdict)
     → IsTalking k seat b.serial heard next told b.talk.at.standing b.talk.unsaid b.talk.pending → IsAnswered heard b vs
-    → IsTalking k seat b.serial heard next told (meets k seat b (Answered vs)).talk.at.standing (meets k seat b (Answered vs)).talk.unsaid []
+    → IsTalking k seat b.serial heard next told (meets (terms_of k) seat b (Answered vs)).talk.at.standing (meets (terms_of k) seat b (Answered vs)).talk.unsaid []
 answers_talking k seat heard next told b vs t is =
     let at = b.talk.at.standing in
     let phase = at.phase in
     let n = at.submitted in
     let says = verdicts_said k seat b.serial heard (told ++ verdicts t.said) t.message b.talk.pending vs phase n t.numbered (heard_for heard (keys_of b.talk.pending) vs is.each) t.in_order in
-    let keeps = event_keeps (setting_of k seat b.serial) k.directory at (Answered vs) t.kept in
+    let keeps = event_keeps (setting_of (terms_of k) seat b.serial) k.directory at (Answered vs) t.kept in
     record {
       said = t.said ++ says.said;
       is = ap (λ (x : List ℕ). x ++ wire k.host (on_verdicts phase n vs).replies) t.is ∙ ap (λ (x : List Reply). bytes_of k t.said ++ wire k.host x) (sym says.is) ∙ joins k t.said says.said;
@@ -275,7 +277,7 @@ goes_spoke k whole seat heard next told b o printed s (waits some not e p) = rec
   left = rw e (says_all k seat b.serial heard next told b.talk.at.standing b.talk.unsaid b.talk.pending s);
 }
 goes_spoke k whole seat heard next told b o printed s (answers vs some is t) =
-    talks_spoke k whole seat heard next told (meets k seat b (Answered vs)) o printed (answers_talking k seat heard next told b vs s is) t
+    talks_spoke k whole seat heard next told (meets (terms_of k) seat b (Answered vs)) o printed (answers_talking k seat heard next told b vs s is) t
 goes_spoke k whole seat heard next told b o printed s (stalls f e p) = silent k seat b.serial heard next told o printed (rw e s) p
 
 pub proceeds_spoke : (k : Setup) (whole : Bool) (seat : ℕ) (heard : List Noted) (next : ℕ) (told : List Noted) (b : Caller) (o : Option Caller) (printed : List ℕ)
@@ -295,9 +297,9 @@ unread_silent k whole seat heard next told b o printed s (fades vs gone is e p) 
     (rw e (drops k seat b.serial heard next told b.talk.at.standing b.talk.unsaid b.talk.pending s), p)
 
 -- a connection that was just opened has said its greeting
-pub greeted_talking : (k : Setup) (seat serial : ℕ) (heard told : List Noted) (next : ℕ) → serial < next → AreTold seat heard serial 0 told → CallerOk k seat heard next told (Some (greeted k seat serial))
+pub greeted_talking : (k : Setup) (seat serial : ℕ) (heard told : List Noted) (next : ℕ) → serial < next → AreTold seat heard serial 0 told → CallerOk k seat heard next told (Some (greeted (terms_of k) seat serial))
 greeted_talking k seat serial heard told next l t =
-    let more = others (on_event (setting_of k seat serial) k.directory fresh Opened).replies (tt, tt) in
+    let more = others (on_event (setting_of (terms_of k) seat serial) k.directory fresh Opened).replies (tt, tt) in
     record {
       said = more.said;
       is = ap (λ (x : List Reply). wire k.host x) (sym more.is);

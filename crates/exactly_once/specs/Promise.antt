@@ -11,9 +11,9 @@ use Rattle.line_io.specs.Wire.{IsCut, joined}
 use Rattle.imap_session.specs.Commands.{greeting}
 use Rattle.world.specs.World.{World, Event, IsWorld}
 use Rattle.world.specs.Law.{Headline, StandsOnce, pairs}
-use Rattle.callers.specs.Caller.{Caller, Setup}
-use Rattle.callers.specs.Talk.{marked as marked_connection}
-use Rattle.visitors.specs.Visitor.{marked as marked_session}
+use Rattle.callers.specs.Caller.{Caller}
+use Rattle.house.specs.Setup.{Setup}
+use Rattle.house.specs.Printing.{marked_connection, marked_session}
 use Rattle.house.specs.Scene.{EnterPlay, HasNothing, IdlePlay, Plays, SayPlay, Scene, empty_scene, place_of, seat_of}
 use Rattle.house.specs.Steps.{IsBusy, IsNobody}
 use Rattle.house.specs.declared.event.Event as house

@@ -5,7 +5,7 @@
 mod replay;
 
 ghost use Rattle.std.specs.Prelude.{List, ℕ};
-ghost use Rattle.callers.specs.Caller.{Setup};
+ghost use Rattle.house.specs.Setup.{Setup};
 ghost use Rattle.exactly_once.specs.Promise.{Entry, ExactlyOnce, NoneTwice, TellsOnce};
 ghost use Rattle.house.specs.Scene.{Scene, empty_scene};
 ghost use Rattle.house.specs.Settling.{Happened};

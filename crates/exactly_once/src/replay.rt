@@ -1,7 +1,7 @@
 //! Any list of events in a house, one after another, and what is promised of them all. What one event does is the house's matter.
 
 ghost use Rattle.std.specs.Prelude.{[], ◌∷◌, OnErr, OnOk};
-ghost use Rattle.callers.specs.Caller.{Setup};
+ghost use Rattle.house.specs.Setup.{Setup};
 ghost use Rattle.exactly_once.specs.Promise.{CameOnce, TriedFrom};
 ghost use Rattle.house.specs.Scene.{Scene, empty_scene};
 ghost use Rattle.house.specs.Settled.{HappenedFrom};

@@ -13,7 +13,8 @@ use Rattle.delivery_core.specs.declared.steps.Fault.TheVariants as faults
 use Rattle.world.specs.World as world
 use Rattle.callers.specs.Line.{Line}
 use Rattle.house.specs.State.{State}
-use Rattle.callers.specs.Caller.{Caller, Setup}
+use Rattle.callers.specs.Caller.{Caller}
+use Rattle.house.specs.Setup.{Setup}
 use Rattle.house.specs.Scene.{HasEnded, Moves, Scene, with_world}
 use Rattle.house.specs.Stands.{StandsFor, StandsForOne}
 use Rattle.house.proofs.Worldly.{idles, moves}

@@ -1,6 +1,6 @@
 -- What bytes, a put and a hearing come to, from who stands at the seat.
 use Rattle.std.proofs.Common.{◌≡◌, ℕ, ◌+◌, ◌<◌, Bool, true, false, List, ◌++◌, length, refl, ap, sym, ◌∙◌, subst, arith, Option, Some, None, get_or, set, IsSome, length-set, get_or-set_other, get_or-set_same}
-use Rattle.delivery_core.specs.Puts.{AtLeast}
+use Rattle.delivery_token.specs.Keys.{AtLeast}
 use Rattle.shard_queue.specs.At.{set_at}
 use Rattle.shard_queue.proofs.AtLaws.{set_at-same}
 use Rattle.std.specs.Option.{option_map}
@@ -10,10 +10,12 @@ use Rattle.envelope.specs.Directory.{Directory}
 use Rattle.delivery_core.specs.New.{first_key}
 use Rattle.callers.specs.Line.{Line}
 use Rattle.house.specs.State.{State}
-use Rattle.callers.specs.Caller.{Caller, Setup, greeted, more_waits, unread}
+use Rattle.callers.specs.Caller.{Caller, greeted, more_waits, unread}
+use Rattle.house.specs.Setup.{Setup, terms_of}
 use Rattle.house.specs.Scene.{BytesPlay, Scene, VanishPlay, goes_on, most_serials, opens, with_caller}
 use Rattle.callers.specs.Taking.{with_more, with_nobody_there}
-use Rattle.callers.specs.CallerStands.{IsOf, StandsForCaller}
+use Rattle.callers.specs.CallerStands.{StandsForCaller}
+use Rattle.house.specs.Steps.{IsOf}
 use Rattle.house.specs.Stands.{StandsFor, StandsForOne}
 use Rattle.house.specs.Steps.{PlaceWentOn, StandsForMaybe, is_unread}
 use Rattle.callers.proofs.Arrivals.{more_stands}
@@ -26,7 +28,7 @@ use Rattle.delivery_core.specs.Held.{has_ended}
 pub record IsAt (k : Setup) (s : Scene) (seat : ℕ) (next : CopyKey) (h : Line) : Type 0 where
   pub caller : Caller
   pub here : s.caller seat ≡ Some caller
-  pub stands : StandsForCaller k seat next (s.world.heard seat) h caller
+  pub stands : StandsForCaller (terms_of k) seat next (s.world.heard seat) h caller
   pub serial : caller.serial < s.next seat
 
 is_at : (k : Setup) (s : Scene) (seat : ℕ) (next : CopyKey) (h : Line) (o : Option Caller) → s.caller seat ≡ o → StandsForOne k seat next (s.world.heard seat) (s.next seat) (Some h) o → IsAt k s seat next h
@@ -45,7 +47,7 @@ some_line None h = absurd (let e : false ≡ true = h in cc)
 some_line (Some g) h = (g, refl)
 
 -- a peer is there where the seat isn't waiting for the verdicts of one that is gone
-peer_there : (k : Setup) (seat : ℕ) (next : CopyKey) (heard : List Noted) (o : Option Line) (g : Line) (b : Caller) → o ≡ Some g → is_unread o ≡ false → StandsForCaller k seat next heard g b → b.gone ≡ false
+peer_there : (k : Setup) (seat : ℕ) (next : CopyKey) (heard : List Noted) (o : Option Line) (g : Line) (b : Caller) → o ≡ Some g → is_unread o ≡ false → StandsForCaller (terms_of k) seat next heard g b → b.gone ≡ false
 peer_there k seat next heard o g b e u s = sym s.gone ∙ subst (λ (x : Option Line). is_unread x ≡ false) e u
 
 pub received : (k : Setup) (h : State) (s : Scene) (number seat : ℕ) (piece : List ℕ) (directory : Directory) (l : Option Line) (place : Option Line) (whole : Bool) (old new : List ℕ)
@@ -59,7 +61,7 @@ received k h s number seat piece directory l place whole old new st e dir lt som
     let y = first_key seat in
     let a = at_seat k h s seat y g.0 st lt g.1 in
     let b = more_waits a.caller piece in
-    let m = more_stands k seat (get_or h.core.next seat y) (s.world.heard seat) g.0 a.caller piece a.stands in
+    let m = more_stands (terms_of k) seat (get_or h.core.next seat y) (s.world.heard seat) g.0 a.caller piece a.stands in
     let at = is ∙ ap (option_map (with_more piece)) g.1 in
     let w = f k seat (get_or h.core.next seat y) (s.world.heard seat) b (record { numbered = e; looks_up = dir ∙ st.directory })
     (subst (λ (x : Option Line). StandsForMaybe k seat (get_or h.core.next seat y) (s.world.heard seat) x (Some b)) (sym at) m) in (
@@ -82,7 +84,7 @@ vanished k h s number seat directory l place whole old new st e dir lt some read
     let y = first_key seat in
     let a = at_seat k h s seat y g.0 st lt g.1 in
     let b = unread a.caller in
-    let m = unread_stands k seat (get_or h.core.next seat y) (s.world.heard seat) g.0 a.caller a.stands in
+    let m = unread_stands (terms_of k) seat (get_or h.core.next seat y) (s.world.heard seat) g.0 a.caller a.stands in
     let at = is ∙ ap (option_map with_nobody_there) g.1 in
     let w = f k seat (get_or h.core.next seat y) (s.world.heard seat) b (record { numbered = e; looks_up = dir ∙ st.directory })
     (subst (λ (x : Option Line). StandsForMaybe k seat (get_or h.core.next seat y) (s.world.heard seat) x (Some b)) (sym at) m) in (
@@ -120,9 +122,9 @@ welcomed k h s number seat piece directory l g whole old new st e dir lt none le
     let each = st.each seat y 0 None lt in
     let same : n ≡ s.next seat = each.counted in
     let o = vacant k s seat (get_or h.core.next seat y) (s.caller seat) refl (subst (λ (x : Option Line). StandsForOne k seat (get_or h.core.next seat y) (s.world.heard seat) (s.next seat) x (s.caller seat)) none each.who) in
-    let b = more_waits (greeted k seat (s.next seat)) piece in
-    let m : StandsForCaller k seat (get_or h.core.next seat y) (s.world.heard seat) g b
-    = subst (λ (z : ℕ). StandsForCaller k seat (get_or h.core.next seat y) (s.world.heard seat) g (more_waits (greeted k seat z) piece)) same
+    let b = more_waits (greeted (terms_of k) seat (s.next seat)) piece in
+    let m : StandsForCaller (terms_of k) seat (get_or h.core.next seat y) (s.world.heard seat) g b
+    = subst (λ (z : ℕ). StandsForCaller (terms_of k) seat (get_or h.core.next seat y) (s.world.heard seat) g (more_waits (greeted (terms_of k) seat z) piece)) same
     (opened k (get_or h.core.next seat y) (s.world.heard seat) (sym st.host) (sym st.max_message) (subst (λ (z : ℕ). AtLeast (get_or h.core.next seat y) (record { seat = seat; serial = z; message = 0; recipient = 0 })) (sym same) o.1)) in
     let w = f k seat (get_or h.core.next seat y) (s.world.heard seat) b (record { numbered = e; looks_up = dir ∙ st.directory }) m in
     let ls : seat < length h.serials = let p = st.seats in let q = st.numbers in omega (arith, p, q, lt) in

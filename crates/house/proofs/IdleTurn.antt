@@ -8,7 +8,7 @@ use Rattle.mailbox.specs.declared.clients.MailFault.TheVariants.{Stranger, Lappe
 use Rattle.delivery_core.specs.Changes.{SameDelivery}
 use Rattle.delivery_core.specs.Held.{Held, behind, client_of}
 use Rattle.delivery_core.specs.Stands as core
-use Rattle.callers.specs.Caller.{Setup}
+use Rattle.house.specs.Setup.{Setup}
 use Rattle.imap_session.specs.declared.standing.After.TheVariants as afters
 use Rattle.imap_session.specs.declared.standing.Selected.{Selected as Chosen}
 use Rattle.imap_session.specs.Exchange.{Answer, Entered, Looked, Found, Counted, Altered, Expunged, Fed, Left, Refused, Starved, Event, Feed, Standing, Turn, having, is_idling, nothing_more, refused, saying}
@@ -20,10 +20,12 @@ use Rattle.session_store.specs.Desk.{CatchesUp, Serves}
 use Rattle.session_store.specs.Meets.{Meets}
 use Rattle.session_store.proofs.Served.{IsServing, carries, met_delivery}
 use Rattle.session_store.proofs.Serving.{same_delivery}
-use Rattle.visitors.specs.Place.{Idled, IdledInPart, Missed, Place}
+use Rattle.visitors.specs.Place.{Place}
+use Rattle.house.specs.Printing.{Idled, IdledInPart, Missed}
 use Rattle.visitors.specs.Place as visit
-use Rattle.visitors.specs.Visitor.{Idles, Visitor}
-use Rattle.visitors.proofs.Carried.{idles_carried}
+use Rattle.visitors.specs.Visitor.{Visitor}
+use Rattle.house.specs.Printing.{Idles}
+use Rattle.house.proofs.Carried.{idles_carried}
 use Rattle.world.specs.World.{Config, Selected, Session, World, pending}
 use Rattle.house.specs.State.{State}
 use Rattle.house.specs.Effort.{turns_left}
@@ -219,7 +221,7 @@ idled k whole number count b old new w p q before after some at stands there may
         shown = count;
         idles = subst (λ (n : ℕ). Idles (Meets k.config (number - 1)) n b w g.mid o.after count o.printed) counted g.idles;
         something = g.something;
-        all = λ e. o.all e g.something;
+        all = o.all;
         left = scene.remains (λ h e. absurd (let f = live h in let r = ap (λ (x : Standing). x.ended) o.stands.connection.session in let u = e in cc)) refl refl;
       };
       there = o.stands;
@@ -247,8 +249,8 @@ idled_out k number count b old mid new answer w p q before after some at stands 
         shown = count;
         idles = subst (λ (n : ℕ). Idles (Meets k.config (number - 1)) n b w g.mid o.after count o.printed) counted g.idles;
         something = g.something;
-        all = λ e. o.all e g.something;
-        left = scene.parts (sym (ap (λ (x : Standing). x.ended) o.stands.connection.session) ∙ over) (o.all refl g.something) (answer, gone.1) refl;
+        all = o.all;
+        left = scene.parts (sym (ap (λ (x : Standing). x.ended) o.stands.connection.session) ∙ over) (o.all refl) (answer, gone.1) refl;
       };
       there = tt;
       core = gone.2.stands;

@@ -10,3 +10,5 @@ pub mod Settlement
 pub mod Visiting
 pub mod IdleTurn
 pub mod IdleSettling
+pub mod Carried
+pub mod Printing

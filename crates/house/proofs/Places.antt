@@ -1,14 +1,13 @@
 -- A house whose caller at one place went on: that place stands for who is left there, and the others stand as they stood.
 use Rattle.std.proofs.Common.{◌≡◌, ◌≢◌, ℕ, ◌<◌, ◌⊎◌, inl, inr, Bool, true, false, eqb, List, length, refl, ap, sym, ◌∙◌, subst, arith, Option, Some, None, get_or, set, length-set, get_or-set_other, get_or-set_same}
 use Rattle.std.proofs.lemmas.Bool.Decides.{eqb_tells}
-use Rattle.delivery_token.specs.Keys.{Below}
+use Rattle.delivery_token.specs.Keys.{Below, AtLeast}
 use Rattle.delivery_token.specs.declared.CopyKey.{CopyKey}
 use Rattle.delivery_token.specs.declared.log.Noted.{Noted}
 use Rattle.shard_queue.specs.At.{set_at}
 use Rattle.shard_queue.proofs.AtLaws.{at_cases, set_at-same}
 use Rattle.world.specs.World.{World}
 use Rattle.delivery_core.specs.Held.{Held, notes_of}
-use Rattle.delivery_core.specs.Puts.{AtLeast}
 use Rattle.delivery_core.specs.Stands as core
 use Rattle.delivery_core.proofs.Follow.{get_or-any}
 use Rattle.lmtp_machine.specs.declared.connection.What.{What}
@@ -16,7 +15,9 @@ use Rattle.lmtp_machine.specs.Dialogue.{Answered, Submission}
 use Rattle.callers.specs.Line.{Line}
 use Rattle.house.specs.State.{State}
 use Rattle.callers.specs.Talk.{Talk}
-use Rattle.callers.specs.Caller.{Caller, GoesOn, Leaves, Proceeds, Setup, answers, copies_of, fades, goes, lingers, meets, stalls, stays, talks, told, waits, works}
+use Rattle.callers.specs.Caller.{Caller, GoesOn, Proceeds, answers, copies_of, fades, lingers, meets, stalls, talks, waits, works}
+use Rattle.house.specs.Printing.{Leaves, goes, stays}
+use Rattle.house.specs.Setup.{Setup, terms_of}
 use Rattle.house.specs.Scene.{Scene}
 use Rattle.callers.specs.CallerStands.{StandsForCaller}
 use Rattle.house.specs.Stands.{StandsFor, StandsForOne, StandsForSeat}
@@ -38,7 +39,7 @@ leaves_serial whole a what after ss o b (stays q e) f = same_serial b (record { 
 goes_serial : (k : Setup) (whole : Bool) (seat : ℕ) (heard : List Noted) (a : Caller) (o : Option Caller) (printed : List ℕ) (b : Caller) → GoesOn k whole seat heard a o printed → o ≡ Some b → b.serial ≡ a.serial
 goes_serial k whole seat heard a o printed b (works p t) e = leaves_serial whole a t.what t.after t.turn.submissions o b t.leaves e
 goes_serial k whole seat heard a o printed b (waits m n f p) e = same_serial b (told a) (sym e ∙ f)
-goes_serial k whole seat heard a o printed b (answers vs m n t) e = leaves_serial whole (meets k seat a (Answered vs)) t.what t.after t.turn.submissions o b t.leaves e
+goes_serial k whole seat heard a o printed b (answers vs m n t) e = leaves_serial whole (meets (terms_of k) seat a (Answered vs)) t.what t.after t.turn.submissions o b t.leaves e
 goes_serial k whole seat heard a o printed b (stalls w f p) e = same_serial b a (sym e ∙ f)
 
 proceeds_serial : (k : Setup) (whole : Bool) (seat : ℕ) (heard : List Noted) (a : Caller) (o : Option Caller) (printed : List ℕ) (b : Caller) → Proceeds k whole seat heard a o printed → o ≡ Some b → b.serial ≡ a.serial
@@ -58,7 +59,7 @@ later_connection y seat s m i n (inl e) l = inr (subst (λ (z : CopyKey). Below 
 later_connection y seat s m i n (inr h) l = inr (earlier y seat s m i n h l)
 
 who_is_left : (k : Setup) (seat : ℕ) (next : CopyKey) (heard : List Noted) (serials : ℕ) (l : Option Line) (o : Option Caller) (h : Line) (a : Caller) → StandsForMaybe k seat next heard l o
-    → StandsForCaller k seat next heard h a → a.serial < serials → ((b : Caller) → o ≡ Some b → b.serial ≡ a.serial) → StandsForOne k seat next heard serials l o
+    → StandsForCaller (terms_of k) seat next heard h a → a.serial < serials → ((b : Caller) → o ≡ Some b → b.serial ≡ a.serial) → StandsForOne k seat next heard serials l o
 who_is_left k seat next heard serials None None h a m s lt same = later_connection next seat a.serial s.message (length h.verdicts) serials s.ahead lt
 who_is_left k seat next heard serials None (Some b) h a m s lt same = m
 who_is_left k seat next heard serials (Some g) None h a m s lt same = m
@@ -71,7 +72,7 @@ pub after_going : (k : Setup) (h : State) (c : Held) (serials : List ℕ) (s : S
     → StandsFor k h s → core.StandsFor k.config c v → seat < length h.callers
     → ((q : ℕ) → q ≢ seat → notes_of c q ≡ notes_of h.core q) → ((q : ℕ) (z : CopyKey) → q ≢ seat → get_or c.next q z ≡ get_or h.core.next q z)
     → length serials ≡ length h.serials → ((n : ℕ) → get_or serials seat n ≡ numbers seat) → ((q n : ℕ) → q ≢ seat → get_or serials q n ≡ get_or h.serials q n) → ((q : ℕ) → q ≢ seat → numbers q ≡ s.next q)
-    → StandsForCaller k seat (get_or c.next seat y) (v.heard seat) g a → a.serial < numbers seat
+    → StandsForCaller (terms_of k) seat (get_or c.next seat y) (v.heard seat) g a → a.serial < numbers seat
     → (w : PlaceWentOn k whole seat (get_or c.next seat y) (v.heard seat) a l old new)
     → StandsFor k (record { core = c; callers = set h.callers seat l; serials = serials; visitors = h.visitors; directory = h.directory; host = h.host; max_message = h.max_message })
     (record { world = v; caller = set_at s.caller seat w.left; next = numbers; visitor = s.visitor })

@@ -10,7 +10,8 @@ use Rattle.delivery_core.specs.Held.{Held, notes_of}
 use Rattle.delivery_core.specs.Stands as core
 use Rattle.callers.specs.Line.{Line}
 use Rattle.house.specs.State.{State}
-use Rattle.callers.specs.Caller.{Caller, Setup}
+use Rattle.callers.specs.Caller.{Caller}
+use Rattle.house.specs.Setup.{Setup}
 use Rattle.house.specs.Scene.{Scene, with_world}
 use Rattle.house.specs.Stands.{StandsFor, StandsForOne, StandsForSeat}
 

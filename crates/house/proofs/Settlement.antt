@@ -11,7 +11,9 @@ use Rattle.delivery_token.specs.declared.log.Noted.{Noted}
 use Rattle.house.specs.declared.event.Event.{Event}
 use Rattle.house.specs.declared.event.Event.TheVariants.{Bytes, Vanish, Put, Take, Deliver, Answer, Hear, End, Enter, Say, Idle, Leave}
 use Rattle.callers.specs.Talk.{Talk}
-use Rattle.callers.specs.Caller.{Caller, GoesOn, Leaves, Proceeds, Setup, Talks, goes, stays, works, waits, answers, stalls, talks, lingers, fades, unread}
+use Rattle.callers.specs.Caller.{Caller, GoesOn, Proceeds, works, waits, answers, stalls, talks, lingers, fades, unread}
+use Rattle.house.specs.Printing.{Leaves, goes, stays}
+use Rattle.house.specs.Setup.{Setup}
 use Rattle.house.specs.Scene.{BytesPlay, HasNothing, HearPlay, Parts, Plays, PutPlay, Scene, VanishPlay, VisitorGoes, VisitorIdles, seat_of, place_of, opens, goes_on, parts, remains}
 use Rattle.visitors.specs.Folders.{folders_of}
 use Rattle.world.specs.World.{World}

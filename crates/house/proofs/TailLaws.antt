@@ -7,7 +7,7 @@ use Rattle.delivery_core.specs.Held.{Held}
 use Rattle.envelope.specs.Directory.{Directory}
 use Rattle.envelope.specs.Names.{number_of}
 use Rattle.house.specs.State.{State}
-use Rattle.callers.specs.Caller.{Setup}
+use Rattle.house.specs.Setup.{Setup}
 use Rattle.house.specs.Scene.{Scene}
 use Rattle.house.specs.Stands.{StandsFor}
 use Rattle.house.specs.Window.{PrintsWindow, tail_text}

@@ -1,7 +1,7 @@
 -- A put and a hearing, over the whole house.
 use Rattle.std.proofs.Common.{◌≡◌, ℕ, ◌+◌, ◌%◌, ◌<◌, ◌⊎◌, inl, inr, Bool, true, List, [], ◌∷◌, ◌++◌, length, refl, ap, sym, ◌∙◌, subst, arith, Option, Some, None, get_or, set, length-append, drop, get_or-set_other, get_or-set_same}
 use Rattle.std.specs.Prelude.{IsSomeAnd, MatchOption}
-use Rattle.delivery_token.specs.Keys.{Precedes}
+use Rattle.delivery_token.specs.Keys.{Precedes, AtLeast, past}
 use Rattle.delivery_token.specs.declared.CopyKey.{CopyKey}
 use Rattle.delivery_token.specs.declared.Job.{Job}
 use Rattle.delivery_token.specs.declared.Refusal.{Refusal}
@@ -12,17 +12,21 @@ use Rattle.envelope.specs.Directory.{Directory}
 use Rattle.world.specs.World.{Config, HearStep, MayPut, PutStep, Step, World, hears_one, put_full, put_joins, put_no_memory, shard_of}
 use Rattle.world.specs.World as world
 use Rattle.delivery_core.specs.Held.{Held, notes_of}
-use Rattle.delivery_core.specs.Changes.{Hears, heard_at_once}
+use Rattle.delivery_core.specs.Changes.{Hears}
+use Rattle.delivery_token.specs.Log.{heard_at_once}
 use Rattle.delivery_core.specs.New.{first_key}
-use Rattle.delivery_core.specs.Puts.{AtLeast, IsNextKey, past}
+use Rattle.delivery_core.specs.Puts.{IsNextKey}
 use Rattle.delivery_core.specs.Stands as core
 use Rattle.callers.specs.Line.{Line}
 use Rattle.house.specs.State.{State}
 use Rattle.lmtp_machine.specs.Dialogue.{Submission}
-use Rattle.callers.specs.Caller.{Caller, Setup, copies_of}
+use Rattle.callers.specs.Caller.{Caller, copies_of}
+use Rattle.house.specs.Setup.{Setup, terms_of}
 use Rattle.house.specs.Scene.{HearPlay, PutPlay, Scene, with_caller, with_world}
-use Rattle.callers.specs.Taking.{HearsSlot, due, heard_verdict, noted_put}
-use Rattle.callers.specs.CallerStands.{IsOf, StandsForCaller}
+use Rattle.callers.specs.Taking.{HearsVerdict, due, noted_put}
+use Rattle.submission.specs.Verdicts.{heard_verdict}
+use Rattle.callers.specs.CallerStands.{StandsForCaller}
+use Rattle.house.specs.Steps.{IsOf}
 use Rattle.house.specs.Stands.{StandsFor}
 use Rattle.house.specs.Steps.{MayNotPut, PlaceWentOn, PutsNext, StandsForMaybe}
 use Rattle.house.proofs.Events.{IsAt, at_seat}
@@ -61,7 +65,7 @@ pub put_led : (k : Setup) (h : State) (s : Scene) (number seat : ℕ) (directory
 put_led k h s number seat directory g c why place l whole old new st e dir lt some puts is f =
     let y = first_key seat in
     let a = at_seat k h s seat y g st lt some in
-    let n = next_copy k seat (get_or h.core.next seat y) (s.world.heard seat) g a.caller puts.copy puts.others a.stands puts.front in
+    let n = next_copy (terms_of k) seat (get_or h.core.next seat y) (s.world.heard seat) g a.caller puts.copy puts.others a.stands puts.front in
     let p = puts.puts in
     let es : puts.copy.key.seat ≡ seat = ap (λ (q : CopyKey). q.seat) n.key in
     let m = p.follows k.config s.world st.core in
@@ -75,7 +79,7 @@ put_led k h s number seat directory g c why place l whole old new st e dir lt so
     ∙ ap (λ (ns : List Noted). ns ++ heard_at_once puts.copy.key puts.copy.mailbox why) (heard_is k.config h.core s.world st.core seat lk) in
     let next : get_or c.next seat y ≡ past puts.copy.key = ap (λ (ks : List CopyKey). get_or ks seat y) (p.next ∙ ap (λ (q : ℕ). set h.core.next q (past puts.copy.key)) es) ∙ get_or-set_same h.core.next seat (past puts.copy.key) y ln in
     let b : Caller = record { serial = a.caller.serial; gone = a.caller.gone; talk = a.caller.talk; to_put = puts.others } in
-    let b1 = put_stands k seat (get_or h.core.next seat y) (s.world.heard seat) g a.caller puts.copy puts.others why (get_or c.next seat y) (v.heard seat) a.stands n next (may_of k.config s.world seat _ puts.copy v step).above_heard heard in
+    let b1 = put_stands (terms_of k) seat (get_or h.core.next seat y) (s.world.heard seat) g a.caller puts.copy puts.others why (get_or c.next seat y) (v.heard seat) a.stands n next (may_of k.config s.world seat _ puts.copy v step).above_heard heard in
     let w = f k seat (get_or c.next seat y) (v.heard seat) b (record { numbered = e; looks_up = dir ∙ st.directory })
     (subst (λ (x : Option Line). StandsForMaybe k seat (get_or c.next seat y) (v.heard seat) x (Some b)) (sym is) b1) in (
       with_caller (with_world s v) seat w.left,
@@ -93,7 +97,7 @@ may_be_put : (k : Setup) (h : State) (s : Scene) (seat : ℕ) (g : Line) (c : Jo
 may_be_put k h s seat g c others st lt some front =
     let y = c.key in
     let a = at_seat k h s seat y g st lt some in
-    let n = next_copy k seat (get_or h.core.next seat y) (s.world.heard seat) g a.caller c others a.stands front in
+    let n = next_copy (terms_of k) seat (get_or h.core.next seat y) (s.world.heard seat) g a.caller c others a.stands front in
     let es : c.key.seat ≡ seat = ap (λ (q : CopyKey). q.seat) n.key in
     let lk : seat < k.config.seats = let q = st.seats in omega (arith, lt, q) in
     let ln : seat < length h.core.next = let q = st.core.nexts in omega (arith, lk, q) in
@@ -123,7 +127,7 @@ put_idles k h s seat g t printed st lt some (inl none) p =
 put_idles k h s seat g t printed st lt some (inr (c, others, front, inl isnt)) p = isnt (may_be_put k h s seat g c others st lt some front)
 put_idles k h s seat g t printed st lt some (inr (c, others, front, inr idle)) p =
     let a = at_seat k h s seat (first_key seat) g st lt some in
-    let n = next_copy k seat (get_or h.core.next seat (first_key seat)) (s.world.heard seat) g a.caller c others a.stands front in
+    let n = next_copy (terms_of k) seat (get_or h.core.next seat (first_key seat)) (s.world.heard seat) g a.caller c others a.stands front in
     let same : a.caller ≡ p.caller = let x : Some a.caller ≡ Some p.caller = sym a.here ∙ p.there in cc in
     let copy : p.copy ≡ c = front_is p.copy c p.others others (sym p.front ∙ ap (λ (b : Caller). b.to_put) (sym same) ∙ n.front) in
     let es : c.key.seat ≡ seat = ap (λ (q : CopyKey). q.seat) n.key in
@@ -133,7 +137,7 @@ put_idles k h s seat g t printed st lt some (inr (c, others, front, inr idle)) p
 
 pub heard_led : (k : Setup) (h : State) (s : Scene) (number seat : ℕ) (directory : Directory) (g : Line) (c : Held) (r : Noted) (q : Line) (l : Option Line) (whole : Bool) (old new : List ℕ)
     → StandsFor k h s → number ≡ seat + 1 → directory ≡ h.directory → seat < length h.callers → get_or h.callers seat None ≡ Some g
-    → ((x : Config) → core.Follows x h.core (world.Hear seat ∷ []) c) → Hears h.core c seat (r ∷ []) → c.next ≡ h.core.next → HearsSlot g r q
+    → ((x : Config) → core.Follows x h.core (world.Hear seat ∷ []) c) → Hears h.core c seat (r ∷ []) → c.next ≡ h.core.next → HearsVerdict g r q
     → ((x : Setup) (p : ℕ) (next : CopyKey) (heard : List Noted) (b : Caller) → IsOf x number p directory → StandsForMaybe x p next heard (Some q) (Some b) → PlaceWentOn x whole p next heard b l old new)
     → (t : Scene) × (printed : List ℕ) × HearPlay k whole s seat t printed
     × StandsFor k (record { core = c; callers = set h.callers seat l; serials = h.serials; visitors = h.visitors; directory = h.directory; host = h.host; max_message = h.max_message }) t
@@ -147,7 +151,7 @@ heard_led k h s number seat directory g c r q l whole old new st e dir lt some f
     let lk : seat < k.config.seats = let z = st.seats in omega (arith, lt, z) in
     let heard : v.heard seat ≡ s.world.heard seat ++ r ∷ [] = sym (heard_is k.config c v cs seat lk) ∙ hears.here ∙ ap (λ (ns : List Noted). ns ++ r ∷ []) (heard_is k.config h.core s.world st.core seat lk) in
     let same : get_or c.next seat y ≡ get_or h.core.next seat y = ap (λ (ks : List CopyKey). get_or ks seat y) nexts in
-    let b1 = subst (λ (z : CopyKey). StandsForCaller k seat z (v.heard seat) q a.caller) (sym same) (heard_stands k seat (get_or h.core.next seat y) (s.world.heard seat) a.caller g r q (v.heard seat) a.stands slot heard) in
+    let b1 = subst (λ (z : CopyKey). StandsForCaller (terms_of k) seat z (v.heard seat) q a.caller) (sym same) (heard_stands (terms_of k) seat (get_or h.core.next seat y) (s.world.heard seat) a.caller g r q (v.heard seat) a.stands slot heard) in
     let w = f k seat (get_or c.next seat y) (v.heard seat) a.caller (record { numbered = e; looks_up = dir ∙ st.directory }) b1 in (
       with_caller (with_world s v) seat w.left,
       w.printed,
@@ -161,7 +165,7 @@ pub hear_idles : (k : Setup) (h : State) (s : Scene) (seat : ℕ) (t : Scene) (p
 hear_idles k h s seat t printed st idle p = hear_moves s.world seat p.moved p.step (idle k.config s.world p.moved st.core p.step)
 
 -- who stands at a place heard it
-pub heard_at : (o p : Option Line) (r : Noted) (g : Line) → o ≡ Some g → MatchOption o (p ≡ None) (λ h. IsSomeAnd p (HearsSlot h r)) → (q : Line) × (p ≡ Some q) × HearsSlot g r q
+pub heard_at : (o p : Option Line) (r : Noted) (g : Line) → o ≡ Some g → MatchOption o (p ≡ None) (λ h. IsSomeAnd p (HearsVerdict h r)) → (q : Line) × (p ≡ Some q) × HearsVerdict g r q
 heard_at None p r g e m = absurd (let x : None ≡ Some g = e in cc)
 heard_at (Some h) None r g e m = absurd m
-heard_at (Some h) (Some q) r g e m = let x : h ≡ g = cc in (q, refl, subst (λ (z : Line). HearsSlot z r q) x m)
+heard_at (Some h) (Some q) r g e m = let x : h ≡ g = cc in (q, refl, subst (λ (z : Line). HearsVerdict z r q) x m)

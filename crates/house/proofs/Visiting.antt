@@ -6,7 +6,7 @@ use Rattle.std.proofs.lemmas.Bool.{cases_lt}
 use Rattle.delivery_core.specs.Changes.{SameDelivery}
 use Rattle.delivery_core.specs.Held.{Held}
 use Rattle.delivery_core.specs.Stands as core
-use Rattle.callers.specs.Caller.{Setup}
+use Rattle.house.specs.Setup.{Setup}
 use Rattle.imap_session.specs.Exchange.{Answer, Call, Standing}
 use Rattle.imap_session.specs.Exchange as calls
 use Rattle.imap_session.specs.declared.standing.After.{After}
@@ -17,12 +17,14 @@ use Rattle.session_store.specs.Meets.{Meets}
 use Rattle.session_store.proofs.Served.{IsServing, carries, met_delivery}
 use Rattle.session_store.proofs.Serving.{same_delivery}
 use Rattle.shard_queue.proofs.AtLaws.{at_cases}
-use Rattle.visitors.specs.Place.{Place, WentOn}
+use Rattle.visitors.specs.Place.{Place}
+use Rattle.house.specs.Printing.{WentOn}
 use Rattle.visitors.specs.Place as visit
 use Rattle.envelope.specs.Directory.{Directory}
 use Rattle.visitors.specs.Folders.{folders_of, has_user}
-use Rattle.visitors.specs.Visitor.{Speaks, Visitor, greeted, more_waits}
-use Rattle.visitors.proofs.Carried.{speaks_carried}
+use Rattle.visitors.specs.Visitor.{Visitor, greeted, more_waits}
+use Rattle.house.specs.Printing.{Speaks}
+use Rattle.house.proofs.Carried.{speaks_carried}
 use Rattle.world.specs.World.{World}
 use Rattle.house.specs.State.{State}
 use Rattle.house.specs.Scene.{EnterPlay, LeavePlay, LeavesMailbox, Parts, SayPlay, Scene, VisitorGoes, with_visitor, with_world}

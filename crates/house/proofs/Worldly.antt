@@ -8,7 +8,7 @@ use Rattle.delivery_core.specs.declared.steps.Fault.{Fault}
 use Rattle.delivery_core.specs.declared.steps.Fault.TheVariants as faults
 use Rattle.house.specs.declared.event.HouseFault.TheVariants as house_faults
 use Rattle.house.specs.State.{State}
-use Rattle.callers.specs.Caller.{Setup}
+use Rattle.house.specs.Setup.{Setup}
 use Rattle.house.specs.Scene.{Moves, Scene, with_world}
 use Rattle.house.specs.Stands.{StandsFor}
 use Rattle.house.specs.Steps.{fault_of}

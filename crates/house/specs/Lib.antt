@@ -1,3 +1,5 @@
+pub mod Setup
+pub mod Printing
 pub mod State
 pub mod Scene
 pub mod Settings

@@ -8,10 +8,12 @@ use Rattle.world.specs.World.{World, Config, Step}
 use Rattle.imap_session.specs.Exchange as calls
 use Rattle.imap_session.specs.Exchange.{is_idling}
 use Rattle.session_store.specs.Meets.{Meets}
-use Rattle.callers.specs.Caller.{Setup, Caller, Proceeds, greeted, more_waits, unread}
+use Rattle.callers.specs.Caller.{Caller, greeted, more_waits, unread}
 use Rattle.visitors.specs.Folders.{folders_of, has_user}
-use Rattle.visitors.specs.Visitor.{Visitor, Idles, IsWhole, Speaks}
+use Rattle.visitors.specs.Visitor.{Visitor}
 use Rattle.visitors.specs.Visitor.{greeted as greeted_visitor, more_waits as visitor_more_waits}
+use Rattle.house.specs.Printing.{CallerGoes, Idles, IsWhole, Speaks}
+use Rattle.house.specs.Setup.{Setup, terms_of}
 use Rattle.house.specs.declared.event.Event.{Event}
 use Rattle.house.specs.declared.event.Event.TheVariants.{Bytes, Vanish, Put, Take, Deliver, Answer, Hear, End, Enter, Say, Idle, Leave}
 
@@ -56,10 +58,10 @@ with_visitor s place o = record { world = s.world; caller = s.caller; next = s.n
 pub data BytesPlay (k : Setup) (whole : Bool) (s : Scene) (seat : ℕ) (piece : List ℕ) (t : Scene) (printed : List ℕ) : Type 0 where
   -- nobody stands there, and the seat has ended nowhere: a connection is opened first, with the seat's next serial
   opens : seat < k.config.seats → s.caller seat ≡ None → s.next seat < most_serials → (HasEnded k.config s.world seat → ⊥) → (o : Option Caller)
-      → Proceeds k whole seat (s.world.heard seat) (more_waits (greeted k seat (s.next seat)) piece) o printed
+      → CallerGoes k whole seat (s.world.heard seat) (more_waits (greeted (terms_of k) seat (s.next seat)) piece) o printed
       → t ≡ record { world = s.world; caller = set_at s.caller seat o; next = set_at s.next seat (s.next seat + 1); visitor = s.visitor } → BytesPlay k whole s seat piece t printed
   goes_on : (b : Caller) → s.caller seat ≡ Some b → b.gone ≡ false → (o : Option Caller)
-      → Proceeds k whole seat (s.world.heard seat) (more_waits b piece) o printed → t ≡ with_caller s seat o → BytesPlay k whole s seat piece t printed
+      → CallerGoes k whole seat (s.world.heard seat) (more_waits b piece) o printed → t ≡ with_caller s seat o → BytesPlay k whole s seat piece t printed
 
 -- the next copy of the message at hand is put
 pub record PutPlay (k : Setup) (whole : Bool) (s : Scene) (seat : ℕ) (t : Scene) (printed : List ℕ) : Type 0 where
@@ -71,7 +73,7 @@ pub record PutPlay (k : Setup) (whole : Bool) (s : Scene) (seat : ℕ) (t : Scen
   pub moved : World
   pub step : Step k.config s.world (world.Put seat (world.shard_of k.config copy.mailbox) copy) moved
   pub left : Option Caller
-  pub goes : Proceeds k whole seat (moved.heard seat) (record { serial = caller.serial; gone = caller.gone; talk = caller.talk; to_put = others }) left printed
+  pub goes : CallerGoes k whole seat (moved.heard seat) (record { serial = caller.serial; gone = caller.gone; talk = caller.talk; to_put = others }) left printed
   pub after : t ≡ with_caller (with_world s moved) seat left
 
 -- the seat hears a verdict
@@ -81,7 +83,7 @@ pub record HearPlay (k : Setup) (whole : Bool) (s : Scene) (seat : ℕ) (t : Sce
   pub moved : World
   pub step : Step k.config s.world (world.Hear seat) moved
   pub left : Option Caller
-  pub goes : Proceeds k whole seat (moved.heard seat) caller left printed
+  pub goes : CallerGoes k whole seat (moved.heard seat) caller left printed
   pub after : t ≡ with_caller (with_world s moved) seat left
 
 -- the peer of a connection is gone
@@ -90,7 +92,7 @@ pub record VanishPlay (k : Setup) (whole : Bool) (s : Scene) (seat : ℕ) (t : S
   pub there : s.caller seat ≡ Some caller
   pub was_read : caller.gone ≡ false
   pub left : Option Caller
-  pub goes : Proceeds k whole seat (s.world.heard seat) (unread caller) left printed
+  pub goes : CallerGoes k whole seat (s.world.heard seat) (unread caller) left printed
   pub after : t ≡ with_caller s seat left
 
 -- ---- sessions

@@ -8,7 +8,7 @@ use Rattle.envelope.specs.declared.directory.DirectoryFault.TheVariants as names
 use Rattle.house.specs.declared.config.Config.{Config}
 use Rattle.house.specs.declared.config.ConfigFault.{ConfigFault}
 use Rattle.house.specs.declared.config.ConfigFault.TheVariants.{TooMany, BadName, Twice, Ring, Ports, NoMemory}
-use Rattle.callers.specs.Caller.{Setup}
+use Rattle.house.specs.Setup.{Setup}
 
 -- so many connections may stand at a time
 abbrev pub seats : ℕ

@@ -2,7 +2,7 @@
 use Rattle.std.specs.Prelude.{◌≡◌, ℕ, ◌++◌, Bool, List, slice_index_or, false}
 use Rattle.house.specs.declared.event.Event.{Event}
 use Rattle.house.specs.State.{State}
-use Rattle.callers.specs.Caller.{Setup}
+use Rattle.house.specs.Setup.{Setup}
 use Rattle.house.specs.Scene.{Scene}
 use Rattle.house.specs.Settling.{Happened, Settles}
 use Rattle.house.specs.Stands.{StandsFor}

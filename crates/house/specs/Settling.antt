@@ -4,7 +4,7 @@ use Rattle.std.specs.Prelude.{◌≡◌, ℕ, Bool, true, false, not, List, [], 
 use Rattle.std.specs.List.{range_with_len}
 use Rattle.house.specs.declared.event.Event.{Event}
 use Rattle.house.specs.declared.event.Event.TheVariants.{Put, Take, Deliver, Answer, Hear, Idle}
-use Rattle.callers.specs.Caller.{Setup}
+use Rattle.house.specs.Setup.{Setup}
 use Rattle.house.specs.Scene.{HasNothing, Plays, Scene}
 
 -- the event happens, or it has nothing to do

@@ -2,11 +2,12 @@
 use Rattle.std.specs.Prelude.{◌≡◌, ℕ, ◌<◌, slice_index_or, List, length, Option, Some, None}
 use Rattle.delivery_token.specs.declared.CopyKey.{CopyKey}
 use Rattle.delivery_token.specs.declared.log.Noted.{Noted}
-use Rattle.delivery_core.specs.Puts.{AtLeast}
+use Rattle.delivery_token.specs.Keys.{AtLeast}
 use Rattle.delivery_core.specs.Stands as core
 use Rattle.callers.specs.Line.{Line}
 use Rattle.house.specs.State.{State}
-use Rattle.callers.specs.Caller.{Setup, Caller}
+use Rattle.callers.specs.Caller.{Caller}
+use Rattle.house.specs.Setup.{Setup, terms_of}
 use Rattle.house.specs.Scene.{Scene}
 use Rattle.callers.specs.CallerStands.{StandsForCaller}
 use Rattle.visitors.specs.Visitor.{Visitor}
@@ -18,7 +19,7 @@ abbrev pub StandsForOne : Setup → ℕ → CopyKey → List Noted → ℕ → O
 StandsForOne k seat next heard serials None None = AtLeast next (record { seat = seat; serial = serials; message = 0; recipient = 0 })
 StandsForOne k seat next heard serials None (Some b) = ⊥
 StandsForOne k seat next heard serials (Some h) None = ⊥
-StandsForOne k seat next heard serials (Some h) (Some b) = StandsForCaller k seat next heard h b × (b.serial < serials)
+StandsForOne k seat next heard serials (Some h) (Some b) = StandsForCaller (terms_of k) seat next heard h b × (b.serial < serials)
 
 -- who visits at a place
 abbrev pub StandsForVisit : Option Place → Option Visitor → Type 0

@@ -10,8 +10,10 @@ use Rattle.delivery_token.specs.declared.Refusal.{Refusal}
 use Rattle.world.specs.World.{Config, World}
 use Rattle.world.specs.World as world
 use Rattle.delivery_core.specs.Held.{Held, behind, client_of, has_ended}
-use Rattle.delivery_core.specs.Changes.{Hears, SameCounts, SameDelivery, heard_at_once}
-use Rattle.delivery_core.specs.Puts.{IsNextKey, past}
+use Rattle.delivery_core.specs.Changes.{Hears, SameCounts, SameDelivery}
+use Rattle.delivery_token.specs.Log.{heard_at_once}
+use Rattle.delivery_core.specs.Puts.{IsNextKey}
+use Rattle.delivery_token.specs.Keys.{past}
 use Rattle.delivery_core.specs.Stands as core
 use Rattle.delivery_core.specs.declared.steps.Fault.{Fault}
 use Rattle.delivery_core.specs.declared.steps.Fault.TheVariants as faults
@@ -20,7 +22,8 @@ use Rattle.house.specs.declared.event.HouseFault.TheVariants as house_faults
 use Rattle.callers.specs.Line.{Line}
 use Rattle.callers.specs.Taking.{due}
 use Rattle.house.specs.State.{State}
-use Rattle.callers.specs.Caller.{Setup, Caller, Proceeds}
+use Rattle.callers.specs.Caller.{Caller, Proceeds}
+use Rattle.house.specs.Setup.{Setup, terms_of}
 use Rattle.house.specs.Scene.{Scene, HasNothing, Plays, VisitorGoes, VisitorIdles, most_serials, place_of, seat_of}
 use Rattle.callers.specs.CallerStands.{StandsForCaller}
 use Rattle.imap_session.specs.Exchange.{is_idling}
@@ -152,13 +155,31 @@ abbrev pub StandsForMaybe : Setup → ℕ → CopyKey → List Noted → Option 
 StandsForMaybe k seat next heard None None = Unit {0}
 StandsForMaybe k seat next heard None (Some b) = ⊥
 StandsForMaybe k seat next heard (Some h) None = ⊥
-StandsForMaybe k seat next heard (Some h) (Some b) = StandsForCaller k seat next heard h b
+StandsForMaybe k seat next heard (Some h) (Some b) = StandsForCaller (terms_of k) seat next heard h b
+
+-- a connection's number and directory are those of the house
+pub record IsOf (k : Setup) (number seat : ℕ) (directory : Directory) : Type 0 where
+  pub numbered : number ≡ seat + 1
+  pub looks_up : directory ≡ k.directory
+
+-- after a caller went on: it is gone, or stands there still
+abbrev pub IsThere : Setup → ℕ → CopyKey → List Noted → What → Line → Option Caller → Type 0
+IsThere k seat next heard what h None = what ≡ Quit
+IsThere k seat next heard what h (Some b) = (what ≡ Quit → ⊥) × StandsForCaller (terms_of k) seat next heard h b
+
+-- From this caller the connection did what it could and this was printed, and it stands for the caller after it.
+pub record CallerWent (k : Setup) (whole : Bool) (seat : ℕ) (next : CopyKey) (heard : List Noted) (b : Caller) (what : What) (h : Line) (old new : List ℕ) : Type 0 where
+  pub left : Option Caller
+  pub printed : List ℕ
+  pub goes : CallerGoes k whole seat heard b left printed
+  pub there : IsThere k seat next heard what h left
+  pub out : new ≡ old ++ printed
 
 -- the caller at a place went on, and printed this
 pub record PlaceWentOn (k : Setup) (whole : Bool) (seat : ℕ) (next : CopyKey) (heard : List Noted) (b : Caller) (h : Option Line) (old new : List ℕ) : Type 0 where
   pub left : Option Caller
   pub printed : List ℕ
-  pub goes : Proceeds k whole seat heard b left printed
+  pub goes : CallerGoes k whole seat heard b left printed
   pub there : StandsForMaybe k seat next heard h left
   pub out : new ≡ old ++ printed
 

@@ -5,7 +5,7 @@ use Rattle.std.specs.List.{range_with_len}
 use Rattle.house.specs.declared.event.Event.{Event}
 use Rattle.house.specs.declared.event.Event.TheVariants.{Bytes, Vanish, Put, Take, Deliver, Answer, Hear, End, Enter, Say, Idle, Leave}
 use Rattle.house.specs.Effort.{effort}
-use Rattle.callers.specs.Caller.{Setup}
+use Rattle.house.specs.Setup.{Setup}
 use Rattle.house.specs.Scene.{HasNothing, Scene}
 use Rattle.house.specs.Settling.{InTurn, Tries, Visit, Visits}
 use Rattle.house.specs.Settled.{HappenedFrom}

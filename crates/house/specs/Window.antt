@@ -5,7 +5,7 @@ use Rattle.change_ring.specs.declared.change.Change.TheVariants.{Add, Gone, Flag
 use Rattle.cursor_set.specs.Lines.{flag_words, spaced}
 use Rattle.world.specs.World.{Box}
 use Rattle.envelope.specs.Names.{number_of}
-use Rattle.callers.specs.Caller.{Setup}
+use Rattle.house.specs.Setup.{Setup}
 use Rattle.house.specs.Scene.{Scene}
 
 abbrev pub change_text : Change → List ℕ

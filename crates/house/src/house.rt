@@ -2,15 +2,18 @@
 //! prints. No script and no socket is known here.
 
 ghost use Rattle.std.specs.Prelude.{true, false, ◌≡◌, ◌≢◌, ◌≤◌, ◌<◌, ◌+◌, ◌⊎◌, ◌↔◌, ℕ, List, [], length, None, Some, Err, OnOk, OnErr, IfOk, IfErr, IfNone, IfSome, IsSome, IsSomeAnd, MatchOption, option_map};
-ghost use Rattle.delivery_core.specs.Puts.{AtLeast};
+ghost use Rattle.delivery_token.specs.Keys.{AtLeast};
 ghost use Rattle.callers.specs.Line.{Line};
-ghost use Rattle.callers.specs.Taking.{HearsSlot, due, heard_verdict, noted_put, with_more, with_nobody_there};
+ghost use Rattle.callers.specs.Taking.{HearsVerdict, due, noted_put, with_more, with_nobody_there};
+ghost use Rattle.submission.specs.Verdicts.{heard_verdict};
 ghost use Rattle.delivery_token.specs.declared.CopyKey.{CopyKey};
 ghost use Rattle.delivery_token.specs.declared.log.Noted.{Noted};
-ghost use Rattle.callers.specs.CallerStands.{IsOf, StandsForCaller};
+ghost use Rattle.callers.specs.CallerStands.{StandsForCaller};
+ghost use Rattle.house.specs.Steps.{IsOf};
 ghost use Rattle.callers.specs.Caller as spec;
 ghost use Rattle.house.specs.Scene as scene;
-ghost use Rattle.callers.specs.Caller.{Setup, greeted, more_waits};
+ghost use Rattle.callers.specs.Caller.{Terms, greeted, more_waits};
+ghost use Rattle.house.specs.Setup.{Setup, terms_of};
 ghost use Rattle.house.specs.Stands.{StandsFor};
 ghost use Rattle.house.specs.Effort.{MakesLess, place_effort};
 ghost use Rattle.delivery_core.specs.Load.{load};
@@ -19,6 +22,7 @@ ghost use Rattle.house.specs.Steps.{Follows, FollowsInPart, IsIdle, HasSeat, IsB
 ghost use Rattle.house.specs.declared.event.Event.TheVariants as events;
 
 use crate::event::{Event, HouseFault};
+use crate::printing::proceed;
 use callers::Caller;
 use delivery_core::{DeliveryCore, Fault};
 use delivery_token::{Noted, Refusal, Verdict};
@@ -77,7 +81,7 @@ fn go_on_at(
     let Some(caller) = place else {
         return Ok(());
     };
-    let Ok(what) = caller.proceed(number, directory, out) else {
+    let Ok(what) = proceed(caller, number, directory, out) else {
         return Err(AllocError);
     };
     if let What::Quit = what {
@@ -95,7 +99,7 @@ fn opened(
     piece: &[u8],
 ) -> Result<Caller, AllocError>
     requires { length limits.host.now < 256 }
-    ensures { IfOk result (λ h. (k : Setup) (next : CopyKey) (heard : List Noted) → k.host ≡ limits.entry.host.now → k.max_message ≡ limits.entry.max_message
+    ensures { IfOk result (λ h. (k : Terms) (next : CopyKey) (heard : List Noted) → k.host ≡ limits.entry.host.now → k.max_message ≡ limits.entry.max_message
         → AtLeast next (record { seat = seat; serial = serial; message = 0; recipient = 0 }) → StandsForCaller k seat next heard h (more_waits (greeted k seat serial) piece.now)) }
 {
     let Ok(mut caller) = Caller::open(alloc, seat, serial, limits) else {
@@ -180,7 +184,7 @@ fn note_put_at(place: &mut Option<Caller>, why: Option<Refusal>)
 
 // The caller at a place hears a verdict.
 fn hear_at(place: &mut Option<Caller>, noted: &Noted)
-    ensures { MatchOption place.old (place.new ≡ None) (λ h. IsSomeAnd place.new (HearsSlot h noted.now)) }
+    ensures { MatchOption place.old (place.new ≡ None) (λ h. IsSomeAnd place.new (HearsVerdict h noted.now)) }
 {
     if let Some(caller) = place {
         caller.hear(noted);

@@ -2,7 +2,7 @@
 //! a turn shows is the session's matter, over the mailboxes of the delivery core.
 
 ghost use Rattle.std.specs.Prelude.{◌≡◌, ◌≢◌, ◌↔◌, ◌<◌, ◌≤◌, ◌-◌, [], ◌∷◌, true, false, Some, Err, IfSome, OnErr, OnOk};
-ghost use Rattle.callers.specs.Caller.{Setup};
+ghost use Rattle.house.specs.Setup.{Setup};
 ghost use Rattle.delivery_core.specs.Held.{behind};
 ghost use Rattle.delivery_core.specs.Stands as core;
 ghost use Rattle.house.specs.Effort.{MakesLess, turns_left};
@@ -16,6 +16,7 @@ ghost use Rattle.world.specs.World.{World};
 
 use crate::event::{Event, HouseFault};
 use crate::house::House;
+use crate::printing::take_turn;
 use delivery_core::DeliveryCore;
 use imap_session::Store;
 use session_store::Desk;
@@ -55,7 +56,7 @@ fn turn_at(
         return Ok(());
     };
     desk.session = number - 1;
-    let Ok(_shown) = visitor.idle_turn(number, desk, out) else {
+    let Ok(_shown) = take_turn(visitor, number, desk, out) else {
         return Err(AllocError);
     };
     if visitor.has_ended() {

@@ -8,6 +8,7 @@ mod house;
 mod idling;
 mod make;
 pub mod numbers;
+mod printing;
 mod sessions;
 mod settle;
 mod tail;

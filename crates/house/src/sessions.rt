@@ -7,12 +7,13 @@ ghost use Rattle.house.specs.Scene as scene;
 ghost use Rattle.house.specs.Stands.{StandsFor, StandsForVisit};
 ghost use Rattle.house.specs.Steps.{Follows, FollowsInPart, IsBusy, IsNobody, IsNoPlace, Led, PlaceVisited};
 ghost use Rattle.house.specs.declared.event.Event.TheVariants as events;
-ghost use Rattle.callers.specs.Caller.{Setup};
+ghost use Rattle.house.specs.Setup.{Setup};
 ghost use Rattle.visitors.specs.Visitor as spec;
 ghost use Rattle.world.specs.World.{World};
 
 use crate::event::HouseFault;
 use crate::house::House;
+use crate::printing::go_on;
 use imap_session::Store;
 use session_store::Desk;
 use std::alloc::{AllocError, Global};
@@ -36,7 +37,7 @@ fn go_on_at(
         return Ok(());
     };
     desk.session = number - 1;
-    let Ok(()) = visitor.go_on(alloc, number, desk, out) else {
+    let Ok(()) = go_on(visitor, alloc, number, desk, out) else {
         return Err(AllocError);
     };
     if visitor.has_ended() {

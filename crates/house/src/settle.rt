@@ -3,7 +3,7 @@
 
 ghost use Rattle.std.specs.Prelude.{◌≡◌, ◌<◌, ℕ, List, All, OnOk, OnErr};
 ghost use Rattle.house.specs.Scene as scene;
-ghost use Rattle.callers.specs.Caller.{Setup};
+ghost use Rattle.house.specs.Setup.{Setup};
 ghost use Rattle.house.specs.Settled.{HappenedFrom, SettledFrom, is_held};
 ghost use Rattle.house.specs.Settling.{GoesRounds, round};
 ghost use Rattle.house.specs.Stands.{StandsFor};

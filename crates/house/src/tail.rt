@@ -3,7 +3,7 @@
 ghost use Rattle.std.specs.Prelude.{◌≡◌, ◌≢◌, ◌↔◌, None, Err, ◌++◌, ◌+◌, List, [], length, drop, if◌then◌else◌, OnOk, OnErr, decimal, flat_map};
 ghost use Rattle.std.specs.Io.{StartsWith};
 ghost use Rattle.envelope.specs.Names.{number_of};
-ghost use Rattle.callers.specs.Caller.{Setup};
+ghost use Rattle.house.specs.Setup.{Setup};
 ghost use Rattle.house.specs.Scene.{Scene};
 ghost use Rattle.house.specs.Stands.{StandsFor};
 ghost use Rattle.cursor_set.specs.Lines.{flag_words, spaced};

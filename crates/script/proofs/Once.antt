@@ -11,7 +11,7 @@ use Rattle.delivery_token.specs.declared.log.Noted.{Noted}
 use Rattle.envelope.specs.Names.{number_of}
 use Rattle.world.proofs.Always.{always}
 use Rattle.world.proofs.Base.{Every, Rising, all_of_every, every_append, every_weaker, rising_pair}
-use Rattle.callers.specs.Caller.{Setup}
+use Rattle.house.specs.Setup.{Setup}
 use Rattle.exactly_once.specs.Promise.{Entry, IsRecord, verdicts_of}
 use Rattle.exactly_once.proofs.Grown.{Reached, reached_then, stays}
 use Rattle.exactly_once.proofs.Told.{rising_append}

@@ -2,7 +2,7 @@
 use Rattle.std.proofs.Common.{◌≡◌, ℕ, List, [], ◌∷◌, ap, arith, None, Some, Option}
 use Rattle.envelope.specs.Names.{number_of}
 use Rattle.world.specs.World.{Box}
-use Rattle.callers.specs.Caller.{Setup}
+use Rattle.house.specs.Setup.{Setup}
 use Rattle.house.specs.Scene.{Scene}
 use Rattle.script.specs.Promise.{IsInPlace, Refusal, Why, Window, text_of_part}
 

@@ -6,7 +6,7 @@ use Rattle.envelope.specs.Directory.{Directory}
 use Rattle.visitors.specs.Folders.{has_user}
 use Rattle.visitors.specs.Visitor.{Visitor}
 use Rattle.visitors.specs.Place.{Place}
-use Rattle.callers.specs.Caller.{Setup}
+use Rattle.house.specs.Setup.{Setup}
 use Rattle.house.specs.declared.event.Event.TheVariants as events
 use Rattle.house.specs.State.{State}
 use Rattle.house.specs.Scene.{Scene, place_of}

@@ -1,7 +1,7 @@
 -- What a run leaves: what was written, and what the house stands for then.
 use Rattle.std.specs.Prelude.{◌≡◌, ℕ, ◌+◌, ◌<◌, false, List, ◌∷◌, ◌++◌, length, take, Option}
 use Rattle.std.specs.Io.KnownBytes.{Appends}
-use Rattle.callers.specs.Caller.{Setup}
+use Rattle.house.specs.Setup.{Setup}
 use Rattle.house.specs.Scene.{BytesPlay, EnterPlay, LeavePlay, SayPlay, Scene, VanishPlay, empty_scene, place_of, seat_of}
 use Rattle.house.specs.Settling.{Happened}
 use Rattle.house.specs.Stands.{StandsFor}

@@ -4,7 +4,7 @@ use Rattle.std.specs.Io.KnownBytes.{Appends}
 use Rattle.envelope.specs.Names.{number_of}
 use Rattle.world.specs.World.{Box, Event, IsWorld}
 use Rattle.world.specs.Law.{Headline}
-use Rattle.callers.specs.Caller.{Setup}
+use Rattle.house.specs.Setup.{Setup}
 use Rattle.exactly_once.specs.Promise.{Entry, IsEntry, TellsOnce, text_of}
 use Rattle.house.specs.Scene.{Scene, empty_scene}
 use Rattle.house.specs.Window.{window_text}

@@ -9,7 +9,8 @@ use Rattle.hex.specs.Hex.{decode_of}
 use Rattle.hex.specs.declared.error.FromHexError.{FromHexError}
 use Rattle.envelope.specs.Names.{number_of}
 use Rattle.line_io.specs.Wire.{crlf}
-use Rattle.callers.specs.Caller.{Caller, Setup}
+use Rattle.callers.specs.Caller.{Caller}
+use Rattle.house.specs.Setup.{Setup}
 use Rattle.house.specs.Scene.{BytesPlay, EnterPlay, HasEnded, LeavePlay, SayPlay, Scene, VanishPlay, empty_scene, most_serials, place_of, seat_of}
 use Rattle.house.specs.Settled.{is_held}
 use Rattle.house.specs.Settling.{Settles}

@@ -11,7 +11,7 @@ ghost use Rattle.std.specs.Char.{digit_value};
 ghost use Rattle.std.specs.Str.Parse.{digits_value};
 ghost use Rattle.script.specs.Running.{IsClipped, LineDone, LinePlayed, SetsHeld, TurnTells};
 ghost use Rattle.house.specs.Scene as scene;
-ghost use Rattle.callers.specs.Caller.{Setup};
+ghost use Rattle.house.specs.Setup.{Setup};
 ghost use Rattle.house.specs.Scene.{empty_scene};
 ghost use Rattle.script.specs.Script as spec;
 ghost use Rattle.script.specs.Script.{as_spec, asked, brought, held_after, is_digit, line_of, refusal, script_of};

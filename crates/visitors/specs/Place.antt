@@ -1,10 +1,10 @@
 -- What a visitor's place holds, as contracts see it, and when it stands for a visitor.
-use Rattle.std.specs.Prelude.{◌≡◌, ◌<◌, ◌⊎◌, ℕ, Bool, true, false, List, [], ◌++◌}
+use Rattle.std.specs.Prelude.{◌≡◌, ℕ, Bool, true, List, [], ◌++◌}
 use Rattle.imap_session.specs.Exchange.{Call, Answer}
 use Rattle.imap_connection.specs.Dialogue as dialogue
 use Rattle.imap_connection.specs.Dialogue.{Link}
-use Rattle.visitors.specs.Visitor.{Visitor, Answers, HasAnswered, Idles, IsWhole, Speaks}
-use Rattle.imap_session.specs.Store.{IdleTurns, Starves}
+use Rattle.visitors.specs.Visitor.{Visitor, Answers, HasAnswered}
+use Rattle.imap_session.specs.Store.{IdleTurns}
 
 -- its connection, the bytes that came and were not taken by it, and what was said and isn't printed yet
 pub record Place : Type 0 where
@@ -23,14 +23,9 @@ pub record StandsFor (p : Place) (v : Visitor) : Type 0 where
 abbrev pub with_more : List ℕ → Place → Place
 with_more piece p = record { link = p.link; came = p.came ++ piece; unsaid = p.unsaid }
 
--- From this visitor its place went on over a store and printed this, and stands for the visitor after it.
-pub record WentOn {S : Type 0} (step : S → Call → Answer → S → Type 0) (whole : Bool) (n : ℕ) (before : Visitor) (old new : S) (text text_after : List ℕ) (p : Place) : Type 0 where
-  pub after : Visitor
-  pub printed : List ℕ
-  pub speaks : Speaks step n before old new after printed
-  pub all : whole ≡ true → IsWhole after
-  pub stands : StandsFor p after
-  pub out : text_after ≡ text ++ printed
+-- all that was said is printed
+abbrev pub with_all_said : Place → Place
+with_all_said p = record { link = p.link; came = p.came; unsaid = [] }
 
 -- From this visitor its place answered what waited, and nothing of that is printed yet.
 pub record Answered {S : Type 0} (step : S → Call → Answer → S → Type 0) (whole : Bool) (before : Visitor) (old new : S) (p : Place) : Type 0 where
@@ -41,29 +36,9 @@ pub record Answered {S : Type 0} (step : S → Call → Answer → S → Type 0)
   pub all : whole ≡ true → HasAnswered after
   pub stands : StandsFor p after
 
--- From this visitor its place had a turn while it idles, which showed so many changes, and printed this; it stands for the visitor after it. Where
--- the turn was made whole and something was said in it, all that was said is printed.
-pub record Idled {S : Type 0} (step : S → Call → Answer → S → Type 0) (whole : Bool) (n : ℕ) (count : ℕ) (before : Visitor) (old new : S) (text text_after : List ℕ) (p : Place) : Type 0 where
-  pub after : Visitor
-  pub printed : List ℕ
-  pub idles : Idles step n before old new after count printed
-  pub all : whole ≡ true → (0 < count) ⊎ (after.standing.ended ≡ true) → after.unsaid ≡ []
-  pub stands : StandsFor p after
-  pub out : text_after ≡ text ++ printed
-
 -- For whichever visitor the place stands: its session had a turn over a store, and showed so many changes.
 abbrev pub HadTurn : {S : Type 0} → (S → Call → Answer → S → Type 0) → Place → S → S → ℕ → Place → Type 0
 HadTurn step before old new count after = (said : List ℕ) × IdleTurns step before.link.session old new [] said count after.link.session
-
--- Memory was refused for a turn: the place stands for the visitor as it was, and nothing was printed.
-pub record Missed {S : Type 0} (step : S → Call → Answer → S → Type 0) (before : Visitor) (old new : S) (text text_after : List ℕ) (p : Place) : Type 0 where
-  pub starves : Starves step old new
-  pub stands : StandsFor p before
-  pub out : text_after ≡ text
-
--- The same, or the turn was made, and its words wait to be printed.
-abbrev pub IdledInPart : {S : Type 0} → (S → Call → Answer → S → Type 0) → ℕ → Visitor → S → S → List ℕ → List ℕ → Place → Type 0
-IdledInPart step n before old new text text_after p = Missed step before old new text text_after p ⊎ ((count : ℕ) × Idled step false n count before old new text text_after p)
 
 -- From this visitor its session had a turn, which showed so many changes, and nothing of that is printed yet.
 pub record Turned {S : Type 0} (step : S → Call → Answer → S → Type 0) (count : ℕ) (before : Visitor) (old new : S) (p : Place) : Type 0 where

@@ -1,3 +1,4 @@
+use Rattle.house.specs.Setup.{terms_of}
 use Rattle.std.proofs.Common.{sym, subst}
 use Rattle.callers.specs.Line.{Line}
 use Rattle.callers.specs.CallerStands.{StandsForCaller}
@@ -7,5 +8,5 @@ use Rattle.house.proofs.house.opened.Goals as goal
 
 pub returns : goal.returns
 returns c k next heard host most a =
-    subst (λ (h : Line). StandsForCaller k c.args.seat next heard h (more_waits (greeted k c.args.seat c.args.serial) c.args.piece.now)) (sym c.in-Ok-append.ensures.ok)
-    (more_stands k c.args.seat next heard c.in-Ok.caller (greeted k c.args.seat c.args.serial) c.args.piece.now (c.in-Ok.ensures k next heard host most a))
+    subst (λ (h : Line). StandsForCaller (terms_of k) c.args.seat next heard h (more_waits (greeted (terms_of k) c.args.seat c.args.serial) c.args.piece.now)) (sym c.in-Ok-append.ensures.ok)
+    (more_stands (terms_of k) c.args.seat next heard c.in-Ok.caller (greeted (terms_of k) c.args.seat c.args.serial) c.args.piece.now (c.in-Ok.ensures k next heard host most a))

@@ -11,20 +11,20 @@ use Rattle.house.specs.Steps.{MayIdle}
 use Rattle.house.proofs.IdleTurn.{idled, idled_in_part, idled_out, turns_fewer}
 use Rattle.house.proofs.idling.turn_at.Goals as goal
 
-pub returns-in_default-idle_turn-clause-err : goal.returns-in_default-idle_turn-clause-err
-returns-in_default-idle_turn-clause-err c k w b stands there =
+pub returns-in_default-take_turn-clause-err : goal.returns-in_default-take_turn-clause-err
+returns-in_default-take_turn-clause-err c k w b stands there =
     let before : Desk = record { core = c.args.desk.now.core; session = c.args.number - 1 } in
     let here = subst (λ (o : Option Place). StandsForVisit o (Some b)) c.in-Some.is there in
     let may = subst (λ (o : Option Place). IfSome o (λ p. MayIdle p (c.args.number - 1) c.args.desk.now.core)) c.in-Some.is c.requires.idles in
-    idled_in_part k c.args.number b before c.idle_turn.new.store w c.in-Some.visitor c.idle_turn.new.self c.args.out.now.items c.idle_turn.new.out.items c.requires.counted refl stands here may
-    (c.in_default-idle_turn.ensures.err b here)
+    idled_in_part k c.args.number b before c.take_turn.new.desk w c.in-Some.visitor c.take_turn.new.visitor c.args.out.now.items c.idle_turn.new.out.items c.requires.counted refl stands here may
+    (c.in_default-take_turn.ensures.err b here)
 
 pub returns-then-has_ended-clause-ok : goal.returns-then-has_ended-clause-ok
 returns-then-has_ended-clause-ok c k w b stands there =
     let before : Desk = record { core = c.args.desk.now.core; session = c.args.number - 1 } in
     let here = subst (λ (o : Option Place). StandsForVisit o (Some b)) c.in-Some.is there in
     let may = subst (λ (o : Option Place). IfSome o (λ p. MayIdle p (c.args.number - 1) c.args.desk.now.core)) c.in-Some.is c.requires.idles in
-    idled_out k c.args.number c.in-Ok._shown b before c.idle_turn.new.store c.leave.new.self (answer Left c.leave.result) w c.in-Some.visitor c.idle_turn.new.self c.args.out.now.items c.idle_turn.new.out.items c.requires.counted refl stands
+    idled_out k c.args.number c.in-Ok._shown b before c.take_turn.new.desk c.leave.new.self (answer Left c.leave.result) w c.in-Some.visitor c.take_turn.new.visitor c.args.out.now.items c.idle_turn.new.out.items c.requires.counted refl stands
     here may (c.in-Ok.ensures.ok b here) (sym c.has_ended.ensures ∙ c.if-has_ended.true) c.leave.ensures
 
 pub returns-else-has_ended-clause-ok : goal.returns-else-has_ended-clause-ok
@@ -32,7 +32,7 @@ returns-else-has_ended-clause-ok c k w b stands there =
     let before : Desk = record { core = c.args.desk.now.core; session = c.args.number - 1 } in
     let here = subst (λ (o : Option Place). StandsForVisit o (Some b)) c.in-Some.is there in
     let may = subst (λ (o : Option Place). IfSome o (λ p. MayIdle p (c.args.number - 1) c.args.desk.now.core)) c.in-Some.is c.requires.idles in
-    idled k true c.args.number c.in-Ok._shown b before c.idle_turn.new.store w c.in-Some.visitor c.idle_turn.new.self c.args.out.now.items c.idle_turn.new.out.items c.requires.counted refl stands
+    idled k true c.args.number c.in-Ok._shown b before c.take_turn.new.desk w c.in-Some.visitor c.take_turn.new.visitor c.args.out.now.items c.idle_turn.new.out.items c.requires.counted refl stands
     here may (c.in-Ok.ensures.ok b here) (λ _. sym c.has_ended.ensures ∙ c.if-has_ended.false)
 
 pub returns-else-has_ended-clause-less : goal.returns-else-has_ended-clause-less
@@ -40,5 +40,5 @@ returns-else-has_ended-clause-less c =
     let before : Desk = record { core = c.args.desk.now.core; session = c.args.number - 1 } in
     let may = subst (λ (o : Option Place). IfSome o (λ p. MayIdle p (c.args.number - 1) c.args.desk.now.core)) c.in-Some.is c.requires.idles in
     let told = c.in-Ok.ensures.session in
-    subst (λ (o : Option Place). IfSome o (λ p. turns_left (Some c.idle_turn.new.self) (behind c.idle_turn.new.store.core (c.args.number - 1)) < turns_left (Some p) (behind c.args.desk.now.core (c.args.number - 1)))) (sym c.in-Some.is)
-    (turns_fewer c.in-Some.visitor c.idle_turn.new.self c.args.number c.in-Ok._shown told.0 before c.idle_turn.new.store refl may told.1 (sym c.has_ended.ensures ∙ c.if-has_ended.false))
+    subst (λ (o : Option Place). IfSome o (λ p. turns_left (Some c.take_turn.new.visitor) (behind c.take_turn.new.desk.core (c.args.number - 1)) < turns_left (Some p) (behind c.args.desk.now.core (c.args.number - 1)))) (sym c.in-Some.is)
+    (turns_fewer c.in-Some.visitor c.take_turn.new.visitor c.args.number c.in-Ok._shown told.0 before c.take_turn.new.desk refl may told.1 (sym c.has_ended.ensures ∙ c.if-has_ended.false))

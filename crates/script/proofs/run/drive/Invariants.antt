@@ -1,6 +1,6 @@
 use Rattle.std.proofs.Common.{◌≡◌, ℕ, ◌*◌, ◌^◌, ◌≤◌, length, List, Some, false}
 use Rattle.script.specs.Running.{HasRun}
-use Rattle.callers.specs.Caller.{Setup}
+use Rattle.house.specs.Setup.{Setup}
 use Rattle.house.specs.Scene.{empty_scene}
 use Rattle.house.specs.Stands.{StandsFor}
 use Rattle.script.proofs.run.drive.Given as goal

@@ -9,9 +9,9 @@ waiting : (b : Bool) (ss : List Submission) → (b ≡ true → length ss ≡ 1)
 waiting true ss h k = inl (h refl)
 waiting false ss h k = inr (k refl)
 
-pub push_reserved-requires : goal.push_reserved-requires
-push_reserved-requires c =
+pub note_put-requires : goal.note_put-requires
+note_put-requires c =
     let i = c.self.invariant in
-    let n = few-due (length c.self.inside.verdicts.items) c.self.inside.machine.pending (waiting c.self.inside.is_waiting c.self.inside.machine.pending i.1 i.2) i.4
+    let n = few-due (length c.self.inside.verdicts.slots) c.self.inside.machine.pending (waiting c.self.inside.is_waiting c.self.inside.machine.pending i.0 i.1) i.3
     (subst (λ (h : Line). 0 < length (due h)) (sym c.self.view_is) c.requires) in
-    omega (arith, n, i.3)
+    omega (arith, n, i.2)

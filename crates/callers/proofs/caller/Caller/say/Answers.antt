@@ -1,30 +1,20 @@
-use Rattle.std.proofs.Common.{◌∙◌, ap, sym, subst, List, arith, length, drop, Option}
-use Rattle.std.proofs.lemmas.List.{length-map}
-use Rattle.delivery_token.specs.declared.CopyKey.{CopyKey}
+use Rattle.std.proofs.Common.{◌∙◌, ap, sym, subst, List, length, Option}
 use Rattle.delivery_token.specs.declared.Verdict.{Verdict}
+use Rattle.submission.specs.Verdicts.{Verdicts}
 use Rattle.callers.specs.Line.{Line}
 use Rattle.callers.specs.CallerStands.{StandsForCaller}
 use Rattle.callers.specs.CallerSteps.{SaidVerdicts}
 use Rattle.callers.specs.Taking.{AreKnown}
-use Rattle.callers.proofs.Copies.{keys-one}
 use Rattle.callers.proofs.Callers.{said_verdicts}
 use Rattle.callers.proofs.caller.Caller.say.Goals as goal
-
-pub answer-requires : goal.answer-requires
-answer-requires c s e =
-    let k = subst (λ (x : Line). AreKnown x c.args.verdicts.now) (sym c.self.view_is) c.requires.known in
-    let a = k.all in
-    let q = ap (λ (ks : List CopyKey). length ks) (keys-one c.self.inside.machine.pending s e) in
-    let n = simp length-map at (ap (λ (os : List (Option Verdict)). length os) k.each) in
-    omega (arith, a, q, n)
 
 pub returns-clause-ok : goal.returns-clause-ok
 returns-clause-ok c k seat next heard b s more =
     let i = c.self.inside in
     let e = c.in_ok-answer.ensures in
-    let h : Line = record { serial = i.serial; gone = i.is_gone; machine = i.machine; waits = drop i.taken i.came.items; unsaid = i.unsaid.items; verdicts = i.verdicts.items } in
+    let h : Line = record { serial = i.serial; gone = i.is_gone; machine = i.machine; waits = i.incoming; unsaid = i.unsaid.items; verdicts = i.verdicts.slots } in
     let s1 = subst (λ (x : Line). StandsForCaller k seat next heard x b) (sym c.self.view_is) s in
     let known = subst (λ (x : Line). AreKnown x c.args.verdicts.now) (sym c.self.view_is) c.requires.known in
     let one = ap (λ (x : Line). length x.machine.pending) c.self.view_is ∙ c.requires.one in
-    subst (λ (os : List (Option Verdict)). SaidVerdicts k seat next heard b c.args.verdicts.now (record { serial = i.serial; gone = i.is_gone; machine = c.answer.new.self; waits = drop i.taken i.came.items; unsaid = c.answer.new.out.items; verdicts = os })) (sym c.clear.ensures.items)
+    subst (λ (v : Verdicts). SaidVerdicts k seat next heard b c.args.verdicts.now (record { serial = i.serial; gone = i.is_gone; machine = c.answer.new.self; waits = i.incoming; unsaid = c.answer.new.out.items; verdicts = v.slots })) (sym c.clear.ensures)
     (said_verdicts k seat next heard b h c.answer.new.self c.args.verdicts.now c.answer.new.out.items s1 more one known e.same.0 e.same.1 e.pending e.ok)

@@ -1,5 +1,5 @@
 use Rattle.house.specs.Effort.{effort}
-use Rattle.callers.specs.Caller.{Setup}
+use Rattle.house.specs.Setup.{Setup}
 use Rattle.house.specs.Scene.{Scene}
 use Rattle.house.specs.Settled.{is_held}
 use Rattle.house.specs.Stands.{StandsFor}

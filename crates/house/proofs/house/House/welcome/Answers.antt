@@ -7,10 +7,10 @@ use Rattle.house.specs.Stands.{StandsFor}
 use Rattle.house.proofs.Events.{welcomed}
 use Rattle.callers.specs.Caller.{greeted, more_waits}
 use Rattle.callers.specs.CallerStands.{StandsForCaller}
-use Rattle.delivery_core.specs.Puts.{AtLeast}
+use Rattle.delivery_token.specs.Keys.{AtLeast}
 use Rattle.delivery_token.specs.declared.CopyKey.{CopyKey}
 use Rattle.delivery_token.specs.declared.log.Noted.{Noted}
-use Rattle.callers.specs.Caller.{Setup}
+use Rattle.house.specs.Setup.{Setup}
 use Rattle.house.proofs.house.House.welcome.Goals as goal
 
 pub returns-in_default-go_on_at-clause-no_memory : goal.returns-in_default-go_on_at-clause-no_memory

@@ -1,30 +1,28 @@
-use Rattle.std.proofs.Common.{Bool, List, ℕ, [], false, true, subst, sym}
-use Rattle.visitors.specs.Place.{Answered, Place, StandsFor, WentOn}
-use Rattle.visitors.specs.Visitor.{Visitor}
-use Rattle.visitors.proofs.Going.{on_err, unprinted, went_on}
+use Rattle.std.proofs.Common.{◌≡◌, ◌∙◌, List, ℕ, Bool, true, false, Some, None, Option, refl, ap, drop, subst, sym}
+use Rattle.std.specs.Option.{is_some}
+use Rattle.imap_session.specs.declared.standing.After.{After}
+use Rattle.visitors.specs.Place.{Answered, Place, StandsFor}
+use Rattle.visitors.proofs.Going.{answered, has_parted}
 use Rattle.visitors.proofs.visitor.Visitor.go_on.Goals as goal
 
-pub returns-in_err-print-clause-err : goal.returns-in_err-print-clause-err
-returns-in_err-print-clause-err g c = on_err c.from_residual.result
-    ((v : Visitor) → StandsFor c.args.self.now v → WentOn g.S.Store.step false c.args.number v c.args.store.now c.answer-is_done.new.store c.args.out.now.items c.print.new.out.items c.print.new.self) (λ v s.
-    let told = subst (λ (p : Place). Answered g.S.Store.step c.answer-is_done.result v c.args.store.now c.answer-is_done.new.store p) (sym c.let_go.ensures) (c.answer-is_done.ensures v s) in
-    let e = c.in_err-print.ensures.err in
-    subst (λ (p : Place). WentOn g.S.Store.step false c.args.number v c.args.store.now c.answer-is_done.new.store c.args.out.now.items c.print.new.out.items p) (sym e.0)
-    (subst (λ (t : List ℕ). WentOn g.S.Store.step false c.args.number v c.args.store.now c.answer-is_done.new.store c.args.out.now.items t c.let_go.new.self) (sym e.1)
-    (unprinted g.S.Store.step c.answer-is_done.result c.args.number v c.args.store.now c.answer-is_done.new.store c.args.out.now.items c.let_go.new.self told)))
+pub returns-then-has_ended-clause-ok : goal.returns-then-has_ended-clause-ok
+returns-then-has_ended-clause-ok g c v s =
+    has_parted g.S.Store.step v c.args.store.now c.args.self.now s (ap (λ (p : Place). p.link.session.ended) (sym c.self.view_is) ∙ sym c.has_ended.ensures ∙ c.if-has_ended.true)
 
-pub returns-then-not-is_done-clause-err : goal.returns-then-not-is_done-clause-err
-returns-then-not-is_done-clause-err g c v s =
-    let told = subst (λ (p : Place). Answered g.S.Store.step c.answer-is_done.result v c.args.store.now c.answer-is_done.new.store p) (sym c.let_go.ensures) (c.answer-is_done.ensures v s) in
-    let e = c.in_ok-print.ensures.ok in
-    subst (λ (p : Place). WentOn g.S.Store.step false c.args.number v c.args.store.now c.answer-is_done.new.store c.args.out.now.items c.print.new.out.items p) (sym e.0)
-    (subst (λ (b : Bool). WentOn g.S.Store.step b c.args.number v c.args.store.now c.answer-is_done.new.store c.args.out.now.items c.print.new.out.items (record c.let_go.new.self { unsaid = [] })) c.if-not-is_done.true
-    (went_on g.S.Store.step c.answer-is_done.result c.args.number v c.args.store.now c.answer-is_done.new.store c.args.out.now.items c.print.new.out.items c.let_go.new.self told e.1))
+pub returns-in-None-clause-err : goal.returns-in-None-clause-err
+returns-in-None-clause-err g c v s =
+    let here = c.as_slice-waits.ensures in
+    subst (λ (t : List ℕ). Answered g.S.Store.step false v c.args.store.now c.take-progress.new.store (record { link = c.take-progress.new.self; came = t; unsaid = c.take-progress.new.out.items })) (ap (λ (t : List ℕ). drop c.take-progress.result.used t) here ∙ sym c.take.ensures)
+    (answered g.S.Store.step false v c.args.store.now c.take-progress.new.store c.self.inside.connection c.take-progress.new.self c.as_slice-waits.result.now
+    c.self.inside.unsaid.items c.take-progress.new.out.items c.take-progress.result
+    (subst (λ (t : List ℕ). StandsFor (record { link = c.self.inside.connection; came = t; unsaid = c.self.inside.unsaid.items }) v) (sym here) (subst (λ (p : Place). StandsFor p v) (sym c.self.view_is) s))
+    c.take-progress.ensures.took c.take-progress.ensures.all c.take-progress.ensures.sends (sym (ap is_some c.in-None.is)))
 
-pub returns-clause-ok : goal.returns-clause-ok
-returns-clause-ok g c v s =
-    let told = subst (λ (p : Place). Answered g.S.Store.step c.answer-is_done.result v c.args.store.now c.answer-is_done.new.store p) (sym c.let_go.ensures) (c.answer-is_done.ensures v s) in
-    let e = c.in_ok-print.ensures.ok in
-    subst (λ (p : Place). WentOn g.S.Store.step true c.args.number v c.args.store.now c.answer-is_done.new.store c.args.out.now.items c.print.new.out.items p) (sym e.0)
-    (subst (λ (b : Bool). WentOn g.S.Store.step b c.args.number v c.args.store.now c.answer-is_done.new.store c.args.out.now.items c.print.new.out.items (record c.let_go.new.self { unsaid = [] })) c.if-not-is_done.false
-    (went_on g.S.Store.step c.answer-is_done.result c.args.number v c.args.store.now c.answer-is_done.new.store c.args.out.now.items c.print.new.out.items c.let_go.new.self told e.1))
+pub returns-in-Some-clause-ok : goal.returns-in-Some-clause-ok
+returns-in-Some-clause-ok g c v s =
+    let here = c.as_slice-waits.ensures in
+    subst (λ (t : List ℕ). Answered g.S.Store.step true v c.args.store.now c.take-progress.new.store (record { link = c.take-progress.new.self; came = t; unsaid = c.take-progress.new.out.items })) (ap (λ (t : List ℕ). drop c.take-progress.result.used t) here ∙ sym c.take.ensures)
+    (answered g.S.Store.step true v c.args.store.now c.take-progress.new.store c.self.inside.connection c.take-progress.new.self c.as_slice-waits.result.now
+    c.self.inside.unsaid.items c.take-progress.new.out.items c.take-progress.result
+    (subst (λ (t : List ℕ). StandsFor (record { link = c.self.inside.connection; came = t; unsaid = c.self.inside.unsaid.items }) v) (sym here) (subst (λ (p : Place). StandsFor p v) (sym c.self.view_is) s))
+    c.take-progress.ensures.took c.take-progress.ensures.all c.take-progress.ensures.sends (sym (ap is_some c.in-Some.is)))

@@ -2,7 +2,8 @@
 use Rattle.std.proofs.Common.{ℕ, List, []}
 use Rattle.imap_session.specs.Exchange.{Call, Answer}
 use Rattle.imap_connection.proofs.Carried.{Carries, converses_carried, turns_carried}
-use Rattle.visitors.specs.Visitor.{Idles, Speaks, Visitor}
+use Rattle.visitors.specs.Visitor.{Visitor}
+use Rattle.house.specs.Printing.{Idles, Speaks}
 
 pub speaks_carried : {S T : Type 0} (step : S → Call → Answer → S → Type 0) (other : T → Call → Answer → T → Type 0) (Stands : S → T → Type 0) → Carries step other Stands
     → (n : ℕ) (before : Visitor) (old new : S) (after : Visitor) (printed : List ℕ) (t : T) → Speaks step n before old new after printed → Stands old t

@@ -1,0 +1,15 @@
+-- What of a house is settled at the start.
+use Rattle.std.specs.Prelude.{ℕ, List}
+use Rattle.envelope.specs.Directory.{Directory}
+use Rattle.world.specs.World.{Config}
+use Rattle.callers.specs.Caller.{Terms}
+
+pub record Setup : Type 0 where
+  pub config : Config
+  pub directory : Directory
+  pub host : List ℕ
+  pub max_message : ℕ
+
+-- the terms on which its connections are served
+abbrev pub terms_of : Setup → Terms
+terms_of k = record { directory = k.directory; host = k.host; max_message = k.max_message }
