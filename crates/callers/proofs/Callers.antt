@@ -11,7 +11,8 @@ use Rattle.lmtp_machine.specs.Replies.{wire}
 use Rattle.lmtp_machine.specs.Dialogue as dialogue
 use Rattle.lmtp_machine.specs.Dialogue.{Phase, Start, Ready, Transaction, Data, Waiting, Ended, Standing, Setting, Submission, Turn, on_event}
 use Rattle.lmtp_machine.specs.Conversation.{Conversation, IsListening, opened}
-use Rattle.lmtp_machine.specs.Calls.{Happens, Taken, Tells}
+use Rattle.lmtp_machine.specs.Calls.{Happens, Tells}
+use Rattle.lmtp_machine.specs.inner.Calls.{Taken}
 use Rattle.lmtp_machine.specs.Kept.{AreMessages, IsMessage}
 use Rattle.lmtp_machine.specs.Machine.{Machine, StandsFor}
 use Rattle.lmtp_machine.specs.declared.commands.Stage.TheVariants as stages

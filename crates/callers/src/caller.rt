@@ -5,6 +5,7 @@
 ghost use Rattle.std.specs.Prelude.{◌≡◌, ◌≤◌, ◌<◌, ℕ, List, [], ◌∷◌, take, length, true, false, Some, None, Ok, OnOk, OnErr, IfOk, IfSome};
 ghost use Rattle.delivery_token.specs.Keys.{AtLeast};
 ghost use Rattle.delivery_token.specs.declared.CopyKey.{CopyKey};
+ghost use Rattle.change_ring.specs.Log.{no_flags};
 ghost use Rattle.delivery_token.specs.declared.Job.{Job};
 ghost use Rattle.delivery_token.specs.declared.Verdict.{Verdict};
 ghost use Rattle.delivery_token.specs.declared.log.Noted.{Noted};
@@ -349,7 +350,7 @@ impl Caller {
     /// message waits.
     pub fn next_copy(&self) -> Option<(CopyKey, u8, &Text)>
         ensures none { result ≡ None → due self.now ≡ [] }
-        ensures some { IfSome result (λ c. (others : List Job) × (due self.now ≡ record { key = c.0; mailbox = c.1; text = c.2.now } ∷ others)) }
+        ensures some { IfSome result (λ c. (others : List Job) × (due self.now ≡ record { key = c.0; mailbox = c.1; text = c.2.now; flags = no_flags } ∷ others)) }
     {
         if !self.is_waiting {
             return None;
