@@ -11,7 +11,8 @@ use Rattle.shard_queue.specs.declared.queue.ShardQueue.{ShardQueue}
 use Rattle.shard_queue.specs.declared.reply.SenderSeat.{SenderSeat}
 use Rattle.shard_queue.specs.Reply.{said_on, sent_on}
 use Rattle.shard_queue.specs.Seats.{IsConsumer, got}
-use Rattle.lane_work.specs.Answering.{HaveAnswered, HaveClosed, WereAnswered, is_nobodys, is_ours, none}
+use Rattle.lane_work.specs.Answering.{HaveClosed, WereAnswered, is_nobodys, is_ours, none}
+use Rattle.lane_work.specs.inner.Answering.{HaveAnswered}
 use Rattle.lane_work.specs.Ends.{ends_in}
 use Rattle.lane_work.specs.Seats.{AreSenders, AreSendersEnded}
 use Rattle.lane_work.specs.Consuming.{IsConsumed}

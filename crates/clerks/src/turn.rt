@@ -4,7 +4,7 @@
 ghost use Rattle.std.specs.Prelude.{◌≡◌, [], length, map};
 ghost use Rattle.shard_queue.specs.Reply.{sent_on};
 ghost use Rattle.shard_queue.specs.Seats.{IsConsumer, got};
-ghost use Rattle.lane_work.specs.Answering.{HaveAnswered};
+ghost use Rattle.lane_work.specs.inner.Answering.{HaveAnswered};
 ghost use Rattle.lane_work.specs.Seats.{AreSenders};
 ghost use Rattle.clerks.specs.inner.Turns.{Turned};
 

@@ -17,41 +17,41 @@ use Rattle.world.specs.World.{Config, World, Steps}
 use Rattle.world.specs.Law.{Headline}
 use Rattle.world.proofs.Always.{always}
 use Rattle.world.proofs.Base.{all_of_every, every_weaker, rising_pair}
-use Rattle.callers.specs.Caller.{Caller, more_waits, greeted}
+use Rattle.house_connection.specs.HouseConnection.{HouseConnection, more_waits, greeted}
 use Rattle.house.specs.Setup.{Setup, terms_of}
-use Rattle.visitors.specs.Visitor.{Visitor}
+use Rattle.house_session.specs.HouseSession.{HouseSession}
 use Rattle.house.specs.Printing.{Speaks, Prints, prints_all, prints_none}
 use Rattle.house.specs.Printing.{marked_session}
-use Rattle.visitors.specs.Visitor.{greeted as greeted_visitor, more_waits as visitor_more_waits}
-use Rattle.visitors.specs.Folders.{folders_of}
+use Rattle.house_session.specs.HouseSession.{greeted as greeted_visitor, more_waits as visitor_more_waits}
+use Rattle.house_session.specs.Folders.{folders_of}
 use Rattle.house.proofs.Carried.{speaks_carried}
 use Rattle.imap_session.specs.Exchange as calls
 use Rattle.imap_session.specs.Store.{Met}
 use Rattle.session_store.specs.Meets.{Meets}
 use Rattle.house.specs.declared.event.Event.{Event}
 use Rattle.house.specs.declared.event.Event.TheVariants.{Bytes, Vanish, Put, Take, Deliver, Answer, Hear, End, Enter, Say, Idle, Leave}
-use Rattle.house.specs.Scene.{Scene, Plays, BytesPlay, PutPlay, HearPlay, VanishPlay, VisitorGoes, IdlePlay, Parts, EnterPlay, SayPlay, LeavePlay, LeavesMailbox, Moves, opens, goes_on, parts, remains, empty_scene, place_of, seat_of}
+use Rattle.house.specs.Scene.{Scene, Plays, BytesPlay, PutPlay, HearPlay, VanishPlay, SessionGoes, IdlePlay, Parts, EnterPlay, SayPlay, LeavePlay, LeavesMailbox, Moves, opens, goes_on, parts, remains, empty_scene, place_of, seat_of}
 use Rattle.house.specs.Settling.{Happened}
 use Rattle.imap_session.specs.Commands.{greeting}
 use Rattle.exactly_once.specs.Promise.{HearsItsOwn, serial_of, Said, Piece, Replies, Lines, Silence, text_of, IsOwn, Entry, IsRecord, told_in, verdicts_of, TellsOnce, NoneTwice, ExactlyOnce}
 use Rattle.exactly_once.proofs.Grown.{Reached, heard_stays_heard, meets_reached, moves, stays, reached_then}
 use Rattle.exactly_once.proofs.Told.{AreTold, InOrder, IsTold, none_told, told_front}
 use Rattle.exactly_once.proofs.Whole.{IsWhole, converses_whole, cut_of, greeting_whole, idles_whole, whole_append}
-use Rattle.exactly_once.proofs.Saying.{CallerOk, Spoke, caller_grows, greeted_talking, proceeds_spoke, unread_silent, verdicts}
+use Rattle.exactly_once.proofs.Saying.{ConnectionOk, Spoke, caller_grows, greeted_talking, proceeds_spoke, unread_silent, verdicts}
 
 -- what a session has still to print is whole lines
-abbrev pub VisitorOk : Option Visitor → Type 0
-VisitorOk None = Unit {0}
-VisitorOk (Some v) = IsWhole v.unsaid
+abbrev pub SessionOk : Option HouseSession → Type 0
+SessionOk None = Unit {0}
+SessionOk (Some v) = IsWhole v.unsaid
 
 -- what every event keeps, where these verdicts were told at each seat: what callers have still to print comes after them
 pub record SceneOk (k : Setup) (told : ℕ → List Noted) (s : Scene) : Type 0 where
-  pub callers : (seat : ℕ) → CallerOk k seat (s.world.heard seat) (s.next seat) (told seat) (s.caller seat)
-  pub visitors : (place : ℕ) → VisitorOk (s.visitor place)
+  pub callers : (seat : ℕ) → ConnectionOk k seat (s.world.heard seat) (s.next seat) (told seat) (s.caller seat)
+  pub visitors : (place : ℕ) → SessionOk (s.visitor place)
 
 pub told_same : (k : Setup) (told more : ℕ → List Noted) (s : Scene) → ((p : ℕ) → told p ≡ more p) → SceneOk k told s → SceneOk k more s
 told_same k told more s same ok = record {
-  callers = λ j. subst (λ (x : List Noted). CallerOk k j (s.world.heard j) (s.next j) x (s.caller j)) (same j) (ok.callers j);
+  callers = λ j. subst (λ (x : List Noted). ConnectionOk k j (s.world.heard j) (s.next j) x (s.caller j)) (same j) (ok.callers j);
   visitors = ok.visitors;
 }
 
@@ -79,13 +79,13 @@ pub record Went (k : Setup) (told : ℕ → List Noted) (s t : Scene) (printed :
 
 -- a seat at which nobody does anything
 seat_stays : (k : Setup) (told : ℕ → List Noted) (s : Scene) (v : World) (seat next : ℕ) → SceneOk k told s → Reached k.config s.world v → s.next seat ≤ next
-    → CallerOk k seat (v.heard seat) next (told seat ++ []) (s.caller seat)
+    → ConnectionOk k seat (v.heard seat) next (told seat ++ []) (s.caller seat)
 seat_stays k told s v seat next ok r l =
-    subst (λ (x : List Noted). CallerOk k seat (v.heard seat) next x (s.caller seat)) (sym (append-nil (told seat)))
+    subst (λ (x : List Noted). ConnectionOk k seat (v.heard seat) next x (s.caller seat)) (sym (append-nil (told seat)))
     (caller_grows k seat (s.world.heard seat) (v.heard seat) (s.next seat) next (told seat) (s.caller seat) (λ n c. heard_stays_heard k.config s.world r.0 v seat n r.1 c) l (ok.callers seat))
 
 -- the connection at a seat went on in a world that may have moved
-caller_did : (k : Setup) (told : ℕ → List Noted) (s : Scene) (e : Event) (v : World) (seat : ℕ) (o : Option Caller) (next : ℕ → ℕ) (printed : List ℕ) → SceneOk k told s → Reached k.config s.world v
+caller_did : (k : Setup) (told : ℕ → List Noted) (s : Scene) (e : Event) (v : World) (seat : ℕ) (o : Option HouseConnection) (next : ℕ → ℕ) (printed : List ℕ) → SceneOk k told s → Reached k.config s.world v
     → ((t : Scene) (said : List Said) → HearsItsOwn s seat said → IsOwn k s e t (Replies seat said)) → ((j : ℕ) → s.next j ≤ next j) → (serial : ℕ) → serial ≡ serial_of (s.next seat) (s.caller seat) → Spoke k seat serial (v.heard seat) (next seat) (told seat) o printed
     → Did k told s e (record { world = v; caller = set_at s.caller seat o; next = next; visitor = s.visitor }) printed
 caller_did k told s e v seat o next printed ok r own l serial here spoke = record {
@@ -96,13 +96,13 @@ caller_did k told s e v seat o next printed ok r own l serial here spoke = recor
   reached = r;
 }
   where
-    at : (j : ℕ) → ((eqb j seat ≡ true) × (j ≡ seat)) ⊎ ((eqb j seat ≡ false) × (j ≢ seat)) → CallerOk k j (v.heard j) (next j) (told j ++ told_in j (Replies seat spoke.said)) (set_at s.caller seat o j)
+    at : (j : ℕ) → ((eqb j seat ≡ true) × (j ≡ seat)) ⊎ ((eqb j seat ≡ false) × (j ≢ seat)) → ConnectionOk k j (v.heard j) (next j) (told j ++ told_in j (Replies seat spoke.said)) (set_at s.caller seat o j)
     at j (inl (t, same)) = rw t (rw same spoke.left)
     at j (inr (f, other)) = rw f (seat_stays k told s v j (next j) ok r (l j))
 
 -- the same of who stands at a seat, where it prints nothing
-seat_did : (k : Setup) (told : ℕ → List Noted) (s : Scene) (e : Event) (seat : ℕ) (o : Option Caller) (printed : List ℕ) → SceneOk k told s
-    → CallerOk k seat (s.world.heard seat) (s.next seat) (told seat) o → printed ≡ []
+seat_did : (k : Setup) (told : ℕ → List Noted) (s : Scene) (e : Event) (seat : ℕ) (o : Option HouseConnection) (printed : List ℕ) → SceneOk k told s
+    → ConnectionOk k seat (s.world.heard seat) (s.next seat) (told seat) o → printed ≡ []
     → Did k told s e (record { world = s.world; caller = set_at s.caller seat o; next = s.next; visitor = s.visitor }) printed
 seat_did k told s e seat o printed ok here is = record {
   piece = Silence;
@@ -112,16 +112,16 @@ seat_did k told s e seat o printed ok here is = record {
   reached = stays k.config s.world s.world refl;
 }
   where
-    at : (j : ℕ) → ((eqb j seat ≡ true) × (j ≡ seat)) ⊎ ((eqb j seat ≡ false) × (j ≢ seat)) → CallerOk k j (s.world.heard j) (s.next j) (told j ++ []) (set_at s.caller seat o j)
-    at j (inl (t, same)) = rw t (rw same (subst (λ (x : List Noted). CallerOk k seat (s.world.heard seat) (s.next seat) x o) (sym (append-nil (told seat))) here))
+    at : (j : ℕ) → ((eqb j seat ≡ true) × (j ≡ seat)) ⊎ ((eqb j seat ≡ false) × (j ≢ seat)) → ConnectionOk k j (s.world.heard j) (s.next j) (told j ++ []) (set_at s.caller seat o j)
+    at j (inl (t, same)) = rw t (rw same (subst (λ (x : List Noted). ConnectionOk k seat (s.world.heard seat) (s.next seat) x o) (sym (append-nil (told seat))) here))
     at j (inr (f, other)) = rw f (seat_stays k told s s.world j (s.next j) ok (stays k.config s.world s.world refl) (omega arith))
 
 -- who stands at a seat, in a world that may have moved
-at_seat : (k : Setup) (told : ℕ → List Noted) (s : Scene) (v : World) (seat : ℕ) (b : Caller) → SceneOk k told s → Reached k.config s.world v → s.caller seat ≡ Some b
-    → CallerOk k seat (v.heard seat) (s.next seat) (told seat) (Some b)
+at_seat : (k : Setup) (told : ℕ → List Noted) (s : Scene) (v : World) (seat : ℕ) (b : HouseConnection) → SceneOk k told s → Reached k.config s.world v → s.caller seat ≡ Some b
+    → ConnectionOk k seat (v.heard seat) (s.next seat) (told seat) (Some b)
 at_seat k told s v seat b ok r there =
     caller_grows k seat (s.world.heard seat) (v.heard seat) (s.next seat) (s.next seat) (told seat) (Some b) (λ n c. heard_stays_heard k.config s.world r.0 v seat n r.1 c) (omega arith)
-    (subst (CallerOk k seat (s.world.heard seat) (s.next seat) (told seat)) there (ok.callers seat))
+    (subst (ConnectionOk k seat (s.world.heard seat) (s.next seat) (told seat)) there (ok.callers seat))
 
 one_later : (f : ℕ → ℕ) (i j : ℕ) → f j ≤ set_at f i (f i + 1) j
 one_later f i j = at_cases (λ n. f j ≤ n) f i (f i + 1) j (λ same. rw same (omega arith)) (λ other. omega arith)
@@ -131,7 +131,7 @@ bytes_did : (k : Setup) (told : ℕ → List Noted) (s : Scene) (e : Event) (sea
 bytes_did k told s e seat piece t printed own ok (opens there free more not o g after) =
     let next = set_at s.next seat (s.next seat + 1) in
     let later : s.next seat + 1 ≡ next seat = sym (set_at-same s.next seat (s.next seat + 1)) in
-    let fresh : CallerOk k seat (s.world.heard seat) (s.next seat) (told seat) None = subst (CallerOk k seat (s.world.heard seat) (s.next seat) (told seat)) free (ok.callers seat) in
+    let fresh : ConnectionOk k seat (s.world.heard seat) (s.next seat) (told seat) None = subst (ConnectionOk k seat (s.world.heard seat) (s.next seat) (told seat)) free (ok.callers seat) in
     rw after (caller_did k told s e s.world seat o next printed ok (stays k.config s.world s.world refl) own (one_later s.next seat) (s.next seat) (ap (serial_of (s.next seat)) (sym free))
     (proceeds_spoke k false seat (s.world.heard seat) (next seat) (told seat) (more_waits (greeted (terms_of k) seat (s.next seat)) piece) o printed
     (greeted_talking k seat (s.next seat) (s.world.heard seat) (told seat) (next seat) (omega (arith, later)) fresh) g))
@@ -165,7 +165,7 @@ vanish_did k told s e seat t printed ok p =
 -- ---- what no connection says
 
 -- what is left of the callers where none of them did anything, and of the visitors
-nobody_spoke : (k : Setup) (told : ℕ → List Noted) (s : Scene) (v : World) (visitor : ℕ → Option Visitor) → SceneOk k told s → Reached k.config s.world v → ((place : ℕ) → VisitorOk (visitor place))
+nobody_spoke : (k : Setup) (told : ℕ → List Noted) (s : Scene) (v : World) (visitor : ℕ → Option HouseSession) → SceneOk k told s → Reached k.config s.world v → ((place : ℕ) → SessionOk (visitor place))
     → SceneOk k (λ p. told p ++ []) (record { world = v; caller = s.caller; next = s.next; visitor = visitor })
 nobody_spoke k told s v visitor ok r visitors = record { callers = λ j. seat_stays k told s v j (s.next j) ok r (omega arith); visitors = visitors }
 
@@ -178,7 +178,7 @@ moves_did k told s e event t printed ok m =
 -- ---- sessions
 
 -- a session's calls, one after the other, come to events of the world
-speaks_reached : (k : Config) (place n : ℕ) (w mid : World) (before after : Visitor) (printed : List ℕ) → Speaks (Meets k place) n before w mid after printed → Reached k w mid
+speaks_reached : (k : Config) (place n : ℕ) (w mid : World) (before after : HouseSession) (printed : List ℕ) → Speaks (Meets k place) n before w mid after printed → Reached k w mid
 speaks_reached k place n w mid before after printed s =
     (speaks_carried {S = World} {T = Unit {0}} (Meets k place) (λ a call answer b. Unit {0}) (λ v x. Reached k w v)
     (λ old new call answer x step r. (tt, tt, reached_then k w old new r (meets_reached k place old call answer new step)))
@@ -192,7 +192,7 @@ met_reached k place w (e ∷ es) v (mid, one, more) = reached_then k w mid v (me
 leaves_reached : (k : Setup) (place : ℕ) (w v : World) → LeavesMailbox k place w v → Reached k.config w v
 leaves_reached k place w v l = meets_reached k.config place w (calls.Leave false) l.0 v l.1
 
-parts_reached : (k : Setup) (whole : Bool) (place : ℕ) (after : Visitor) (w v : World) (o : Option Visitor) → Parts k whole place after w v o → Reached k.config w v
+parts_reached : (k : Setup) (whole : Bool) (place : ℕ) (after : HouseSession) (w v : World) (o : Option HouseSession) → Parts k whole place after w v o → Reached k.config w v
 parts_reached k whole place after w v o (parts ended said l e) = leaves_reached k place w v l
 parts_reached k whole place after w v o (remains not e f) = stays k.config w v e
 
@@ -201,29 +201,29 @@ data Wrote (k : Setup) (n : ℕ) (bytes printed : List ℕ) : Type 0 where
   nothing : printed ≡ [] → Wrote k n bytes printed
   wrote : (lines : List (List ℕ)) → IsCut bytes lines [] → printed ≡ text_of k (Lines n lines) → Wrote k n bytes printed
 
-wrote_of : (k : Setup) (n : ℕ) (before after : Visitor) (said printed : List ℕ) → IsWhole (before.unsaid ++ said) → Prints n before after said printed → Wrote k n (before.unsaid ++ said) printed
+wrote_of : (k : Setup) (n : ℕ) (before after : HouseSession) (said printed : List ℕ) → IsWhole (before.unsaid ++ said) → Prints n before after said printed → Wrote k n (before.unsaid ++ said) printed
 wrote_of k n before after said printed w (prints_none l p) = nothing p
 wrote_of k n before after said printed w (prints_all l p) =
     let cut = cut_of (before.unsaid ++ said) w in
     wrote cut.0 cut.1 (p ∙ ap (λ (x : List ℕ). marked_session n x) (cut.1.whole ∙ append-nil (joined cut.0)))
 
 -- what it has still to print
-unsaid_whole : (n : ℕ) (before after : Visitor) (said printed : List ℕ) → IsWhole (before.unsaid ++ said) → Prints n before after said printed → IsWhole after.unsaid
+unsaid_whole : (n : ℕ) (before after : HouseSession) (said printed : List ℕ) → IsWhole (before.unsaid ++ said) → Prints n before after said printed → IsWhole after.unsaid
 unsaid_whole n before after said printed w (prints_all l p) = inl l
 unsaid_whole n before after said printed w (prints_none l p) = subst IsWhole (sym l) w
 
-left_whole : (k : Setup) (place : ℕ) (after : Visitor) (w v : World) (o : Option Visitor) → IsWhole after.unsaid → Parts k false place after w v o → VisitorOk o
+left_whole : (k : Setup) (place : ℕ) (after : HouseSession) (w v : World) (o : Option HouseSession) → IsWhole after.unsaid → Parts k false place after w v o → SessionOk o
 left_whole k place after w v o whole (parts ended said l e) = rw e tt
 left_whole k place after w v o whole (remains not e f) = rw f whole
 
 -- who visits at a place, and its session's bytes
-at_place : (k : Setup) (told : ℕ → List Noted) (s : Scene) (place : ℕ) (b : Visitor) → SceneOk k told s → s.visitor place ≡ Some b → IsWhole b.unsaid
-at_place k told s place b ok there = subst VisitorOk there (ok.visitors place)
+at_place : (k : Setup) (told : ℕ → List Noted) (s : Scene) (place : ℕ) (b : HouseSession) → SceneOk k told s → s.visitor place ≡ Some b → IsWhole b.unsaid
+at_place k told s place b ok there = subst SessionOk there (ok.visitors place)
 
 -- a session went on, and may have left
-visited : (k : Setup) (told : ℕ → List Noted) (s : Scene) (v : World) (place : ℕ) (o : Option Visitor) → SceneOk k told s → Reached k.config s.world v → VisitorOk o
+visited : (k : Setup) (told : ℕ → List Noted) (s : Scene) (v : World) (place : ℕ) (o : Option HouseSession) → SceneOk k told s → Reached k.config s.world v → SessionOk o
     → SceneOk k (λ p. told p ++ []) (record { world = v; caller = s.caller; next = s.next; visitor = set_at s.visitor place o })
-visited k told s v place o ok r here = nobody_spoke k told s v (set_at s.visitor place o) ok r (at_each (λ j x. VisitorOk x) s.visitor place o ok.visitors here)
+visited k told s v place o ok r here = nobody_spoke k told s v (set_at s.visitor place o) ok r (at_each (λ j x. SessionOk x) s.visitor place o ok.visitors here)
 
 -- what a session's bytes and its place came to
 record Visited (k : Setup) (told : ℕ → List Noted) (s t : Scene) (n : ℕ) (bytes printed : List ℕ) : Type 0 where
@@ -231,8 +231,8 @@ record Visited (k : Setup) (told : ℕ → List Noted) (s t : Scene) (n : ℕ) (
   pub ok : SceneOk k (λ p. told p ++ []) t
   pub reached : Reached k.config s.world t.world
 
-goes_visited : (k : Setup) (told : ℕ → List Noted) (s : Scene) (place : ℕ) (b : Visitor) (v : World) (o : Option Visitor) (printed : List ℕ) → SceneOk k told s → IsWhole b.unsaid
-    → (g : VisitorGoes k false place s.world b v o printed)
+goes_visited : (k : Setup) (told : ℕ → List Noted) (s : Scene) (place : ℕ) (b : HouseSession) (v : World) (o : Option HouseSession) (printed : List ℕ) → SceneOk k told s → IsWhole b.unsaid
+    → (g : SessionGoes k false place s.world b v o printed)
     → Visited k told s (record { world = v; caller = s.caller; next = s.next; visitor = set_at s.visitor place o }) (place + 1) (b.unsaid ++ g.speaks.said) printed
 goes_visited k told s place b v o printed ok whole g =
     let w = whole_append b.unsaid g.speaks.said whole (converses_whole (Meets k.config place) g.speaks.answers.converses) in
@@ -402,7 +402,7 @@ nobody_ok k = record { callers = λ seat. none_told seat [] 0 0; visitors = λ p
 -- ---- what follows of it
 
 -- what was told at a seat, whoever stands there
-told_there : (k : Setup) (seat : ℕ) (heard : List Noted) (next : ℕ) (told : List Noted) (o : Option Caller) → CallerOk k seat heard next told o → (serial : ℕ) × (message : ℕ) × AreTold seat heard serial message told
+told_there : (k : Setup) (seat : ℕ) (heard : List Noted) (next : ℕ) (told : List Noted) (o : Option HouseConnection) → ConnectionOk k seat heard next told o → (serial : ℕ) × (message : ℕ) × AreTold seat heard serial message told
 told_there k seat heard next told None c = (next, 0, c)
 told_there k seat heard next told (Some b) c = (b.serial, c.message, told_front seat heard b.serial c.message told (verdicts c.said) c.in_order)
 

@@ -13,8 +13,8 @@ use Rattle.lmtp_machine.specs.Dialogue.{Phase, Start, Ready, Transaction, Data, 
 use Rattle.lmtp_machine.specs.Conversation.{Conversation, Leads}
 use Rattle.lmtp_machine.specs.Kept.{AreMessages, Kept}
 use Rattle.lmtp_machine.proofs.Kept.{event_keeps, fresh_kept, leads_keeps}
-use Rattle.callers.specs.Talk.{Talk, marked, prints_all, prints_none, Prints}
-use Rattle.callers.specs.Caller.{Caller, GoesOn, Proceeds, IsAnswered, works, waits, answers, stalls, talks, lingers, fades, greeted, keys_of, meets, setting_of, unread}
+use Rattle.house_connection.specs.Talk.{Talk, marked, prints_all, prints_none, Prints}
+use Rattle.house_connection.specs.HouseConnection.{HouseConnection, GoesOn, Proceeds, IsAnswered, works, waits, answers, stalls, talks, lingers, fades, greeted, keys_of, meets, setting_of, unread}
 use Rattle.house.specs.Printing.{Leaves, goes, stays}
 use Rattle.house.specs.Setup.{Setup, terms_of}
 use Rattle.exactly_once.specs.Promise as promise
@@ -80,9 +80,9 @@ pub record IsTalking (k : Setup) (seat serial : ℕ) (heard : List Noted) (next 
   pub own : AreOf serial said
 
 -- who stands at a seat whose next connection has this serial
-abbrev pub CallerOk : Setup → ℕ → List Noted → ℕ → List Noted → Option Caller → Type 0
-CallerOk k seat heard next told None = AreTold seat heard next 0 told
-CallerOk k seat heard next told (Some b) = IsTalking k seat b.serial heard next told b.talk.at.standing b.talk.unsaid b.talk.pending
+abbrev pub ConnectionOk : Setup → ℕ → List Noted → ℕ → List Noted → Option HouseConnection → Type 0
+ConnectionOk k seat heard next told None = AreTold seat heard next 0 told
+ConnectionOk k seat heard next told (Some b) = IsTalking k seat b.serial heard next told b.talk.at.standing b.talk.unsaid b.talk.pending
 
 same_before : (serial message : ℕ) → (key : _) → IsBefore serial message key → IsBefore serial message key
 same_before serial message key x = x
@@ -101,8 +101,8 @@ talking_grows k seat serial heard more next later told standing unsaid pending g
 }
 
 -- more was heard, and more connections were opened
-pub caller_grows : (k : Setup) (seat : ℕ) (heard more : List Noted) (next later : ℕ) (told : List Noted) (o : Option Caller) → ((n : Noted) → Contains heard n → Contains more n) → next ≤ later
-    → CallerOk k seat heard next told o → CallerOk k seat more later told o
+pub caller_grows : (k : Setup) (seat : ℕ) (heard more : List Noted) (next later : ℕ) (told : List Noted) (o : Option HouseConnection) → ((n : Noted) → Contains heard n → Contains more n) → next ≤ later
+    → ConnectionOk k seat heard next told o → ConnectionOk k seat more later told o
 caller_grows k seat heard more next later told None grows l c = told_grows seat heard more next 0 later 0 told grows (before_later next later l) c
 caller_grows k seat heard more next later told (Some b) grows l c = talking_grows k seat b.serial heard more next later told b.talk.at.standing b.talk.unsaid b.talk.pending grows l c
 
@@ -143,14 +143,14 @@ says_all k seat serial heard next told standing unsaid pending t = record {
 -- ---- what is printed
 
 -- what the connection at a seat printed, and who stands there then
-pub record Spoke (k : Setup) (seat serial : ℕ) (heard : List Noted) (next : ℕ) (told : List Noted) (o : Option Caller) (printed : List ℕ) : Type 0 where
+pub record Spoke (k : Setup) (seat serial : ℕ) (heard : List Noted) (next : ℕ) (told : List Noted) (o : Option HouseConnection) (printed : List ℕ) : Type 0 where
   pub said : List Said
   pub is : printed ≡ marked (seat + 1) (bytes_of k said)
   pub own : AreOf serial said
-  pub left : CallerOk k seat heard next (told ++ verdicts said) o
+  pub left : ConnectionOk k seat heard next (told ++ verdicts said) o
 
-silent : (k : Setup) (seat serial : ℕ) (heard : List Noted) (next : ℕ) (told : List Noted) (o : Option Caller) (printed : List ℕ) → CallerOk k seat heard next told o → printed ≡ [] → Spoke k seat serial heard next told o printed
-silent k seat serial heard next told o printed c e = record { said = []; is = e; own = tt; left = subst (λ (x : List Noted). CallerOk k seat heard next x o) (sym (append-nil told)) c }
+silent : (k : Setup) (seat serial : ℕ) (heard : List Noted) (next : ℕ) (told : List Noted) (o : Option HouseConnection) (printed : List ℕ) → ConnectionOk k seat heard next told o → printed ≡ [] → Spoke k seat serial heard next told o printed
+silent k seat serial heard next told o printed c e = record { said = []; is = e; own = tt; left = subst (λ (x : List Noted). ConnectionOk k seat heard next x o) (sym (append-nil told)) c }
 
 -- The dialogue went on from where nothing is awaited.
 went_on : (k : Setup) (seat serial : ℕ) (heard : List Noted) (next : ℕ) (told : List Noted) (at after : Conversation) (unsaid taken : List ℕ) (turn : Turn)
@@ -175,12 +175,12 @@ went_on k seat serial heard next told at after unsaid taken turn t l =
     }
 
 -- who stands there, by who has gone on
-left_ok : (k : Setup) (whole : Bool) (seat : ℕ) (heard : List Noted) (next : ℕ) (told : List Noted) (b : Caller) (what : What) (after : Talk) (submitted : List Submission) (o : Option Caller)
-    → after.pending ≡ submitted → IsTalking k seat b.serial heard next told after.at.standing after.unsaid submitted → Leaves whole b what after submitted o → CallerOk k seat heard next told o
+left_ok : (k : Setup) (whole : Bool) (seat : ℕ) (heard : List Noted) (next : ℕ) (told : List Noted) (b : HouseConnection) (what : What) (after : Talk) (submitted : List Submission) (o : Option HouseConnection)
+    → after.pending ≡ submitted → IsTalking k seat b.serial heard next told after.at.standing after.unsaid submitted → Leaves whole b what after submitted o → ConnectionOk k seat heard next told o
 left_ok k whole seat heard next told b what after submitted o same t (goes q n e) = rw e (drops k seat b.serial heard next told after.at.standing after.unsaid submitted t)
 left_ok k whole seat heard next told b what after submitted o same t (stays f e) = rw e (subst (IsTalking k seat b.serial heard next told after.at.standing after.unsaid) (sym same) t)
 
-prints_spoke : (k : Setup) (whole : Bool) (seat : ℕ) (heard : List Noted) (next : ℕ) (told : List Noted) (b : Caller) (what : What) (before after : Talk) (turn : Turn) (o : Option Caller) (printed : List ℕ)
+prints_spoke : (k : Setup) (whole : Bool) (seat : ℕ) (heard : List Noted) (next : ℕ) (told : List Noted) (b : HouseConnection) (what : What) (before after : Talk) (turn : Turn) (o : Option HouseConnection) (printed : List ℕ)
     → after.pending ≡ turn.submissions → IsTalking k seat b.serial heard next told after.at.standing (before.unsaid ++ wire k.host turn.replies) turn.submissions
     → Prints (seat + 1) k.host before after turn printed → Leaves whole b what after turn.submissions o → Spoke k seat b.serial heard next told o printed
 prints_spoke k whole seat heard next told b what before after turn o printed same t (prints_all e p) l = record {
@@ -195,7 +195,7 @@ prints_spoke k whole seat heard next told b what before after turn o printed sam
     silent k seat b.serial heard next told o printed (left_ok k whole seat heard next told b what after turn.submissions o same
     (subst (λ (x : List ℕ). IsTalking k seat b.serial heard next told after.at.standing x turn.submissions) (sym e) t) l) p
 
-talks_spoke : (k : Setup) (whole : Bool) (seat : ℕ) (heard : List Noted) (next : ℕ) (told : List Noted) (b : Caller) (o : Option Caller) (printed : List ℕ)
+talks_spoke : (k : Setup) (whole : Bool) (seat : ℕ) (heard : List Noted) (next : ℕ) (told : List Noted) (b : HouseConnection) (o : Option HouseConnection) (printed : List ℕ)
     → IsTalking k seat b.serial heard next told b.talk.at.standing b.talk.unsaid [] → Talks k whole seat b o printed → Spoke k seat b.serial heard next told o printed
 talks_spoke k whole seat heard next told b o printed s t =
     prints_spoke k whole seat heard next told b t.what b.talk t.after t.turn o printed t.works.submits
@@ -243,7 +243,7 @@ same_number (Transaction sender recipients) n vs = refl
 same_number (Data sender recipients lines) n vs = refl
 same_number Ended n vs = refl
 
-answers_talking : (k : Setup) (seat : ℕ) (heard : List Noted) (next : ℕ) (told : List Noted) (b : Caller) (vs : List Verdict)
+answers_talking : (k : Setup) (seat : ℕ) (heard : List Noted) (next : ℕ) (told : List Noted) (b : HouseConnection) (vs : List Verdict)
     → IsTalking k seat b.serial heard next told b.talk.at.standing b.talk.unsaid b.talk.pending → IsAnswered heard b vs
     → IsTalking k seat b.serial heard next told (meets (terms_of k) seat b (Answered vs)).talk.at.standing (meets (terms_of k) seat b (Answered vs)).talk.unsaid []
 answers_talking k seat heard next told b vs t is =
@@ -266,8 +266,8 @@ answers_talking k seat heard next told b vs t is =
 
 -- ---- going on
 
-goes_spoke : (k : Setup) (whole : Bool) (seat : ℕ) (heard : List Noted) (next : ℕ) (told : List Noted) (b : Caller) (o : Option Caller) (printed : List ℕ)
-    → CallerOk k seat heard next told (Some b) → GoesOn k whole seat heard b o printed → Spoke k seat b.serial heard next told o printed
+goes_spoke : (k : Setup) (whole : Bool) (seat : ℕ) (heard : List Noted) (next : ℕ) (told : List Noted) (b : HouseConnection) (o : Option HouseConnection) (printed : List ℕ)
+    → ConnectionOk k seat heard next told (Some b) → GoesOn k whole seat heard b o printed → Spoke k seat b.serial heard next told o printed
 goes_spoke k whole seat heard next told b o printed s (works none t) =
     talks_spoke k whole seat heard next told b o printed (subst (IsTalking k seat b.serial heard next told b.talk.at.standing b.talk.unsaid) none s) t
 goes_spoke k whole seat heard next told b o printed s (waits some not e p) = record {
@@ -280,16 +280,16 @@ goes_spoke k whole seat heard next told b o printed s (answers vs some is t) =
     talks_spoke k whole seat heard next told (meets (terms_of k) seat b (Answered vs)) o printed (answers_talking k seat heard next told b vs s is) t
 goes_spoke k whole seat heard next told b o printed s (stalls f e p) = silent k seat b.serial heard next told o printed (rw e s) p
 
-pub proceeds_spoke : (k : Setup) (whole : Bool) (seat : ℕ) (heard : List Noted) (next : ℕ) (told : List Noted) (b : Caller) (o : Option Caller) (printed : List ℕ)
-    → CallerOk k seat heard next told (Some b) → Proceeds k whole seat heard b o printed → Spoke k seat b.serial heard next told o printed
+pub proceeds_spoke : (k : Setup) (whole : Bool) (seat : ℕ) (heard : List Noted) (next : ℕ) (told : List Noted) (b : HouseConnection) (o : Option HouseConnection) (printed : List ℕ)
+    → ConnectionOk k seat heard next told (Some b) → Proceeds k whole seat heard b o printed → Spoke k seat b.serial heard next told o printed
 proceeds_spoke k whole seat heard next told b o printed s (talks there g) = goes_spoke k whole seat heard next told b o printed s g
 proceeds_spoke k whole seat heard next told b o printed s (lingers gone not e p) = silent k seat b.serial heard next told o printed (rw e s) p
 proceeds_spoke k whole seat heard next told b o printed s (fades vs gone is e p) =
     silent k seat b.serial heard next told o printed (rw e (drops k seat b.serial heard next told b.talk.at.standing b.talk.unsaid b.talk.pending s)) p
 
 -- one whose peer is gone prints nothing
-pub unread_silent : (k : Setup) (whole : Bool) (seat : ℕ) (heard : List Noted) (next : ℕ) (told : List Noted) (b : Caller) (o : Option Caller) (printed : List ℕ)
-    → CallerOk k seat heard next told (Some b) → Proceeds k whole seat heard (unread b) o printed → CallerOk k seat heard next told o × (printed ≡ [])
+pub unread_silent : (k : Setup) (whole : Bool) (seat : ℕ) (heard : List Noted) (next : ℕ) (told : List Noted) (b : HouseConnection) (o : Option HouseConnection) (printed : List ℕ)
+    → ConnectionOk k seat heard next told (Some b) → Proceeds k whole seat heard (unread b) o printed → ConnectionOk k seat heard next told o × (printed ≡ [])
 unread_silent k whole seat heard next told b o printed s (talks there g) = let x : true ≡ false = there in cc
 unread_silent k whole seat heard next told b o printed s (lingers gone not e p) =
     (rw e (falls_silent k seat b.serial heard next told b.talk.at.standing b.talk.unsaid b.talk.pending s), p)
@@ -297,7 +297,7 @@ unread_silent k whole seat heard next told b o printed s (fades vs gone is e p) 
     (rw e (drops k seat b.serial heard next told b.talk.at.standing b.talk.unsaid b.talk.pending s), p)
 
 -- a connection that was just opened has said its greeting
-pub greeted_talking : (k : Setup) (seat serial : ℕ) (heard told : List Noted) (next : ℕ) → serial < next → AreTold seat heard serial 0 told → CallerOk k seat heard next told (Some (greeted (terms_of k) seat serial))
+pub greeted_talking : (k : Setup) (seat serial : ℕ) (heard told : List Noted) (next : ℕ) → serial < next → AreTold seat heard serial 0 told → ConnectionOk k seat heard next told (Some (greeted (terms_of k) seat serial))
 greeted_talking k seat serial heard told next l t =
     let more = others (on_event (setting_of (terms_of k) seat serial) k.directory fresh Opened).replies (tt, tt) in
     record {

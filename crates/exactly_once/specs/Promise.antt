@@ -11,7 +11,7 @@ use Rattle.line_io.specs.Wire.{IsCut, joined}
 use Rattle.imap_session.specs.Commands.{greeting}
 use Rattle.world.specs.World.{World, Event, IsWorld}
 use Rattle.world.specs.Law.{Headline, StandsOnce, pairs}
-use Rattle.callers.specs.Caller.{Caller}
+use Rattle.house_connection.specs.HouseConnection.{HouseConnection}
 use Rattle.house.specs.Setup.{Setup}
 use Rattle.house.specs.Printing.{marked_connection, marked_session}
 use Rattle.house.specs.Scene.{EnterPlay, HasNothing, IdlePlay, Plays, SayPlay, Scene, empty_scene, place_of, seat_of}
@@ -48,7 +48,7 @@ text_of k (Lines session lines) = marked_session session (joined lines)
 text_of k Silence = []
 
 -- the serial of the connection that stands at a seat, or of the one that is opened there next
-abbrev pub serial_of : (next : ℕ) → Option Caller → ℕ
+abbrev pub serial_of : (next : ℕ) → Option HouseConnection → ℕ
 serial_of next None = next
 serial_of next (Some caller) = caller.serial
 

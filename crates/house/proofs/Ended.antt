@@ -11,9 +11,9 @@ use Rattle.delivery_token.specs.declared.CopyKey.{CopyKey}
 use Rattle.delivery_core.specs.declared.steps.Fault.{Fault}
 use Rattle.delivery_core.specs.declared.steps.Fault.TheVariants as faults
 use Rattle.world.specs.World as world
-use Rattle.callers.specs.Line.{Line}
+use Rattle.house_connection.specs.Line.{Line}
 use Rattle.house.specs.State.{State}
-use Rattle.callers.specs.Caller.{Caller}
+use Rattle.house_connection.specs.HouseConnection.{HouseConnection}
 use Rattle.house.specs.Setup.{Setup}
 use Rattle.house.specs.Scene.{HasEnded, Moves, Scene, with_world}
 use Rattle.house.specs.Stands.{StandsFor, StandsForOne}
@@ -99,6 +99,6 @@ nobody_at k h s seat st lt none = go (s.caller seat) refl (subst (λ (x : Option
     y : CopyKey
     y = record { seat = 0; serial = 0; message = 0; recipient = 0 }
 
-    go : (o : Option Caller) → s.caller seat ≡ o → StandsForOne k seat (get_or h.core.next seat y) (s.world.heard seat) (s.next seat) None o → s.caller seat ≡ None
+    go : (o : Option HouseConnection) → s.caller seat ≡ o → StandsForOne k seat (get_or h.core.next seat y) (s.world.heard seat) (s.next seat) None o → s.caller seat ≡ None
     go None e w = e
     go (Some b) e w = absurd w

@@ -8,30 +8,31 @@ use Rattle.delivery_token.specs.declared.CopyKey.{CopyKey}
 use Rattle.delivery_token.specs.declared.log.Noted.{Noted}
 use Rattle.envelope.specs.Directory.{Directory}
 use Rattle.delivery_core.specs.New.{first_key}
-use Rattle.callers.specs.Line.{Line}
+use Rattle.house_connection.specs.Line.{Line}
 use Rattle.house.specs.State.{State}
-use Rattle.callers.specs.Caller.{Caller, greeted, more_waits, unread}
+use Rattle.house_connection.specs.HouseConnection.{HouseConnection, greeted, more_waits, unread}
 use Rattle.house.specs.Setup.{Setup, terms_of}
 use Rattle.house.specs.Scene.{BytesPlay, Scene, VanishPlay, goes_on, most_serials, opens, with_caller}
-use Rattle.callers.specs.Taking.{with_more, with_nobody_there}
-use Rattle.callers.specs.CallerStands.{StandsForCaller}
-use Rattle.house.specs.Steps.{IsOf}
+use Rattle.house_connection.specs.Taking.{with_more, with_nobody_there}
+use Rattle.house_connection.specs.ConnectionStands.{StandsForConnection}
+use Rattle.house.specs.inner.Steps.{IsOf}
 use Rattle.house.specs.Stands.{StandsFor, StandsForOne}
-use Rattle.house.specs.Steps.{PlaceWentOn, StandsForMaybe, is_unread}
-use Rattle.callers.proofs.Arrivals.{more_stands}
-use Rattle.callers.proofs.Callers.{unread_stands}
+use Rattle.house.specs.Steps.{is_unread}
+use Rattle.house.specs.inner.Steps.{PlaceWentOn, StandsForMaybe}
+use Rattle.house_connection.proofs.Arrivals.{more_stands}
+use Rattle.house_connection.proofs.Connections.{unread_stands}
 use Rattle.house.proofs.Ended.{ended_nowhere}
 use Rattle.house.proofs.Places.{after_going, at_there}
 use Rattle.delivery_core.specs.Held.{has_ended}
 
 -- where a line stands at a seat, so does a caller of the scene
 pub record IsAt (k : Setup) (s : Scene) (seat : ℕ) (next : CopyKey) (h : Line) : Type 0 where
-  pub caller : Caller
+  pub caller : HouseConnection
   pub here : s.caller seat ≡ Some caller
-  pub stands : StandsForCaller (terms_of k) seat next (s.world.heard seat) h caller
+  pub stands : StandsForConnection (terms_of k) seat next (s.world.heard seat) h caller
   pub serial : caller.serial < s.next seat
 
-is_at : (k : Setup) (s : Scene) (seat : ℕ) (next : CopyKey) (h : Line) (o : Option Caller) → s.caller seat ≡ o → StandsForOne k seat next (s.world.heard seat) (s.next seat) (Some h) o → IsAt k s seat next h
+is_at : (k : Setup) (s : Scene) (seat : ℕ) (next : CopyKey) (h : Line) (o : Option HouseConnection) → s.caller seat ≡ o → StandsForOne k seat next (s.world.heard seat) (s.next seat) (Some h) o → IsAt k s seat next h
 is_at k s seat next h None e w = absurd w
 is_at k s seat next h (Some b) e w = record { caller = b; here = e; stands = w.0; serial = w.1 }
 
@@ -47,12 +48,12 @@ some_line None h = absurd (let e : false ≡ true = h in cc)
 some_line (Some g) h = (g, refl)
 
 -- a peer is there where the seat isn't waiting for the verdicts of one that is gone
-peer_there : (k : Setup) (seat : ℕ) (next : CopyKey) (heard : List Noted) (o : Option Line) (g : Line) (b : Caller) → o ≡ Some g → is_unread o ≡ false → StandsForCaller (terms_of k) seat next heard g b → b.gone ≡ false
+peer_there : (k : Setup) (seat : ℕ) (next : CopyKey) (heard : List Noted) (o : Option Line) (g : Line) (b : HouseConnection) → o ≡ Some g → is_unread o ≡ false → StandsForConnection (terms_of k) seat next heard g b → b.gone ≡ false
 peer_there k seat next heard o g b e u s = sym s.gone ∙ subst (λ (x : Option Line). is_unread x ≡ false) e u
 
 pub received : (k : Setup) (h : State) (s : Scene) (number seat : ℕ) (piece : List ℕ) (directory : Directory) (l : Option Line) (place : Option Line) (whole : Bool) (old new : List ℕ)
     → StandsFor k h s → number ≡ seat + 1 → directory ≡ h.directory → seat < length h.callers → IsSome (get_or h.callers seat None) → is_unread (get_or h.callers seat None) ≡ false → place ≡ option_map (with_more piece) (get_or h.callers seat None)
-    → ((x : Setup) (p : ℕ) (next : CopyKey) (heard : List Noted) (b : Caller) → IsOf x number p directory → StandsForMaybe x p next heard place (Some b) → PlaceWentOn x whole p next heard b l old new)
+    → ((x : Setup) (p : ℕ) (next : CopyKey) (heard : List Noted) (b : HouseConnection) → IsOf x number p directory → StandsForMaybe x p next heard place (Some b) → PlaceWentOn x whole p next heard b l old new)
     → (t : Scene) × (printed : List ℕ) × BytesPlay k whole s seat piece t printed
     × StandsFor k (record { core = h.core; callers = set h.callers seat l; serials = h.serials; visitors = h.visitors; directory = h.directory; host = h.host; max_message = h.max_message }) t
     × (new ≡ old ++ printed)
@@ -75,7 +76,7 @@ received k h s number seat piece directory l place whole old new st e dir lt som
 
 pub vanished : (k : Setup) (h : State) (s : Scene) (number seat : ℕ) (directory : Directory) (l : Option Line) (place : Option Line) (whole : Bool) (old new : List ℕ)
     → StandsFor k h s → number ≡ seat + 1 → directory ≡ h.directory → seat < length h.callers → IsSome (get_or h.callers seat None) → is_unread (get_or h.callers seat None) ≡ false → place ≡ option_map with_nobody_there (get_or h.callers seat None)
-    → ((x : Setup) (p : ℕ) (next : CopyKey) (heard : List Noted) (b : Caller) → IsOf x number p directory → StandsForMaybe x p next heard place (Some b) → PlaceWentOn x whole p next heard b l old new)
+    → ((x : Setup) (p : ℕ) (next : CopyKey) (heard : List Noted) (b : HouseConnection) → IsOf x number p directory → StandsForMaybe x p next heard place (Some b) → PlaceWentOn x whole p next heard b l old new)
     → (t : Scene) × (printed : List ℕ) × VanishPlay k whole s seat t printed
     × StandsFor k (record { core = h.core; callers = set h.callers seat l; serials = h.serials; visitors = h.visitors; directory = h.directory; host = h.host; max_message = h.max_message }) t
     × (new ≡ old ++ printed)
@@ -104,15 +105,15 @@ vanished k h s number seat directory l place whole old new st e dir lt some read
     )
 
 -- where nobody stands, the seat's next key is no later than that of its next connection
-vacant : (k : Setup) (s : Scene) (seat : ℕ) (next : CopyKey) (o : Option Caller) → s.caller seat ≡ o → StandsForOne k seat next (s.world.heard seat) (s.next seat) None o
+vacant : (k : Setup) (s : Scene) (seat : ℕ) (next : CopyKey) (o : Option HouseConnection) → s.caller seat ≡ o → StandsForOne k seat next (s.world.heard seat) (s.next seat) None o
     → (s.caller seat ≡ None) × AtLeast next (record { seat = seat; serial = s.next seat; message = 0; recipient = 0 })
 vacant k s seat next None e w = (e, w)
 vacant k s seat next (Some b) e w = absurd w
 
 pub welcomed : (k : Setup) (h : State) (s : Scene) (number seat : ℕ) (piece : List ℕ) (directory : Directory) (l : Option Line) (g : Line) (whole : Bool) (old new : List ℕ)
     → StandsFor k h s → number ≡ seat + 1 → directory ≡ h.directory → seat < length h.callers → get_or h.callers seat None ≡ None → get_or h.serials seat 0 < most_serials → has_ended h.core seat ≡ false
-    → ((x : Setup) (next : CopyKey) (heard : List Noted) → x.host ≡ h.host → x.max_message ≡ h.max_message → AtLeast next (record { seat = seat; serial = get_or h.serials seat 0; message = 0; recipient = 0 }) → StandsForCaller x seat next heard g (more_waits (greeted x seat (get_or h.serials seat 0)) piece))
-    → ((x : Setup) (p : ℕ) (next : CopyKey) (heard : List Noted) (b : Caller) → IsOf x number p directory → StandsForMaybe x p next heard (Some g) (Some b) → PlaceWentOn x whole p next heard b l old new)
+    → ((x : Setup) (next : CopyKey) (heard : List Noted) → x.host ≡ h.host → x.max_message ≡ h.max_message → AtLeast next (record { seat = seat; serial = get_or h.serials seat 0; message = 0; recipient = 0 }) → StandsForConnection x seat next heard g (more_waits (greeted x seat (get_or h.serials seat 0)) piece))
+    → ((x : Setup) (p : ℕ) (next : CopyKey) (heard : List Noted) (b : HouseConnection) → IsOf x number p directory → StandsForMaybe x p next heard (Some g) (Some b) → PlaceWentOn x whole p next heard b l old new)
     → (t : Scene) × (printed : List ℕ) × BytesPlay k whole s seat piece t printed
     × StandsFor k (record { core = h.core; callers = set h.callers seat l; serials = set h.serials seat (get_or h.serials seat 0 + 1); visitors = h.visitors; directory = h.directory; host = h.host; max_message = h.max_message }) t
     × (new ≡ old ++ printed)
@@ -123,8 +124,8 @@ welcomed k h s number seat piece directory l g whole old new st e dir lt none le
     let same : n ≡ s.next seat = each.counted in
     let o = vacant k s seat (get_or h.core.next seat y) (s.caller seat) refl (subst (λ (x : Option Line). StandsForOne k seat (get_or h.core.next seat y) (s.world.heard seat) (s.next seat) x (s.caller seat)) none each.who) in
     let b = more_waits (greeted (terms_of k) seat (s.next seat)) piece in
-    let m : StandsForCaller (terms_of k) seat (get_or h.core.next seat y) (s.world.heard seat) g b
-    = subst (λ (z : ℕ). StandsForCaller (terms_of k) seat (get_or h.core.next seat y) (s.world.heard seat) g (more_waits (greeted (terms_of k) seat z) piece)) same
+    let m : StandsForConnection (terms_of k) seat (get_or h.core.next seat y) (s.world.heard seat) g b
+    = subst (λ (z : ℕ). StandsForConnection (terms_of k) seat (get_or h.core.next seat y) (s.world.heard seat) g (more_waits (greeted (terms_of k) seat z) piece)) same
     (opened k (get_or h.core.next seat y) (s.world.heard seat) (sym st.host) (sym st.max_message) (subst (λ (z : ℕ). AtLeast (get_or h.core.next seat y) (record { seat = seat; serial = z; message = 0; recipient = 0 })) (sym same) o.1)) in
     let w = f k seat (get_or h.core.next seat y) (s.world.heard seat) b (record { numbered = e; looks_up = dir ∙ st.directory }) m in
     let ls : seat < length h.serials = let p = st.seats in let q = st.numbers in omega (arith, p, q, lt) in

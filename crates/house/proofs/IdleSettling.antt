@@ -11,7 +11,7 @@ use Rattle.house.specs.Settling.{GoesRounds, InTurn, Visit, Visits, happens, idl
 use Rattle.house.specs.Stands.{StandsFor}
 use Rattle.house.specs.State.{State}
 use Rattle.house.specs.Steps.{Follows, FollowsInPart}
-use Rattle.house.specs.Trying.{Goes, IsAmong, Wants}
+use Rattle.house.specs.inner.Trying.{Goes, IsAmong, Wants}
 use Rattle.house.proofs.Settlement.{All-one, Often, joined, led_or_not, often_happened, often_more, rounds_happened, visit_of, visits-append, visits_happened, wants_after}
 
 -- ---- one session

@@ -20,19 +20,20 @@ use Rattle.session_store.specs.Desk.{CatchesUp, Serves}
 use Rattle.session_store.specs.Meets.{Meets}
 use Rattle.session_store.proofs.Served.{IsServing, carries, met_delivery}
 use Rattle.session_store.proofs.Serving.{same_delivery}
-use Rattle.visitors.specs.Place.{Place}
-use Rattle.house.specs.Printing.{Idled, IdledInPart, Missed}
-use Rattle.visitors.specs.Place as visit
-use Rattle.visitors.specs.Visitor.{Visitor}
+use Rattle.house_session.specs.Place.{Place}
+use Rattle.house.specs.inner.Printing.{Idled, IdledInPart, Missed}
+use Rattle.house_session.specs.Place as visit
+use Rattle.house_session.specs.HouseSession.{HouseSession}
 use Rattle.house.specs.Printing.{Idles}
 use Rattle.house.proofs.Carried.{idles_carried}
 use Rattle.world.specs.World.{Config, Selected, Session, World, pending}
 use Rattle.house.specs.State.{State}
 use Rattle.house.specs.Effort.{turns_left}
-use Rattle.house.specs.Scene.{IdlePlay, Scene, VisitorIdles, with_visitor, with_world}
+use Rattle.house.specs.Scene.{IdlePlay, Scene, SessionIdles, with_visitor, with_world}
 use Rattle.house.specs.Scene as scene
 use Rattle.house.specs.Stands.{StandsFor, StandsForVisit}
-use Rattle.house.specs.Steps.{HasNoTurn, MayIdle, PlaceIdled, PlaceIdledInPart, PlaceKept}
+use Rattle.house.specs.Steps.{MayIdle}
+use Rattle.house.specs.inner.Steps.{HasNoTurn, PlaceIdled, PlaceIdledInPart, PlaceKept}
 use Rattle.house.proofs.Seats.{moved}
 use Rattle.house.proofs.Visiting.{delivery_then, visit_stands, who_visits, with_visits}
 
@@ -139,7 +140,7 @@ not_lapped k n w v m c =
 not_unknown : (k : Config) (n : ℕ) (w v : World) → Meets k n w (Feed most_changes) (Refused Stranger) v → IsCurrent w n → ⊥
 not_unknown k n w v m c = let f : Some c.0 ≡ None = sym c.1 ∙ m.1 in cc
 
-up_to_date : (k : Setup) (place : ℕ) (w v : World) (b : Visitor) (o : Option Visitor) (printed : List ℕ) → IsSome b.standing.selected → IsCurrent w place → VisitorIdles k true place w b v o printed → ⊥
+up_to_date : (k : Setup) (place : ℕ) (w v : World) (b : HouseSession) (o : Option HouseSession) (printed : List ℕ) → IsSome b.standing.selected → IsCurrent w place → SessionIdles k true place w b v o printed → ⊥
 up_to_date k place w v b o printed some c i =
     go (case_of b.standing i.idles.turned.answers (record { events = i.idles.turned.events; bytes = i.idles.turned.bytes; after = i.idles.turned.how; standing = i.after.standing }) i.idles.turned.played i.idling some)
   where
@@ -177,7 +178,7 @@ none_new p place h some current k w v b o printed stands there i =
 -- ---- one turn
 
 -- what it does over the desk is what it does in the world
-record Turned (k : Setup) (place number : ℕ) (b after : Visitor) (count : ℕ) (w : World) (old desk : Desk) (printed : List ℕ) : Type 0 where
+record Turned (k : Setup) (place number : ℕ) (b after : HouseSession) (count : ℕ) (w : World) (old desk : Desk) (printed : List ℕ) : Type 0 where
   pub mid : World
   pub idles : Idles (λ (x : World) call answer y. Meets k.config place x call answer y) number b w mid after count printed
   pub serving : IsServing k.config place desk mid
@@ -185,7 +186,7 @@ record Turned (k : Setup) (place number : ℕ) (b after : Visitor) (count : ℕ)
   pub idling : is_idling b.standing ≡ true
   pub something : (0 < count) ⊎ (after.standing.ended ≡ true)
 
-turned : (k : Setup) (number count : ℕ) (b after : Visitor) (old new : Desk) (printed : List ℕ) (w : World) (p : Place) → Idles Serves number b old new after count printed → old.session ≡ number - 1 → core.StandsFor k.config old.core w
+turned : (k : Setup) (number count : ℕ) (b after : HouseSession) (old new : Desk) (printed : List ℕ) (w : World) (p : Place) → Idles Serves number b old new after count printed → old.session ≡ number - 1 → core.StandsFor k.config old.core w
     → visit.StandsFor p b → MayIdle p (number - 1) old.core → Turned k (number - 1) number b after count w old new printed
 turned k number count b after old new printed w p i at stands there may =
     let idling : is_idling b.standing ≡ true = sym (ap is_idling there.connection.session) ∙ may.idling in
@@ -204,7 +205,7 @@ turned k number count b after old new printed w p i at stands there may =
     }
 
 -- it remains at its place
-pub idled : (k : Setup) (whole : Bool) (number count : ℕ) (b : Visitor) (old new : Desk) (w : World) (p q : Place) (before after : List ℕ) → 0 < number → old.session ≡ number - 1 → core.StandsFor k.config old.core w
+pub idled : (k : Setup) (whole : Bool) (number count : ℕ) (b : HouseSession) (old new : Desk) (w : World) (p q : Place) (before after : List ℕ) → 0 < number → old.session ≡ number - 1 → core.StandsFor k.config old.core w
     → visit.StandsFor p b → MayIdle p (number - 1) old.core → Idled Serves whole number count b old new before after q → (whole ≡ true → q.link.session.ended ≡ false)
     → PlaceIdled k whole (number - 1) w b old.core (Some q) new.core before after
 idled k whole number count b old new w p q before after some at stands there may o live =
@@ -231,7 +232,7 @@ idled k whole number count b old new w p q before after some at stands there may
     }
 
 -- it has parted, and left its mailbox
-pub idled_out : (k : Setup) (number count : ℕ) (b : Visitor) (old mid new : Desk) (answer : Answer) (w : World) (p q : Place) (before after : List ℕ) → 0 < number → old.session ≡ number - 1 → core.StandsFor k.config old.core w
+pub idled_out : (k : Setup) (number count : ℕ) (b : HouseSession) (old mid new : Desk) (answer : Answer) (w : World) (p q : Place) (before after : List ℕ) → 0 < number → old.session ≡ number - 1 → core.StandsFor k.config old.core w
     → visit.StandsFor p b → MayIdle p (number - 1) old.core → Idled Serves true number count b old mid before after q → q.link.session.ended ≡ true → Serves mid (calls.Leave false) answer new
     → PlaceIdled k true (number - 1) w b old.core None new.core before after
 idled_out k number count b old mid new answer w p q before after some at stands there may o over leaves =
@@ -259,7 +260,7 @@ idled_out k number count b old mid new answer w p q before after some at stands 
     }
 
 -- memory was refused before anything was done
-missed : (k : Setup) (number : ℕ) (b : Visitor) (old new : Desk) (w : World) (q : Place) (before after : List ℕ) → old.session ≡ number - 1 → core.StandsFor k.config old.core w → Missed Serves b old new before after q
+missed : (k : Setup) (number : ℕ) (b : HouseSession) (old new : Desk) (w : World) (q : Place) (before after : List ℕ) → old.session ≡ number - 1 → core.StandsFor k.config old.core w → Missed Serves b old new before after q
     → PlaceKept k w b old.core (Some q) new.core before after
 missed k number b old new w q before after at stands m = go m.starves
   where
@@ -279,7 +280,7 @@ missed k number b old new w q before after at stands m = go m.starves
           out = m.out;
         }
 
-pub idled_in_part : (k : Setup) (number : ℕ) (b : Visitor) (old new : Desk) (w : World) (p q : Place) (before after : List ℕ) → 0 < number → old.session ≡ number - 1 → core.StandsFor k.config old.core w
+pub idled_in_part : (k : Setup) (number : ℕ) (b : HouseSession) (old new : Desk) (w : World) (p q : Place) (before after : List ℕ) → 0 < number → old.session ≡ number - 1 → core.StandsFor k.config old.core w
     → visit.StandsFor p b → MayIdle p (number - 1) old.core → IdledInPart Serves number b old new before after q
     → PlaceIdledInPart k (number - 1) w b old.core (Some q) new.core before after
 idled_in_part k number b old new w p q before after some at stands there may (inl m) = inr (missed k number b old new w q before after at stands m)
@@ -298,13 +299,13 @@ turns_fewer p q number count said old new at may t live =
 
 pub idle_led : (k : Setup) (whole : Bool) (h : State) (s : Scene) (place : ℕ) (p : Place) (q : Option Place) (c : Held) (old new : List ℕ) → StandsFor k h s → place < length h.visitors
     → get_or h.visitors place None ≡ Some p
-    → ((w : World) (b : Visitor) → core.StandsFor k.config h.core w → StandsForVisit (Some p) (Some b) → PlaceIdled k whole place w b h.core q c old new)
+    → ((w : World) (b : HouseSession) → core.StandsFor k.config h.core w → StandsForVisit (Some p) (Some b) → PlaceIdled k whole place w b h.core q c old new)
     → (t : Scene) × (printed : List ℕ) × IdlePlay k whole s place t printed × StandsFor k (with_visits h c place q) t × (new ≡ old ++ printed)
 idle_led k whole h s place p q c old new st within some goes =
     let v = who_visits (get_or h.visitors place None) (s.visitor place) p (st.visitors place None within) some in
     led v.0 v.1 (goes s.world v.0 st.core v.2)
   where
-    led : (b : Visitor) → s.visitor place ≡ Some b → PlaceIdled k whole place s.world b h.core q c old new
+    led : (b : HouseSession) → s.visitor place ≡ Some b → PlaceIdled k whole place s.world b h.core q c old new
         → (t : Scene) × (printed : List ℕ) × IdlePlay k whole s place t printed × StandsFor k (with_visits h c place q) t × (new ≡ old ++ printed)
     led b there m = (
       with_visitor (with_world s m.moved) place m.left,
@@ -339,13 +340,13 @@ kept_stands k h s c n q st cs rest within there =
 
 pub idle_led_in_part : (k : Setup) (h : State) (s : Scene) (place : ℕ) (p : Place) (q : Option Place) (c : Held) (old new : List ℕ) → StandsFor k h s → place < length h.visitors
     → get_or h.visitors place None ≡ Some p
-    → ((w : World) (b : Visitor) → core.StandsFor k.config h.core w → StandsForVisit (Some p) (Some b) → PlaceIdledInPart k place w b h.core q c old new)
+    → ((w : World) (b : HouseSession) → core.StandsFor k.config h.core w → StandsForVisit (Some p) (Some b) → PlaceIdledInPart k place w b h.core q c old new)
     → ((t : Scene) × (printed : List ℕ) × IdlePlay k false s place t printed × StandsFor k (with_visits h c place q) t × (new ≡ old ++ printed)) ⊎ (StandsFor k (with_visits h c place q) s × (new ≡ old))
 idle_led_in_part k h s place p q c old new st within some goes =
     let v = who_visits (get_or h.visitors place None) (s.visitor place) p (st.visitors place None within) some in
     part v.0 v.1 (goes s.world v.0 st.core v.2)
   where
-    part : (b : Visitor) → s.visitor place ≡ Some b → PlaceIdledInPart k place s.world b h.core q c old new
+    part : (b : HouseSession) → s.visitor place ≡ Some b → PlaceIdledInPart k place s.world b h.core q c old new
         → ((t : Scene) × (printed : List ℕ) × IdlePlay k false s place t printed × StandsFor k (with_visits h c place q) t × (new ≡ old ++ printed)) ⊎ (StandsFor k (with_visits h c place q) s × (new ≡ old))
     part b there (inl m) = inl (
       with_visitor (with_world s m.moved) place m.left,
@@ -354,7 +355,7 @@ idle_led_in_part k h s place p q c old new st within some goes =
       visit_stands k h s c m.moved place q m.left st m.core m.rest within m.there,
       m.out,
     )
-    part b there (inr m) = inr (kept_stands k h s c place q st m.core m.rest within (subst (λ (o : Option Visitor). StandsForVisit q o) (sym there) m.there), m.out)
+    part b there (inr m) = inr (kept_stands k h s c place q st m.core m.rest within (subst (λ (o : Option HouseSession). StandsForVisit q o) (sym there) m.there), m.out)
 
 -- where its visitor has no turn, nobody is shown anything
 pub idle_none : (k : Setup) (h : State) (s : Scene) (place : ℕ) (p : Place) (t : Scene) (printed : List ℕ) → StandsFor k h s → place < length h.visitors → get_or h.visitors place None ≡ Some p → HasNoTurn place (Some p) h.core
@@ -362,4 +363,4 @@ pub idle_none : (k : Setup) (h : State) (s : Scene) (place : ℕ) (p : Place) (t
 idle_none k h s place p t printed st within some none play =
     let v = who_visits (get_or h.visitors place None) (s.visitor place) p (st.visitors place None within) some in
     let same : v.0 ≡ play.visitor = some_is v.0 play.visitor (sym v.1 ∙ play.there) in
-    none k s.world play.moved play.visitor play.left printed st.core (subst (λ (b : Visitor). visit.StandsFor p b) same v.2) play.goes
+    none k s.world play.moved play.visitor play.left printed st.core (subst (λ (b : HouseSession). visit.StandsFor p b) same v.2) play.goes

@@ -11,12 +11,12 @@ use Rattle.envelope.specs.Names.{is_name, home_of, words_read, first_fault, home
 use Rattle.envelope.specs.declared.directory.DirectoryFault.{DirectoryFault}
 use Rattle.envelope.specs.declared.directory.DirectoryFault.TheVariants.{TooMany, BadName}
 use Rattle.house.specs.declared.config.Config.{Config}
-use Rattle.callers.specs.Line.{Line}
+use Rattle.house_connection.specs.Line.{Line}
 use Rattle.house.specs.State.{State}
 use Rattle.house.specs.Scene.{empty_scene}
 use Rattle.house.specs.Settings.{seats, sessions, setup_of, words_of}
 use Rattle.house.specs.Stands.{StandsFor, StandsForOne, StandsForVisit}
-use Rattle.visitors.specs.Place.{Place}
+use Rattle.house_session.specs.Place.{Place}
 
 -- words that are read are the mailboxes that they name
 homes_are : (many right : Bool) (fault : Option DirectoryFault) (homes read : List Home)

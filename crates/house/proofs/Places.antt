@@ -12,16 +12,16 @@ use Rattle.delivery_core.specs.Stands as core
 use Rattle.delivery_core.proofs.Follow.{get_or-any}
 use Rattle.lmtp_machine.specs.declared.connection.What.{What}
 use Rattle.lmtp_machine.specs.Dialogue.{Answered, Submission}
-use Rattle.callers.specs.Line.{Line}
+use Rattle.house_connection.specs.Line.{Line}
 use Rattle.house.specs.State.{State}
-use Rattle.callers.specs.Talk.{Talk}
-use Rattle.callers.specs.Caller.{Caller, GoesOn, Proceeds, answers, copies_of, fades, lingers, meets, stalls, talks, waits, works}
+use Rattle.house_connection.specs.Talk.{Talk}
+use Rattle.house_connection.specs.HouseConnection.{HouseConnection, GoesOn, Proceeds, answers, copies_of, fades, lingers, meets, stalls, talks, waits, works}
 use Rattle.house.specs.Printing.{Leaves, goes, stays}
 use Rattle.house.specs.Setup.{Setup, terms_of}
 use Rattle.house.specs.Scene.{Scene}
-use Rattle.callers.specs.CallerStands.{StandsForCaller}
+use Rattle.house_connection.specs.ConnectionStands.{StandsForConnection}
 use Rattle.house.specs.Stands.{StandsFor, StandsForOne, StandsForSeat}
-use Rattle.house.specs.Steps.{PlaceWentOn, StandsForMaybe}
+use Rattle.house.specs.inner.Steps.{PlaceWentOn, StandsForMaybe}
 use Rattle.house.proofs.Seats.{heard_is, seat_kept}
 
 pub at_there : {A : Type 0} (f : ℕ → A) (i : ℕ) (x : A) (j : ℕ) → j ≢ i → set_at f i x j ≡ f j
@@ -29,20 +29,20 @@ at_there {A} f i x j n = at_cases (λ (v : A). v ≡ f j) f i x j (λ e. absurd 
 
 -- ---- who goes on keeps its serial
 
-same_serial : (a b : Caller) → Some a ≡ Some b → a.serial ≡ b.serial
-same_serial a b e = let x : a ≡ b = cc in ap (λ (v : Caller). v.serial) x
+same_serial : (a b : HouseConnection) → Some a ≡ Some b → a.serial ≡ b.serial
+same_serial a b e = let x : a ≡ b = cc in ap (λ (v : HouseConnection). v.serial) x
 
-leaves_serial : (whole : Bool) (a : Caller) (what : What) (after : Talk) (ss : List Submission) (o : Option Caller) (b : Caller) → Leaves whole a what after ss o → o ≡ Some b → b.serial ≡ a.serial
+leaves_serial : (whole : Bool) (a : HouseConnection) (what : What) (after : Talk) (ss : List Submission) (o : Option HouseConnection) (b : HouseConnection) → Leaves whole a what after ss o → o ≡ Some b → b.serial ≡ a.serial
 leaves_serial whole a what after ss o b (goes q u e) f = absurd (let x : None ≡ Some b = sym e ∙ f in cc)
 leaves_serial whole a what after ss o b (stays q e) f = same_serial b (record { serial = a.serial; gone = a.gone; talk = after; to_put = copies_of ss }) (sym f ∙ e)
 
-goes_serial : (k : Setup) (whole : Bool) (seat : ℕ) (heard : List Noted) (a : Caller) (o : Option Caller) (printed : List ℕ) (b : Caller) → GoesOn k whole seat heard a o printed → o ≡ Some b → b.serial ≡ a.serial
+goes_serial : (k : Setup) (whole : Bool) (seat : ℕ) (heard : List Noted) (a : HouseConnection) (o : Option HouseConnection) (printed : List ℕ) (b : HouseConnection) → GoesOn k whole seat heard a o printed → o ≡ Some b → b.serial ≡ a.serial
 goes_serial k whole seat heard a o printed b (works p t) e = leaves_serial whole a t.what t.after t.turn.submissions o b t.leaves e
 goes_serial k whole seat heard a o printed b (waits m n f p) e = same_serial b (told a) (sym e ∙ f)
 goes_serial k whole seat heard a o printed b (answers vs m n t) e = leaves_serial whole (meets (terms_of k) seat a (Answered vs)) t.what t.after t.turn.submissions o b t.leaves e
 goes_serial k whole seat heard a o printed b (stalls w f p) e = same_serial b a (sym e ∙ f)
 
-proceeds_serial : (k : Setup) (whole : Bool) (seat : ℕ) (heard : List Noted) (a : Caller) (o : Option Caller) (printed : List ℕ) (b : Caller) → Proceeds k whole seat heard a o printed → o ≡ Some b → b.serial ≡ a.serial
+proceeds_serial : (k : Setup) (whole : Bool) (seat : ℕ) (heard : List Noted) (a : HouseConnection) (o : Option HouseConnection) (printed : List ℕ) (b : HouseConnection) → Proceeds k whole seat heard a o printed → o ≡ Some b → b.serial ≡ a.serial
 proceeds_serial k whole seat heard a o printed b (talks l g) e = goes_serial k whole seat heard a o printed b g e
 proceeds_serial k whole seat heard a o printed b (lingers g n f p) e = same_serial b a (sym e ∙ f)
 proceeds_serial k whole seat heard a o printed b (fades vs g n f p) e = absurd (let x : None ≡ Some b = sym f ∙ e in cc)
@@ -58,8 +58,8 @@ later_connection : (y : CopyKey) (seat s m i n : ℕ) → AtLeast y (record { se
 later_connection y seat s m i n (inl e) l = inr (subst (λ (z : CopyKey). Below z (record { seat = seat; serial = n; message = 0; recipient = 0 })) (sym e) (inl l))
 later_connection y seat s m i n (inr h) l = inr (earlier y seat s m i n h l)
 
-who_is_left : (k : Setup) (seat : ℕ) (next : CopyKey) (heard : List Noted) (serials : ℕ) (l : Option Line) (o : Option Caller) (h : Line) (a : Caller) → StandsForMaybe k seat next heard l o
-    → StandsForCaller (terms_of k) seat next heard h a → a.serial < serials → ((b : Caller) → o ≡ Some b → b.serial ≡ a.serial) → StandsForOne k seat next heard serials l o
+who_is_left : (k : Setup) (seat : ℕ) (next : CopyKey) (heard : List Noted) (serials : ℕ) (l : Option Line) (o : Option HouseConnection) (h : Line) (a : HouseConnection) → StandsForMaybe k seat next heard l o
+    → StandsForConnection (terms_of k) seat next heard h a → a.serial < serials → ((b : HouseConnection) → o ≡ Some b → b.serial ≡ a.serial) → StandsForOne k seat next heard serials l o
 who_is_left k seat next heard serials None None h a m s lt same = later_connection next seat a.serial s.message (length h.verdicts) serials s.ahead lt
 who_is_left k seat next heard serials None (Some b) h a m s lt same = m
 who_is_left k seat next heard serials (Some g) None h a m s lt same = m
@@ -68,11 +68,11 @@ who_is_left k seat next heard serials (Some g) (Some b) h a m s lt same = (m, le
 -- ---- the whole house
 
 -- the house after a caller went on at a seat, where the delivery side may have moved and a connection may have been opened
-pub after_going : (k : Setup) (h : State) (c : Held) (serials : List ℕ) (s : Scene) (v : World) (numbers : ℕ → ℕ) (seat : ℕ) (y : CopyKey) (l : Option Line) (g : Line) (a : Caller) (whole : Bool) (old new : List ℕ)
+pub after_going : (k : Setup) (h : State) (c : Held) (serials : List ℕ) (s : Scene) (v : World) (numbers : ℕ → ℕ) (seat : ℕ) (y : CopyKey) (l : Option Line) (g : Line) (a : HouseConnection) (whole : Bool) (old new : List ℕ)
     → StandsFor k h s → core.StandsFor k.config c v → seat < length h.callers
     → ((q : ℕ) → q ≢ seat → notes_of c q ≡ notes_of h.core q) → ((q : ℕ) (z : CopyKey) → q ≢ seat → get_or c.next q z ≡ get_or h.core.next q z)
     → length serials ≡ length h.serials → ((n : ℕ) → get_or serials seat n ≡ numbers seat) → ((q n : ℕ) → q ≢ seat → get_or serials q n ≡ get_or h.serials q n) → ((q : ℕ) → q ≢ seat → numbers q ≡ s.next q)
-    → StandsForCaller (terms_of k) seat (get_or c.next seat y) (v.heard seat) g a → a.serial < numbers seat
+    → StandsForConnection (terms_of k) seat (get_or c.next seat y) (v.heard seat) g a → a.serial < numbers seat
     → (w : PlaceWentOn k whole seat (get_or c.next seat y) (v.heard seat) a l old new)
     → StandsFor k (record { core = c; callers = set h.callers seat l; serials = serials; visitors = h.visitors; directory = h.directory; host = h.host; max_message = h.max_message })
     (record { world = v; caller = set_at s.caller seat w.left; next = numbers; visitor = s.visitor })
@@ -102,7 +102,7 @@ after_going k h c serials s v numbers seat y l g a whole old new st cs lt notes 
       counted = here n;
       who = subst (λ (x : CopyKey). StandsForOne k seat x (v.heard seat) (numbers seat) (get_or (set h.callers seat l) seat d) (set_at s.caller seat w.left seat)) (get_or-any c.next seat y z in_next)
           (subst (λ (x : Option Line). StandsForOne k seat (get_or c.next seat y) (v.heard seat) (numbers seat) x (set_at s.caller seat w.left seat)) (sym (get_or-set_same h.callers seat l d lt))
-          (subst (λ (x : Option Caller). StandsForOne k seat (get_or c.next seat y) (v.heard seat) (numbers seat) l x) (sym (set_at-same s.caller seat w.left)) one));
+          (subst (λ (x : Option HouseConnection). StandsForOne k seat (get_or c.next seat y) (v.heard seat) (numbers seat) l x) (sym (set_at-same s.caller seat w.left)) one));
     }
 
     elsewhere : (q : ℕ) (z : CopyKey) (n : ℕ) (d : Option Line) → q < length h.callers → q ≢ seat → StandsForSeat k (record { world = v; caller = set_at s.caller seat w.left; next = numbers; visitor = s.visitor }) q (get_or c.next q z) (get_or serials q n) (get_or (set h.callers seat l) q d)

@@ -7,29 +7,30 @@ use Rattle.lmtp_machine.specs.declared.connection.What.{What}
 use Rattle.lmtp_machine.specs.declared.connection.What.TheVariants.{More, Submit, Quit}
 use Rattle.imap_session.specs.Exchange.{Call, Answer}
 use Rattle.imap_session.specs.Store.{IdleTurns, Starves}
-use Rattle.callers.specs.Line.{Line}
-use Rattle.callers.specs.Caller.{Caller, GoesOn, Proceeds, Terms, Works, answers, fades, lingers, stalls, talks, waits, with_unsaid, works}
-use Rattle.callers.specs.CallerStands.{Proceeded}
-use Rattle.callers.specs.Taking.{with_all_said}
-use Rattle.callers.proofs.Callers.{printed_stands}
-use Rattle.visitors.specs.Place.{Answered, Place, StandsFor, Turned}
-use Rattle.visitors.specs.Visitor.{Answers, Visitor}
-use Rattle.house.specs.Printing.{Idled, Idles, WentOn, goes, of_connection, of_session, prints_all, prints_none, stays}
+use Rattle.house_connection.specs.Line.{Line}
+use Rattle.house_connection.specs.HouseConnection.{HouseConnection, GoesOn, Proceeds, Terms, Works, answers, fades, lingers, stalls, talks, waits, with_unsaid, works}
+use Rattle.house_connection.specs.ConnectionStands.{Proceeded}
+use Rattle.house_connection.specs.Taking.{with_all_said}
+use Rattle.house_connection.proofs.Connections.{printed_stands}
+use Rattle.house_session.specs.Place.{Answered, Place, StandsFor, Turned}
+use Rattle.house_session.specs.HouseSession.{Answers, HouseSession}
+use Rattle.house.specs.Printing.{Idles, goes, of_connection, of_session, prints_all, prints_none, stays}
+use Rattle.house.specs.inner.Printing.{Idled, WentOn}
 use Rattle.house.specs.Setup.{Setup, terms_of}
-use Rattle.house.specs.Steps.{CallerWent}
+use Rattle.house.specs.inner.Steps.{ConnectionWent}
 
 -- ---- what a whole turn does, one that is cut short may do as well
 
-works_part : (k : Terms) (seat : ℕ) (b : Caller) (what : What) (after : Caller) → Works k true seat b what after → Works k false seat b what after
+works_part : (k : Terms) (seat : ℕ) (b : HouseConnection) (what : What) (after : HouseConnection) → Works k true seat b what after → Works k false seat b what after
 works_part k seat b what after w = record { turn = w.turn; talk = w.talk; works = w.works; said = w.said; all = λ x. absurd (let y : false ≡ true = x in cc); is = w.is }
 
-goes_part : (k : Terms) (seat : ℕ) (heard : List Noted) (b : Caller) (what : What) (after : Caller) → GoesOn k true seat heard b what after → GoesOn k false seat heard b what after
+goes_part : (k : Terms) (seat : ℕ) (heard : List Noted) (b : HouseConnection) (what : What) (after : HouseConnection) → GoesOn k true seat heard b what after → GoesOn k false seat heard b what after
 goes_part k seat heard b what after (works e w) = works e (works_part k seat b what after w)
 goes_part k seat heard b what after (waits l n e f) = waits l n e f
 goes_part k seat heard b what after (answers vs l a w) = answers vs l a (works_part k seat _ what after w)
 goes_part k seat heard b what after (stalls w e f) = cc
 
-pub proceeds_part : (k : Terms) (seat : ℕ) (heard : List Noted) (b : Caller) (what : What) (after : Caller) → Proceeds k true seat heard b what after → Proceeds k false seat heard b what after
+pub proceeds_part : (k : Terms) (seat : ℕ) (heard : List Noted) (b : HouseConnection) (what : What) (after : HouseConnection) → Proceeds k true seat heard b what after → Proceeds k false seat heard b what after
 proceeds_part k seat heard b what after (talks l g) = talks l (goes_part k seat heard b what after g)
 proceeds_part k seat heard b what after (lingers g u n e f) = lingers g u n e f
 proceeds_part k seat heard b what after (fades vs g u a e f) = fades vs g u a e f
@@ -37,12 +38,12 @@ proceeds_part k seat heard b what after (fades vs g u a e f) = fades vs g u a e 
 -- ---- connections
 
 module _ (k : Setup) (seat : ℕ) (next : CopyKey) (heard : List Noted) where
-  marks : (number : ℕ) (h : Line) (after : Caller) → number ≡ seat + 1 → h.unsaid ≡ after.talk.unsaid → marked of_connection number h.unsaid ≡ marked of_connection (seat + 1) after.talk.unsaid
+  marks : (number : ℕ) (h : Line) (after : HouseConnection) → number ≡ seat + 1 → h.unsaid ≡ after.talk.unsaid → marked of_connection number h.unsaid ≡ marked of_connection (seat + 1) after.talk.unsaid
   marks number h after e f = ap (λ (n : ℕ). marked of_connection n h.unsaid) e ∙ ap (marked of_connection (seat + 1)) f
 
   -- all was done, and all is printed
-  pub went : (number : ℕ) (b : Caller) (what : What) (h : Line) (old new : List ℕ) → number ≡ seat + 1 → Proceeded (terms_of k) true seat next heard b what h → new ≡ old ++ marked of_connection number h.unsaid
-      → CallerWent k true seat next heard b what (with_all_said h) old new
+  pub went : (number : ℕ) (b : HouseConnection) (what : What) (h : Line) (old new : List ℕ) → number ≡ seat + 1 → Proceeded (terms_of k) true seat next heard b what h → new ≡ old ++ marked of_connection number h.unsaid
+      → ConnectionWent k true seat next heard b what (with_all_said h) old new
   went number b Quit h old new e p o = record {
     left = None;
     printed = marked of_connection number h.unsaid;
@@ -82,8 +83,8 @@ module _ (k : Setup) (seat : ℕ) (next : CopyKey) (heard : List Noted) where
   }
 
   -- memory was wanting, and what was said is printed
-  pub went_in_part : (number : ℕ) (b : Caller) (what : What) (h : Line) (old new : List ℕ) → number ≡ seat + 1 → Proceeded (terms_of k) false seat next heard b what h → (h.gone ≡ true → ⊥)
-      → new ≡ old ++ marked of_connection number h.unsaid → CallerWent k false seat next heard b More (with_all_said h) old new
+  pub went_in_part : (number : ℕ) (b : HouseConnection) (what : What) (h : Line) (old new : List ℕ) → number ≡ seat + 1 → Proceeded (terms_of k) false seat next heard b what h → (h.gone ≡ true → ⊥)
+      → new ≡ old ++ marked of_connection number h.unsaid → ConnectionWent k false seat next heard b More (with_all_said h) old new
   went_in_part number b what h old new e p live o = record {
     left = Some (with_unsaid [] p.after);
     printed = marked of_connection number h.unsaid;
@@ -101,8 +102,8 @@ module _ (k : Setup) (seat : ℕ) (next : CopyKey) (heard : List Noted) where
   }
 
   -- printing was refused
-  pub went_unprinted : (b : Caller) (what : What) (h : Line) (old new : List ℕ) → Proceeded (terms_of k) false seat next heard b what h → (h.gone ≡ true → ⊥) → new ≡ old
-      → CallerWent k false seat next heard b More h old new
+  pub went_unprinted : (b : HouseConnection) (what : What) (h : Line) (old new : List ℕ) → Proceeded (terms_of k) false seat next heard b what h → (h.gone ≡ true → ⊥) → new ≡ old
+      → ConnectionWent k false seat next heard b More h old new
   went_unprinted b what h old new p live o = record {
     left = Some p.after;
     printed = [];
@@ -119,16 +120,16 @@ module _ (k : Setup) (seat : ℕ) (next : CopyKey) (heard : List Noted) where
     out = o ∙ sym (append-nil old);
   }
 
-  pub in_part : (b : Caller) (what : What) (h : Line) → Proceeded (terms_of k) true seat next heard b what h → Proceeded (terms_of k) false seat next heard b what h
+  pub in_part : (b : HouseConnection) (what : What) (h : Line) → Proceeded (terms_of k) true seat next heard b what h → Proceeded (terms_of k) false seat next heard b what h
   in_part b what h p = record { after = p.after; proceeds = proceeds_part (terms_of k) seat heard b what p.after p.proceeds; stands = p.stands }
 
 -- ---- sessions
 
-speaks_with : {S : Type 0} (step : S → Call → Answer → S → Type 0) (before after : Visitor) (old new : S) (said unsaid : List ℕ) → Answers step before old new after said
+speaks_with : {S : Type 0} (step : S → Call → Answer → S → Type 0) (before after : HouseSession) (old new : S) (said unsaid : List ℕ) → Answers step before old new after said
     → Answers step before old new (record { standing = after.standing; waits = after.waits; unsaid = unsaid }) said
 speaks_with step before after old new said unsaid a = record { lines = a.lines; how = a.how; waited = a.waited; converses = a.converses }
 
-pub went_on : {S : Type 0} (step : S → Call → Answer → S → Type 0) (whole : Bool) (n : ℕ) (v : Visitor) (old new : S) (text text_after : List ℕ) (p : Place) → Answered step whole v old new p
+pub went_on : {S : Type 0} (step : S → Call → Answer → S → Type 0) (whole : Bool) (n : ℕ) (v : HouseSession) (old new : S) (text text_after : List ℕ) (p : Place) → Answered step whole v old new p
     → text_after ≡ text ++ marked of_session n p.unsaid → WentOn step whole n v old new text text_after (record { link = p.link; came = p.came; unsaid = [] })
 went_on step whole n v old new text text_after p a printed = record {
   after = record { standing = a.after.standing; waits = a.after.waits; unsaid = [] };
@@ -139,7 +140,7 @@ went_on step whole n v old new text text_after p a printed = record {
   out = printed;
 }
 
-pub unprinted : {S : Type 0} (step : S → Call → Answer → S → Type 0) (whole : Bool) (n : ℕ) (v : Visitor) (old new : S) (text : List ℕ) (p : Place) → Answered step whole v old new p
+pub unprinted : {S : Type 0} (step : S → Call → Answer → S → Type 0) (whole : Bool) (n : ℕ) (v : HouseSession) (old new : S) (text : List ℕ) (p : Place) → Answered step whole v old new p
     → WentOn step false n v old new text text p
 unprinted step whole n v old new text p a = record {
   after = a.after;
@@ -151,7 +152,7 @@ unprinted step whole n v old new text p a = record {
 }
 
 -- all that was said in a turn is printed
-pub idled : {S : Type 0} (step : S → Call → Answer → S → Type 0) (n count : ℕ) (v : Visitor) (old new : S) (text text_after : List ℕ) (p : Place) → Turned step count v old new p
+pub idled : {S : Type 0} (step : S → Call → Answer → S → Type 0) (n count : ℕ) (v : HouseSession) (old new : S) (text text_after : List ℕ) (p : Place) → Turned step count v old new p
     → text_after ≡ text ++ marked of_session n p.unsaid → Idled step true n count v old new text text_after (record { link = p.link; came = p.came; unsaid = [] })
 idled step n count v old new text text_after p t printed = record {
   after = record { standing = t.after.standing; waits = t.after.waits; unsaid = [] };
@@ -163,7 +164,7 @@ idled step n count v old new text text_after p t printed = record {
 }
 
 -- a growth was refused
-pub idled_unprinted : {S : Type 0} (step : S → Call → Answer → S → Type 0) (n count : ℕ) (v : Visitor) (old new : S) (text : List ℕ) (p : Place) → Turned step count v old new p
+pub idled_unprinted : {S : Type 0} (step : S → Call → Answer → S → Type 0) (n count : ℕ) (v : HouseSession) (old new : S) (text : List ℕ) (p : Place) → Turned step count v old new p
     → Idled step false n count v old new text text p
 idled_unprinted step n count v old new text p t = record {
   after = t.after;

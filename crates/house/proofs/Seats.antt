@@ -8,9 +8,9 @@ use Rattle.world.specs.World.{Config, World, Step, Steps}
 use Rattle.world.specs.World as world
 use Rattle.delivery_core.specs.Held.{Held, notes_of}
 use Rattle.delivery_core.specs.Stands as core
-use Rattle.callers.specs.Line.{Line}
+use Rattle.house_connection.specs.Line.{Line}
 use Rattle.house.specs.State.{State}
-use Rattle.callers.specs.Caller.{Caller}
+use Rattle.house_connection.specs.HouseConnection.{HouseConnection}
 use Rattle.house.specs.Setup.{Setup}
 use Rattle.house.specs.Scene.{Scene, with_world}
 use Rattle.house.specs.Stands.{StandsFor, StandsForOne, StandsForSeat}
@@ -31,7 +31,7 @@ seat_kept k s t q y z n m l o h ey en el eh ec ex = record {
       (subst (λ (v : List Noted). StandsForOne k q y v (t.next q) o (t.caller q)) (sym eh)
       (subst (λ (v : ℕ). StandsForOne k q y (s.world.heard q) v o (t.caller q)) (sym ex)
       (subst (λ (v : Option Line). StandsForOne k q y (s.world.heard q) (s.next q) v (t.caller q)) (sym el)
-      (subst (λ (v : Option Caller). StandsForOne k q y (s.world.heard q) (s.next q) l v) (sym ec) h.who))));
+      (subst (λ (v : Option HouseConnection). StandsForOne k q y (s.world.heard q) (s.next q) l v) (sym ec) h.who))));
 }
 
 -- one step of the world

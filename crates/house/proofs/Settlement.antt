@@ -10,21 +10,21 @@ use Rattle.lmtp_machine.specs.Dialogue.{Submission}
 use Rattle.delivery_token.specs.declared.log.Noted.{Noted}
 use Rattle.house.specs.declared.event.Event.{Event}
 use Rattle.house.specs.declared.event.Event.TheVariants.{Bytes, Vanish, Put, Take, Deliver, Answer, Hear, End, Enter, Say, Idle, Leave}
-use Rattle.callers.specs.Talk.{Talk}
-use Rattle.callers.specs.Caller.{Caller, GoesOn, Proceeds, works, waits, answers, stalls, talks, lingers, fades, unread}
+use Rattle.house_connection.specs.Talk.{Talk}
+use Rattle.house_connection.specs.HouseConnection.{HouseConnection, GoesOn, Proceeds, works, waits, answers, stalls, talks, lingers, fades, unread}
 use Rattle.house.specs.Printing.{Leaves, goes, stays}
 use Rattle.house.specs.Setup.{Setup}
-use Rattle.house.specs.Scene.{BytesPlay, HasNothing, HearPlay, Parts, Plays, PutPlay, Scene, VanishPlay, VisitorGoes, VisitorIdles, seat_of, place_of, opens, goes_on, parts, remains}
-use Rattle.visitors.specs.Folders.{folders_of}
+use Rattle.house.specs.Scene.{BytesPlay, HasNothing, HearPlay, Parts, Plays, PutPlay, Scene, VanishPlay, SessionGoes, SessionIdles, seat_of, place_of, opens, goes_on, parts, remains}
+use Rattle.house_session.specs.Folders.{folders_of}
 use Rattle.world.specs.World.{World}
-use Rattle.visitors.specs.Visitor.{Visitor}
-use Rattle.visitors.specs.Visitor.{greeted as greeted_visitor, more_waits as visitor_more_waits}
+use Rattle.house_session.specs.HouseSession.{HouseSession}
+use Rattle.house_session.specs.HouseSession.{greeted as greeted_visitor, more_waits as visitor_more_waits}
 use Rattle.house.specs.Settling.{GoesRounds, Happened, InTurn, Tries, Visit, Visits, happens, in_a_row, passes, round}
 use Rattle.house.specs.Settled.{HappenedFrom}
 use Rattle.house.specs.Stands.{StandsFor, StandsForOne}
 use Rattle.house.specs.Steps.{Follows, FollowsInPart, IsBusy, IsEmptySeat, IsFreePlace, IsNoPlace, IsNoSeat, IsNobody, Led}
 use Rattle.house.proofs.Visiting.{nobody_visits}
-use Rattle.callers.specs.Line.{Line}
+use Rattle.house_connection.specs.Line.{Line}
 use Rattle.envelope.specs.Directory.{Directory}
 use Rattle.delivery_token.specs.declared.CopyKey.{CopyKey}
 use Rattle.delivery_core.specs.New.{first_key}
@@ -32,15 +32,15 @@ use Rattle.std.proofs.lemmas.List.Elements.{All-append, All-cons, All-get_or, Al
 use Rattle.std.proofs.Math.Seq.{take-suc}
 use Rattle.house.specs.State.{State}
 use Rattle.house.specs.Effort.{MakesLess, effort}
-use Rattle.house.specs.Trying.{CameVisit, CameVisits, Did, DidVisits, IsAmong, IsOwn, Moved, Rests, Wants, Went, hears, puts, serve, serves}
+use Rattle.house.specs.inner.Trying.{CameVisit, CameVisits, Did, DidVisits, IsAmong, IsOwn, Moved, Rests, Wants, Went, hears, puts, serve, serves}
 
 -- ---- what a whole event does, one that is cut short may do as well
 
-leaves_part : (b : Caller) (what : What) (after : Talk) (ss : List Submission) (o : Option Caller) → Leaves true b what after ss o → Leaves false b what after ss o
+leaves_part : (b : HouseConnection) (what : What) (after : Talk) (ss : List Submission) (o : Option HouseConnection) → Leaves true b what after ss o → Leaves false b what after ss o
 leaves_part b what after ss o (goes q n e) = goes q n e
 leaves_part b what after ss o (stays f e) = stays (λ x q. let y : false ≡ true = x in cc) e
 
-talks_part : (k : Setup) (seat : ℕ) (b : Caller) (o : Option Caller) (printed : List ℕ) → Talks k true seat b o printed → Talks k false seat b o printed
+talks_part : (k : Setup) (seat : ℕ) (b : HouseConnection) (o : Option HouseConnection) (printed : List ℕ) → Talks k true seat b o printed → Talks k false seat b o printed
 talks_part k seat b o printed t = record {
   turn = t.turn;
   what = t.what;
@@ -51,13 +51,13 @@ talks_part k seat b o printed t = record {
   leaves = leaves_part b t.what t.after t.turn.submissions o t.leaves;
 }
 
-goes_part : (k : Setup) (seat : ℕ) (heard : List Noted) (b : Caller) (o : Option Caller) (printed : List ℕ) → GoesOn k true seat heard b o printed → GoesOn k false seat heard b o printed
+goes_part : (k : Setup) (seat : ℕ) (heard : List Noted) (b : HouseConnection) (o : Option HouseConnection) (printed : List ℕ) → GoesOn k true seat heard b o printed → GoesOn k false seat heard b o printed
 goes_part k seat heard b o printed (works e t) = works e (talks_part k seat b o printed t)
 goes_part k seat heard b o printed (waits l n e p) = waits l n e p
 goes_part k seat heard b o printed (answers vs l a t) = answers vs l a (talks_part k seat _ o printed t)
 goes_part k seat heard b o printed (stalls w e p) = cc
 
-proceeds_part : (k : Setup) (seat : ℕ) (heard : List Noted) (b : Caller) (o : Option Caller) (printed : List ℕ) → Proceeds k true seat heard b o printed → Proceeds k false seat heard b o printed
+proceeds_part : (k : Setup) (seat : ℕ) (heard : List Noted) (b : HouseConnection) (o : Option HouseConnection) (printed : List ℕ) → Proceeds k true seat heard b o printed → Proceeds k false seat heard b o printed
 proceeds_part k seat heard b o printed (talks l g) = talks l (goes_part k seat heard b o printed g)
 proceeds_part k seat heard b o printed (lingers g n e p) = lingers g n e p
 proceeds_part k seat heard b o printed (fades vs g n e p) = fades vs g n e p
@@ -101,14 +101,14 @@ hear_part k s seat t printed p = record {
   after = p.after;
 }
 
-parts_part : (k : Setup) (place : ℕ) (after : Visitor) (w v : World) (o : Option Visitor) → Parts k true place after w v o → Parts k false place after w v o
+parts_part : (k : Setup) (place : ℕ) (after : HouseSession) (w v : World) (o : Option HouseSession) → Parts k true place after w v o → Parts k false place after w v o
 parts_part k place after w v o (parts e u l n) = parts e u l n
 parts_part k place after w v o (remains r e n) = remains (λ f. absurd (let x : false ≡ true = f in cc)) e n
 
-visits_part : (k : Setup) (place : ℕ) (w : World) (b : Visitor) (v : World) (o : Option Visitor) (printed : List ℕ) → VisitorGoes k true place w b v o printed → VisitorGoes k false place w b v o printed
+visits_part : (k : Setup) (place : ℕ) (w : World) (b : HouseSession) (v : World) (o : Option HouseSession) (printed : List ℕ) → SessionGoes k true place w b v o printed → SessionGoes k false place w b v o printed
 visits_part k place w b v o printed p = record { after = p.after; mid = p.mid; speaks = p.speaks; all = λ f. absurd (let x : false ≡ true = f in cc); left = parts_part k place p.after p.mid v o p.left }
 
-idles_part : (k : Setup) (place : ℕ) (w : World) (b : Visitor) (v : World) (o : Option Visitor) (printed : List ℕ) → VisitorIdles k true place w b v o printed → VisitorIdles k false place w b v o printed
+idles_part : (k : Setup) (place : ℕ) (w : World) (b : HouseSession) (v : World) (o : Option HouseSession) (printed : List ℕ) → SessionIdles k true place w b v o printed → SessionIdles k false place w b v o printed
 idles_part k place w b v o printed p = record {
   idling = p.idling;
   after = p.after;
@@ -285,7 +285,7 @@ wants_as Q Q' h o h1 o1 f c = record { happened = λ k s q st. c.happened k s (f
 
 -- ---- an event where nobody is
 
-no_caller : (k : Setup) (s : Scene) (seat : ℕ) (next : CopyKey) (o : Option Caller) → s.caller seat ≡ o → StandsForOne k seat next (s.world.heard seat) (s.next seat) None o → s.caller seat ≡ None
+no_caller : (k : Setup) (s : Scene) (seat : ℕ) (next : CopyKey) (o : Option HouseConnection) → s.caller seat ≡ o → StandsForOne k seat next (s.world.heard seat) (s.next seat) None o → s.caller seat ≡ None
 no_caller k s seat next None e w = e
 no_caller k s seat next (Some b) e w = absurd w
 

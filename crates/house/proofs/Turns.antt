@@ -17,21 +17,22 @@ use Rattle.delivery_token.specs.Log.{heard_at_once}
 use Rattle.delivery_core.specs.New.{first_key}
 use Rattle.delivery_core.specs.Puts.{IsNextKey}
 use Rattle.delivery_core.specs.Stands as core
-use Rattle.callers.specs.Line.{Line}
+use Rattle.house_connection.specs.Line.{Line}
 use Rattle.house.specs.State.{State}
 use Rattle.lmtp_machine.specs.Dialogue.{Submission}
-use Rattle.callers.specs.Caller.{Caller, copies_of}
+use Rattle.house_connection.specs.HouseConnection.{HouseConnection, copies_of}
 use Rattle.house.specs.Setup.{Setup, terms_of}
 use Rattle.house.specs.Scene.{HearPlay, PutPlay, Scene, with_caller, with_world}
-use Rattle.callers.specs.Taking.{HearsVerdict, due, noted_put}
-use Rattle.submission.specs.Verdicts.{heard_verdict}
-use Rattle.callers.specs.CallerStands.{StandsForCaller}
-use Rattle.house.specs.Steps.{IsOf}
+use Rattle.house_connection.specs.Taking.{HearsVerdict, due, noted_put}
+use Rattle.submission.specs.inner.Verdicts.{heard_verdict}
+use Rattle.house_connection.specs.ConnectionStands.{StandsForConnection}
+use Rattle.house.specs.inner.Steps.{IsOf}
 use Rattle.house.specs.Stands.{StandsFor}
-use Rattle.house.specs.Steps.{MayNotPut, PlaceWentOn, PutsNext, StandsForMaybe}
+use Rattle.house.specs.Steps.{PutsNext}
+use Rattle.house.specs.inner.Steps.{MayNotPut, PlaceWentOn, StandsForMaybe}
 use Rattle.house.proofs.Events.{IsAt, at_seat}
 use Rattle.house.proofs.Places.{after_going}
-use Rattle.callers.proofs.Putting.{heard_stands, next_copy, put_stands}
+use Rattle.house_connection.proofs.Putting.{heard_stands, next_copy, put_stands}
 use Rattle.house.proofs.Seats.{heard_is, one_step}
 
 -- what may be put
@@ -58,7 +59,7 @@ step_of k w v c p q lanes e f h = subst (λ (n : ℕ). PutStep k w q (c.mailbox 
 
 pub put_led : (k : Setup) (h : State) (s : Scene) (number seat : ℕ) (directory : Directory) (g : Line) (c : Held) (why : Option Refusal) (place l : Option Line) (whole : Bool) (old new : List ℕ)
     → StandsFor k h s → number ≡ seat + 1 → directory ≡ h.directory → seat < length h.callers → get_or h.callers seat None ≡ Some g → PutsNext h.core g c why → place ≡ Some (noted_put (heard_verdict why) g)
-    → ((x : Setup) (p : ℕ) (next : CopyKey) (heard : List Noted) (b : Caller) → IsOf x number p directory → StandsForMaybe x p next heard place (Some b) → PlaceWentOn x whole p next heard b l old new)
+    → ((x : Setup) (p : ℕ) (next : CopyKey) (heard : List Noted) (b : HouseConnection) → IsOf x number p directory → StandsForMaybe x p next heard place (Some b) → PlaceWentOn x whole p next heard b l old new)
     → (t : Scene) × (printed : List ℕ) × PutPlay k whole s seat t printed
     × StandsFor k (record { core = c; callers = set h.callers seat l; serials = h.serials; visitors = h.visitors; directory = h.directory; host = h.host; max_message = h.max_message }) t
     × (new ≡ old ++ printed)
@@ -78,7 +79,7 @@ put_led k h s number seat directory g c why place l whole old new st e dir lt so
     = sym (heard_is k.config c v cs seat lk) ∙ subst (λ (q : ℕ). notes_of c q ≡ notes_of h.core q ++ heard_at_once puts.copy.key puts.copy.mailbox why) es p.heard.here
     ∙ ap (λ (ns : List Noted). ns ++ heard_at_once puts.copy.key puts.copy.mailbox why) (heard_is k.config h.core s.world st.core seat lk) in
     let next : get_or c.next seat y ≡ past puts.copy.key = ap (λ (ks : List CopyKey). get_or ks seat y) (p.next ∙ ap (λ (q : ℕ). set h.core.next q (past puts.copy.key)) es) ∙ get_or-set_same h.core.next seat (past puts.copy.key) y ln in
-    let b : Caller = record { serial = a.caller.serial; gone = a.caller.gone; talk = a.caller.talk; to_put = puts.others } in
+    let b : HouseConnection = record { serial = a.caller.serial; gone = a.caller.gone; talk = a.caller.talk; to_put = puts.others } in
     let b1 = put_stands (terms_of k) seat (get_or h.core.next seat y) (s.world.heard seat) g a.caller puts.copy puts.others why (get_or c.next seat y) (v.heard seat) a.stands n next (may_of k.config s.world seat _ puts.copy v step).above_heard heard in
     let w = f k seat (get_or c.next seat y) (v.heard seat) b (record { numbered = e; looks_up = dir ∙ st.directory })
     (subst (λ (x : Option Line). StandsForMaybe k seat (get_or c.next seat y) (v.heard seat) x (Some b)) (sym is) b1) in (
@@ -120,7 +121,7 @@ pub put_idles : (k : Setup) (h : State) (s : Scene) (seat : ℕ) (g : Line) (t :
 put_idles k h s seat g t printed st lt some (inl none) p =
     let a = at_seat k h s seat (first_key seat) g st lt some in
     let same : a.caller ≡ p.caller = let x : Some a.caller ≡ Some p.caller = sym a.here ∙ p.there in cc in
-    let x : [] ≡ p.copy ∷ p.others = sym (empty a) ∙ ap (λ (b : Caller). b.to_put) same ∙ p.front in cc
+    let x : [] ≡ p.copy ∷ p.others = sym (empty a) ∙ ap (λ (b : HouseConnection). b.to_put) same ∙ p.front in cc
   where
     empty : (a : IsAt k s seat (get_or h.core.next seat (first_key seat)) g) → a.caller.to_put ≡ []
     empty a = a.stands.to_put ∙ ap (λ (ss : List Submission). drop (length g.verdicts) (copies_of ss)) (sym a.stands.pending) ∙ none
@@ -129,7 +130,7 @@ put_idles k h s seat g t printed st lt some (inr (c, others, front, inr idle)) p
     let a = at_seat k h s seat (first_key seat) g st lt some in
     let n = next_copy (terms_of k) seat (get_or h.core.next seat (first_key seat)) (s.world.heard seat) g a.caller c others a.stands front in
     let same : a.caller ≡ p.caller = let x : Some a.caller ≡ Some p.caller = sym a.here ∙ p.there in cc in
-    let copy : p.copy ≡ c = front_is p.copy c p.others others (sym p.front ∙ ap (λ (b : Caller). b.to_put) (sym same) ∙ n.front) in
+    let copy : p.copy ≡ c = front_is p.copy c p.others others (sym p.front ∙ ap (λ (b : HouseConnection). b.to_put) (sym same) ∙ n.front) in
     let es : c.key.seat ≡ seat = ap (λ (q : CopyKey). q.seat) n.key in
     let step : PutStep k.config s.world seat (shard_of k.config c.mailbox) c p.moved = subst (λ (x : Job). PutStep k.config s.world seat (shard_of k.config x.mailbox) x p.moved) copy p.step in
     let back : PutStep k.config s.world c.key.seat (c.mailbox % length h.core.lanes) c p.moved = subst (λ (q : ℕ). PutStep k.config s.world q (c.mailbox % length h.core.lanes) c p.moved) (sym es) (subst (λ (q : ℕ). PutStep k.config s.world seat (c.mailbox % q) c p.moved) (sym st.core.shards) step) in
@@ -138,7 +139,7 @@ put_idles k h s seat g t printed st lt some (inr (c, others, front, inr idle)) p
 pub heard_led : (k : Setup) (h : State) (s : Scene) (number seat : ℕ) (directory : Directory) (g : Line) (c : Held) (r : Noted) (q : Line) (l : Option Line) (whole : Bool) (old new : List ℕ)
     → StandsFor k h s → number ≡ seat + 1 → directory ≡ h.directory → seat < length h.callers → get_or h.callers seat None ≡ Some g
     → ((x : Config) → core.Follows x h.core (world.Hear seat ∷ []) c) → Hears h.core c seat (r ∷ []) → c.next ≡ h.core.next → HearsVerdict g r q
-    → ((x : Setup) (p : ℕ) (next : CopyKey) (heard : List Noted) (b : Caller) → IsOf x number p directory → StandsForMaybe x p next heard (Some q) (Some b) → PlaceWentOn x whole p next heard b l old new)
+    → ((x : Setup) (p : ℕ) (next : CopyKey) (heard : List Noted) (b : HouseConnection) → IsOf x number p directory → StandsForMaybe x p next heard (Some q) (Some b) → PlaceWentOn x whole p next heard b l old new)
     → (t : Scene) × (printed : List ℕ) × HearPlay k whole s seat t printed
     × StandsFor k (record { core = c; callers = set h.callers seat l; serials = h.serials; visitors = h.visitors; directory = h.directory; host = h.host; max_message = h.max_message }) t
     × (new ≡ old ++ printed)
@@ -151,7 +152,7 @@ heard_led k h s number seat directory g c r q l whole old new st e dir lt some f
     let lk : seat < k.config.seats = let z = st.seats in omega (arith, lt, z) in
     let heard : v.heard seat ≡ s.world.heard seat ++ r ∷ [] = sym (heard_is k.config c v cs seat lk) ∙ hears.here ∙ ap (λ (ns : List Noted). ns ++ r ∷ []) (heard_is k.config h.core s.world st.core seat lk) in
     let same : get_or c.next seat y ≡ get_or h.core.next seat y = ap (λ (ks : List CopyKey). get_or ks seat y) nexts in
-    let b1 = subst (λ (z : CopyKey). StandsForCaller (terms_of k) seat z (v.heard seat) q a.caller) (sym same) (heard_stands (terms_of k) seat (get_or h.core.next seat y) (s.world.heard seat) a.caller g r q (v.heard seat) a.stands slot heard) in
+    let b1 = subst (λ (z : CopyKey). StandsForConnection (terms_of k) seat z (v.heard seat) q a.caller) (sym same) (heard_stands (terms_of k) seat (get_or h.core.next seat y) (s.world.heard seat) a.caller g r q (v.heard seat) a.stands slot heard) in
     let w = f k seat (get_or c.next seat y) (v.heard seat) a.caller (record { numbered = e; looks_up = dir ∙ st.directory }) b1 in (
       with_caller (with_world s v) seat w.left,
       w.printed,

@@ -17,20 +17,21 @@ use Rattle.session_store.specs.Meets.{Meets}
 use Rattle.session_store.proofs.Served.{IsServing, carries, met_delivery}
 use Rattle.session_store.proofs.Serving.{same_delivery}
 use Rattle.shard_queue.proofs.AtLaws.{at_cases}
-use Rattle.visitors.specs.Place.{Place}
-use Rattle.house.specs.Printing.{WentOn}
-use Rattle.visitors.specs.Place as visit
+use Rattle.house_session.specs.Place.{Place}
+use Rattle.house.specs.inner.Printing.{WentOn}
+use Rattle.house_session.specs.Place as visit
 use Rattle.envelope.specs.Directory.{Directory}
-use Rattle.visitors.specs.Folders.{folders_of, has_user}
-use Rattle.visitors.specs.Visitor.{Visitor, greeted, more_waits}
+use Rattle.house_session.specs.Folders.{folders_of, has_user}
+use Rattle.house_session.specs.HouseSession.{HouseSession, greeted, more_waits}
 use Rattle.house.specs.Printing.{Speaks}
 use Rattle.house.proofs.Carried.{speaks_carried}
 use Rattle.world.specs.World.{World}
 use Rattle.house.specs.State.{State}
-use Rattle.house.specs.Scene.{EnterPlay, LeavePlay, LeavesMailbox, Parts, SayPlay, Scene, VisitorGoes, with_visitor, with_world}
+use Rattle.house.specs.Scene.{EnterPlay, LeavePlay, LeavesMailbox, Parts, SayPlay, Scene, SessionGoes, with_visitor, with_world}
 use Rattle.house.specs.Scene as scene
 use Rattle.house.specs.Stands.{StandsFor, StandsForVisit}
-use Rattle.house.specs.Steps.{IsNoPlace, PlaceVisited}
+use Rattle.house.specs.Steps.{IsNoPlace}
+use Rattle.house.specs.inner.Steps.{PlaceVisited}
 use Rattle.house.proofs.Seats.{moved}
 
 -- ---- what lies between seats and mailboxes stays
@@ -51,19 +52,19 @@ converses_delivery now lines old new said how next (goes_on a between b line oth
 -- ---- one visit
 
 -- the session went on over the desk, and so it did in the world
-pub record Went (k : Setup) (place : ℕ) (number : ℕ) (b after : Visitor) (w : World) (desk : Desk) (printed : List ℕ) : Type 0 where
+pub record Went (k : Setup) (place : ℕ) (number : ℕ) (b after : HouseSession) (w : World) (desk : Desk) (printed : List ℕ) : Type 0 where
   pub mid : World
   pub speaks : Speaks (Meets k.config place) number b w mid after printed
   pub serving : IsServing k.config place desk mid
 
-pub went : (k : Setup) (place number : ℕ) (b after : Visitor) (old new : Desk) (printed : List ℕ) (w : World) → Speaks Serves number b old new after printed → old.session ≡ place → core.StandsFor k.config old.core w
+pub went : (k : Setup) (place number : ℕ) (b after : HouseSession) (old new : Desk) (printed : List ℕ) (w : World) → Speaks Serves number b old new after printed → old.session ≡ place → core.StandsFor k.config old.core w
     → Went k place number b after w new printed
 went k place number b after old new printed w s at stands =
     let c = speaks_carried Serves (λ w call answer v. Meets k.config place w call answer v) (IsServing k.config place) (carries k.config place) number b old new after printed w s (record { session = at; stands = stands }) in
     record { mid = c.0; speaks = c.1; serving = c.2 }
 
 -- it remains at its place
-pub visited : (k : Setup) (whole : Bool) (number : ℕ) (b : Visitor) (old new : Desk) (w : World) (p : Place) (before after : List ℕ) → 0 < number → old.session ≡ number - 1 → core.StandsFor k.config old.core w
+pub visited : (k : Setup) (whole : Bool) (number : ℕ) (b : HouseSession) (old new : Desk) (w : World) (p : Place) (before after : List ℕ) → 0 < number → old.session ≡ number - 1 → core.StandsFor k.config old.core w
     → WentOn Serves whole number b old new before after p → (whole ≡ true → p.link.session.ended ≡ false)
     → PlaceVisited k whole (number - 1) w b old.core (Some p) new.core before after
 visited k whole number b old new w p before after some at stands o live =
@@ -87,7 +88,7 @@ visited k whole number b old new w p before after some at stands o live =
     }
 
 -- it has parted, and left its mailbox
-pub parted : (k : Setup) (number : ℕ) (b : Visitor) (old mid new : Desk) (answer : Answer) (w : World) (p : Place) (before after : List ℕ) → 0 < number → old.session ≡ number - 1 → core.StandsFor k.config old.core w
+pub parted : (k : Setup) (number : ℕ) (b : HouseSession) (old mid new : Desk) (answer : Answer) (w : World) (p : Place) (before after : List ℕ) → 0 < number → old.session ≡ number - 1 → core.StandsFor k.config old.core w
     → WentOn Serves true number b old mid before after p → p.link.session.ended ≡ true → Serves mid (calls.Leave false) answer new
     → PlaceVisited k true (number - 1) w b old.core None new.core before after
 parted k number b old mid new answer w p before after some at stands o over leaves =
@@ -114,7 +115,7 @@ parted k number b old mid new answer w p before after some at stands o over leav
 -- ---- the house
 
 -- another visitor, or nobody, is at a place
-pub placed : (k : Setup) (h : State) (s : Scene) (n : ℕ) (p : Option Place) (o : Option Visitor) → StandsFor k h s → n < length h.visitors → StandsForVisit p o
+pub placed : (k : Setup) (h : State) (s : Scene) (n : ℕ) (p : Option Place) (o : Option HouseSession) → StandsFor k h s → n < length h.visitors → StandsForVisit p o
     → StandsFor k (record { core = h.core; callers = h.callers; serials = h.serials; visitors = set h.visitors n p; directory = h.directory; host = h.host; max_message = h.max_message }) (with_visitor s n o)
 placed k h s n p o st within there = record {
   core = st.core;
@@ -128,13 +129,13 @@ placed k h s n p o st within there = record {
   numbers = st.numbers;
   each = λ seat y m d l. let q = st.each seat y m d l in record { counted = q.counted; who = q.who };
   places = length-set h.visitors n p ∙ st.places;
-  visitors = λ q d l. at_cases (λ (v : Option Visitor). StandsForVisit (get_or (set h.visitors n p) q d) v) s.visitor n o q
+  visitors = λ q d l. at_cases (λ (v : Option HouseSession). StandsForVisit (get_or (set h.visitors n p) q d) v) s.visitor n o q
       (λ e. subst (λ (i : ℕ). StandsForVisit (get_or (set h.visitors n p) i d) o) (sym e) (subst (λ (x : Option Place). StandsForVisit x o) (sym (get_or-set_same h.visitors n p d within)) there))
       (λ e. subst (λ (x : Option Place). StandsForVisit x (s.visitor q)) (sym (get_or-set_other h.visitors n q p d e)) (st.visitors q d (let m = length-set h.visitors n p in omega (arith, l, m))));
 }
 
 -- the same after the delivery side did what its session asked
-pub visit_stands : (k : Setup) (h : State) (s : Scene) (c : Held) (v : World) (n : ℕ) (p : Option Place) (o : Option Visitor) → StandsFor k h s → core.StandsFor k.config c v → SameDelivery h.core c
+pub visit_stands : (k : Setup) (h : State) (s : Scene) (c : Held) (v : World) (n : ℕ) (p : Option Place) (o : Option HouseSession) → StandsFor k h s → core.StandsFor k.config c v → SameDelivery h.core c
     → n < length h.visitors → StandsForVisit p o
     → StandsFor k (record { core = c; callers = h.callers; serials = h.serials; visitors = set h.visitors n p; directory = h.directory; host = h.host; max_message = h.max_message }) (with_visitor (with_world s v) n o)
 visit_stands k h s c v n p o st cs rest within there =
@@ -144,14 +145,14 @@ visit_stands k h s c v n p o st cs rest within there =
 -- ---- who is there
 
 -- somebody at a place of the house visits in the scene
-pub who_visits : (o : Option Place) (v : Option Visitor) (p : Place) → StandsForVisit o v → o ≡ Some p → (b : Visitor) × (v ≡ Some b) × visit.StandsFor p b
+pub who_visits : (o : Option Place) (v : Option HouseSession) (p : Place) → StandsForVisit o v → o ≡ Some p → (b : HouseSession) × (v ≡ Some b) × visit.StandsFor p b
 who_visits None None p s e = absurd (let f : None ≡ Some p = e in cc)
 who_visits None (Some b) p s e = absurd s
 who_visits (Some q) None p s e = absurd s
 who_visits (Some q) (Some b) p s e = (b, refl, let f : q ≡ p = cc in subst (λ (x : Place). visit.StandsFor x b) f s)
 
 -- nobody at a place of the house, and nobody visits
-pub nobody_visits : (o : Option Place) (v : Option Visitor) → StandsForVisit o v → o ≡ None → v ≡ None
+pub nobody_visits : (o : Option Place) (v : Option HouseSession) → StandsForVisit o v → o ≡ None → v ≡ None
 nobody_visits None None s e = refl
 nobody_visits None (Some b) s e = absurd s
 nobody_visits (Some q) v s e = absurd (let f : Some q ≡ None = e in cc)
@@ -165,7 +166,7 @@ no_place None e = refl
 no_place (Some p) e = absurd (let f : true ≡ false = e in cc)
 
 -- bytes more wait
-more_stands : (p : Place) (b : Visitor) (piece : List ℕ) → visit.StandsFor p b → visit.StandsFor (visit.with_more piece p) (more_waits b piece)
+more_stands : (p : Place) (b : HouseSession) (piece : List ℕ) → visit.StandsFor p b → visit.StandsFor (visit.with_more piece p) (more_waits b piece)
 more_stands p b piece s = record { begun = s.begun; connection = s.connection; waits = ap (λ (t : List ℕ). t ++ piece) s.waits ∙ append_assoc s.begun p.came piece; unsaid = s.unsaid }
 
 -- there is such a session, where the test says so
@@ -184,7 +185,7 @@ with_visits h c place q = record { core = c; callers = h.callers; serials = h.se
 
 pub said : (k : Setup) (whole : Bool) (h : State) (s : Scene) (place : ℕ) (piece : List ℕ) (p : Place) (q : Option Place) (c : Held) (old new : List ℕ) → StandsFor k h s → place < length h.visitors
     → get_or h.visitors place None ≡ Some p
-    → ((w : World) (b : Visitor) → core.StandsFor k.config h.core w → StandsForVisit (Some (visit.with_more piece p)) (Some b) → PlaceVisited k whole place w b h.core q c old new)
+    → ((w : World) (b : HouseSession) → core.StandsFor k.config h.core w → StandsForVisit (Some (visit.with_more piece p)) (Some b) → PlaceVisited k whole place w b h.core q c old new)
     → (t : Scene) × (printed : List ℕ) × SayPlay k whole s place piece t printed × StandsFor k (with_visits h c place q) t × (new ≡ old ++ printed)
 said k whole h s place piece p q c old new st within some goes =
     let v = who_visits (get_or h.visitors place None) (s.visitor place) p (st.visitors place None within) some in
@@ -198,7 +199,7 @@ said k whole h s place piece p q c old new st within some goes =
 
 pub entered : (k : Setup) (whole : Bool) (h : State) (s : Scene) (place : ℕ) (user : List ℕ) (p : Place) (q : Option Place) (c : Held) (old new : List ℕ) → StandsFor k h s → place < length h.visitors
     → get_or h.visitors place None ≡ None → has_user h.directory user ≡ true → visit.StandsFor p (greeted (folders_of h.directory user))
-    → ((w : World) (b : Visitor) → core.StandsFor k.config h.core w → StandsForVisit (Some p) (Some b) → PlaceVisited k whole place w b h.core q c old new)
+    → ((w : World) (b : HouseSession) → core.StandsFor k.config h.core w → StandsForVisit (Some p) (Some b) → PlaceVisited k whole place w b h.core q c old new)
     → (t : Scene) × (printed : List ℕ) × EnterPlay k whole s place user t printed × StandsFor k (with_visits h c place q) t × (new ≡ old ++ printed)
 entered k whole h s place user p q c old new st within free known is goes =
     let here : visit.StandsFor p (greeted (folders_of k.directory user)) = subst (λ (d : Directory). visit.StandsFor p (greeted (folders_of d user))) st.directory is in

@@ -11,7 +11,7 @@ use Rattle.house.specs.State.{State}
 use Rattle.house.specs.Setup.{Setup}
 use Rattle.house.specs.Scene.{Moves, Scene, with_world}
 use Rattle.house.specs.Stands.{StandsFor}
-use Rattle.house.specs.Steps.{fault_of}
+use Rattle.house.specs.inner.Steps.{fault_of}
 use Rattle.house.proofs.Seats.{moved, one_step}
 
 pub is_nothing : (f : Fault) → fault_of f ≡ house_faults.Nothing → f ≡ faults.Nothing

@@ -5,11 +5,11 @@ use Rattle.delivery_core.specs.Held.{behind}
 use Rattle.delivery_core.specs.Load.{load}
 use Rattle.house.specs.declared.event.Event.{Event}
 use Rattle.house.specs.declared.event.Event.TheVariants.{Bytes, Vanish, Put, Take, Deliver, Answer, Hear, End, Enter, Say, Idle, Leave}
-use Rattle.callers.specs.Line.{Line}
+use Rattle.house_connection.specs.Line.{Line}
 use Rattle.house.specs.State.{State}
-use Rattle.callers.specs.Taking.{line_effort}
+use Rattle.house_connection.specs.Taking.{line_effort}
 use Rattle.house.specs.Scene.{place_of}
-use Rattle.visitors.specs.Place.{Place}
+use Rattle.house_session.specs.Place.{Place}
 
 abbrev pub place_effort : Option Line → ℕ
 place_effort None = 0

@@ -9,4 +9,4 @@ pub mod Effort
 pub mod Settling
 pub mod Settled
 pub mod Window
-pub mod Trying
+pub mod inner

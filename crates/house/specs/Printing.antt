@@ -1,14 +1,13 @@
 -- What connections and sessions say, as the house prints it: each line with a mark that tells who said it.
-use Rattle.std.specs.Prelude.{◌≡◌, ◌<◌, ◌⊎◌, ℕ, ◌+◌, Bool, true, false, List, [], ◌++◌, Option, Some, None}
+use Rattle.std.specs.Prelude.{◌≡◌, ℕ, ◌+◌, Bool, true, List, [], ◌++◌, Option, Some, None}
 use Rattle.delivery_token.specs.declared.log.Noted.{Noted}
 use Rattle.line_io.specs.Marks.{marked}
 use Rattle.lmtp_machine.specs.declared.connection.What.{What}
 use Rattle.lmtp_machine.specs.declared.connection.What.TheVariants.{Quit}
 use Rattle.imap_session.specs.Exchange.{Call, Answer}
-use Rattle.imap_session.specs.Store.{IdleTurns, Starves}
-use Rattle.callers.specs.Caller.{Caller, Proceeds, with_unsaid}
-use Rattle.visitors.specs.Visitor.{Answers, HasAnswered, Visitor}
-use Rattle.visitors.specs.Place.{Place, StandsFor}
+use Rattle.imap_session.specs.Store.{IdleTurns}
+use Rattle.house_connection.specs.HouseConnection.{HouseConnection, Proceeds, with_unsaid}
+use Rattle.house_session.specs.HouseSession.{Answers, HasAnswered, HouseSession}
 use Rattle.house.specs.Setup.{Setup, terms_of}
 
 -- an L marks what connections say, an I what sessions say
@@ -35,14 +34,14 @@ pub data Prints (mark n : ℕ) (unsaid still printed : List ℕ) : Type 0 where
 
 -- Who stands at the seat after a turn: one whose dialogue ended and who has said all is gone, and what waited is dropped. One whose peer is gone
 -- stays for its verdicts alone, and another that has ended stays only where memory was wanting.
-pub data Leaves (whole : Bool) (what : What) (after : Caller) (o : Option Caller) : Type 0 where
+pub data Leaves (whole : Bool) (what : What) (after : HouseConnection) (o : Option HouseConnection) : Type 0 where
   goes : what ≡ Quit → after.talk.unsaid ≡ [] → o ≡ None → Leaves whole what after o
   stays : (what ≡ Quit → whole ≡ true → ⊥) → (what ≡ Quit → after.gone ≡ true → ⊥) → o ≡ Some after → Leaves whole what after o
 
 -- The connection at a seat does what it can now, and what it says is printed. `whole` says that memory wasn't wanting.
-pub record CallerGoes (k : Setup) (whole : Bool) (seat : ℕ) (heard : List Noted) (b : Caller) (o : Option Caller) (printed : List ℕ) : Type 0 where
+pub record ConnectionGoes (k : Setup) (whole : Bool) (seat : ℕ) (heard : List Noted) (b : HouseConnection) (o : Option HouseConnection) (printed : List ℕ) : Type 0 where
   pub what : What
-  pub after : Caller
+  pub after : HouseConnection
   pub proceeds : Proceeds (terms_of k) whole seat heard b what after
   pub still : List ℕ
   pub prints : Prints of_connection (seat + 1) after.talk.unsaid still printed
@@ -52,48 +51,19 @@ pub record CallerGoes (k : Setup) (whole : Bool) (seat : ℕ) (heard : List Note
 -- ---- sessions
 
 -- some lines of what waited were answered, and this was printed
-pub record Speaks {S : Type 0} (step : S → Call → Answer → S → Type 0) (n : ℕ) (before : Visitor) (old new : S) (after : Visitor) (printed : List ℕ) : Type 0 where
+pub record Speaks {S : Type 0} (step : S → Call → Answer → S → Type 0) (n : ℕ) (before : HouseSession) (old new : S) (after : HouseSession) (printed : List ℕ) : Type 0 where
   pub said : List ℕ
   pub answers : Answers step before old new after said
   pub prints : Prints of_session n (before.unsaid ++ said) after.unsaid printed
 
 -- its session had a turn while it idles, which showed so many changes, and this was printed
-pub record Idles {S : Type 0} (step : S → Call → Answer → S → Type 0) (n : ℕ) (before : Visitor) (old new : S) (after : Visitor) (count : ℕ) (printed : List ℕ) : Type 0 where
+pub record Idles {S : Type 0} (step : S → Call → Answer → S → Type 0) (n : ℕ) (before : HouseSession) (old new : S) (after : HouseSession) (count : ℕ) (printed : List ℕ) : Type 0 where
   pub said : List ℕ
   pub turned : IdleTurns step before.standing old new [] said count after.standing
   pub waits : after.waits ≡ before.waits
   pub prints : Prints of_session n (before.unsaid ++ said) after.unsaid printed
 
 -- all that was said is printed, and no line waits that may be answered
-pub record IsWhole (v : Visitor) : Type 0 where
+pub record IsWhole (v : HouseSession) : Type 0 where
   pub said : v.unsaid ≡ []
   pub answered : HasAnswered v
-
--- From this visitor its place went on over a store and printed this, and stands for the visitor after it.
-pub record WentOn {S : Type 0} (step : S → Call → Answer → S → Type 0) (whole : Bool) (n : ℕ) (before : Visitor) (old new : S) (text text_after : List ℕ) (p : Place) : Type 0 where
-  pub after : Visitor
-  pub printed : List ℕ
-  pub speaks : Speaks step n before old new after printed
-  pub all : whole ≡ true → IsWhole after
-  pub stands : StandsFor p after
-  pub out : text_after ≡ text ++ printed
-
--- From this visitor its place had a turn while it idles, which showed so many changes, and printed this; it stands for the visitor after it. Where
--- the turn was made whole, all that was said is printed.
-pub record Idled {S : Type 0} (step : S → Call → Answer → S → Type 0) (whole : Bool) (n : ℕ) (count : ℕ) (before : Visitor) (old new : S) (text text_after : List ℕ) (p : Place) : Type 0 where
-  pub after : Visitor
-  pub printed : List ℕ
-  pub idles : Idles step n before old new after count printed
-  pub all : whole ≡ true → after.unsaid ≡ []
-  pub stands : StandsFor p after
-  pub out : text_after ≡ text ++ printed
-
--- Memory was refused for a turn: the place stands for the visitor as it was, and nothing was printed.
-pub record Missed {S : Type 0} (step : S → Call → Answer → S → Type 0) (before : Visitor) (old new : S) (text text_after : List ℕ) (p : Place) : Type 0 where
-  pub starves : Starves step old new
-  pub stands : StandsFor p before
-  pub out : text_after ≡ text
-
--- The same, or the turn was made, and its words wait to be printed.
-abbrev pub IdledInPart : {S : Type 0} → (S → Call → Answer → S → Type 0) → ℕ → Visitor → S → S → List ℕ → List ℕ → Place → Type 0
-IdledInPart step n before old new text text_after p = Missed step before old new text text_after p ⊎ ((count : ℕ) × Idled step false n count before old new text text_after p)

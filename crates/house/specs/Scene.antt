@@ -8,11 +8,11 @@ use Rattle.world.specs.World.{World, Config, Step}
 use Rattle.imap_session.specs.Exchange as calls
 use Rattle.imap_session.specs.Exchange.{is_idling}
 use Rattle.session_store.specs.Meets.{Meets}
-use Rattle.callers.specs.Caller.{Caller, greeted, more_waits, unread}
-use Rattle.visitors.specs.Folders.{folders_of, has_user}
-use Rattle.visitors.specs.Visitor.{Visitor}
-use Rattle.visitors.specs.Visitor.{greeted as greeted_visitor, more_waits as visitor_more_waits}
-use Rattle.house.specs.Printing.{CallerGoes, Idles, IsWhole, Speaks}
+use Rattle.house_connection.specs.HouseConnection.{HouseConnection, greeted, more_waits, unread}
+use Rattle.house_session.specs.Folders.{folders_of, has_user}
+use Rattle.house_session.specs.HouseSession.{HouseSession}
+use Rattle.house_session.specs.HouseSession.{greeted as greeted_visitor, more_waits as visitor_more_waits}
+use Rattle.house.specs.Printing.{ConnectionGoes, Idles, IsWhole, Speaks}
 use Rattle.house.specs.Setup.{Setup, terms_of}
 use Rattle.house.specs.declared.event.Event.{Event}
 use Rattle.house.specs.declared.event.Event.TheVariants.{Bytes, Vanish, Put, Take, Deliver, Answer, Hear, End, Enter, Say, Idle, Leave}
@@ -20,9 +20,9 @@ use Rattle.house.specs.declared.event.Event.TheVariants.{Bytes, Vanish, Put, Tak
 -- the world; who stands at each seat, and of each seat the serial of its next connection; and who visits at each session's place
 pub record Scene : Type 0 where
   pub world : World
-  pub caller : ℕ → Option Caller
+  pub caller : ℕ → Option HouseConnection
   pub next : ℕ → ℕ
-  pub visitor : ℕ → Option Visitor
+  pub visitor : ℕ → Option HouseSession
 
 abbrev pub empty_scene : Scene
 empty_scene = record { world = world.empty_world; caller = λ _. None; next = λ _. 0; visitor = λ _. None }
@@ -44,55 +44,55 @@ abbrev pub HasEnded : Config → World → ℕ → Type 0
 HasEnded k w p = (s : ℕ) × (s < k.shards) × (has_end ((w.lane s).sent p) ≡ true)
 
 -- at this seat now stands this caller, or nobody
-abbrev pub with_caller : Scene → ℕ → Option Caller → Scene
+abbrev pub with_caller : Scene → ℕ → Option HouseConnection → Scene
 with_caller s seat o = record { world = s.world; caller = set_at s.caller seat o; next = s.next; visitor = s.visitor }
 
 abbrev pub with_world : Scene → World → Scene
 with_world s w = record { world = w; caller = s.caller; next = s.next; visitor = s.visitor }
 
 -- at this place now stands this visitor, or nobody
-abbrev pub with_visitor : Scene → ℕ → Option Visitor → Scene
+abbrev pub with_visitor : Scene → ℕ → Option HouseSession → Scene
 with_visitor s place o = record { world = s.world; caller = s.caller; next = s.next; visitor = set_at s.visitor place o }
 
 -- bytes came from the peer of a connection
 pub data BytesPlay (k : Setup) (whole : Bool) (s : Scene) (seat : ℕ) (piece : List ℕ) (t : Scene) (printed : List ℕ) : Type 0 where
   -- nobody stands there, and the seat has ended nowhere: a connection is opened first, with the seat's next serial
-  opens : seat < k.config.seats → s.caller seat ≡ None → s.next seat < most_serials → (HasEnded k.config s.world seat → ⊥) → (o : Option Caller)
-      → CallerGoes k whole seat (s.world.heard seat) (more_waits (greeted (terms_of k) seat (s.next seat)) piece) o printed
+  opens : seat < k.config.seats → s.caller seat ≡ None → s.next seat < most_serials → (HasEnded k.config s.world seat → ⊥) → (o : Option HouseConnection)
+      → ConnectionGoes k whole seat (s.world.heard seat) (more_waits (greeted (terms_of k) seat (s.next seat)) piece) o printed
       → t ≡ record { world = s.world; caller = set_at s.caller seat o; next = set_at s.next seat (s.next seat + 1); visitor = s.visitor } → BytesPlay k whole s seat piece t printed
-  goes_on : (b : Caller) → s.caller seat ≡ Some b → b.gone ≡ false → (o : Option Caller)
-      → CallerGoes k whole seat (s.world.heard seat) (more_waits b piece) o printed → t ≡ with_caller s seat o → BytesPlay k whole s seat piece t printed
+  goes_on : (b : HouseConnection) → s.caller seat ≡ Some b → b.gone ≡ false → (o : Option HouseConnection)
+      → ConnectionGoes k whole seat (s.world.heard seat) (more_waits b piece) o printed → t ≡ with_caller s seat o → BytesPlay k whole s seat piece t printed
 
 -- the next copy of the message at hand is put
 pub record PutPlay (k : Setup) (whole : Bool) (s : Scene) (seat : ℕ) (t : Scene) (printed : List ℕ) : Type 0 where
-  pub caller : Caller
+  pub caller : HouseConnection
   pub there : s.caller seat ≡ Some caller
   pub copy : Job
   pub others : List Job
   pub front : caller.to_put ≡ copy ∷ others
   pub moved : World
   pub step : Step k.config s.world (world.Put seat (world.shard_of k.config copy.mailbox) copy) moved
-  pub left : Option Caller
-  pub goes : CallerGoes k whole seat (moved.heard seat) (record { serial = caller.serial; gone = caller.gone; talk = caller.talk; to_put = others }) left printed
+  pub left : Option HouseConnection
+  pub goes : ConnectionGoes k whole seat (moved.heard seat) (record { serial = caller.serial; gone = caller.gone; talk = caller.talk; to_put = others }) left printed
   pub after : t ≡ with_caller (with_world s moved) seat left
 
 -- the seat hears a verdict
 pub record HearPlay (k : Setup) (whole : Bool) (s : Scene) (seat : ℕ) (t : Scene) (printed : List ℕ) : Type 0 where
-  pub caller : Caller
+  pub caller : HouseConnection
   pub there : s.caller seat ≡ Some caller
   pub moved : World
   pub step : Step k.config s.world (world.Hear seat) moved
-  pub left : Option Caller
-  pub goes : CallerGoes k whole seat (moved.heard seat) caller left printed
+  pub left : Option HouseConnection
+  pub goes : ConnectionGoes k whole seat (moved.heard seat) caller left printed
   pub after : t ≡ with_caller (with_world s moved) seat left
 
 -- the peer of a connection is gone
 pub record VanishPlay (k : Setup) (whole : Bool) (s : Scene) (seat : ℕ) (t : Scene) (printed : List ℕ) : Type 0 where
-  pub caller : Caller
+  pub caller : HouseConnection
   pub there : s.caller seat ≡ Some caller
   pub was_read : caller.gone ≡ false
-  pub left : Option Caller
-  pub goes : CallerGoes k whole seat (s.world.heard seat) (unread caller) left printed
+  pub left : Option HouseConnection
+  pub goes : ConnectionGoes k whole seat (s.world.heard seat) (unread caller) left printed
   pub after : t ≡ with_caller s seat left
 
 -- ---- sessions
@@ -102,22 +102,22 @@ abbrev pub LeavesMailbox : Setup → (place : ℕ) → World → World → Type 
 LeavesMailbox k place w v = (answer : calls.Answer) × Meets k.config place w (calls.Leave false) answer v
 
 -- who visits after a turn: one whose session has ended and who has said all is gone, and what waited is dropped
-pub data Parts (k : Setup) (whole : Bool) (place : ℕ) (after : Visitor) (w v : World) (o : Option Visitor) : Type 0 where
+pub data Parts (k : Setup) (whole : Bool) (place : ℕ) (after : HouseSession) (w v : World) (o : Option HouseSession) : Type 0 where
   parts : after.standing.ended ≡ true → after.unsaid ≡ [] → LeavesMailbox k place w v → o ≡ None → Parts k whole place after w v o
   remains : (whole ≡ true → after.standing.ended ≡ true → ⊥) → v ≡ w → o ≡ Some after → Parts k whole place after w v o
 
 -- The visitor answers what waits, by the mailboxes of the world, and this is printed. `whole` says that memory wasn't wanting.
-pub record VisitorGoes (k : Setup) (whole : Bool) (place : ℕ) (w : World) (before : Visitor) (v : World) (o : Option Visitor) (printed : List ℕ) : Type 0 where
-  pub after : Visitor
+pub record SessionGoes (k : Setup) (whole : Bool) (place : ℕ) (w : World) (before : HouseSession) (v : World) (o : Option HouseSession) (printed : List ℕ) : Type 0 where
+  pub after : HouseSession
   pub mid : World
   pub speaks : Speaks (Meets k.config place) (place + 1) before w mid after printed
   pub all : whole ≡ true → IsWhole after
   pub left : Parts k whole place after mid v o
 
 -- The visitor's session idles and has a turn, by the mailboxes of the world: it is shown one change at least, or it ends. This is printed.
-pub record VisitorIdles (k : Setup) (whole : Bool) (place : ℕ) (w : World) (before : Visitor) (v : World) (o : Option Visitor) (printed : List ℕ) : Type 0 where
+pub record SessionIdles (k : Setup) (whole : Bool) (place : ℕ) (w : World) (before : HouseSession) (v : World) (o : Option HouseSession) (printed : List ℕ) : Type 0 where
   pub idling : is_idling before.standing ≡ true
-  pub after : Visitor
+  pub after : HouseSession
   pub mid : World
   pub shown : ℕ
   pub idles : Idles (Meets k.config place) (place + 1) before w mid after shown printed
@@ -131,31 +131,31 @@ pub record EnterPlay (k : Setup) (whole : Bool) (s : Scene) (place : ℕ) (user 
   pub free : s.visitor place ≡ None
   pub known : has_user k.directory user ≡ true
   pub moved : World
-  pub left : Option Visitor
-  pub goes : VisitorGoes k whole place s.world (greeted_visitor (folders_of k.directory user)) moved left printed
+  pub left : Option HouseSession
+  pub goes : SessionGoes k whole place s.world (greeted_visitor (folders_of k.directory user)) moved left printed
   pub after : t ≡ with_visitor (with_world s moved) place left
 
 -- bytes came from a session's client
 pub record SayPlay (k : Setup) (whole : Bool) (s : Scene) (place : ℕ) (piece : List ℕ) (t : Scene) (printed : List ℕ) : Type 0 where
-  pub visitor : Visitor
+  pub visitor : HouseSession
   pub there : s.visitor place ≡ Some visitor
   pub moved : World
-  pub left : Option Visitor
-  pub goes : VisitorGoes k whole place s.world (visitor_more_waits visitor piece) moved left printed
+  pub left : Option HouseSession
+  pub goes : SessionGoes k whole place s.world (visitor_more_waits visitor piece) moved left printed
   pub after : t ≡ with_visitor (with_world s moved) place left
 
 -- A session that idles is shown what is pending. Where nothing is, there is no such play.
 pub record IdlePlay (k : Setup) (whole : Bool) (s : Scene) (place : ℕ) (t : Scene) (printed : List ℕ) : Type 0 where
-  pub visitor : Visitor
+  pub visitor : HouseSession
   pub there : s.visitor place ≡ Some visitor
   pub moved : World
-  pub left : Option Visitor
-  pub goes : VisitorIdles k whole place s.world visitor moved left printed
+  pub left : Option HouseSession
+  pub goes : SessionIdles k whole place s.world visitor moved left printed
   pub after : t ≡ with_visitor (with_world s moved) place left
 
 -- a session's client is gone: what waited and what was still to be printed is dropped
 pub record LeavePlay (k : Setup) (s : Scene) (place : ℕ) (t : Scene) (printed : List ℕ) : Type 0 where
-  pub visitor : Visitor
+  pub visitor : HouseSession
   pub there : s.visitor place ≡ Some visitor
   pub moved : World
   pub leaves : LeavesMailbox k place s.world moved

@@ -2,7 +2,7 @@
 use Rattle.std.specs.Prelude.{ℕ, List}
 use Rattle.envelope.specs.Directory.{Directory}
 use Rattle.world.specs.World.{Config}
-use Rattle.callers.specs.Caller.{Terms}
+use Rattle.house_connection.specs.HouseConnection.{Terms}
 
 pub record Setup : Type 0 where
   pub config : Config

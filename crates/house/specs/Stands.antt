@@ -4,25 +4,25 @@ use Rattle.delivery_token.specs.declared.CopyKey.{CopyKey}
 use Rattle.delivery_token.specs.declared.log.Noted.{Noted}
 use Rattle.delivery_token.specs.Keys.{AtLeast}
 use Rattle.delivery_core.specs.Stands as core
-use Rattle.callers.specs.Line.{Line}
+use Rattle.house_connection.specs.Line.{Line}
 use Rattle.house.specs.State.{State}
-use Rattle.callers.specs.Caller.{Caller}
+use Rattle.house_connection.specs.HouseConnection.{HouseConnection}
 use Rattle.house.specs.Setup.{Setup, terms_of}
 use Rattle.house.specs.Scene.{Scene}
-use Rattle.callers.specs.CallerStands.{StandsForCaller}
-use Rattle.visitors.specs.Visitor.{Visitor}
-use Rattle.visitors.specs.Place.{Place}
-use Rattle.visitors.specs.Place as visit
+use Rattle.house_connection.specs.ConnectionStands.{StandsForConnection}
+use Rattle.house_session.specs.HouseSession.{HouseSession}
+use Rattle.house_session.specs.Place.{Place}
+use Rattle.house_session.specs.Place as visit
 
 -- who stands at a seat
-abbrev pub StandsForOne : Setup → ℕ → CopyKey → List Noted → ℕ → Option Line → Option Caller → Type 0
+abbrev pub StandsForOne : Setup → ℕ → CopyKey → List Noted → ℕ → Option Line → Option HouseConnection → Type 0
 StandsForOne k seat next heard serials None None = AtLeast next (record { seat = seat; serial = serials; message = 0; recipient = 0 })
 StandsForOne k seat next heard serials None (Some b) = ⊥
 StandsForOne k seat next heard serials (Some h) None = ⊥
-StandsForOne k seat next heard serials (Some h) (Some b) = StandsForCaller (terms_of k) seat next heard h b × (b.serial < serials)
+StandsForOne k seat next heard serials (Some h) (Some b) = StandsForConnection (terms_of k) seat next heard h b × (b.serial < serials)
 
 -- who visits at a place
-abbrev pub StandsForVisit : Option Place → Option Visitor → Type 0
+abbrev pub StandsForVisit : Option Place → Option HouseSession → Type 0
 StandsForVisit None None = Unit {0}
 StandsForVisit None (Some v) = ⊥
 StandsForVisit (Some p) None = ⊥

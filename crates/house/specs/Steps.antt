@@ -7,30 +7,24 @@ use Rattle.house.specs.declared.event.Event.{Event}
 use Rattle.house.specs.declared.event.Event.TheVariants.{Bytes, Vanish, Put, Take, Deliver, Answer, Hear, End, Enter, Say, Idle, Leave}
 use Rattle.delivery_token.specs.declared.Job.{Job}
 use Rattle.delivery_token.specs.declared.Refusal.{Refusal}
-use Rattle.world.specs.World.{Config, World}
+use Rattle.world.specs.World.{Config}
 use Rattle.world.specs.World as world
 use Rattle.delivery_core.specs.Held.{Held, behind, client_of, has_ended}
-use Rattle.delivery_core.specs.Changes.{Hears, SameCounts, SameDelivery}
+use Rattle.delivery_core.specs.Changes.{Hears, SameCounts}
 use Rattle.delivery_token.specs.Log.{heard_at_once}
-use Rattle.delivery_core.specs.Puts.{IsNextKey}
 use Rattle.delivery_token.specs.Keys.{past}
 use Rattle.delivery_core.specs.Stands as core
-use Rattle.delivery_core.specs.declared.steps.Fault.{Fault}
-use Rattle.delivery_core.specs.declared.steps.Fault.TheVariants as faults
-use Rattle.house.specs.declared.event.HouseFault.{HouseFault}
-use Rattle.house.specs.declared.event.HouseFault.TheVariants as house_faults
-use Rattle.callers.specs.Line.{Line}
-use Rattle.callers.specs.Taking.{due}
+use Rattle.house_connection.specs.Line.{Line}
+use Rattle.house_connection.specs.Taking.{due}
 use Rattle.house.specs.State.{State}
-use Rattle.callers.specs.Caller.{Caller, Proceeds}
+use Rattle.house_connection.specs.HouseConnection.{HouseConnection}
 use Rattle.house.specs.Setup.{Setup, terms_of}
-use Rattle.house.specs.Scene.{Scene, HasNothing, Plays, VisitorGoes, VisitorIdles, most_serials, place_of, seat_of}
-use Rattle.callers.specs.CallerStands.{StandsForCaller}
+use Rattle.house.specs.Scene.{Scene, HasNothing, Plays, most_serials, place_of, seat_of}
+use Rattle.house_connection.specs.ConnectionStands.{StandsForConnection}
 use Rattle.imap_session.specs.Exchange.{is_idling}
-use Rattle.visitors.specs.Folders.{has_user}
-use Rattle.house.specs.Stands.{StandsFor, StandsForVisit}
-use Rattle.visitors.specs.Place.{Place}
-use Rattle.visitors.specs.Visitor.{Visitor}
+use Rattle.house_session.specs.Folders.{has_user}
+use Rattle.house.specs.Stands.{StandsFor}
+use Rattle.house_session.specs.Place.{Place}
 
 -- there is no such connection: they are numbered from 1
 abbrev pub IsNoSeat : State → ℕ → Type 0
@@ -46,11 +40,6 @@ pub record IsThere (h : State) (connection : ℕ) : Type 0 where
   pub seat : connection ≤ length h.callers
   pub who : IsSome (slice_index_or h.callers (seat_of connection) None)
 
--- there is such a connection
-pub record HasSeat (h : State) (connection : ℕ) : Type 0 where
-  pub number : 0 < connection
-  pub seat : connection ≤ length h.callers
-
 -- somebody stands at this place, and the peer is gone
 abbrev pub is_unread : Option Line → Bool
 is_unread None = false
@@ -61,21 +50,6 @@ pub record IsUnread (h : State) (connection : ℕ) : Type 0 where
   pub number : 0 < connection
   pub seat : connection ≤ length h.callers
   pub gone : is_unread (slice_index_or h.callers (seat_of connection) None) ≡ true
-
--- somebody stands there whose peer is there too
-pub record IsRead (h : State) (connection : ℕ) : Type 0 where
-  pub number : 0 < connection
-  pub seat : connection ≤ length h.callers
-  pub who : IsSome (slice_index_or h.callers (seat_of connection) None)
-  pub read : is_unread (slice_index_or h.callers (seat_of connection) None) ≡ false
-
--- nobody stands at the connection's seat, which takes another
-pub record IsVacant (h : State) (connection : ℕ) : Type 0 where
-  pub number : 0 < connection
-  pub seat : connection ≤ length h.callers
-  pub empty : IsEmptySeat h connection
-  pub more : slice_index_or h.serials (seat_of connection) 0 < most_serials
-  pub goes_on : has_ended h.core (seat_of connection) ≡ false
 
 -- the seat takes no new connection: its serials are spent, or it has ended
 abbrev pub IsSpent : State → ℕ → Type 0
@@ -88,11 +62,6 @@ IsNoPlace h session = (session ≡ 0) ⊎ (length h.visitors < session)
 -- nobody visits at the session's place
 abbrev pub IsFreePlace : State → ℕ → Type 0
 IsFreePlace h session = slice_index_or h.visitors (place_of session) None ≡ None
-
--- there is such a session
-pub record HasPlace (h : State) (session : ℕ) : Type 0 where
-  pub number : 0 < session
-  pub place : session ≤ length h.visitors
 
 -- somebody visits at the session's place
 pub record IsTakenPlace (h : State) (session : ℕ) : Type 0 where
@@ -150,44 +119,10 @@ FollowsInPart before event h old new = (k : Setup) (s : Scene) → StandsFor k b
 abbrev pub IsIdle : State → Event → Type 0
 IsIdle before event = (k : Setup) (s : Scene) → StandsFor k before s → HasNothing k s event
 
--- who may stand at a place, and for whom
-abbrev pub StandsForMaybe : Setup → ℕ → CopyKey → List Noted → Option Line → Option Caller → Type 0
-StandsForMaybe k seat next heard None None = Unit {0}
-StandsForMaybe k seat next heard None (Some b) = ⊥
-StandsForMaybe k seat next heard (Some h) None = ⊥
-StandsForMaybe k seat next heard (Some h) (Some b) = StandsForCaller (terms_of k) seat next heard h b
-
--- a connection's number and directory are those of the house
-pub record IsOf (k : Setup) (number seat : ℕ) (directory : Directory) : Type 0 where
-  pub numbered : number ≡ seat + 1
-  pub looks_up : directory ≡ k.directory
-
 -- after a caller went on: it is gone, or stands there still
-abbrev pub IsThere : Setup → ℕ → CopyKey → List Noted → What → Line → Option Caller → Type 0
+abbrev pub IsThere : Setup → ℕ → CopyKey → List Noted → What → Line → Option HouseConnection → Type 0
 IsThere k seat next heard what h None = what ≡ Quit
-IsThere k seat next heard what h (Some b) = (what ≡ Quit → ⊥) × StandsForCaller (terms_of k) seat next heard h b
-
--- From this caller the connection did what it could and this was printed, and it stands for the caller after it.
-pub record CallerWent (k : Setup) (whole : Bool) (seat : ℕ) (next : CopyKey) (heard : List Noted) (b : Caller) (what : What) (h : Line) (old new : List ℕ) : Type 0 where
-  pub left : Option Caller
-  pub printed : List ℕ
-  pub goes : CallerGoes k whole seat heard b left printed
-  pub there : IsThere k seat next heard what h left
-  pub out : new ≡ old ++ printed
-
--- the caller at a place went on, and printed this
-pub record PlaceWentOn (k : Setup) (whole : Bool) (seat : ℕ) (next : CopyKey) (heard : List Noted) (b : Caller) (h : Option Line) (old new : List ℕ) : Type 0 where
-  pub left : Option Caller
-  pub printed : List ℕ
-  pub goes : CallerGoes k whole seat heard b left printed
-  pub there : StandsForMaybe k seat next heard h left
-  pub out : new ≡ old ++ printed
-
--- a fault of the delivery core, as one of the house
-abbrev pub fault_of : Fault → HouseFault
-fault_of faults.Nobody = house_faults.Nobody
-fault_of faults.Nothing = house_faults.Nothing
-fault_of faults.NoMemory = house_faults.NoMemory
+IsThere k seat next heard what h (Some b) = (what ≡ Quit → ⊥) × StandsForConnection (terms_of k) seat next heard h b
 
 -- the delivery side took this copy, and told at once what was heard of it
 pub record CorePuts (old : Held) (c : Job) (new : Held) (why : Option Refusal) : Type 0 where
@@ -195,11 +130,6 @@ pub record CorePuts (old : Held) (c : Job) (new : Held) (why : Option Refusal) :
   pub next : new.next ≡ slice_set old.next c.key.seat (past c.key)
   pub heard : Hears old new c.key.seat (heard_at_once c.key c.mailbox why)
   pub counts : SameCounts old new
-
--- there is no copy to put, or it may not be put
-abbrev pub MayNotPut : Held → Line → Type 0
-MayNotPut old h = (due h ≡ []) ⊎ ((c : Job) × (others : List Job) × (due h ≡ c ∷ others)
-    × ((IsNextKey old c.key c.mailbox → ⊥) ⊎ ((k : Config) → core.Idle k old (world.Put c.key.seat (c.mailbox % length old.lanes) c))))
 
 -- the copy that is next was put
 pub record PutsNext (old : Held) (h : Line) (new : Held) (why : Option Refusal) : Type 0 where
@@ -219,48 +149,11 @@ pub record CannotNote (old : Held) (h : Line) : Type 0 where
   pub front : due h ≡ copy ∷ others
   pub room : HasNoRoom old copy.key.seat
 
--- The visitor at a place went on, and printed this; the delivery side stands for what its session did.
-pub record PlaceVisited (k : Setup) (whole : Bool) (place : ℕ) (w : World) (b : Visitor) (old : Held) (p : Option Place) (new : Held) (before after : List ℕ) : Type 0 where
-  pub left : Option Visitor
-  pub moved : World
-  pub printed : List ℕ
-  pub goes : VisitorGoes k whole place w b moved left printed
-  pub there : StandsForVisit p left
-  pub core : core.StandsFor k.config new moved
-  pub rest : SameDelivery old new
-  pub out : after ≡ before ++ printed
-
--- The visitor at a place had a turn while its session idles, and printed this; the delivery side stands for what its session did.
-pub record PlaceIdled (k : Setup) (whole : Bool) (place : ℕ) (w : World) (b : Visitor) (old : Held) (p : Option Place) (new : Held) (before after : List ℕ) : Type 0 where
-  pub left : Option Visitor
-  pub moved : World
-  pub printed : List ℕ
-  pub goes : VisitorIdles k whole place w b moved left printed
-  pub there : StandsForVisit p left
-  pub core : core.StandsFor k.config new moved
-  pub rest : SameDelivery old new
-  pub out : after ≡ before ++ printed
-
--- It had none, and all is as it was.
-pub record PlaceKept (k : Setup) (w : World) (b : Visitor) (old : Held) (p : Option Place) (new : Held) (before after : List ℕ) : Type 0 where
-  pub there : StandsForVisit p (Some b)
-  pub core : core.StandsFor k.config new w
-  pub rest : SameDelivery old new
-  pub out : after ≡ before
-
--- where memory was wanting: no turn, or one whose words aren't printed yet
-abbrev pub PlaceIdledInPart : Setup → ℕ → World → Visitor → Held → Option Place → Held → List ℕ → List ℕ → Type 0
-PlaceIdledInPart k place w b old p new before after = PlaceIdled k false place w b old p new before after ⊎ PlaceKept k w b old p new before after
-
 -- The visitor at a place may have a turn: its session idles in a mailbox, and isn't known to have been shown all of its log.
 pub record MayIdle (p : Place) (place : ℕ) (core : Held) : Type 0 where
   pub idling : is_idling p.link.session ≡ true
   pub selected : IsSome p.link.session.selected
   pub news : IsSome (client_of core place) → behind core place ≡ 0 → ⊥
-
--- In no world for which the delivery side stood does the visitor at a place have a turn.
-abbrev pub HasNoTurn : ℕ → Option Place → Held → Type 0
-HasNoTurn place p old = (k : Setup) (w v : World) (b : Visitor) (o : Option Visitor) (printed : List ℕ) → core.StandsFor k.config old w → StandsForVisit p (Some b) → VisitorIdles k true place w b v o printed → ⊥
 
 -- When an event may be refused for want of memory. A take, a delivery, an answer, an end, a leave and a peer that is gone ask for none. A put and a hearing ask before
 -- anything is done for the room of one note alone, and an idling session for what there is to show.

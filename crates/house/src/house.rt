@@ -3,43 +3,44 @@
 
 ghost use Rattle.std.specs.Prelude.{true, false, ◌≡◌, ◌≢◌, ◌≤◌, ◌<◌, ◌+◌, ◌⊎◌, ◌↔◌, ℕ, List, [], length, None, Some, Err, OnOk, OnErr, IfOk, IfErr, IfNone, IfSome, IsSome, IsSomeAnd, MatchOption, option_map};
 ghost use Rattle.delivery_token.specs.Keys.{AtLeast};
-ghost use Rattle.callers.specs.Line.{Line};
-ghost use Rattle.callers.specs.Taking.{HearsVerdict, due, noted_put, with_more, with_nobody_there};
-ghost use Rattle.submission.specs.Verdicts.{heard_verdict};
+ghost use Rattle.house_connection.specs.Line.{Line};
+ghost use Rattle.house_connection.specs.Taking.{HearsVerdict, due, noted_put, with_more, with_nobody_there};
+ghost use Rattle.submission.specs.inner.Verdicts.{heard_verdict};
 ghost use Rattle.delivery_token.specs.declared.CopyKey.{CopyKey};
 ghost use Rattle.delivery_token.specs.declared.log.Noted.{Noted};
-ghost use Rattle.callers.specs.CallerStands.{StandsForCaller};
-ghost use Rattle.house.specs.Steps.{IsOf};
-ghost use Rattle.callers.specs.Caller as spec;
+ghost use Rattle.house_connection.specs.ConnectionStands.{StandsForConnection};
+ghost use Rattle.house.specs.inner.Steps.{IsOf};
+ghost use Rattle.house_connection.specs.HouseConnection as spec;
 ghost use Rattle.house.specs.Scene as scene;
-ghost use Rattle.callers.specs.Caller.{Terms, greeted, more_waits};
+ghost use Rattle.house_connection.specs.HouseConnection.{Terms, greeted, more_waits};
 ghost use Rattle.house.specs.Setup.{Setup, terms_of};
 ghost use Rattle.house.specs.Stands.{StandsFor};
 ghost use Rattle.house.specs.Effort.{MakesLess, place_effort};
 ghost use Rattle.delivery_core.specs.Load.{load};
 ghost use Rattle.std.specs.Borrow.{Bor};
-ghost use Rattle.house.specs.Steps.{Follows, FollowsInPart, IsIdle, HasSeat, IsBusy, IsEmptySeat, IsNoSeat, IsNobody, IsRead, IsVacant, Led, MayNotPut, CannotNote, MayWant, PlaceWentOn, PutsNext, StandsForMaybe, fault_of, is_unread};
+ghost use Rattle.house.specs.Steps.{Follows, FollowsInPart, IsIdle, IsBusy, IsEmptySeat, IsNoSeat, IsNobody, Led, CannotNote, MayWant, PutsNext, is_unread};
+ghost use Rattle.house.specs.inner.Steps.{HasSeat, IsRead, IsVacant, MayNotPut, PlaceWentOn, StandsForMaybe, fault_of};
 ghost use Rattle.house.specs.declared.event.Event.TheVariants as events;
 
 use crate::event::{Event, HouseFault};
 use crate::printing::proceed;
-use callers::Caller;
 use delivery_core::{DeliveryCore, Fault};
 use delivery_token::{Noted, Refusal, Verdict};
 use envelope::Directory;
+use house_connection::HouseConnection;
+use house_session::HouseSession;
 use lmtp_machine::{Limits, What};
 use session_store::Desk;
 use std::alloc::{AllocError, Global};
 use std::marker::Model;
-use visitors::Visitor;
 
 /// A house on one thread.
 #[derive(Drop)]
 pub struct House {
     pub(crate) desk: Desk,
-    pub(crate) callers: Vec<Option<Caller>>,
+    pub(crate) callers: Vec<Option<HouseConnection>>,
     pub(crate) serials: Vec<u64>,
-    pub(crate) visitors: Vec<Option<Visitor>>,
+    pub(crate) visitors: Vec<Option<HouseSession>>,
     pub(crate) directory: Directory,
     pub(crate) host: Vec<u8>,
     pub(crate) max_message: usize,
@@ -66,15 +67,15 @@ impl Model for House {
 
 // The caller at a place goes on, and leaves it where its connection has ended.
 fn go_on_at(
-    place: &mut Option<Caller>,
+    place: &mut Option<HouseConnection>,
     number: u8,
     directory: &Directory,
     out: &mut Vec<u8>,
 ) -> Result<(), AllocError>
     ensures less { place_effort place.new ≤ place_effort place.old }
-    ensures ok { OnOk result ((k : Setup) (seat : ℕ) (next : CopyKey) (heard : List Noted) (b : spec.Caller) → IsOf k number seat directory.now → StandsForMaybe k seat next heard place.old (Some b) →
+    ensures ok { OnOk result ((k : Setup) (seat : ℕ) (next : CopyKey) (heard : List Noted) (b : spec.HouseConnection) → IsOf k number seat directory.now → StandsForMaybe k seat next heard place.old (Some b) →
         PlaceWentOn k true seat next heard b place.new out.old.items out.new.items) }
-    ensures err { OnErr result ((k : Setup) (seat : ℕ) (next : CopyKey) (heard : List Noted) (b : spec.Caller) → IsOf k number seat directory.now → StandsForMaybe k seat next heard place.old (Some b) →
+    ensures err { OnErr result ((k : Setup) (seat : ℕ) (next : CopyKey) (heard : List Noted) (b : spec.HouseConnection) → IsOf k number seat directory.now → StandsForMaybe k seat next heard place.old (Some b) →
         PlaceWentOn k false seat next heard b place.new out.old.items out.new.items) }
     ensures asks { OnErr result (IfSome place.old (λ h. h.gone ≡ false)) }
 {
@@ -97,12 +98,12 @@ fn opened(
     serial: u64,
     limits: Limits<'_>,
     piece: &[u8],
-) -> Result<Caller, AllocError>
+) -> Result<HouseConnection, AllocError>
     requires { length limits.host.now < 256 }
     ensures { IfOk result (λ h. (k : Terms) (next : CopyKey) (heard : List Noted) → k.host ≡ limits.entry.host.now → k.max_message ≡ limits.entry.max_message
-        → AtLeast next (record { seat = seat; serial = serial; message = 0; recipient = 0 }) → StandsForCaller k seat next heard h (more_waits (greeted k seat serial) piece.now)) }
+        → AtLeast next (record { seat = seat; serial = serial; message = 0; recipient = 0 }) → StandsForConnection k seat next heard h (more_waits (greeted k seat serial) piece.now)) }
 {
-    let Ok(mut caller) = Caller::open(alloc, seat, serial, limits) else {
+    let Ok(mut caller) = HouseConnection::open(alloc, seat, serial, limits) else {
         return Err(AllocError);
     };
     let Ok(()) = caller.append(piece) else {
@@ -112,7 +113,7 @@ fn opened(
 }
 
 // Bytes more wait for the caller at a place.
-fn append_at(place: &mut Option<Caller>, piece: &[u8]) -> Result<(), AllocError>
+fn append_at(place: &mut Option<HouseConnection>, piece: &[u8]) -> Result<(), AllocError>
     ensures ok { OnOk result (place.new ≡ option_map (with_more piece.now) place.old) }
     ensures err { OnErr result (place.new ≡ place.old) }
 {
@@ -123,7 +124,7 @@ fn append_at(place: &mut Option<Caller>, piece: &[u8]) -> Result<(), AllocError>
 }
 
 // Whether somebody stands at a place whose peer is gone.
-fn is_unread(place: &Option<Caller>) -> bool
+fn is_unread(place: &Option<HouseConnection>) -> bool
     ensures { result ≡ is_unread place.now }
 {
     match place {
@@ -133,7 +134,7 @@ fn is_unread(place: &Option<Caller>) -> bool
 }
 
 // The peer of the caller at a place is gone.
-fn vanish_at(place: &mut Option<Caller>)
+fn vanish_at(place: &mut Option<HouseConnection>)
     ensures { place.new ≡ option_map with_nobody_there place.old }
 {
     if let Some(caller) = place {
@@ -142,7 +143,10 @@ fn vanish_at(place: &mut Option<Caller>)
 }
 
 // Puts the next copy of the caller at a place.
-fn put_next(core: &mut DeliveryCore, place: &Option<Caller>) -> Result<Option<Refusal>, HouseFault>
+fn put_next(
+    core: &mut DeliveryCore,
+    place: &Option<HouseConnection>,
+) -> Result<Option<Refusal>, HouseFault>
     ensures nobody { (result ≡ Err HouseFault.Nobody) ↔ (place.now ≡ None) }
     ensures busy { result ≢ Err HouseFault.Busy }
     ensures nothing { result ≡ Err HouseFault.Nothing → (h : Line) × (place.now ≡ Some h) × MayNotPut core.old h }
@@ -169,7 +173,7 @@ fn put_next(core: &mut DeliveryCore, place: &Option<Caller>) -> Result<Option<Re
 }
 
 // The next copy of the caller at a place was put, and this was heard of it at once.
-fn note_put_at(place: &mut Option<Caller>, why: Option<Refusal>)
+fn note_put_at(place: &mut Option<HouseConnection>, why: Option<Refusal>)
     requires { IfSome place.old (λ h. 0 < length (due h)) }
     ensures { place.new ≡ option_map (noted_put (heard_verdict why)) place.old }
 {
@@ -183,7 +187,7 @@ fn note_put_at(place: &mut Option<Caller>, why: Option<Refusal>)
 }
 
 // The caller at a place hears a verdict.
-fn hear_at(place: &mut Option<Caller>, noted: &Noted)
+fn hear_at(place: &mut Option<HouseConnection>, noted: &Noted)
     ensures { MatchOption place.old (place.new ≡ None) (λ h. IsSomeAnd place.new (HearsVerdict h noted.now)) }
 {
     if let Some(caller) = place {

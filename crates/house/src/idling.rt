@@ -8,23 +8,24 @@ ghost use Rattle.delivery_core.specs.Stands as core;
 ghost use Rattle.house.specs.Effort.{MakesLess, turns_left};
 ghost use Rattle.house.specs.Settling.{Visit, Visits, idle_turns};
 ghost use Rattle.house.specs.Stands.{StandsFor, StandsForVisit};
-ghost use Rattle.house.specs.Steps.{Follows, FollowsInPart, HasNoTurn, IsIdle, IsNobody, MayIdle, MayWant, PlaceIdled, PlaceIdledInPart};
-ghost use Rattle.house.specs.Trying.{Goes, IsAmong, Wants};
+ghost use Rattle.house.specs.Steps.{Follows, FollowsInPart, IsIdle, IsNobody, MayIdle, MayWant};
+ghost use Rattle.house.specs.inner.Steps.{HasNoTurn, PlaceIdled, PlaceIdledInPart};
+ghost use Rattle.house.specs.inner.Trying.{Goes, IsAmong, Wants};
 ghost use Rattle.house.specs.declared.event.Event.TheVariants as events;
-ghost use Rattle.visitors.specs.Visitor as spec;
+ghost use Rattle.house_session.specs.HouseSession as spec;
 ghost use Rattle.world.specs.World.{World};
 
 use crate::event::{Event, HouseFault};
 use crate::house::House;
 use crate::printing::take_turn;
 use delivery_core::DeliveryCore;
+use house_session::HouseSession;
 use imap_session::Store;
 use session_store::Desk;
 use std::alloc::AllocError;
-use visitors::Visitor;
 
 // Whether the visitor at a place, counted from 0, has something to do in a turn: its session idles in a mailbox and wasn't shown all of its log.
-fn has_turn(visitor: &Visitor, place: u8, core: &DeliveryCore) -> bool
+fn has_turn(visitor: &HouseSession, place: u8, core: &DeliveryCore) -> bool
     ensures some { result ≡ true → MayIdle visitor.now place core.now }
     ensures none { result ≡ false → HasNoTurn place (Some visitor.now) core.now }
 {
@@ -39,17 +40,17 @@ fn has_turn(visitor: &Visitor, place: u8, core: &DeliveryCore) -> bool
 
 // The visitor at a place has a turn, and leaves where its session has ended.
 fn turn_at(
-    place: &mut Option<Visitor>,
+    place: &mut Option<HouseSession>,
     number: u8,
     desk: &mut Desk,
     out: &mut Vec<u8>,
 ) -> Result<(), AllocError>
     requires counted { 0 < number }
     requires idles { IfSome place.old (λ p. MayIdle p (number - 1) desk.old.core) }
-    ensures ok { OnOk result ((k : Setup) (w : World) (b : spec.Visitor) → core.StandsFor k.config desk.old.core w → StandsForVisit place.old (Some b) →
+    ensures ok { OnOk result ((k : Setup) (w : World) (b : spec.HouseSession) → core.StandsFor k.config desk.old.core w → StandsForVisit place.old (Some b) →
         PlaceIdled k true (number - 1) w b desk.old.core place.new desk.new.core out.old.items out.new.items) }
     ensures less { OnOk result (IfSome place.old (λ p. turns_left place.new (behind desk.new.core (number - 1)) < turns_left (Some p) (behind desk.old.core (number - 1)))) }
-    ensures err { OnErr result ((k : Setup) (w : World) (b : spec.Visitor) → core.StandsFor k.config desk.old.core w → StandsForVisit place.old (Some b) →
+    ensures err { OnErr result ((k : Setup) (w : World) (b : spec.HouseSession) → core.StandsFor k.config desk.old.core w → StandsForVisit place.old (Some b) →
         PlaceIdledInPart k (number - 1) w b desk.old.core place.new desk.new.core out.old.items out.new.items) }
 {
     let Some(visitor) = place else {

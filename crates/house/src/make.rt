@@ -11,13 +11,13 @@ ghost use Rattle.house.specs.Stands.{StandsFor};
 
 use crate::config::{Config, ConfigFault};
 use crate::house::House;
-use callers::Caller;
 use delivery_core::{DeliveryCore, Settings};
 use envelope::{Directory, is_name};
+use house_connection::HouseConnection;
+use house_session::HouseSession;
 use mailbox::Limits;
 use session_store::Desk;
 use std::alloc::{AllocError, Global};
-use visitors::Visitor;
 
 /// So many connections may stand at a time.
 const SEATS: u8 = 8;
@@ -137,7 +137,7 @@ pub fn directory_of(alloc: Global, config: &Config) -> Result<Directory, ConfigF
 }
 
 // At each seat nobody.
-fn empty_places(alloc: Global) -> Result<Vec<Option<Caller>>, AllocError>
+fn empty_places(alloc: Global) -> Result<Vec<Option<HouseConnection>>, AllocError>
     ensures { IfOk result (λ v. v.items ≡ replicate SEATS None) }
 {
     let mut places = Vec::new(alloc);
@@ -148,7 +148,7 @@ fn empty_places(alloc: Global) -> Result<Vec<Option<Caller>>, AllocError>
 }
 
 // At each place nobody.
-fn free_places(alloc: Global) -> Result<Vec<Option<Visitor>>, AllocError>
+fn free_places(alloc: Global) -> Result<Vec<Option<HouseSession>>, AllocError>
     ensures { IfOk result (λ v. v.items ≡ replicate SESSIONS None) }
 {
     let mut places = Vec::new(alloc);

@@ -6,25 +6,26 @@ ghost use Rattle.delivery_token.specs.declared.CopyKey.{CopyKey};
 ghost use Rattle.delivery_token.specs.declared.log.Noted.{Noted};
 ghost use Rattle.line_io.specs.Marks.{marked};
 ghost use Rattle.lmtp_machine.specs.declared.connection.What.TheVariants as whats;
-ghost use Rattle.callers.specs.Caller as connection;
-ghost use Rattle.callers.specs.CallerStands.{StandsForCaller};
-ghost use Rattle.callers.specs.Taking as taking;
-ghost use Rattle.callers.specs.Taking.{line_effort};
-ghost use Rattle.visitors.specs.Place as place;
-ghost use Rattle.visitors.specs.Place.{HadTurn, StandsFor};
-ghost use Rattle.visitors.specs.Visitor as session;
+ghost use Rattle.house_connection.specs.HouseConnection as connection;
+ghost use Rattle.house_connection.specs.ConnectionStands.{StandsForConnection};
+ghost use Rattle.house_connection.specs.Taking as taking;
+ghost use Rattle.house_connection.specs.Taking.{line_effort};
+ghost use Rattle.house_session.specs.Place as place;
+ghost use Rattle.house_session.specs.Place.{HadTurn, StandsFor};
+ghost use Rattle.house_session.specs.HouseSession as session;
 ghost use Rattle.session_store.specs.Desk.{Serves};
-ghost use Rattle.house.specs.Printing.{Idled, IdledInPart, WentOn, of_connection, of_session};
+ghost use Rattle.house.specs.Printing.{of_connection, of_session};
+ghost use Rattle.house.specs.inner.Printing.{Idled, IdledInPart, WentOn};
 ghost use Rattle.house.specs.Setup.{Setup, terms_of};
-ghost use Rattle.house.specs.Steps.{CallerWent, IsOf};
+ghost use Rattle.house.specs.inner.Steps.{ConnectionWent, IsOf};
 
-use callers::Caller;
 use envelope::Directory;
+use house_connection::HouseConnection;
+use house_session::HouseSession;
 use line_io::append_marked;
 use lmtp_machine::What;
 use session_store::Desk;
 use std::alloc::{AllocError, Global};
-use visitors::Visitor;
 
 // Prints each line of the words, with a mark and a number before it. Where there are none no memory is asked for.
 fn print_words(mark: u8, number: u8, words: &[u8], out: &mut Vec<u8>) -> Result<(), AllocError>
@@ -42,7 +43,7 @@ fn print_words(mark: u8, number: u8, words: &[u8], out: &mut Vec<u8>) -> Result<
 
 // Prints what a connection said, and tells it so.
 fn print_connection(
-    caller: &mut Caller,
+    caller: &mut HouseConnection,
     number: u8,
     out: &mut Vec<u8>,
 ) -> Result<(), AllocError>
@@ -58,7 +59,11 @@ fn print_connection(
 }
 
 // Prints what a session said, and tells it so.
-fn print_session(visitor: &mut Visitor, number: u8, out: &mut Vec<u8>) -> Result<(), AllocError>
+fn print_session(
+    visitor: &mut HouseSession,
+    number: u8,
+    out: &mut Vec<u8>,
+) -> Result<(), AllocError>
     ensures ok { OnOk result ((visitor.new ≡ place.with_all_said visitor.old) × (out.new.items ≡ out.old.items ++ marked of_session number visitor.old.unsaid)) }
     ensures err { OnErr result ((visitor.new ≡ visitor.old) × (out.new.items ≡ out.old.items)) }
 {
@@ -71,16 +76,16 @@ fn print_session(visitor: &mut Visitor, number: u8, out: &mut Vec<u8>) -> Result
 
 // A connection does what it can now, and what it says is printed.
 pub(crate) fn proceed(
-    caller: &mut Caller,
+    caller: &mut HouseConnection,
     number: u8,
     directory: &Directory,
     out: &mut Vec<u8>,
 ) -> Result<What, AllocError>
     ensures less { line_effort caller.new ≤ line_effort caller.old }
-    ensures ok { IfOk result (λ what. (k : Setup) (seat : ℕ) (next : CopyKey) (heard : List Noted) (b : connection.Caller) → IsOf k number seat directory.now → StandsForCaller (terms_of k) seat next heard caller.old b →
-        CallerWent k true seat next heard b what caller.new out.old.items out.new.items) }
-    ensures err { OnErr result ((k : Setup) (seat : ℕ) (next : CopyKey) (heard : List Noted) (b : connection.Caller) → IsOf k number seat directory.now → StandsForCaller (terms_of k) seat next heard caller.old b →
-        CallerWent k false seat next heard b whats.More caller.new out.old.items out.new.items) }
+    ensures ok { IfOk result (λ what. (k : Setup) (seat : ℕ) (next : CopyKey) (heard : List Noted) (b : connection.HouseConnection) → IsOf k number seat directory.now → StandsForConnection (terms_of k) seat next heard caller.old b →
+        ConnectionWent k true seat next heard b what caller.new out.old.items out.new.items) }
+    ensures err { OnErr result ((k : Setup) (seat : ℕ) (next : CopyKey) (heard : List Noted) (b : connection.HouseConnection) → IsOf k number seat directory.now → StandsForConnection (terms_of k) seat next heard caller.old b →
+        ConnectionWent k false seat next heard b whats.More caller.new out.old.items out.new.items) }
     ensures asks { OnErr result (caller.old.gone ≡ true → ⊥) }
 {
     let Ok(what) = caller.proceed(directory) else {
@@ -96,14 +101,14 @@ pub(crate) fn proceed(
 
 // A session answers what waits, over its store, and what it says is printed.
 pub(crate) fn go_on(
-    visitor: &mut Visitor,
+    visitor: &mut HouseSession,
     alloc: Global,
     number: u8,
     desk: &mut Desk,
     out: &mut Vec<u8>,
 ) -> Result<(), AllocError>
-    ensures ok { OnOk result ((v : session.Visitor) → StandsFor visitor.old v → WentOn Serves true number v desk.old desk.new out.old.items out.new.items visitor.new) }
-    ensures err { OnErr result ((v : session.Visitor) → StandsFor visitor.old v → WentOn Serves false number v desk.old desk.new out.old.items out.new.items visitor.new) }
+    ensures ok { OnOk result ((v : session.HouseSession) → StandsFor visitor.old v → WentOn Serves true number v desk.old desk.new out.old.items out.new.items visitor.new) }
+    ensures err { OnErr result ((v : session.HouseSession) → StandsFor visitor.old v → WentOn Serves false number v desk.old desk.new out.old.items out.new.items visitor.new) }
 {
     let Ok(()) = visitor.go_on(alloc, desk) else {
         let _ = print_session(visitor, number, out);
@@ -117,14 +122,14 @@ pub(crate) fn go_on(
 
 // A session has a turn while it idles, over its store, and what it says is printed. Answers how many changes were shown.
 pub(crate) fn take_turn(
-    visitor: &mut Visitor,
+    visitor: &mut HouseSession,
     number: u8,
     desk: &mut Desk,
     out: &mut Vec<u8>,
 ) -> Result<usize, AllocError>
-    ensures ok { IfOk result (λ count. (v : session.Visitor) → StandsFor visitor.old v → Idled Serves true number count v desk.old desk.new out.old.items out.new.items visitor.new) }
+    ensures ok { IfOk result (λ count. (v : session.HouseSession) → StandsFor visitor.old v → Idled Serves true number count v desk.old desk.new out.old.items out.new.items visitor.new) }
     ensures session { IfOk result (λ count. HadTurn Serves visitor.old desk.old desk.new count visitor.new) }
-    ensures err { OnErr result ((v : session.Visitor) → StandsFor visitor.old v → IdledInPart Serves number v desk.old desk.new out.old.items out.new.items visitor.new) }
+    ensures err { OnErr result ((v : session.HouseSession) → StandsFor visitor.old v → IdledInPart Serves number v desk.old desk.new out.old.items out.new.items visitor.new) }
 {
     let Ok(count) = visitor.idle_turn(desk) else {
         return Err(AllocError);

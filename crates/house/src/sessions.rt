@@ -5,32 +5,33 @@ ghost use Rattle.std.specs.Prelude.{◌≡◌, ◌≢◌, ◌↔◌, ◌<◌, �
 ghost use Rattle.delivery_core.specs.Stands as core;
 ghost use Rattle.house.specs.Scene as scene;
 ghost use Rattle.house.specs.Stands.{StandsFor, StandsForVisit};
-ghost use Rattle.house.specs.Steps.{Follows, FollowsInPart, IsBusy, IsNobody, IsNoPlace, Led, PlaceVisited};
+ghost use Rattle.house.specs.Steps.{Follows, FollowsInPart, IsBusy, IsNobody, IsNoPlace, Led};
+ghost use Rattle.house.specs.inner.Steps.{PlaceVisited};
 ghost use Rattle.house.specs.declared.event.Event.TheVariants as events;
 ghost use Rattle.house.specs.Setup.{Setup};
-ghost use Rattle.visitors.specs.Visitor as spec;
+ghost use Rattle.house_session.specs.HouseSession as spec;
 ghost use Rattle.world.specs.World.{World};
 
 use crate::event::HouseFault;
 use crate::house::House;
 use crate::printing::go_on;
+use house_session::{HouseSession, folders_of, has_user};
 use imap_session::Store;
 use session_store::Desk;
 use std::alloc::{AllocError, Global};
-use visitors::{Visitor, folders_of, has_user};
 
 // The visitor at a place goes on, and leaves it where its session has ended.
 fn go_on_at(
-    place: &mut Option<Visitor>,
+    place: &mut Option<HouseSession>,
     alloc: Global,
     number: u8,
     desk: &mut Desk,
     out: &mut Vec<u8>,
 ) -> Result<(), AllocError>
     requires { 0 < number }
-    ensures ok { OnOk result ((k : Setup) (w : World) (b : spec.Visitor) → core.StandsFor k.config desk.old.core w → StandsForVisit place.old (Some b) →
+    ensures ok { OnOk result ((k : Setup) (w : World) (b : spec.HouseSession) → core.StandsFor k.config desk.old.core w → StandsForVisit place.old (Some b) →
         PlaceVisited k true (number - 1) w b desk.old.core place.new desk.new.core out.old.items out.new.items) }
-    ensures err { OnErr result ((k : Setup) (w : World) (b : spec.Visitor) → core.StandsFor k.config desk.old.core w → StandsForVisit place.old (Some b) →
+    ensures err { OnErr result ((k : Setup) (w : World) (b : spec.HouseSession) → core.StandsFor k.config desk.old.core w → StandsForVisit place.old (Some b) →
         PlaceVisited k false (number - 1) w b desk.old.core place.new desk.new.core out.old.items out.new.items) }
 {
     let Some(visitor) = place else {
@@ -80,7 +81,7 @@ impl House {
         let Ok(folders) = folders_of(alloc, &self.directory, user) else {
             return Err(HouseFault::NoMemory);
         };
-        let Ok(visitor) = Visitor::open(alloc, folders) else {
+        let Ok(visitor) = HouseSession::open(alloc, folders) else {
             return Err(HouseFault::NoMemory);
         };
         let mut here = Some(visitor);

@@ -7,7 +7,7 @@ ghost use Rattle.house.specs.Setup.{Setup};
 ghost use Rattle.house.specs.Settled.{HappenedFrom, SettledFrom, is_held};
 ghost use Rattle.house.specs.Settling.{GoesRounds, round};
 ghost use Rattle.house.specs.Stands.{StandsFor};
-ghost use Rattle.house.specs.Trying.{CameInTurn, CameOne, CameVisit, CameVisits, Goes, IsOwn, Wants, hears, puts, serve, serves};
+ghost use Rattle.house.specs.inner.Trying.{CameInTurn, CameOne, CameVisit, CameVisits, Goes, IsOwn, Wants, hears, puts, serve, serves};
 
 use crate::event::{Event, HouseFault};
 use crate::house::House;

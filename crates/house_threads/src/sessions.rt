@@ -6,13 +6,13 @@ ghost use Rattle.house_threads.specs.Crew.{IsVisitOf};
 ghost use Rattle.house_threads.specs.inner.Crew.{IsGuest};
 
 use house_floor::{Floor, Visit, inbox_numbered};
+use house_session::folders_of;
 use pace::Gate;
 use session_thread::{LockedDesk, live};
 use std::alloc::AllocError;
 use std::sync::Wait;
 use std::thread;
 use std::thread::{Promise, Threads};
-use visitors::folders_of;
 
 /// What the thread of this session is to return: what the session said, or that it wanted memory.
 #[derive(Clone, Copy)]

@@ -11,7 +11,8 @@ use Rattle.shard_queue.specs.declared.lane.Entry.TheVariants.{Item, End}
 use Rattle.shard_queue.specs.declared.ends.ReplyChannel.{ReplyChannel}
 use Rattle.shard_queue.specs.declared.reply.SenderSeat.{SenderSeat}
 use Rattle.shard_queue.specs.Reply.{sender_number, sent_on}
-use Rattle.lane_work.specs.Answering.{HaveAnswered, HaveClosed, IsVerdict, Serves, WereAnswered, answered, is_nobodys, none, passed, telling}
+use Rattle.lane_work.specs.Answering.{HaveClosed, IsVerdict, Serves, WereAnswered, answered, is_nobodys, none, passed, telling}
+use Rattle.lane_work.specs.inner.Answering.{HaveAnswered}
 use Rattle.lane_work.specs.Seats.{AreSenders}
 use Rattle.lane_work.proofs.SeatLaws.{senders_length}
 

@@ -15,7 +15,8 @@ use Rattle.lmtp_machine.specs.Dialogue.{Submission}
 use Rattle.shard_queue.specs.Shared.{IsStartOf}
 use Rattle.lane_work.specs.Talk.{Judged}
 use Rattle.lane_work.specs.Account.{AreBooks}
-use Rattle.lane_work.specs.Copies.{AreTried, Fills, FillsIn, FoundFull, HavePut, IsAtOnce, IsHeard, Room, WereHeard, WerePut, WereTried, none, put, elsewhere, refused, copies, copies_of, note_of, room_at, told, under_way, unknown}
+use Rattle.lane_work.specs.Copies.{FoundFull, IsAtOnce, IsHeard, Room, WerePut, none, put, elsewhere, refused, copies, copies_of, note_of, room_at, told}
+use Rattle.lane_work.specs.inner.Copies.{AreTried, Fills, FillsIn, HavePut, WereHeard, WereTried, under_way, unknown}
 use Rattle.lane_work.proofs.SlotLaws.{fills_length, heard_later}
 
 take_suc : {A : Type 0} (xs : List A) (i : ℕ) (x : A) → i < length xs → x ≡ slice_index_or xs i x → take (suc i) xs ≡ take i xs ++ x ∷ []

@@ -14,9 +14,10 @@ use Rattle.shard_queue.specs.Shared.{IsStartOf}
 use Rattle.envelope.specs.Directory.{Directory}
 use Rattle.lane_work.specs.Talk.{Judged, WholeTalk}
 use Rattle.lane_work.specs.Copies.{Room, none, room_at}
-use Rattle.lane_work.specs.Account.{Account, AreBooks, HasServed, HaveEnded, HaveTalked, Premises, next, notes_tell, setting_at}
+use Rattle.lane_work.specs.Account.{Account, AreBooks, HaveEnded, HaveTalked, Premises, next, notes_tell, setting_at}
+use Rattle.lane_work.specs.inner.Account.{HasServed}
 use Rattle.lane_work.specs.Account as account
-use Rattle.lane_work.specs.Speaking.{Spoke}
+use Rattle.lane_work.specs.inner.Speaking.{Spoke}
 use Rattle.lane_work.proofs.CopyLaws.{take_next, were_put_later}
 
 pub served_next : (house : Premises) (p : ℕ) (connections replies : List (List ℕ)) (bytes reply : List ℕ) (serial : ℕ) (keeps more : List (Job × Verdict) → Type 0) (heard hears : List (Entry Noted)) (before after : List (List (Entry Job)))

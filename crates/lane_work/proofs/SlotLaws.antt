@@ -8,7 +8,8 @@ use Rattle.delivery_token.specs.declared.log.Noted.{Noted}
 use Rattle.shard_queue.specs.declared.lane.Entry.{Entry}
 use Rattle.shard_queue.specs.declared.lane.Entry.TheVariants.{Item}
 use Rattle.shard_queue.specs.Shared.{IsStartOf}
-use Rattle.lane_work.specs.Copies.{Fills, FillsIn, IsHeard, WereHeard, note_of, unknown}
+use Rattle.lane_work.specs.Copies.{IsHeard, note_of}
+use Rattle.lane_work.specs.inner.Copies.{Fills, FillsIn, WereHeard, unknown}
 
 pub fills_same : (xs : List (Option Verdict)) → Fills xs xs
 fills_same [] = tt

@@ -21,7 +21,8 @@ use Rattle.shard_queue.specs.declared.lane.Entry.{Entry}
 use Rattle.lane_work.specs.Talk.{Judged, HasTaken, greeted, goes_on, submits}
 use Rattle.lane_work.specs.Account.{AreBooks}
 use Rattle.lane_work.specs.Copies.{Room}
-use Rattle.lane_work.specs.Speaking.{Spoke, Stands, is_quit}
+use Rattle.lane_work.specs.Speaking.{Stands, is_quit}
+use Rattle.lane_work.specs.inner.Speaking.{Spoke}
 
 wire_more : (host : List ℕ) (one two : List Reply) → wire host (one ++ two) ≡ wire host one ++ wire host two
 wire_more host one two = flat_map-append (λ reply. reply_text host reply ++ crlf) one two

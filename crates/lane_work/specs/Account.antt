@@ -51,9 +51,3 @@ pub record Account (house : Premises) (seat : ℕ) (connections replies : List (
 -- each list has the producer's end behind it
 abbrev pub HaveEnded : ℕ → (before after : List (List (Entry Job))) → Type 0
 HaveEnded seat before after = after ≡ map (λ entries. entries ++ End seat ∷ []) before
-
--- The same before the ends are put.
-pub record HasServed (house : Premises) (seat : ℕ) (connections replies : List (List ℕ)) (keeps : List (Job × Verdict) → Type 0) (heard : List (Entry Noted)) (sent : List (List (Entry Job))) : Type 0 where
-  pub judged : List Judged
-  pub talked : HaveTalked house seat connections replies judged
-  pub books : AreBooks house.directory house.rooms seat judged keeps heard sent

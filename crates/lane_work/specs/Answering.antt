@@ -70,11 +70,6 @@ pub data WereAnswered (mailboxes shard p : ℕ) : List (Entry Job) → List (Ent
       → WereAnswered mailboxes shard p got told → (IsCopyOf p entry → ⊥)
       → WereAnswered mailboxes shard p (got ++ entry ∷ []) told
 
--- What a consumer has sent on each channel grew by the answers to these entries, and by nothing else.
-abbrev pub HaveAnswered : (mailboxes channels shard : ℕ) → List (Entry Job) → (before after : List (List (Entry Noted))) → Type 0
-HaveAnswered mailboxes channels shard got before after =
-    (p : ℕ) → p < channels → (told : List (Entry Noted)) × WereAnswered mailboxes shard p got told × (slice_index_or after p [] ≡ slice_index_or before p [] ++ told)
-
 -- each list has the sender's end behind it
 abbrev pub HaveClosed : ℕ → (before after : List (List (Entry Noted))) → Type 0
 HaveClosed shard before after = after ≡ map (λ entries. entries ++ End shard ∷ []) before

@@ -4,8 +4,8 @@ pub mod Seats
 pub mod Account
 pub mod Answering
 pub mod Consuming
-pub mod Desk
 pub mod Ends
 pub mod Speaking
 pub mod Working
 pub mod Histories
+pub mod inner

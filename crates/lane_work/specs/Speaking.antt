@@ -8,12 +8,12 @@ use Rattle.lmtp_machine.specs.declared.connection.What.{What}
 use Rattle.lmtp_machine.specs.declared.connection.What.TheVariants.{More, Submit, Quit}
 use Rattle.lmtp_machine.specs.declared.reply.Reply.{Reply}
 use Rattle.lmtp_machine.specs.Conversation.{Conversation}
-use Rattle.lmtp_machine.specs.Dialogue.{Setting, Ended}
+use Rattle.lmtp_machine.specs.Dialogue.{Ended}
 use Rattle.lmtp_machine.specs.Machine.{Machine, StandsFor}
 use Rattle.lmtp_machine.specs.Replies.{wire}
 use Rattle.shard_queue.specs.declared.lane.Entry.{Entry}
 use Rattle.lane_work.specs.declared.desk.Office.{Office}
-use Rattle.lane_work.specs.Talk.{Judged, HasTaken, WholeTalk}
+use Rattle.lane_work.specs.Talk.{Judged, HasTaken}
 use Rattle.lane_work.specs.Account.{AreBooks, Premises}
 use Rattle.lane_work.specs.Copies.{Room, rooms_of}
 
@@ -34,12 +34,4 @@ pub record Stands (directory : Directory) (rooms : List Room) (seat : ℕ) (done
   pub machine : StandsFor m at
   pub ended : over ≡ true → at.standing.phase ≡ Ended
   pub replies : out ≡ wire m.host said
-  pub books : AreBooks directory rooms seat (done ++ judged) keeps heard sent
-
--- The connection is over: all that its peer sent was taken, or the dialogue ended before.
-pub record Spoke (directory : Directory) (rooms : List Room) (seat : ℕ) (done : List Judged) (bytes : List ℕ) (setting : Setting) (host out : List ℕ) (keeps : List (Job × Verdict) → Type 0) (heard : List (Entry Noted)) (sent : List (List (Entry Job))) : Type 0 where
-  pub said : List Reply
-  pub judged : List Judged
-  pub talk : WholeTalk setting directory bytes said judged
-  pub replies : out ≡ wire host said
   pub books : AreBooks directory rooms seat (done ++ judged) keeps heard sent

@@ -6,7 +6,8 @@ ghost use Rattle.std.specs.List.{list_any};
 ghost use Rattle.shard_queue.specs.Seats.{IsConsumer, got};
 ghost use Rattle.shard_queue.specs.Reply.{sent_on};
 ghost use Rattle.lane_work.specs.Seats.{AreSenders, AreSendersEnded};
-ghost use Rattle.lane_work.specs.Answering.{HaveAnswered, is_nobodys};
+ghost use Rattle.lane_work.specs.Answering.{is_nobodys};
+ghost use Rattle.lane_work.specs.inner.Answering.{HaveAnswered};
 ghost use Rattle.lane_work.specs.Consuming.{IsConsumed, items_of};
 ghost use Rattle.lane_work.specs.Ends.{ends_in};
 

@@ -7,8 +7,9 @@ ghost use Rattle.std.specs.Option.{is_some};
 ghost use Rattle.shard_queue.specs.Reply.{IsReceiver, received};
 ghost use Rattle.shard_queue.specs.Shared.{IsStartOf};
 ghost use Rattle.lmtp_machine.specs.Calls.{submission_of};
-ghost use Rattle.lane_work.specs.Copies.{Fills, FillsIn, WereHeard, copies_of, unknown};
-ghost use Rattle.lane_work.specs.Desk.{SameButReceiver};
+ghost use Rattle.lane_work.specs.Copies.{copies_of};
+ghost use Rattle.lane_work.specs.inner.Copies.{Fills, FillsIn, WereHeard, unknown};
+ghost use Rattle.lane_work.specs.inner.Desk.{SameButReceiver};
 ghost use Rattle.lane_work.specs.Ends.{CountsEnds};
 
 use crate::desk::Desk;

@@ -8,8 +8,9 @@ ghost use Rattle.shard_queue.specs.Seats.{IsProducer, sent, number_of};
 ghost use Rattle.envelope.specs.Directory.{shard_of};
 ghost use Rattle.lmtp_machine.specs.Calls.{submission_of};
 ghost use Rattle.lane_work.specs.Seats.{AreSeats};
-ghost use Rattle.lane_work.specs.Desk.{SameButSeats};
-ghost use Rattle.lane_work.specs.Copies.{FoundFull, HavePut, IsAtOnce, WereTried, copies_of, room_at, room_of, rooms_of};
+ghost use Rattle.lane_work.specs.inner.Desk.{SameButSeats};
+ghost use Rattle.lane_work.specs.Copies.{FoundFull, IsAtOnce, copies_of, room_at, room_of, rooms_of};
+ghost use Rattle.lane_work.specs.inner.Copies.{HavePut, WereTried};
 
 use crate::bells::Summons;
 use crate::desk::{Desk, Office};

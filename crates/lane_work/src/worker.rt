@@ -11,10 +11,12 @@ ghost use Rattle.shard_queue.specs.Shared.{IsStartOf};
 ghost use Rattle.lmtp_machine.specs.Calls.{Moves, submission_of};
 ghost use Rattle.lane_work.specs.Talk.{Judged};
 ghost use Rattle.lane_work.specs.Seats.{AreSeats};
-ghost use Rattle.lane_work.specs.Account.{AreBooks, HasServed, notes_tell, setting_at};
+ghost use Rattle.lane_work.specs.Account.{AreBooks, notes_tell, setting_at};
+ghost use Rattle.lane_work.specs.inner.Account.{HasServed};
 ghost use Rattle.lane_work.specs.Ends.{CountsEnds, ends_in};
 ghost use Rattle.lane_work.specs.Working.{IsWorked};
-ghost use Rattle.lane_work.specs.Speaking.{Spoke, Stands, is_quit, premises_of};
+ghost use Rattle.lane_work.specs.Speaking.{Stands, is_quit, premises_of};
+ghost use Rattle.lane_work.specs.inner.Speaking.{Spoke};
 ghost use Rattle.lane_work.specs.Copies.{rooms_of};
 
 use crate::bells::Summons;

@@ -19,9 +19,9 @@ use Rattle.house.specs.declared.event.HouseFault.{HouseFault}
 use Rattle.house.specs.declared.event.HouseFault.TheVariants as faults
 use Rattle.script.specs.declared.run.TurnFault.{TurnFault}
 use Rattle.script.specs.declared.run.TurnFault.TheVariants as turn_faults
-use Rattle.callers.specs.Line.{Line}
+use Rattle.house_connection.specs.Line.{Line}
 use Rattle.house.specs.State.{State}
-use Rattle.callers.specs.Caller.{Caller}
+use Rattle.house_connection.specs.HouseConnection.{HouseConnection}
 use Rattle.house.specs.Setup.{Setup}
 use Rattle.house.specs.Scene.{HasEnded, Plays, Scene, empty_scene, most_serials, seat_of}
 use Rattle.house.specs.Stands.{StandsFor, StandsForOne}
@@ -33,7 +33,7 @@ use Rattle.house.specs.Window.{PrintsWindow}
 use Rattle.script.specs.Script.{IsAway, IsNoConnection, IsOwing, LinePlays, NobodyThere, Script, ScriptLine, Asks, Enters, Leaves, Sends, Vanishes, Hold, Free, Tail, Skip, Bad, asked, brought, goes_again, goes_nobody, held_after, is_bad, is_digit, line_of, none_held, refusal, script_of, sends, sends_to_nobody, sends_to_owing, skips, stands_nobody, stands_still, tails, tails_nobody, vanishes, vanishes_again, vanishes_away}
 use Rattle.script.specs.Leaving.{Writes, WritesBeginning, WritesFirst, IsLeftWanting, unread, unwritten, LineBegins, LineWanting, undone, begun, PlayWanting, doing, settling}
 use Rattle.std.specs.Prelude.{Bool, IfNone, IfSome, codes, false, true}
-use Rattle.script.specs.Running.{HasRun, IsClipped, IsOver, IsUnread as IsUnreadTurn, IsUnwritten, LineCut, LineDone, LinePlayed, LineWritten, SetsHeld, TurnTells, held_by, sets, sets_nobody}
+use Rattle.script.specs.inner.Running.{HasRun, IsClipped, IsOver, IsUnread as IsUnreadTurn, IsUnwritten, LineCut, LineDone, LinePlayed, LineWritten, SetsHeld, TurnTells, held_by, sets, sets_nobody}
 use Rattle.house.proofs.Ended.{ended_somewhere}
 use Rattle.script.proofs.Once.{script_once}
 use Rattle.script.proofs.ScriptLaws.{first_line, script_push}
@@ -45,7 +45,7 @@ below a zero = inr (omega arith)
 below zero (suc b) = inl (omega arith)
 below (suc a) (suc b) = elim (below a b) [ inl h ↦ inl (omega arith) | inr h ↦ inr (omega arith) ]
 
-no_caller : (k : Setup) (seat : ℕ) (next : CopyKey) (heard : List Noted) (serials : ℕ) (line : Option Line) (o : Option Caller) → line ≡ None → StandsForOne k seat next heard serials line o → o ≡ None
+no_caller : (k : Setup) (seat : ℕ) (next : CopyKey) (heard : List Noted) (serials : ℕ) (line : Option Line) (o : Option HouseConnection) → line ≡ None → StandsForOne k seat next heard serials line o → o ≡ None
 no_caller k seat next heard serials None None e s = refl
 no_caller k seat next heard serials None (Some b) e s = absurd s
 no_caller k seat next heard serials (Some h) o e s = absurd (let n : Some h ≡ None = e in cc)
@@ -82,8 +82,8 @@ away k h s (suc c) st (inr n) = elim (seat_cases k h s (suc c) st (omega arith))
       inr (no_caller k (seat_of (suc c)) _ _ _ _ _ n at.who))
 ]
 
-owing_caller : (k : Setup) (seat : ℕ) (next : CopyKey) (heard : List Noted) (serials : ℕ) (line : Option Line) (o : Option Caller) → is_unread line ≡ true → StandsForOne k seat next heard serials line o
-    → (b : Caller) × (o ≡ Some b) × (b.gone ≡ true)
+owing_caller : (k : Setup) (seat : ℕ) (next : CopyKey) (heard : List Noted) (serials : ℕ) (line : Option Line) (o : Option HouseConnection) → is_unread line ≡ true → StandsForOne k seat next heard serials line o
+    → (b : HouseConnection) × (o ≡ Some b) × (b.gone ≡ true)
 owing_caller k seat next heard serials None o e s = absurd (let x : false ≡ true = e in cc)
 owing_caller k seat next heard serials (Some h) None e s = absurd s
 owing_caller k seat next heard serials (Some h) (Some b) e s = (b, refl, sym s.0.gone ∙ e)

@@ -3,9 +3,9 @@ use Rattle.std.proofs.Common.{◌≡◌, ◌∙◌, ℕ, zero, suc, ◌<◌, ◌
 use Rattle.std.specs.Prelude.{IsSome, codes}
 use Rattle.std.specs.Borrow.{Bor}
 use Rattle.envelope.specs.Directory.{Directory}
-use Rattle.visitors.specs.Folders.{has_user}
-use Rattle.visitors.specs.Visitor.{Visitor}
-use Rattle.visitors.specs.Place.{Place}
+use Rattle.house_session.specs.Folders.{has_user}
+use Rattle.house_session.specs.HouseSession.{HouseSession}
+use Rattle.house_session.specs.Place.{Place}
 use Rattle.house.specs.Setup.{Setup}
 use Rattle.house.specs.declared.event.Event.TheVariants as events
 use Rattle.house.specs.State.{State}
@@ -13,17 +13,17 @@ use Rattle.house.specs.Scene.{Scene, place_of}
 use Rattle.house.specs.Stands.{StandsFor, StandsForVisit}
 use Rattle.house.specs.Steps.{IsFreePlace, IsNoPlace, IsTakenPlace, Led}
 use Rattle.script.specs.Script.{Asks, Enters, IsNoSession, IsUnknown, IsUnvisited, IsVisited, Leaves, asks, asks_nobody, enters, enters_nowhere, enters_taken, leaves, leaves_nobody, refusal}
-use Rattle.script.specs.Running.{LineDone}
+use Rattle.script.specs.inner.Running.{LineDone}
 use Rattle.script.proofs.RunLaws.{below}
 
 -- ---- who visits
 
-no_visitor : (p : Option Place) (v : Option Visitor) → p ≡ None → StandsForVisit p v → v ≡ None
+no_visitor : (p : Option Place) (v : Option HouseSession) → p ≡ None → StandsForVisit p v → v ≡ None
 no_visitor None None e s = refl
 no_visitor None (Some v) e s = absurd s
 no_visitor (Some p) v e s = absurd (let x : Some p ≡ None = e in cc)
 
-some_visitor : (p : Option Place) (v : Option Visitor) → IsSome p → StandsForVisit p v → (x : Visitor) × (v ≡ Some x)
+some_visitor : (p : Option Place) (v : Option HouseSession) → IsSome p → StandsForVisit p v → (x : HouseSession) × (v ≡ Some x)
 some_visitor None v some s = absurd (let e : false ≡ true = some in cc)
 some_visitor (Some p) None some s = absurd s
 some_visitor (Some p) (Some v) some s = (v, refl)

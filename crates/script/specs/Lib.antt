@@ -1,4 +1,4 @@
 pub mod Script
-pub mod Running
 pub mod Promise
 pub mod Leaving
+pub mod inner

@@ -1,24 +1,20 @@
 -- A script: what its lines are, what each does to the house, and what is written.
-use Rattle.std.specs.Prelude.{◌≡◌, ℕ, ◌+◌, ◌-◌, ◌<◌, ◌≤◌, ◌==◌, ◌&&◌, nat_eq, nat_le, nat_lt, ◌⊎◌, Bool, true, false, if◌then◌else◌, List, [], ◌∷◌, ◌++◌, length, map, drop, take, codes, decimal, replicate, slice_set, Option, Some, None, Result, Ok, Err}
-use Rattle.std.specs.Borrow.{Bor}
+use Rattle.std.specs.Prelude.{◌≡◌, ℕ, ◌+◌, ◌-◌, ◌<◌, ◌≤◌, ◌==◌, ◌&&◌, nat_eq, nat_le, nat_lt, ◌⊎◌, Bool, true, false, if◌then◌else◌, List, [], ◌∷◌, ◌++◌, length, map, drop, codes, decimal, replicate, slice_set, Some, None, Result, Ok, Err}
 use Rattle.std.specs.Io.BufRead.{ends_with_byte, strip_last}
 use Rattle.std.specs.List.{list_all, list_any, starts_with}
-use Rattle.std.specs.Str.{bytes_eq}
 use Rattle.std.specs.Str.Parse.{digits_value}
 use Rattle.hex.specs.Hex.{decode_of}
 use Rattle.hex.specs.declared.error.FromHexError.{FromHexError}
 use Rattle.envelope.specs.Names.{number_of}
 use Rattle.line_io.specs.Wire.{crlf}
-use Rattle.callers.specs.Caller.{Caller}
+use Rattle.house_connection.specs.HouseConnection.{HouseConnection}
 use Rattle.house.specs.Setup.{Setup}
-use Rattle.house.specs.Scene.{BytesPlay, EnterPlay, HasEnded, LeavePlay, SayPlay, Scene, VanishPlay, empty_scene, most_serials, place_of, seat_of}
+use Rattle.house.specs.Scene.{BytesPlay, EnterPlay, HasEnded, LeavePlay, SayPlay, Scene, VanishPlay, most_serials, place_of, seat_of}
 use Rattle.house.specs.Settled.{is_held}
 use Rattle.house.specs.Settling.{Settles}
 use Rattle.house.specs.Window.{window_text}
-use Rattle.visitors.specs.Folders.{has_user}
-use Rattle.visitors.specs.Visitor.{Visitor}
-use Rattle.script.specs.declared.line.Said as said
-use Rattle.script.specs.declared.line.Said.TheVariants as said_as
+use Rattle.house_session.specs.Folders.{has_user}
+use Rattle.house_session.specs.HouseSession.{HouseSession}
 use Rattle.script.specs.declared.line.ScriptLine as read
 use Rattle.script.specs.declared.line.ScriptLine.TheVariants as reads
 
@@ -156,18 +152,6 @@ asked line =
     else if nat_lt most_bytes (length line) then Bad
     else request_of line
 
--- what was cut off a line is its first word, said of a word with no space: whether the line begins with it and a space, and what stands behind that
-abbrev pub IsCut : List ℕ → (word : List ℕ) → Option (Bor (List ℕ) × Bor (List ℕ)) → Type 0
-IsCut line word None = begins (word ++ 32 ∷ []) line ≡ false
-IsCut line word (Some (first, rest)) = (bytes_eq first.now word ≡ begins (word ++ 32 ∷ []) line) × (begins (word ++ 32 ∷ []) line ≡ true → rest.now ≡ drop (length word + 1) line)
-
--- what was read behind a number, as a line of the script
-abbrev pub as_line : (brings : List ℕ → ScriptLine) → (gone : ScriptLine) → said.Said → ScriptLine
-as_line brings gone (said_as.Text text) = brings (text.now ++ crlf)
-as_line brings gone (said_as.Hex digits) = brought brings (decode_of digits.now)
-as_line brings gone said_as.Gone = gone
-as_line brings gone said_as.Other = Bad
-
 -- a line that was read, as a line of the script
 abbrev pub as_spec : read.ScriptLine → ScriptLine
 as_spec (reads.Says connection text) = Sends connection (text.now ++ crlf)
@@ -221,7 +205,7 @@ NobodyThere k s connection = IsNoConnection k connection
 
 -- the seat still waits for the verdicts of a connection whose peer is gone
 abbrev pub IsOwing : Scene → ℕ → Type 0
-IsOwing s connection = (b : Caller) × (s.caller (seat_of connection) ≡ Some b) × (b.gone ≡ true)
+IsOwing s connection = (b : HouseConnection) × (s.caller (seat_of connection) ≡ Some b) × (b.gone ≡ true)
 
 -- there is no such session
 abbrev pub IsNoSession : Setup → ℕ → Type 0
@@ -233,7 +217,7 @@ IsUnvisited k s session = IsNoSession k session ⊎ (s.visitor (place_of session
 
 -- somebody visits at the session's place
 abbrev pub IsVisited : Scene → ℕ → Type 0
-IsVisited s session = (v : Visitor) × (s.visitor (place_of session) ≡ Some v)
+IsVisited s session = (v : HouseSession) × (s.visitor (place_of session) ≡ Some v)
 
 -- there is no such user, compared byte by byte
 abbrev pub IsUnknown : Setup → (user : List ℕ) → Type 0

@@ -4,7 +4,8 @@ ghost use Rattle.std.specs.Prelude.{◌≡◌, ℕ, List, true, false};
 ghost use Rattle.std.specs.List.{list_all};
 ghost use Rattle.std.specs.Io.BufRead.{ends_with_byte, strip_last};
 ghost use Rattle.script.specs.Script as spec;
-ghost use Rattle.script.specs.Script.{Asks, HasDigits, IsCut, Leaves, as_line, as_spec, asked, behind_number, by_letter, freed_of, has_space, held_of, in_hex, is_digit, is_number, is_one_to_eight, is_skipped, line_of, numbered, of_connection, of_session, request_of, tail_of};
+ghost use Rattle.script.specs.Script.{Asks, HasDigits, Leaves, as_spec, asked, behind_number, by_letter, freed_of, has_space, held_of, in_hex, is_digit, is_number, is_one_to_eight, is_skipped, line_of, numbered, of_connection, of_session, request_of, tail_of};
+ghost use Rattle.script.specs.inner.Script.{IsCut, as_line};
 
 use bstr::ByteSlice;
 

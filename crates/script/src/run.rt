@@ -9,7 +9,7 @@ ghost use Rattle.line_io.specs.Wire.{crlf};
 ghost use Rattle.std.specs.List.{list_all};
 ghost use Rattle.std.specs.Char.{digit_value};
 ghost use Rattle.std.specs.Str.Parse.{digits_value};
-ghost use Rattle.script.specs.Running.{IsClipped, LineDone, LinePlayed, SetsHeld, TurnTells};
+ghost use Rattle.script.specs.inner.Running.{IsClipped, LineDone, LinePlayed, SetsHeld, TurnTells};
 ghost use Rattle.house.specs.Scene as scene;
 ghost use Rattle.house.specs.Setup.{Setup};
 ghost use Rattle.house.specs.Scene.{empty_scene};

@@ -7,6 +7,7 @@ use crate::equipment::SharedPlace;
 use crate::sockets::Sockets;
 use clerks::Unhindered;
 use house_floor::{Floor, Visit, inbox_numbered};
+use house_session::folders_of;
 use imap_stream::{Hush, Place, Visit as ClientVisit};
 use line_io::Watched;
 use loopback::{Listening, Patience, Pause, Slot, prepare};
@@ -18,7 +19,6 @@ use std::sync::Wait;
 use std::sync::atomic::AtomicBool;
 use std::thread;
 use std::thread::Threads;
-use visitors::folders_of;
 
 /// Where one client of a user is served at a time.
 pub(crate) type ClientPlace<'a, R> = Place<'a, R, Unhindered, Watched<TcpStream>>;

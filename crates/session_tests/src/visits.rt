@@ -3,16 +3,16 @@
 
 use crate::nowhere::Nowhere;
 use envelope::{Directory, DirectoryFault};
+use house_session::{HouseSession, folders_of, has_user};
 use imap_session::Folder;
 use std::alloc::{AllocError, Global};
-use visitors::{Visitor, folders_of, has_user};
 
 // A visitor with one mailbox.
-fn visitor(alloc: Global) -> Result<Visitor, AllocError> {
+fn visitor(alloc: Global) -> Result<HouseSession, AllocError> {
     let name = Vec::from_slice(alloc, b"INBOX")?;
     let mut folders = Vec::new(alloc);
     folders.push(Folder::new(name, 0))?;
-    Visitor::open(alloc, folders)
+    HouseSession::open(alloc, folders)
 }
 
 #[test]

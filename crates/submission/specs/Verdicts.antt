@@ -2,8 +2,6 @@
 use Rattle.std.specs.Prelude.{◌≡◌, ℕ, ◌<◌, List, [], ◌∷◌, ◌++◌, length, map, slice_index_or, slice_set, Option, Some, None}
 use Rattle.delivery_token.specs.declared.CopyKey.{CopyKey}
 use Rattle.delivery_token.specs.declared.Verdict.{Verdict}
-use Rattle.delivery_token.specs.declared.Verdict.TheVariants.{Refused}
-use Rattle.delivery_token.specs.declared.Refusal.{Refusal}
 use Rattle.delivery_token.specs.declared.log.Noted.{Noted}
 
 -- of each copy that was put the verdict, or None while it is awaited; and for how many copies there is room
@@ -20,11 +18,6 @@ with_slots slots v = record { slots = slots; most = v.most }
 -- the next copy was put, and this was heard of it at once
 abbrev pub noted_put : Option Verdict → List (Option Verdict) → List (Option Verdict)
 noted_put verdict slots = slots ++ verdict ∷ []
-
--- what is heard at once of a copy that is put: that it was refused, or nothing yet
-abbrev pub heard_verdict : Option Refusal → Option Verdict
-heard_verdict None = None
-heard_verdict (Some why) = Some (Refused why)
 
 -- the verdict is on a copy of the message that was put
 pub record IsAwaited (keys : List CopyKey) (slots : List (Option Verdict)) (r : Noted) : Type 0 where

@@ -5,7 +5,8 @@ use Rattle.delivery_token.specs.declared.Job.{Job}
 use Rattle.shard_queue.specs.declared.queue.ShardQueue.{ShardQueue}
 use Rattle.shard_queue.specs.Reply.{sent_on}
 use Rattle.shard_queue.specs.Seats.{got}
-use Rattle.lane_work.specs.Answering.{HaveAnswered, is_nobodys}
+use Rattle.lane_work.specs.Answering.{is_nobodys}
+use Rattle.lane_work.specs.inner.Answering.{HaveAnswered}
 use Rattle.lane_work.specs.Ends.{ends_in}
 use Rattle.lane_work.specs.Seats.{AreSenders}
 use Rattle.lane_work.specs.declared.consumer.Depot.{Depot}

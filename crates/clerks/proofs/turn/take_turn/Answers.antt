@@ -2,7 +2,7 @@ use Rattle.std.proofs.Common.{rules, ◌≡◌, ◌∙◌, [], length, map, subs
 use Rattle.std.proofs.lemmas.List.{length-map}
 use Rattle.shard_queue.specs.Reply.{sent_on}
 use Rattle.shard_queue.specs.Seats.{got}
-use Rattle.lane_work.specs.Answering.{HaveAnswered}
+use Rattle.lane_work.specs.inner.Answering.{HaveAnswered}
 use Rattle.lane_work.proofs.AnswerLaws.{answers_end, answers_item}
 use Rattle.lane_work.proofs.SeatLaws.{senders_length}
 use Rattle.clerks.proofs.turn.take_turn.Goals as goal

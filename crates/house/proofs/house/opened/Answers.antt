@@ -1,12 +1,12 @@
 use Rattle.house.specs.Setup.{terms_of}
 use Rattle.std.proofs.Common.{sym, subst}
-use Rattle.callers.specs.Line.{Line}
-use Rattle.callers.specs.CallerStands.{StandsForCaller}
-use Rattle.callers.specs.Caller.{greeted, more_waits}
-use Rattle.callers.proofs.Arrivals.{more_stands}
+use Rattle.house_connection.specs.Line.{Line}
+use Rattle.house_connection.specs.ConnectionStands.{StandsForConnection}
+use Rattle.house_connection.specs.HouseConnection.{greeted, more_waits}
+use Rattle.house_connection.proofs.Arrivals.{more_stands}
 use Rattle.house.proofs.house.opened.Goals as goal
 
 pub returns : goal.returns
 returns c k next heard host most a =
-    subst (λ (h : Line). StandsForCaller (terms_of k) c.args.seat next heard h (more_waits (greeted (terms_of k) c.args.seat c.args.serial) c.args.piece.now)) (sym c.in-Ok-append.ensures.ok)
+    subst (λ (h : Line). StandsForConnection (terms_of k) c.args.seat next heard h (more_waits (greeted (terms_of k) c.args.seat c.args.serial) c.args.piece.now)) (sym c.in-Ok-append.ensures.ok)
     (more_stands (terms_of k) c.args.seat next heard c.in-Ok.caller (greeted (terms_of k) c.args.seat c.args.serial) c.args.piece.now (c.in-Ok.ensures k next heard host most a))

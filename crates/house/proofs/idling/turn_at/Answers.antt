@@ -3,7 +3,7 @@ use Rattle.std.specs.Prelude.{IfSome}
 use Rattle.imap_session.specs.Exchange.{Left}
 use Rattle.imap_session.specs.Store.{answer}
 use Rattle.session_store.specs.declared.desk.Desk.{Desk}
-use Rattle.visitors.specs.Place.{Place}
+use Rattle.house_session.specs.Place.{Place}
 use Rattle.delivery_core.specs.Held.{behind}
 use Rattle.house.specs.Effort.{turns_left}
 use Rattle.house.specs.Stands.{StandsForVisit}

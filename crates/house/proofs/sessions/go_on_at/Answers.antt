@@ -2,7 +2,7 @@ use Rattle.std.proofs.Common.{◌≡◌, ◌-◌, ◌∙◌, false, refl, Option
 use Rattle.imap_session.specs.Exchange.{Left}
 use Rattle.imap_session.specs.Store.{answer}
 use Rattle.session_store.specs.declared.desk.Desk.{Desk}
-use Rattle.visitors.specs.Place.{Place}
+use Rattle.house_session.specs.Place.{Place}
 use Rattle.house.specs.Stands.{StandsForVisit}
 use Rattle.house.proofs.Visiting.{parted, visited}
 use Rattle.house.proofs.sessions.go_on_at.Goals as goal

@@ -4,7 +4,8 @@ use Rattle.std.proofs.lemmas.List.{length-map}
 use Rattle.shard_queue.specs.declared.lane.Entry.TheVariants.{Item, End}
 use Rattle.shard_queue.specs.Reply.{sent_on}
 use Rattle.shard_queue.specs.Seats.{got}
-use Rattle.lane_work.specs.Answering.{HaveAnswered, is_nobodys}
+use Rattle.lane_work.specs.Answering.{is_nobodys}
+use Rattle.lane_work.specs.inner.Answering.{HaveAnswered}
 use Rattle.lane_work.specs.Consuming.{items_of}
 use Rattle.lane_work.specs.Ends.{ends_in}
 use Rattle.lane_work.proofs.AnswerLaws.{answers_begin, answers_end, answers_item, torn_end, torn_next}

@@ -2,7 +2,8 @@ use Rattle.std.proofs.Common.{◌≡◌, ◌≤◌, true, length, map}
 use Rattle.std.specs.List.{list_any}
 use Rattle.shard_queue.specs.Reply.{sent_on}
 use Rattle.shard_queue.specs.Seats.{IsConsumer, got}
-use Rattle.lane_work.specs.Answering.{HaveAnswered, is_nobodys}
+use Rattle.lane_work.specs.Answering.{is_nobodys}
+use Rattle.lane_work.specs.inner.Answering.{HaveAnswered}
 use Rattle.lane_work.specs.Consuming.{items_of}
 use Rattle.lane_work.specs.Ends.{ends_in}
 use Rattle.lane_work.specs.Seats.{AreSenders}

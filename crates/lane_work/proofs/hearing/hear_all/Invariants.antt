@@ -2,8 +2,9 @@ use Rattle.std.proofs.Common.{◌≡◌, ◌+◌, length}
 use Rattle.shard_queue.specs.Reply.{IsReceiver, received}
 use Rattle.shard_queue.specs.Shared.{IsStartOf}
 use Rattle.lmtp_machine.specs.Calls.{submission_of}
-use Rattle.lane_work.specs.Copies.{Fills, WereHeard, copies_of, unknown}
-use Rattle.lane_work.specs.Desk.{SameButReceiver}
+use Rattle.lane_work.specs.Copies.{copies_of}
+use Rattle.lane_work.specs.inner.Copies.{Fills, WereHeard, unknown}
+use Rattle.lane_work.specs.inner.Desk.{SameButReceiver}
 use Rattle.lane_work.specs.Ends.{CountsEnds}
 use Rattle.lane_work.proofs.hearing.hear_all.Given as goal
 

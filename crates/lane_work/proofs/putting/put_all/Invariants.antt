@@ -1,8 +1,9 @@
 use Rattle.std.proofs.Common.{◌≡◌, ◌≤◌, map, take, vec_len, vec_capacity}
 use Rattle.shard_queue.specs.Seats.{sent}
 use Rattle.lane_work.specs.Seats.{AreSeats}
-use Rattle.lane_work.specs.Desk.{SameButSeats}
-use Rattle.lane_work.specs.Copies.{HavePut, WereTried, copies, rooms_of}
+use Rattle.lane_work.specs.inner.Desk.{SameButSeats}
+use Rattle.lane_work.specs.Copies.{copies, rooms_of}
+use Rattle.lane_work.specs.inner.Copies.{HavePut, WereTried}
 use Rattle.lane_work.proofs.putting.put_all.Given as goal
 
 abbrev pub invariant-loop-i : goal.invariant-loop-i

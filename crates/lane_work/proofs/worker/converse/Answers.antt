@@ -8,7 +8,8 @@ use Rattle.lmtp_machine.specs.Machine.{StandsFor}
 use Rattle.shard_queue.specs.Reply.{received}
 use Rattle.shard_queue.specs.Seats.{sent}
 use Rattle.lane_work.specs.Copies.{rooms_of}
-use Rattle.lane_work.specs.Speaking.{Spoke, premises_of}
+use Rattle.lane_work.specs.Speaking.{premises_of}
+use Rattle.lane_work.specs.inner.Speaking.{Spoke}
 use Rattle.lane_work.specs.Account.{notes_tell, setting_at}
 use Rattle.lane_work.proofs.TalkLaws.{begins}
 use Rattle.lane_work.proofs.worker.converse.Goals as goal

@@ -4,7 +4,8 @@ use Rattle.shard_queue.specs.Seats.{sent}
 use Rattle.lane_work.specs.Copies.{rooms_of}
 use Rattle.lane_work.specs.Account.{notes_tell, AreBooks, setting_at}
 use Rattle.lane_work.specs.Seats.{AreSeats}
-use Rattle.lane_work.specs.Speaking.{Spoke, premises_of}
+use Rattle.lane_work.specs.Speaking.{premises_of}
+use Rattle.lane_work.specs.inner.Speaking.{Spoke}
 use Rattle.lane_work.specs.Talk.{Judged}
 use Rattle.lane_work.proofs.ServedLaws.{served_begin, served_step}
 use Rattle.lane_work.proofs.worker.go_through.Goals as goal

@@ -1,7 +1,8 @@
 use Rattle.std.proofs.Common.{◌≡◌, map, take}
 use Rattle.shard_queue.specs.Seats.{sent}
 use Rattle.shard_queue.specs.Reply.{IsReceiver, received}
-use Rattle.lane_work.specs.Account.{notes_tell, HasServed}
+use Rattle.lane_work.specs.Account.{notes_tell}
+use Rattle.lane_work.specs.inner.Account.{HasServed}
 use Rattle.lane_work.specs.Ends.{CountsEnds}
 use Rattle.lane_work.specs.Seats.{AreSeats}
 use Rattle.lane_work.specs.Speaking.{premises_of}

@@ -9,7 +9,8 @@ use Rattle.shard_queue.specs.declared.reply.ReceiverSeat.{ReceiverSeat}
 use Rattle.shard_queue.specs.Reply.{received}
 use Rattle.shard_queue.specs.Shared.{IsStartOf}
 use Rattle.shard_queue.specs.Seats.{sent}
-use Rattle.lane_work.specs.Copies.{HavePut, copies_of, rooms_of}
+use Rattle.lane_work.specs.Copies.{copies_of, rooms_of}
+use Rattle.lane_work.specs.inner.Copies.{HavePut}
 use Rattle.lane_work.proofs.SlotLaws.{fills_length}
 use Rattle.lane_work.proofs.CopyLaws.{books_more}
 use Rattle.lane_work.proofs.worker.settle.Goals as goal

@@ -1,7 +1,7 @@
 use Rattle.std.proofs.Common.{◌≡◌, ℕ, List, false, refl, sym, ap, subst, ◌∙◌}
 use Rattle.std.specs.Prelude.{codes}
 use Rattle.std.specs.Str.{bytes_eq}
-use Rattle.script.specs.Script.{IsCut}
+use Rattle.script.specs.inner.Script.{IsCut}
 use Rattle.script.proofs.Words.{another_word, by_letter_alone}
 use Rattle.script.proofs.line.request_of.Goals.{in-Some+else-eq+else-eq-2+else-eq-3, in_default}
 use Rattle.script.proofs.line.request_of.Goals as goal

@@ -1,6 +1,6 @@
 use Rattle.std.proofs.Common.{◌≤◌, take}
 use Rattle.std.specs.Str.Parse.{digits_value}
-use Rattle.script.specs.Running.{IsClipped}
+use Rattle.script.specs.inner.Running.{IsClipped}
 use Rattle.script.proofs.run.clipped_number.Given as goal
 
 abbrev pub invariant-loop-digit : goal.invariant-loop-digit

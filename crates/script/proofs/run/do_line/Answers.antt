@@ -4,7 +4,7 @@ use Rattle.hex.specs.Hex.{decode_of}
 use Rattle.std.proofs.lemmas.Result.{on_err_weaker, on_ok_weaker}
 use Rattle.script.specs.Leaving.{LineWanting}
 use Rattle.script.specs.Script.{Asks, ScriptLine, Sends, held_after}
-use Rattle.script.specs.Running.{LineDone}
+use Rattle.script.specs.inner.Running.{LineDone}
 use Rattle.script.proofs.RunLaws.{freed_done, held_done, hex_holds_nothing, refused, skipped}
 use Rattle.script.proofs.run.do_line.Goals as goal
 

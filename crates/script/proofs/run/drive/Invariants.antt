@@ -1,5 +1,5 @@
 use Rattle.std.proofs.Common.{◌≡◌, ℕ, ◌*◌, ◌^◌, ◌≤◌, length, List, Some, false}
-use Rattle.script.specs.Running.{HasRun}
+use Rattle.script.specs.inner.Running.{HasRun}
 use Rattle.house.specs.Setup.{Setup}
 use Rattle.house.specs.Scene.{empty_scene}
 use Rattle.house.specs.Stands.{StandsFor}

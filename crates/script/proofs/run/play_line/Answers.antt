@@ -7,7 +7,7 @@ use Rattle.house.specs.Stands.{StandsFor}
 use Rattle.script.specs.Leaving.{LineWanting, PlayWanting, doing}
 use Rattle.std.proofs.lemmas.Result.{on_err_weaker, on_ok_weaker}
 use Rattle.std.specs.Prelude.{Bool}
-use Rattle.script.specs.Running.{LineDone}
+use Rattle.script.specs.inner.Running.{LineDone}
 use Rattle.house.specs.Settled.{SettledFrom}
 use Rattle.script.specs.Script.{ScriptLine, asked, held_after, line_of}
 use Rattle.script.proofs.RunLaws.{played, settling_wanting}

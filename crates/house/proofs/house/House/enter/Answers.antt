@@ -1,15 +1,15 @@
 use Rattle.std.proofs.Common.{◌≡◌, ◌<◌, ◌∙◌, ap, arith, false, inl, length, List, ℕ, None, Option, subst, sym, true}
 use Rattle.std.specs.Prelude.{slice_index_or}
 use Rattle.imap_session.specs.Exchange.{Folder}
-use Rattle.visitors.specs.Folders.{has_user}
-use Rattle.visitors.specs.Place as visit
+use Rattle.house_session.specs.Folders.{has_user}
+use Rattle.house_session.specs.Place as visit
 use Rattle.delivery_core.proofs.Follow.{get_or-any}
 use Rattle.house.specs.State.{State}
 use Rattle.house.specs.Scene.{EnterPlay}
 use Rattle.house.specs.Stands.{StandsFor}
-use Rattle.house.specs.Steps.{PlaceVisited}
-use Rattle.visitors.specs.Place.{Place}
-use Rattle.visitors.specs.Visitor.{greeted}
+use Rattle.house.specs.inner.Steps.{PlaceVisited}
+use Rattle.house_session.specs.Place.{Place}
+use Rattle.house_session.specs.HouseSession.{greeted}
 use Rattle.house.proofs.Visiting.{entered, has_place, no_place}
 use Rattle.house.proofs.house.House.enter.Goals as goal
 

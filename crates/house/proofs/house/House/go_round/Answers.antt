@@ -1,5 +1,5 @@
 use Rattle.house.specs.Settled.{is_held}
-use Rattle.house.specs.Trying.{puts}
+use Rattle.house.specs.inner.Trying.{puts}
 use Rattle.house.proofs.Settlement.{parts_wants, round_of, visits_wants}
 use Rattle.house.proofs.house.House.go_round.Goals as goal
 

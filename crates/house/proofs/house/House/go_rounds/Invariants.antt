@@ -3,7 +3,7 @@ use Rattle.house.specs.Setup.{Setup}
 use Rattle.house.specs.Scene.{Scene}
 use Rattle.house.specs.Settled.{is_held}
 use Rattle.house.specs.Stands.{StandsFor}
-use Rattle.house.specs.Trying.{Went}
+use Rattle.house.specs.inner.Trying.{Went}
 use Rattle.house.proofs.Settlement.{Rounds}
 use Rattle.house.proofs.house.House.go_rounds.Given as goal
 

@@ -3,11 +3,11 @@ use Rattle.std.specs.Option.{is_some}
 use Rattle.world.specs.World as world
 use Rattle.delivery_core.specs.Stands as core
 use Rattle.delivery_core.proofs.Follow.{get_or-any}
-use Rattle.callers.specs.Line.{Line}
+use Rattle.house_connection.specs.Line.{Line}
 use Rattle.house.specs.State.{State}
 use Rattle.house.specs.Scene.{HearPlay, seat_of}
 use Rattle.house.specs.Stands.{StandsFor}
-use Rattle.house.specs.Steps.{StandsForMaybe}
+use Rattle.house.specs.inner.Steps.{StandsForMaybe}
 use Rattle.delivery_core.specs.Changes.{Hears}
 use Rattle.house.proofs.Turns.{hear_idles, heard_at, heard_led}
 use Rattle.house.proofs.house.House.hear.Goals as goal

@@ -1,7 +1,7 @@
 use Rattle.std.proofs.Common.{◌≡◌, ◌<◌, ℕ, length, ap, sym, ◌∙◌, arith, refl, [], ◌∷◌}
 use Rattle.house.specs.declared.event.Event.TheVariants.{Hear}
 use Rattle.house.specs.State.{State}
-use Rattle.house.specs.Trying.{hears}
+use Rattle.house.specs.inner.Trying.{hears}
 use Rattle.house.proofs.Settlement.{hear_among, seats_step, seats_wants, visits_as}
 use Rattle.house.proofs.house.House.hear_all.Goals as goal
 

@@ -1,5 +1,5 @@
 use Rattle.std.proofs.Common.{◌≡◌, length}
-use Rattle.house.specs.Trying.{DidVisits, hears}
+use Rattle.house.specs.inner.Trying.{DidVisits, hears}
 use Rattle.house.proofs.house.House.hear_all.Given as goal
 
 abbrev pub invariant-loop-seat : goal.invariant-loop-seat

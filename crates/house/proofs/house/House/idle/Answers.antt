@@ -4,8 +4,9 @@ use Rattle.delivery_core.proofs.Follow.{get_or-any}
 use Rattle.house.specs.State.{State}
 use Rattle.house.specs.Scene.{IdlePlay}
 use Rattle.house.specs.Stands.{StandsFor}
-use Rattle.house.specs.Steps.{HasNoTurn, MayIdle, PlaceIdled, PlaceIdledInPart}
-use Rattle.visitors.specs.Place.{Place}
+use Rattle.house.specs.Steps.{MayIdle}
+use Rattle.house.specs.inner.Steps.{HasNoTurn, PlaceIdled, PlaceIdledInPart}
+use Rattle.house_session.specs.Place.{Place}
 use Rattle.house.proofs.Visiting.{has_place}
 use Rattle.house.proofs.IdleTurn.{idle_led, idle_led_in_part, idle_none}
 use Rattle.house.proofs.house.House.idle.Goals as goal

@@ -5,7 +5,7 @@ use Rattle.imap_session.specs.Store.{answer}
 use Rattle.delivery_core.proofs.Follow.{get_or-any}
 use Rattle.house.specs.State.{State}
 use Rattle.house.specs.Stands.{StandsFor}
-use Rattle.visitors.specs.Place.{Place}
+use Rattle.house_session.specs.Place.{Place}
 use Rattle.house.proofs.Visiting.{has_place, left_place, some_place, with_visits}
 use Rattle.house.proofs.house.House.leave.Goals as goal
 

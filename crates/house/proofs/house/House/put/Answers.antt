@@ -4,8 +4,8 @@ use Rattle.delivery_core.proofs.Follow.{get_or-any}
 use Rattle.house.specs.declared.event.HouseFault.TheVariants as house_faults
 use Rattle.house.specs.State.{State}
 use Rattle.house.specs.Scene.{PutPlay}
-use Rattle.callers.specs.Taking.{noted_put}
-use Rattle.submission.specs.Verdicts.{heard_verdict}
+use Rattle.house_connection.specs.Taking.{noted_put}
+use Rattle.submission.specs.inner.Verdicts.{heard_verdict}
 use Rattle.house.specs.Stands.{StandsFor}
 use Rattle.house.proofs.Turns.{put_idles, put_led}
 use Rattle.house.proofs.house.House.put.Goals as goal

@@ -1,7 +1,7 @@
 use Rattle.std.proofs.Common.{◌≡◌, ◌<◌, ℕ, length, ap, sym, ◌∙◌, arith, refl, [], ◌∷◌}
 use Rattle.house.specs.declared.event.Event.TheVariants.{Put}
 use Rattle.house.specs.State.{State}
-use Rattle.house.specs.Trying.{puts}
+use Rattle.house.specs.inner.Trying.{puts}
 use Rattle.house.proofs.Settlement.{put_among, seats_step, seats_wants, visits_as}
 use Rattle.house.proofs.house.House.put_all.Goals as goal
 

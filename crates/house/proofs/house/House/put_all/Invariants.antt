@@ -1,5 +1,5 @@
 use Rattle.std.proofs.Common.{◌≡◌, length}
-use Rattle.house.specs.Trying.{DidVisits, puts}
+use Rattle.house.specs.inner.Trying.{DidVisits, puts}
 use Rattle.house.proofs.house.House.put_all.Given as goal
 
 abbrev pub invariant-loop-seat : goal.invariant-loop-seat

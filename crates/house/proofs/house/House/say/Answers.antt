@@ -4,8 +4,8 @@ use Rattle.delivery_core.proofs.Follow.{get_or-any}
 use Rattle.house.specs.State.{State}
 use Rattle.house.specs.Scene.{SayPlay}
 use Rattle.house.specs.Stands.{StandsFor, StandsForVisit}
-use Rattle.house.specs.Steps.{PlaceVisited}
-use Rattle.visitors.specs.Place.{Place}
+use Rattle.house.specs.inner.Steps.{PlaceVisited}
+use Rattle.house_session.specs.Place.{Place}
 use Rattle.house.proofs.Visiting.{has_place, said}
 use Rattle.house.proofs.house.House.say.Goals as goal
 

@@ -1,7 +1,7 @@
 use Rattle.std.proofs.Common.{◌≡◌, ◌<◌, ℕ, ap, sym, ◌∙◌, arith}
 use Rattle.house.specs.Settled.{is_held}
 use Rattle.house.specs.State.{State}
-use Rattle.house.specs.Trying.{serves}
+use Rattle.house.specs.inner.Trying.{serves}
 use Rattle.house.proofs.Settlement.{shards_of, shards_step, shards_wants, visits_as}
 use Rattle.house.proofs.house.House.serve_all.Goals as goal
 

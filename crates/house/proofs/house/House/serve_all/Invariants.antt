@@ -1,6 +1,6 @@
 use Rattle.std.proofs.Common.{◌≡◌}
 use Rattle.house.specs.Settled.{is_held}
-use Rattle.house.specs.Trying.{DidVisits, serves}
+use Rattle.house.specs.inner.Trying.{DidVisits, serves}
 use Rattle.house.proofs.house.House.serve_all.Given as goal
 
 abbrev pub invariant-loop-shard : goal.invariant-loop-shard

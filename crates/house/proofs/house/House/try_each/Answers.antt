@@ -2,7 +2,7 @@ use Rattle.std.proofs.Common.{take, get_or, []}
 use Rattle.std.proofs.lemmas.List.Elements.{All-get_or}
 use Rattle.house.specs.declared.event.Event.{Event}
 use Rattle.house.specs.declared.event.Event.TheVariants.{Bytes}
-use Rattle.house.specs.Trying.{IsAmong}
+use Rattle.house.specs.inner.Trying.{IsAmong}
 use Rattle.house.proofs.Settlement.{each_step, each_wants}
 use Rattle.house.proofs.house.House.try_each.Goals as goal
 

@@ -1,5 +1,5 @@
 use Rattle.std.proofs.Common.{ap, rules, Err}
-use Rattle.house.specs.Trying.{IsAmong}
+use Rattle.house.specs.inner.Trying.{IsAmong}
 use Rattle.house.proofs.Settlement.{nobody_nothing, tried, wanted}
 use Rattle.house.proofs.house.House.try_event.Goals as goal
 

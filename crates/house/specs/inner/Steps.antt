@@ -1,0 +1,128 @@
+-- What bodies and proofs say besides: what a call of the house promises: for each scene for which it stood, a scene to which the event leads.
+use Rattle.std.specs.Prelude.{◌≡◌, ℕ, ◌<◌, ◌≤◌, ◌⊎◌, ◌++◌, ◌%◌, slice_index_or, Bool, true, false, List, [], ◌∷◌, length, Option, Some, None, IsSome}
+use Rattle.delivery_token.specs.declared.CopyKey.{CopyKey}
+use Rattle.delivery_token.specs.declared.log.Noted.{Noted}
+use Rattle.house.specs.declared.event.Event.TheVariants.{Put, Idle}
+use Rattle.delivery_token.specs.declared.Job.{Job}
+use Rattle.world.specs.World.{Config, World}
+use Rattle.world.specs.World as world
+use Rattle.delivery_core.specs.Held.{Held, has_ended}
+use Rattle.delivery_core.specs.Changes.{SameDelivery}
+use Rattle.delivery_core.specs.Puts.{IsNextKey}
+use Rattle.delivery_core.specs.Stands as core
+use Rattle.delivery_core.specs.declared.steps.Fault.{Fault}
+use Rattle.delivery_core.specs.declared.steps.Fault.TheVariants as faults
+use Rattle.house.specs.declared.event.HouseFault.{HouseFault}
+use Rattle.house.specs.declared.event.HouseFault.TheVariants as house_faults
+use Rattle.house_connection.specs.Line.{Line}
+use Rattle.house_connection.specs.Taking.{due}
+use Rattle.house.specs.State.{State}
+use Rattle.house_connection.specs.HouseConnection.{HouseConnection}
+use Rattle.house.specs.Setup.{Setup, terms_of}
+use Rattle.house.specs.Scene.{SessionGoes, SessionIdles, most_serials, seat_of}
+use Rattle.house_connection.specs.ConnectionStands.{StandsForConnection}
+use Rattle.house.specs.Stands.{StandsFor, StandsForVisit}
+use Rattle.house_session.specs.Place.{Place}
+use Rattle.house_session.specs.HouseSession.{HouseSession}
+use Rattle.house.specs.Steps.{IsEmptySeat, IsThere, is_unread}
+
+-- there is such a connection
+pub record HasSeat (h : State) (connection : ℕ) : Type 0 where
+  pub number : 0 < connection
+  pub seat : connection ≤ length h.callers
+
+-- somebody stands there whose peer is there too
+pub record IsRead (h : State) (connection : ℕ) : Type 0 where
+  pub number : 0 < connection
+  pub seat : connection ≤ length h.callers
+  pub who : IsSome (slice_index_or h.callers (seat_of connection) None)
+  pub read : is_unread (slice_index_or h.callers (seat_of connection) None) ≡ false
+
+-- nobody stands at the connection's seat, which takes another
+pub record IsVacant (h : State) (connection : ℕ) : Type 0 where
+  pub number : 0 < connection
+  pub seat : connection ≤ length h.callers
+  pub empty : IsEmptySeat h connection
+  pub more : slice_index_or h.serials (seat_of connection) 0 < most_serials
+  pub goes_on : has_ended h.core (seat_of connection) ≡ false
+
+-- there is such a session
+pub record HasPlace (h : State) (session : ℕ) : Type 0 where
+  pub number : 0 < session
+  pub place : session ≤ length h.visitors
+
+-- who may stand at a place, and for whom
+abbrev pub StandsForMaybe : Setup → ℕ → CopyKey → List Noted → Option Line → Option HouseConnection → Type 0
+StandsForMaybe k seat next heard None None = Unit {0}
+StandsForMaybe k seat next heard None (Some b) = ⊥
+StandsForMaybe k seat next heard (Some h) None = ⊥
+StandsForMaybe k seat next heard (Some h) (Some b) = StandsForConnection (terms_of k) seat next heard h b
+
+-- a connection's number and directory are those of the house
+pub record IsOf (k : Setup) (number seat : ℕ) (directory : Directory) : Type 0 where
+  pub numbered : number ≡ seat + 1
+  pub looks_up : directory ≡ k.directory
+
+-- From this caller the connection did what it could and this was printed, and it stands for the caller after it.
+pub record ConnectionWent (k : Setup) (whole : Bool) (seat : ℕ) (next : CopyKey) (heard : List Noted) (b : HouseConnection) (what : What) (h : Line) (old new : List ℕ) : Type 0 where
+  pub left : Option HouseConnection
+  pub printed : List ℕ
+  pub goes : ConnectionGoes k whole seat heard b left printed
+  pub there : IsThere k seat next heard what h left
+  pub out : new ≡ old ++ printed
+
+-- the caller at a place went on, and printed this
+pub record PlaceWentOn (k : Setup) (whole : Bool) (seat : ℕ) (next : CopyKey) (heard : List Noted) (b : HouseConnection) (h : Option Line) (old new : List ℕ) : Type 0 where
+  pub left : Option HouseConnection
+  pub printed : List ℕ
+  pub goes : ConnectionGoes k whole seat heard b left printed
+  pub there : StandsForMaybe k seat next heard h left
+  pub out : new ≡ old ++ printed
+
+-- a fault of the delivery core, as one of the house
+abbrev pub fault_of : Fault → HouseFault
+fault_of faults.Nobody = house_faults.Nobody
+fault_of faults.Nothing = house_faults.Nothing
+fault_of faults.NoMemory = house_faults.NoMemory
+
+-- there is no copy to put, or it may not be put
+abbrev pub MayNotPut : Held → Line → Type 0
+MayNotPut old h = (due h ≡ []) ⊎ ((c : Job) × (others : List Job) × (due h ≡ c ∷ others)
+    × ((IsNextKey old c.key c.mailbox → ⊥) ⊎ ((k : Config) → core.Idle k old (world.Put c.key.seat (c.mailbox % length old.lanes) c))))
+
+-- The visitor at a place went on, and printed this; the delivery side stands for what its session did.
+pub record PlaceVisited (k : Setup) (whole : Bool) (place : ℕ) (w : World) (b : HouseSession) (old : Held) (p : Option Place) (new : Held) (before after : List ℕ) : Type 0 where
+  pub left : Option HouseSession
+  pub moved : World
+  pub printed : List ℕ
+  pub goes : SessionGoes k whole place w b moved left printed
+  pub there : StandsForVisit p left
+  pub core : core.StandsFor k.config new moved
+  pub rest : SameDelivery old new
+  pub out : after ≡ before ++ printed
+
+-- The visitor at a place had a turn while its session idles, and printed this; the delivery side stands for what its session did.
+pub record PlaceIdled (k : Setup) (whole : Bool) (place : ℕ) (w : World) (b : HouseSession) (old : Held) (p : Option Place) (new : Held) (before after : List ℕ) : Type 0 where
+  pub left : Option HouseSession
+  pub moved : World
+  pub printed : List ℕ
+  pub goes : SessionIdles k whole place w b moved left printed
+  pub there : StandsForVisit p left
+  pub core : core.StandsFor k.config new moved
+  pub rest : SameDelivery old new
+  pub out : after ≡ before ++ printed
+
+-- It had none, and all is as it was.
+pub record PlaceKept (k : Setup) (w : World) (b : HouseSession) (old : Held) (p : Option Place) (new : Held) (before after : List ℕ) : Type 0 where
+  pub there : StandsForVisit p (Some b)
+  pub core : core.StandsFor k.config new w
+  pub rest : SameDelivery old new
+  pub out : after ≡ before
+
+-- where memory was wanting: no turn, or one whose words aren't printed yet
+abbrev pub PlaceIdledInPart : Setup → ℕ → World → HouseSession → Held → Option Place → Held → List ℕ → List ℕ → Type 0
+PlaceIdledInPart k place w b old p new before after = PlaceIdled k false place w b old p new before after ⊎ PlaceKept k w b old p new before after
+
+-- In no world for which the delivery side stood does the visitor at a place have a turn.
+abbrev pub HasNoTurn : ℕ → Option Place → Held → Type 0
+HasNoTurn place p old = (k : Setup) (w v : World) (b : HouseSession) (o : Option HouseSession) (printed : List ℕ) → core.StandsFor k.config old w → StandsForVisit p (Some b) → SessionIdles k true place w b v o printed → ⊥

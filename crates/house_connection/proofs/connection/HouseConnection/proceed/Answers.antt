@@ -1,0 +1,40 @@
+use Rattle.std.proofs.Common.{◌≡◌, ◌∙◌, ap, sym, List, ℕ}
+use Rattle.std.proofs.Common.{Bool, Option, [], length, subst}
+use Rattle.std.specs.Prelude.{true, false}
+use Rattle.delivery_token.specs.declared.Verdict.{Verdict}
+use Rattle.lmtp_machine.specs.declared.connection.What.{What}
+use Rattle.submission.specs.Verdicts.{AreKnown as IsKnown}
+use Rattle.house_connection.specs.ConnectionStands.{Proceeded}
+use Rattle.house_connection.specs.Taking.{awaited_keys}
+use Rattle.house_connection.specs.Line.{Line}
+use Rattle.house_connection.proofs.Connections.{faded, lingered, proceeds}
+use Rattle.house_connection.proofs.connection.HouseConnection.proceed.Goals as goal
+use Rattle.house_connection.proofs.connection.HouseConnection.proceed.Goals.{then-are_known, else-are_known}
+
+pub returns-in_default-clause-err : goal.returns-in_default-clause-err
+returns-in_default-clause-err c k seat next heard b of s =
+    let w = c.in_default.ensures.err k seat next heard b of s in
+    (w.0, proceeds k seat next heard false b w.0 c.args.self.now c.go_on.new.self s (ap (λ (x : Line). x.gone) (sym c.self.view_is) ∙ c.if-self.false) w.1)
+
+pub returns-clause-ok : goal.returns-clause-ok
+returns-clause-ok c k seat next heard b of s =
+    proceeds k seat next heard true b c.in-Ok.what c.args.self.now c.go_on.new.self s (ap (λ (x : Line). x.gone) (sym c.self.view_is) ∙ c.if-self.false)
+    (c.in-Ok.ensures.ok k seat next heard b of s)
+
+-- a peer that is gone is told nothing
+silent : (gone : Bool) (unsaid : List ℕ) → (gone ≡ true → unsaid ≡ []) → gone ≡ true → unsaid ≡ []
+silent gone unsaid f e = f e
+
+pub returns-then-self-clause-ok : goal.returns-then-self-clause-ok
+returns-then-self-clause-ok c k seat next heard b of s =
+    let gone : c.args.self.now.gone ≡ true = ap (λ (x : Line). x.gone) (sym c.self.view_is) ∙ c.if-self.true in
+    let none : c.args.self.now.unsaid ≡ [] = ap (λ (x : Line). x.unsaid) (sym c.self.view_is) ∙ silent c.self.inside.is_gone c.self.inside.unsaid.items c.self.invariant.4 c.if-self.true in
+    let slots = ap (λ (x : Line). x.verdicts) c.self.view_is in
+    elim c.if-are_known.branch [
+      | then-are_known w ↦ subst (λ (what : What). Proceeded k true seat next heard b what c.args.self.now) (sym w.result-is)
+          (faded k seat next heard b c.args.self.now s gone none
+          (let a = c.are_known.ensures.known w.if-are_known.true in (a.0, subst (λ (n : ℕ). IsKnown n c.args.self.now.verdicts a.0) c.awaited.ensures (subst (λ (x : List (Option Verdict)). IsKnown c.awaited.result x a.0) slots a.1))))
+      | else-are_known w ↦ subst (λ (what : What). Proceeded k true seat next heard b what c.args.self.now) (sym w.result-is)
+          (lingered k seat next heard b c.args.self.now s gone none
+          (λ vs a. c.are_known.ensures.unknown w.if-are_known.false vs (subst (λ (n : ℕ). IsKnown n c.self.inside.verdicts.slots vs) (sym c.awaited.ensures) (subst (λ (x : List (Option Verdict)). IsKnown (length (awaited_keys c.args.self.now)) x vs) (sym slots) a))))
+    ]

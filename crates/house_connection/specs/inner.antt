@@ -1,0 +1,4 @@
+pub mod ConnectionStands
+pub mod ConnectionSteps
+pub mod Few
+pub mod Taking

@@ -1,0 +1,3 @@
+pub mod HouseSession
+pub mod Place
+pub mod Folders

@@ -1,0 +1,135 @@
+//! A session at its place: an IMAP connection, the bytes that came for it, and what it said and has not printed yet. It knows no mailbox: its
+//! store does. Nor does it print: the house does, and tells it so.
+
+ghost use Rattle.std.specs.Prelude.{◌≡◌, ◌≤◌, true, false, [], OnOk, OnErr, IfOk};
+ghost use Rattle.imap_session.specs.Exchange.{is_idling};
+ghost use Rattle.imap_session.specs.Store.{Starves};
+ghost use Rattle.house_session.specs.HouseSession as spec;
+ghost use Rattle.house_session.specs.HouseSession.{greeted};
+ghost use Rattle.house_session.specs.Place.{Answered, HadTurn, StandsFor, Turned, with_all_said, with_more};
+
+use imap_connection::ImapConnection;
+use imap_session::{Folder, Selected, Store};
+use incoming::Incoming;
+use std::alloc::{AllocError, Global};
+use std::marker::Model;
+
+/// One who visits the house: a client's session at its place.
+#[derive(Drop)]
+pub struct HouseSession {
+    connection: ImapConnection,
+    incoming: Incoming,
+    unsaid: Vec<u8>,
+}
+
+impl Model for HouseSession {
+    ghost use Rattle.house_session.specs.Place.{Place};
+
+    ghost Value = { Place };
+
+    ghost view = { λ v. record { link = v.connection; came = v.incoming; unsaid = v.unsaid.items } };
+}
+
+impl HouseSession {
+    /// A visitor that was just let in, whose mailboxes have these names. Its greeting is said, and still to be printed.
+    ///
+    /// Errors: `AllocError` where memory for a line or the greeting was refused.
+    pub fn open(alloc: Global, folders: Vec<Folder>) -> Result<HouseSession, AllocError>
+        ensures { IfOk result (λ v. StandsFor v (greeted folders.items)) }
+    {
+        let connection = ImapConnection::new(alloc, folders)?;
+        let mut unsaid = Vec::new(alloc);
+        connection.greet(&mut unsaid)?;
+        Ok(HouseSession {
+            connection,
+            incoming: Incoming::new(alloc),
+            unsaid,
+        })
+    }
+
+    /// Adds bytes that came to those that wait. After an error nothing is changed.
+    pub fn append(&mut self, piece: &[u8]) -> Result<(), AllocError>
+        ensures ok { OnOk result (self.new ≡ with_more piece.now self.old) }
+        ensures err { OnErr result (self.new ≡ self.old) }
+    {
+        let Ok(()) = self.incoming.append(piece) else {
+            return Err(AllocError);
+        };
+        Ok(())
+    }
+
+    /// Whether its session has ended: then nothing more is answered.
+    pub fn has_ended(&self) -> bool
+        ensures { result ≡ self.now.link.session.ended }
+    {
+        self.connection.has_ended()
+    }
+
+    /// The mailbox that it selected. Whoever lets it go leaves that.
+    pub fn selected(&self) -> Option<Selected>
+        ensures { result ≡ self.now.link.session.selected }
+    {
+        self.connection.selected()
+    }
+
+    /// Whether its session idles (RFC 2177): then it may have turns.
+    pub fn is_idling(&self) -> bool
+        ensures { result ≡ is_idling self.now.link.session }
+    {
+        self.connection.is_idling()
+    }
+
+    /// Answers what waits, over its store, as far as it goes. What it says is still to be printed.
+    ///
+    /// Errors: `AllocError` where memory was refused. What was done stands, and the next call goes on from there.
+    pub fn go_on<S: Store>(&mut self, alloc: Global, store: &mut S) -> Result<(), AllocError>
+        ensures ok { OnOk result ((v : spec.HouseSession) → StandsFor self.old v → Answered S.step true v store.old store.new self.new) }
+        ensures err { OnErr result ((v : spec.HouseSession) → StandsFor self.old v → Answered S.step false v store.old store.new self.new) }
+    {
+        if self.connection.has_ended() {
+            return Ok(());
+        }
+        let waits = self.incoming.as_slice();
+        let progress = self.connection.take(alloc, waits, store, &mut self.unsaid);
+        self.incoming.take(progress.used);
+        match progress.after {
+            Some(_) => return Ok(()),
+            None => return Err(AllocError),
+        }
+    }
+
+    /// Its session has a turn while it idles (RFC 2177), over its store: what is pending in its mailbox is shown, 64 changes at most. Answers
+    /// how many were shown; what it says is still to be printed. Where the session doesn't idle, has selected no mailbox or has ended, none are;
+    /// a client that missed changes is told BYE, and its session has then ended.
+    ///
+    /// Errors: `AllocError` where memory was refused. Nothing happened then.
+    pub fn idle_turn<S: Store>(&mut self, store: &mut S) -> Result<usize, AllocError>
+        ensures ok { IfOk result (λ count. (v : spec.HouseSession) → StandsFor self.old v → Turned S.step count v store.old store.new self.new) }
+        ensures session { IfOk result (λ count. HadTurn S.step self.old store.old store.new count self.new) }
+        ensures few { IfOk result (λ count. count ≤ 64) }
+        ensures quiet { IfOk result (λ count. count ≡ 0 → self.new.link.session.ended ≡ false → self.new ≡ self.old) }
+        ensures err { OnErr result ((self.new ≡ self.old) × Starves S.step store.old store.new) }
+    {
+        if self.connection.has_ended() {
+            return Ok(0);
+        }
+        let Ok(count) = self.connection.idle_turn(store, &mut self.unsaid) else {
+            return Err(AllocError);
+        };
+        Ok(count)
+    }
+
+    /// What it said and isn't printed yet.
+    pub fn unsaid(&self) -> &[u8]
+        ensures { result.now ≡ self.now.unsaid }
+    {
+        self.unsaid.as_slice()
+    }
+
+    /// All that it said is printed.
+    pub fn note_printed(&mut self)
+        ensures { self.new ≡ with_all_said self.old }
+    {
+        self.unsaid.clear();
+    }
+}

@@ -1,0 +1,5 @@
+pub mod Account
+pub mod Answering
+pub mod Copies
+pub mod Desk
+pub mod Speaking

@@ -1,3 +1,0 @@
-pub mod Visitor
-pub mod Place
-pub mod Folders
