@@ -10,6 +10,9 @@ use std::marker::Model;
 /// How many bytes there is room for at first, so that a short text with what stands before it is never moved.
 const FIRST_ROOM: usize = 4_096;
 
+/// From so much room on a text is long.
+const LONG: usize = 262_144;
+
 /// A text as it comes, behind what was put before it.
 #[derive(Drop)]
 pub(crate) struct Buffer {
@@ -65,25 +68,31 @@ impl Buffer {
         Ok(())
     }
 
-    /// Makes room for so many bytes more, as far as memory is given: where there is none, for three times as many as there was room for,
-    /// so that a long text is moved seldom. Memory that isn't written to isn't taken from the system, and the rest is given back at the end.
-    fn make_room(&mut self, more: usize)
+    /// Makes room for so many bytes more, as far as memory is given: where there is none, twice as much, and 16 times as much for a long
+    /// text; but for no more than may still come. So a long text is moved once more and not for each doubling. Memory that isn't written to
+    /// isn't taken from the system, and what is left over is given back at the end.
+    fn make_room(&mut self, more: usize, most: usize)
         ensures { self.new ≡ self.old }
     {
         let room = self.bytes.capacity();
         if more > room - self.bytes.len() {
-            let _ = self.bytes.reserve(more.max(room.saturating_mul(3)));
+            let wanted = if room < LONG {
+                room
+            } else {
+                room.saturating_mul(15)
+            };
+            let _ = self.bytes.reserve_exact(wanted.min(most).max(more));
         }
     }
 
-    /// Adds bytes to the text at once.
+    /// Adds bytes to the text at once, where so many may still come at most.
     ///
     /// Errors: `AllocError` where memory was refused; nothing was added.
-    pub(crate) fn extend(&mut self, run: &[u8]) -> Result<(), AllocError>
+    pub(crate) fn extend(&mut self, run: &[u8], most: usize) -> Result<(), AllocError>
         ensures ok { OnOk result (self.new ≡ record self.old { bytes = self.old.bytes ++ run.now }) }
         ensures err { OnErr result (self.new ≡ self.old) }
     {
-        self.make_room(run.len());
+        self.make_room(run.len(), most);
         self.bytes.extend_from_slice(run)
     }
 

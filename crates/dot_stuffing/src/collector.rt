@@ -117,9 +117,10 @@ impl Collector {
             self.count = self.max;
             return;
         }
+        let most = self.max - self.count;
         self.count += run.len();
         if !self.no_memory {
-            self.no_memory = self.buffer.extend(run).is_err();
+            self.no_memory = self.buffer.extend(run, most).is_err();
         }
     }
 
