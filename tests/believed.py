@@ -61,7 +61,7 @@ class Source:
             if not line.strip():
                 current, comment = None, 0
             elif line.startswith("--"):
-                current, comment = None, comment + 1
+                comment += 1
             elif line.startswith("use "):
                 self.read_import(line)
                 comment = 0
@@ -72,7 +72,8 @@ class Source:
                 comment = 0
             elif current is not None:
                 self.text[current] += "\n" + line
-                self.lines[current] += 1
+                self.lines[current] += 1 + comment
+                comment = 0
                 if kind == "data" and (made := re.match(r"  (?:pub )?(\S+) : ", line)):
                     self.owner[made.group(1)] = current
 

@@ -8,7 +8,7 @@ use Rattle.mailbox_holds.specs.Holds.{Expunges}
 use Rattle.imap_session.specs.Exchange.{Call, Answer, Enter, Look, Read, Count, Alter, Expunge, Feed, Leave, Entered, Looked, Found, Counted, Altered, Expunged, Fed, Left, Refused, Starved, Event}
 use Rattle.session_thread.specs.declared.desk.Entry.{Entry}
 use Rattle.session_thread.specs.Locks.{Holds, In, Place}
-use Rattle.session_thread.specs.inner.Locks.{seated_at}
+use Rattle.session_thread.specs.Locks.{seated_at}
 use Rattle.session_thread.specs.Abut.{Abut, BeginsAt, Joins, shown_by, shown_by_all, stays}
 
 -- the session is in the same mailbox, and was shown so many changes more

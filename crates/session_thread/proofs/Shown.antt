@@ -17,7 +17,7 @@ use Rattle.imap_session.specs.Exchange.{Alter, Altered, Answer, Feed, Expunge, F
 use Rattle.imap_session.specs.Store.{Feeds, Expunges, answer}
 use Rattle.session_thread.specs.declared.desk.Entry.{Entry}
 use Rattle.session_thread.specs.Locks.{Holds, Place, UnderLock}
-use Rattle.session_thread.specs.inner.Locks.{ShowsOf, refused_here, seated_at}
+use Rattle.session_thread.specs.Locks.{ShowsOf, refused_here, seated_at}
 
 -- ---- of the log
 

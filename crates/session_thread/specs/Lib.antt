@@ -1,4 +1,3 @@
 pub mod Locks
 pub mod Life
 pub mod Abut
-pub mod inner

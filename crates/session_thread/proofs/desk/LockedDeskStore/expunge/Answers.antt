@@ -1,6 +1,6 @@
 use Rattle.std.proofs.Common.{ap, sym, ◌∙◌}
 use Rattle.session_thread.specs.Locks.{Place}
-use Rattle.session_thread.specs.inner.Locks.{seated_at}
+use Rattle.session_thread.specs.Locks.{seated_at}
 use Rattle.session_thread.proofs.Shown.{expunges}
 use Rattle.session_thread.proofs.desk.LockedDeskStore.expunge.Goals as goal
 
