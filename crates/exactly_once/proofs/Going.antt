@@ -21,7 +21,7 @@ use Rattle.house_connection.specs.HouseConnection.{HouseConnection, more_waits, 
 use Rattle.house.specs.Setup.{Setup, terms_of}
 use Rattle.house_session.specs.HouseSession.{HouseSession}
 use Rattle.house.specs.Printing.{Speaks, Prints, prints_all, prints_none}
-use Rattle.house.specs.Printing.{marked_session}
+use Rattle.house.specs.Printing.{marked_session, of_session}
 use Rattle.house_session.specs.HouseSession.{greeted as greeted_visitor, more_waits as visitor_more_waits}
 use Rattle.house_session.specs.Folders.{folders_of}
 use Rattle.house.proofs.Carried.{speaks_carried}
@@ -201,14 +201,14 @@ data Wrote (k : Setup) (n : ℕ) (bytes printed : List ℕ) : Type 0 where
   nothing : printed ≡ [] → Wrote k n bytes printed
   wrote : (lines : List (List ℕ)) → IsCut bytes lines [] → printed ≡ text_of k (Lines n lines) → Wrote k n bytes printed
 
-wrote_of : (k : Setup) (n : ℕ) (before after : HouseSession) (said printed : List ℕ) → IsWhole (before.unsaid ++ said) → Prints n before after said printed → Wrote k n (before.unsaid ++ said) printed
+wrote_of : (k : Setup) (n : ℕ) (before after : HouseSession) (said printed : List ℕ) → IsWhole (before.unsaid ++ said) → Prints of_session n (before.unsaid ++ said) after.unsaid printed → Wrote k n (before.unsaid ++ said) printed
 wrote_of k n before after said printed w (prints_none l p) = nothing p
 wrote_of k n before after said printed w (prints_all l p) =
     let cut = cut_of (before.unsaid ++ said) w in
     wrote cut.0 cut.1 (p ∙ ap (λ (x : List ℕ). marked_session n x) (cut.1.whole ∙ append-nil (joined cut.0)))
 
 -- what it has still to print
-unsaid_whole : (n : ℕ) (before after : HouseSession) (said printed : List ℕ) → IsWhole (before.unsaid ++ said) → Prints n before after said printed → IsWhole after.unsaid
+unsaid_whole : (n : ℕ) (before after : HouseSession) (said printed : List ℕ) → IsWhole (before.unsaid ++ said) → Prints of_session n (before.unsaid ++ said) after.unsaid printed → IsWhole after.unsaid
 unsaid_whole n before after said printed w (prints_all l p) = inl l
 unsaid_whole n before after said printed w (prints_none l p) = subst IsWhole (sym l) w
 

@@ -13,9 +13,9 @@ use Rattle.lmtp_machine.specs.Dialogue.{Phase, Start, Ready, Transaction, Data, 
 use Rattle.lmtp_machine.specs.Conversation.{Conversation, Leads}
 use Rattle.lmtp_machine.specs.Kept.{AreMessages, Kept}
 use Rattle.lmtp_machine.proofs.Kept.{event_keeps, fresh_kept, leads_keeps}
-use Rattle.house_connection.specs.Talk.{Talk, marked, prints_all, prints_none, Prints}
-use Rattle.house_connection.specs.HouseConnection.{HouseConnection, GoesOn, Proceeds, IsAnswered, works, waits, answers, stalls, talks, lingers, fades, greeted, keys_of, meets, setting_of, unread}
-use Rattle.house.specs.Printing.{Leaves, goes, stays}
+use Rattle.house_connection.specs.HouseConnection.{HouseConnection, GoesOn, Proceeds, IsAnswered, Works, with_unsaid, works, waits, answers, stalls, talks, lingers, fades, greeted, keys_of, meets, setting_of, unread}
+use Rattle.house.specs.Printing.{ConnectionGoes, Leaves, Prints, goes, marked_connection, of_connection, prints_all, prints_none, stays}
+use Rattle.house.proofs.Places.{does_serial}
 use Rattle.house.specs.Setup.{Setup, terms_of}
 use Rattle.exactly_once.specs.Promise as promise
 use Rattle.exactly_once.specs.Promise.{Said, Other, reply_of, verdict_in}
@@ -145,7 +145,7 @@ says_all k seat serial heard next told standing unsaid pending t = record {
 -- what the connection at a seat printed, and who stands there then
 pub record Spoke (k : Setup) (seat serial : ℕ) (heard : List Noted) (next : ℕ) (told : List Noted) (o : Option HouseConnection) (printed : List ℕ) : Type 0 where
   pub said : List Said
-  pub is : printed ≡ marked (seat + 1) (bytes_of k said)
+  pub is : printed ≡ marked_connection (seat + 1) (bytes_of k said)
   pub own : AreOf serial said
   pub left : ConnectionOk k seat heard next (told ++ verdicts said) o
 
@@ -175,31 +175,33 @@ went_on k seat serial heard next told at after unsaid taken turn t l =
     }
 
 -- who stands there, by who has gone on
-left_ok : (k : Setup) (whole : Bool) (seat : ℕ) (heard : List Noted) (next : ℕ) (told : List Noted) (b : HouseConnection) (what : What) (after : Talk) (submitted : List Submission) (o : Option HouseConnection)
-    → after.pending ≡ submitted → IsTalking k seat b.serial heard next told after.at.standing after.unsaid submitted → Leaves whole b what after submitted o → ConnectionOk k seat heard next told o
-left_ok k whole seat heard next told b what after submitted o same t (goes q n e) = rw e (drops k seat b.serial heard next told after.at.standing after.unsaid submitted t)
-left_ok k whole seat heard next told b what after submitted o same t (stays f e) = rw e (subst (IsTalking k seat b.serial heard next told after.at.standing after.unsaid) (sym same) t)
+left_ok : (k : Setup) (whole : Bool) (seat : ℕ) (heard : List Noted) (next : ℕ) (told : List Noted) (what : What) (after : HouseConnection) (o : Option HouseConnection)
+    → ConnectionOk k seat heard next told (Some after) → Leaves whole what after o → ConnectionOk k seat heard next told o
+left_ok k whole seat heard next told what after o t (goes q n e) = rw e (drops k seat after.serial heard next told after.talk.at.standing after.talk.unsaid after.talk.pending t)
+left_ok k whole seat heard next told what after o t (stays f g e) = rw e t
 
-prints_spoke : (k : Setup) (whole : Bool) (seat : ℕ) (heard : List Noted) (next : ℕ) (told : List Noted) (b : HouseConnection) (what : What) (before after : Talk) (turn : Turn) (o : Option HouseConnection) (printed : List ℕ)
-    → after.pending ≡ turn.submissions → IsTalking k seat b.serial heard next told after.at.standing (before.unsaid ++ wire k.host turn.replies) turn.submissions
-    → Prints (seat + 1) k.host before after turn printed → Leaves whole b what after turn.submissions o → Spoke k seat b.serial heard next told o printed
-prints_spoke k whole seat heard next told b what before after turn o printed same t (prints_all e p) l = record {
+-- what it had to say is printed, or is still to be
+prints_spoke : (k : Setup) (whole : Bool) (seat : ℕ) (heard : List Noted) (next : ℕ) (told : List Noted) (what : What) (after : HouseConnection) (still : List ℕ) (o : Option HouseConnection) (printed : List ℕ)
+    → ConnectionOk k seat heard next told (Some after) → Prints of_connection (seat + 1) after.talk.unsaid still printed → Leaves whole what (with_unsaid still after) o → Spoke k seat after.serial heard next told o printed
+prints_spoke k whole seat heard next told what after still o printed t (prints_all e p) l = record {
   said = t.said;
-  is = p ∙ ap (λ (x : List ℕ). marked (seat + 1) x) t.is;
+  is = p ∙ ap (λ (x : List ℕ). marked_connection (seat + 1) x) t.is;
   own = t.own;
-  left = left_ok k whole seat heard next (told ++ verdicts t.said) b what after turn.submissions o same
-      (subst (λ (x : List ℕ). IsTalking k seat b.serial heard next (told ++ verdicts t.said) after.at.standing x turn.submissions) (sym e)
-      (says_all k seat b.serial heard next told after.at.standing (before.unsaid ++ wire k.host turn.replies) turn.submissions t)) l;
+  left = left_ok k whole seat heard next (told ++ verdicts t.said) what (with_unsaid still after) o
+      (subst (λ (x : List ℕ). IsTalking k seat after.serial heard next (told ++ verdicts t.said) after.talk.at.standing x after.talk.pending) (sym e)
+      (says_all k seat after.serial heard next told after.talk.at.standing after.talk.unsaid after.talk.pending t)) l;
 }
-prints_spoke k whole seat heard next told b what before after turn o printed same t (prints_none e p) l =
-    silent k seat b.serial heard next told o printed (left_ok k whole seat heard next told b what after turn.submissions o same
-    (subst (λ (x : List ℕ). IsTalking k seat b.serial heard next told after.at.standing x turn.submissions) (sym e) t) l) p
+prints_spoke k whole seat heard next told what after still o printed t (prints_none e p) l =
+    silent k seat after.serial heard next told o printed (left_ok k whole seat heard next told what (with_unsaid still after) o
+    (subst (λ (x : List ℕ). IsTalking k seat after.serial heard next told after.talk.at.standing x after.talk.pending) (sym e) t) l) p
 
-talks_spoke : (k : Setup) (whole : Bool) (seat : ℕ) (heard : List Noted) (next : ℕ) (told : List Noted) (b : HouseConnection) (o : Option HouseConnection) (printed : List ℕ)
-    → IsTalking k seat b.serial heard next told b.talk.at.standing b.talk.unsaid [] → Talks k whole seat b o printed → Spoke k seat b.serial heard next told o printed
-talks_spoke k whole seat heard next told b o printed s t =
-    prints_spoke k whole seat heard next told b t.what b.talk t.after t.turn o printed t.works.submits
-    (went_on k seat b.serial heard next told b.talk.at t.after.at b.talk.unsaid t.works.taken t.turn s t.works.leads) t.prints t.leaves
+-- it took what waited
+works_ok : (k : Setup) (whole : Bool) (seat : ℕ) (heard : List Noted) (next : ℕ) (told : List Noted) (b : HouseConnection) (what : What) (after : HouseConnection)
+    → IsTalking k seat b.serial heard next told b.talk.at.standing b.talk.unsaid [] → Works (terms_of k) whole seat b what after → ConnectionOk k seat heard next told (Some after)
+works_ok k whole seat heard next told b what after s w =
+    let t = went_on k seat b.serial heard next told b.talk.at w.talk.at b.talk.unsaid w.works.taken w.turn s w.works.leads in
+    let u = subst (λ (x : List ℕ). IsTalking k seat b.serial heard next told w.talk.at.standing x w.turn.submissions) (sym w.said) t in
+    rw w.is (subst (IsTalking k seat b.serial heard next told w.talk.at.standing w.talk.unsaid) (sym w.works.submits) u)
 
 -- ---- verdicts that are known
 
@@ -266,35 +268,46 @@ answers_talking k seat heard next told b vs t is =
 
 -- ---- going on
 
-goes_spoke : (k : Setup) (whole : Bool) (seat : ℕ) (heard : List Noted) (next : ℕ) (told : List Noted) (b : HouseConnection) (o : Option HouseConnection) (printed : List ℕ)
-    → ConnectionOk k seat heard next told (Some b) → GoesOn k whole seat heard b o printed → Spoke k seat b.serial heard next told o printed
-goes_spoke k whole seat heard next told b o printed s (works none t) =
-    talks_spoke k whole seat heard next told b o printed (subst (IsTalking k seat b.serial heard next told b.talk.at.standing b.talk.unsaid) none s) t
-goes_spoke k whole seat heard next told b o printed s (waits some not e p) = record {
-  said = s.said;
-  is = p ∙ ap (λ (x : List ℕ). marked (seat + 1) x) s.is;
-  own = s.own;
-  left = rw e (says_all k seat b.serial heard next told b.talk.at.standing b.talk.unsaid b.talk.pending s);
-}
-goes_spoke k whole seat heard next told b o printed s (answers vs some is t) =
-    talks_spoke k whole seat heard next told (meets (terms_of k) seat b (Answered vs)) o printed (answers_talking k seat heard next told b vs s is) t
-goes_spoke k whole seat heard next told b o printed s (stalls f e p) = silent k seat b.serial heard next told o printed (rw e s) p
+goes_ok : (k : Setup) (whole : Bool) (seat : ℕ) (heard : List Noted) (next : ℕ) (told : List Noted) (b : HouseConnection) (what : What) (after : HouseConnection)
+    → ConnectionOk k seat heard next told (Some b) → GoesOn (terms_of k) whole seat heard b what after → ConnectionOk k seat heard next told (Some after)
+goes_ok k whole seat heard next told b what after s (works none w) =
+    works_ok k whole seat heard next told b what after (subst (IsTalking k seat b.serial heard next told b.talk.at.standing b.talk.unsaid) none s) w
+goes_ok k whole seat heard next told b what after s (waits some not q e) = rw e s
+goes_ok k whole seat heard next told b what after s (answers vs some is w) = works_ok k whole seat heard next told (meets (terms_of k) seat b (Answered vs)) what after (answers_talking k seat heard next told b vs s is) w
+goes_ok k whole seat heard next told b what after s (stalls f q e) = rw e s
+
+does_ok : (k : Setup) (whole : Bool) (seat : ℕ) (heard : List Noted) (next : ℕ) (told : List Noted) (b : HouseConnection) (what : What) (after : HouseConnection)
+    → ConnectionOk k seat heard next told (Some b) → Proceeds (terms_of k) whole seat heard b what after → ConnectionOk k seat heard next told (Some after)
+does_ok k whole seat heard next told b what after s (talks there g) = goes_ok k whole seat heard next told b what after s g
+does_ok k whole seat heard next told b what after s (lingers gone none not q e) = rw e s
+does_ok k whole seat heard next told b what after s (fades vs gone none is q e) = rw e s
 
 pub proceeds_spoke : (k : Setup) (whole : Bool) (seat : ℕ) (heard : List Noted) (next : ℕ) (told : List Noted) (b : HouseConnection) (o : Option HouseConnection) (printed : List ℕ)
-    → ConnectionOk k seat heard next told (Some b) → Proceeds k whole seat heard b o printed → Spoke k seat b.serial heard next told o printed
-proceeds_spoke k whole seat heard next told b o printed s (talks there g) = goes_spoke k whole seat heard next told b o printed s g
-proceeds_spoke k whole seat heard next told b o printed s (lingers gone not e p) = silent k seat b.serial heard next told o printed (rw e s) p
-proceeds_spoke k whole seat heard next told b o printed s (fades vs gone is e p) =
-    silent k seat b.serial heard next told o printed (rw e (drops k seat b.serial heard next told b.talk.at.standing b.talk.unsaid b.talk.pending s)) p
+    → ConnectionOk k seat heard next told (Some b) → ConnectionGoes k whole seat heard b o printed → Spoke k seat b.serial heard next told o printed
+proceeds_spoke k whole seat heard next told b o printed s g =
+    subst (λ (n : ℕ). Spoke k seat n heard next told o printed) (does_serial (terms_of k) whole seat heard b g.what g.after g.proceeds)
+    (prints_spoke k whole seat heard next told g.what g.after g.still o printed (does_ok k whole seat heard next told b g.what g.after s g.proceeds) g.prints g.leaves)
 
--- one whose peer is gone prints nothing
+-- one whose peer is gone has nothing to say, and is as it was
+unread_same : (k : Setup) (whole : Bool) (seat : ℕ) (heard : List Noted) (b : HouseConnection) (what : What) (after : HouseConnection) → Proceeds (terms_of k) whole seat heard (unread b) what after → after ≡ unread b
+unread_same k whole seat heard b what after (talks there g) = absurd (let x : true ≡ false = there in cc)
+unread_same k whole seat heard b what after (lingers gone none not q e) = e
+unread_same k whole seat heard b what after (fades vs gone none is q e) = e
+
+prints_nothing : (n : ℕ) (unsaid still printed : List ℕ) → unsaid ≡ [] → Prints of_connection n unsaid still printed → (still ≡ []) × (printed ≡ [])
+prints_nothing n unsaid still printed none (prints_all e p) = (e, p ∙ ap (λ (x : List ℕ). marked_connection n x) none)
+prints_nothing n unsaid still printed none (prints_none e p) = (e ∙ none, p)
+
 pub unread_silent : (k : Setup) (whole : Bool) (seat : ℕ) (heard : List Noted) (next : ℕ) (told : List Noted) (b : HouseConnection) (o : Option HouseConnection) (printed : List ℕ)
-    → ConnectionOk k seat heard next told (Some b) → Proceeds k whole seat heard (unread b) o printed → ConnectionOk k seat heard next told o × (printed ≡ [])
-unread_silent k whole seat heard next told b o printed s (talks there g) = let x : true ≡ false = there in cc
-unread_silent k whole seat heard next told b o printed s (lingers gone not e p) =
-    (rw e (falls_silent k seat b.serial heard next told b.talk.at.standing b.talk.unsaid b.talk.pending s), p)
-unread_silent k whole seat heard next told b o printed s (fades vs gone is e p) =
-    (rw e (drops k seat b.serial heard next told b.talk.at.standing b.talk.unsaid b.talk.pending s), p)
+    → ConnectionOk k seat heard next told (Some b) → ConnectionGoes k whole seat heard (unread b) o printed → ConnectionOk k seat heard next told o × (printed ≡ [])
+unread_silent k whole seat heard next told b o printed s g =
+    let same = unread_same k whole seat heard b g.what g.after g.proceeds in
+    let quiet = prints_nothing (seat + 1) g.after.talk.unsaid g.still printed (ap (λ (x : HouseConnection). x.talk.unsaid) same) g.prints in
+    let silent_b : ConnectionOk k seat heard next told (Some (unread b)) = falls_silent k seat b.serial heard next told b.talk.at.standing b.talk.unsaid b.talk.pending s in (
+      left_ok k whole seat heard next told g.what (with_unsaid g.still g.after) o
+          (subst (λ (x : HouseConnection). ConnectionOk k seat heard next told (Some (with_unsaid g.still x))) (sym same) (subst (λ (u : List ℕ). ConnectionOk k seat heard next told (Some (with_unsaid u (unread b)))) (sym quiet.0) silent_b)) g.leaves,
+      quiet.1,
+    )
 
 -- a connection that was just opened has said its greeting
 pub greeted_talking : (k : Setup) (seat serial : ℕ) (heard told : List Noted) (next : ℕ) → serial < next → AreTold seat heard serial 0 told → ConnectionOk k seat heard next told (Some (greeted (terms_of k) seat serial))

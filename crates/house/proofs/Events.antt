@@ -10,7 +10,7 @@ use Rattle.envelope.specs.Directory.{Directory}
 use Rattle.delivery_core.specs.New.{first_key}
 use Rattle.house_connection.specs.Line.{Line}
 use Rattle.house.specs.State.{State}
-use Rattle.house_connection.specs.HouseConnection.{HouseConnection, greeted, more_waits, unread}
+use Rattle.house_connection.specs.HouseConnection.{HouseConnection, Terms, greeted, more_waits, unread}
 use Rattle.house.specs.Setup.{Setup, terms_of}
 use Rattle.house.specs.Scene.{BytesPlay, Scene, VanishPlay, goes_on, most_serials, opens, with_caller}
 use Rattle.house_connection.specs.Taking.{with_more, with_nobody_there}
@@ -112,7 +112,7 @@ vacant k s seat next (Some b) e w = absurd w
 
 pub welcomed : (k : Setup) (h : State) (s : Scene) (number seat : ℕ) (piece : List ℕ) (directory : Directory) (l : Option Line) (g : Line) (whole : Bool) (old new : List ℕ)
     → StandsFor k h s → number ≡ seat + 1 → directory ≡ h.directory → seat < length h.callers → get_or h.callers seat None ≡ None → get_or h.serials seat 0 < most_serials → has_ended h.core seat ≡ false
-    → ((x : Setup) (next : CopyKey) (heard : List Noted) → x.host ≡ h.host → x.max_message ≡ h.max_message → AtLeast next (record { seat = seat; serial = get_or h.serials seat 0; message = 0; recipient = 0 }) → StandsForConnection x seat next heard g (more_waits (greeted x seat (get_or h.serials seat 0)) piece))
+    → ((x : Terms) (next : CopyKey) (heard : List Noted) → x.host ≡ h.host → x.max_message ≡ h.max_message → AtLeast next (record { seat = seat; serial = get_or h.serials seat 0; message = 0; recipient = 0 }) → StandsForConnection x seat next heard g (more_waits (greeted x seat (get_or h.serials seat 0)) piece))
     → ((x : Setup) (p : ℕ) (next : CopyKey) (heard : List Noted) (b : HouseConnection) → IsOf x number p directory → StandsForMaybe x p next heard (Some g) (Some b) → PlaceWentOn x whole p next heard b l old new)
     → (t : Scene) × (printed : List ℕ) × BytesPlay k whole s seat piece t printed
     × StandsFor k (record { core = h.core; callers = set h.callers seat l; serials = set h.serials seat (get_or h.serials seat 0 + 1); visitors = h.visitors; directory = h.directory; host = h.host; max_message = h.max_message }) t
@@ -126,7 +126,7 @@ welcomed k h s number seat piece directory l g whole old new st e dir lt none le
     let b = more_waits (greeted (terms_of k) seat (s.next seat)) piece in
     let m : StandsForConnection (terms_of k) seat (get_or h.core.next seat y) (s.world.heard seat) g b
     = subst (λ (z : ℕ). StandsForConnection (terms_of k) seat (get_or h.core.next seat y) (s.world.heard seat) g (more_waits (greeted (terms_of k) seat z) piece)) same
-    (opened k (get_or h.core.next seat y) (s.world.heard seat) (sym st.host) (sym st.max_message) (subst (λ (z : ℕ). AtLeast (get_or h.core.next seat y) (record { seat = seat; serial = z; message = 0; recipient = 0 })) (sym same) o.1)) in
+    (opened (terms_of k) (get_or h.core.next seat y) (s.world.heard seat) (sym st.host) (sym st.max_message) (subst (λ (z : ℕ). AtLeast (get_or h.core.next seat y) (record { seat = seat; serial = z; message = 0; recipient = 0 })) (sym same) o.1)) in
     let w = f k seat (get_or h.core.next seat y) (s.world.heard seat) b (record { numbered = e; looks_up = dir ∙ st.directory }) m in
     let ls : seat < length h.serials = let p = st.seats in let q = st.numbers in omega (arith, p, q, lt) in
     let here : set_at s.next seat (s.next seat + 1) seat ≡ s.next seat + 1 = set_at-same s.next seat (s.next seat + 1) in (

@@ -11,4 +11,4 @@ pub mod Visiting
 pub mod IdleTurn
 pub mod IdleSettling
 pub mod Carried
-pub mod Printing
+pub mod Printed

@@ -11,12 +11,11 @@ use Rattle.delivery_core.specs.Held.{Held, notes_of}
 use Rattle.delivery_core.specs.Stands as core
 use Rattle.delivery_core.proofs.Follow.{get_or-any}
 use Rattle.lmtp_machine.specs.declared.connection.What.{What}
-use Rattle.lmtp_machine.specs.Dialogue.{Answered, Submission}
+use Rattle.lmtp_machine.specs.Dialogue.{Answered}
 use Rattle.house_connection.specs.Line.{Line}
 use Rattle.house.specs.State.{State}
-use Rattle.house_connection.specs.Talk.{Talk}
-use Rattle.house_connection.specs.HouseConnection.{HouseConnection, GoesOn, Proceeds, answers, copies_of, fades, lingers, meets, stalls, talks, waits, works}
-use Rattle.house.specs.Printing.{Leaves, goes, stays}
+use Rattle.house_connection.specs.HouseConnection.{HouseConnection, GoesOn, Proceeds, Terms, Works, answers, fades, lingers, meets, stalls, talks, waits, with_unsaid, works}
+use Rattle.house.specs.Printing.{ConnectionGoes, Leaves, goes, stays}
 use Rattle.house.specs.Setup.{Setup, terms_of}
 use Rattle.house.specs.Scene.{Scene}
 use Rattle.house_connection.specs.ConnectionStands.{StandsForConnection}
@@ -32,20 +31,26 @@ at_there {A} f i x j n = at_cases (λ (v : A). v ≡ f j) f i x j (λ e. absurd 
 same_serial : (a b : HouseConnection) → Some a ≡ Some b → a.serial ≡ b.serial
 same_serial a b e = let x : a ≡ b = cc in ap (λ (v : HouseConnection). v.serial) x
 
-leaves_serial : (whole : Bool) (a : HouseConnection) (what : What) (after : Talk) (ss : List Submission) (o : Option HouseConnection) (b : HouseConnection) → Leaves whole a what after ss o → o ≡ Some b → b.serial ≡ a.serial
-leaves_serial whole a what after ss o b (goes q u e) f = absurd (let x : None ≡ Some b = sym e ∙ f in cc)
-leaves_serial whole a what after ss o b (stays q e) f = same_serial b (record { serial = a.serial; gone = a.gone; talk = after; to_put = copies_of ss }) (sym f ∙ e)
+works_serial : (k : Terms) (whole : Bool) (seat : ℕ) (a : HouseConnection) (what : What) (after : HouseConnection) → Works k whole seat a what after → after.serial ≡ a.serial
+works_serial k whole seat a what after w = ap (λ (v : HouseConnection). v.serial) w.is
 
-goes_serial : (k : Setup) (whole : Bool) (seat : ℕ) (heard : List Noted) (a : HouseConnection) (o : Option HouseConnection) (printed : List ℕ) (b : HouseConnection) → GoesOn k whole seat heard a o printed → o ≡ Some b → b.serial ≡ a.serial
-goes_serial k whole seat heard a o printed b (works p t) e = leaves_serial whole a t.what t.after t.turn.submissions o b t.leaves e
-goes_serial k whole seat heard a o printed b (waits m n f p) e = same_serial b (told a) (sym e ∙ f)
-goes_serial k whole seat heard a o printed b (answers vs m n t) e = leaves_serial whole (meets (terms_of k) seat a (Answered vs)) t.what t.after t.turn.submissions o b t.leaves e
-goes_serial k whole seat heard a o printed b (stalls w f p) e = same_serial b a (sym e ∙ f)
+goes_serial : (k : Terms) (whole : Bool) (seat : ℕ) (heard : List Noted) (a : HouseConnection) (what : What) (after : HouseConnection) → GoesOn k whole seat heard a what after → after.serial ≡ a.serial
+goes_serial k whole seat heard a what after (works p w) = works_serial k whole seat a what after w
+goes_serial k whole seat heard a what after (waits m n f e) = ap (λ (v : HouseConnection). v.serial) e
+goes_serial k whole seat heard a what after (answers vs m n w) = works_serial k whole seat (meets k seat a (Answered vs)) what after w
+goes_serial k whole seat heard a what after (stalls w f e) = ap (λ (v : HouseConnection). v.serial) e
 
-proceeds_serial : (k : Setup) (whole : Bool) (seat : ℕ) (heard : List Noted) (a : HouseConnection) (o : Option HouseConnection) (printed : List ℕ) (b : HouseConnection) → Proceeds k whole seat heard a o printed → o ≡ Some b → b.serial ≡ a.serial
-proceeds_serial k whole seat heard a o printed b (talks l g) e = goes_serial k whole seat heard a o printed b g e
-proceeds_serial k whole seat heard a o printed b (lingers g n f p) e = same_serial b a (sym e ∙ f)
-proceeds_serial k whole seat heard a o printed b (fades vs g n f p) e = absurd (let x : None ≡ Some b = sym f ∙ e in cc)
+pub does_serial : (k : Terms) (whole : Bool) (seat : ℕ) (heard : List Noted) (a : HouseConnection) (what : What) (after : HouseConnection) → Proceeds k whole seat heard a what after → after.serial ≡ a.serial
+does_serial k whole seat heard a what after (talks l g) = goes_serial k whole seat heard a what after g
+does_serial k whole seat heard a what after (lingers g u n f e) = ap (λ (v : HouseConnection). v.serial) e
+does_serial k whole seat heard a what after (fades vs g u n f e) = ap (λ (v : HouseConnection). v.serial) e
+
+leaves_serial : (whole : Bool) (what : What) (after : HouseConnection) (o : Option HouseConnection) (b : HouseConnection) → Leaves whole what after o → o ≡ Some b → b.serial ≡ after.serial
+leaves_serial whole what after o b (goes q u e) f = absurd (let x : None ≡ Some b = sym e ∙ f in cc)
+leaves_serial whole what after o b (stays q g e) f = same_serial b after (sym f ∙ e)
+
+proceeds_serial : (k : Setup) (whole : Bool) (seat : ℕ) (heard : List Noted) (a : HouseConnection) (o : Option HouseConnection) (printed : List ℕ) (b : HouseConnection) → ConnectionGoes k whole seat heard a o printed → o ≡ Some b → b.serial ≡ a.serial
+proceeds_serial k whole seat heard a o printed b g e = leaves_serial whole g.what (with_unsaid g.still g.after) o b g.leaves e ∙ does_serial (terms_of k) whole seat heard a g.what g.after g.proceeds
 
 -- ---- the place itself
 

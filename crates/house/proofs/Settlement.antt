@@ -6,14 +6,13 @@ use Rattle.std.proofs.lemmas.List.FromFn.{map-range_with_len_more}
 use Rattle.change_ring.proofs.RangeLaws.{range-push}
 use Rattle.std.proofs.lemmas.List.{append-nil, map-append}
 use Rattle.lmtp_machine.specs.declared.connection.What.{What}
-use Rattle.lmtp_machine.specs.Dialogue.{Submission}
 use Rattle.delivery_token.specs.declared.log.Noted.{Noted}
 use Rattle.house.specs.declared.event.Event.{Event}
 use Rattle.house.specs.declared.event.Event.TheVariants.{Bytes, Vanish, Put, Take, Deliver, Answer, Hear, End, Enter, Say, Idle, Leave}
-use Rattle.house_connection.specs.Talk.{Talk}
-use Rattle.house_connection.specs.HouseConnection.{HouseConnection, GoesOn, Proceeds, works, waits, answers, stalls, talks, lingers, fades, unread}
-use Rattle.house.specs.Printing.{Leaves, goes, stays}
-use Rattle.house.specs.Setup.{Setup}
+use Rattle.house_connection.specs.HouseConnection.{HouseConnection, unread, with_unsaid}
+use Rattle.house.specs.Printing.{ConnectionGoes, Leaves, goes, stays}
+use Rattle.house.proofs.Printed.{proceeds_part}
+use Rattle.house.specs.Setup.{Setup, terms_of}
 use Rattle.house.specs.Scene.{BytesPlay, HasNothing, HearPlay, Parts, Plays, PutPlay, Scene, VanishPlay, SessionGoes, SessionIdles, seat_of, place_of, opens, goes_on, parts, remains}
 use Rattle.house_session.specs.Folders.{folders_of}
 use Rattle.world.specs.World.{World}
@@ -36,35 +35,24 @@ use Rattle.house.specs.inner.Trying.{CameVisit, CameVisits, Did, DidVisits, IsAm
 
 -- ---- what a whole event does, one that is cut short may do as well
 
-leaves_part : (b : HouseConnection) (what : What) (after : Talk) (ss : List Submission) (o : Option HouseConnection) → Leaves true b what after ss o → Leaves false b what after ss o
-leaves_part b what after ss o (goes q n e) = goes q n e
-leaves_part b what after ss o (stays f e) = stays (λ x q. let y : false ≡ true = x in cc) e
+leaves_part : (what : What) (after : HouseConnection) (o : Option HouseConnection) → Leaves true what after o → Leaves false what after o
+leaves_part what after o (goes q n e) = goes q n e
+leaves_part what after o (stays f g e) = stays (λ q x. let y : false ≡ true = x in cc) g e
 
-talks_part : (k : Setup) (seat : ℕ) (b : HouseConnection) (o : Option HouseConnection) (printed : List ℕ) → Talks k true seat b o printed → Talks k false seat b o printed
-talks_part k seat b o printed t = record {
-  turn = t.turn;
-  what = t.what;
-  after = t.after;
-  works = t.works;
-  prints = t.prints;
+goes_in_part : (k : Setup) (seat : ℕ) (heard : List Noted) (b : HouseConnection) (o : Option HouseConnection) (printed : List ℕ) → ConnectionGoes k true seat heard b o printed → ConnectionGoes k false seat heard b o printed
+goes_in_part k seat heard b o printed g = record {
+  what = g.what;
+  after = g.after;
+  proceeds = proceeds_part (terms_of k) seat heard b g.what g.after g.proceeds;
+  still = g.still;
+  prints = g.prints;
   all = λ x. let y : false ≡ true = x in cc;
-  leaves = leaves_part b t.what t.after t.turn.submissions o t.leaves;
+  leaves = leaves_part g.what (with_unsaid g.still g.after) o g.leaves;
 }
 
-goes_part : (k : Setup) (seat : ℕ) (heard : List Noted) (b : HouseConnection) (o : Option HouseConnection) (printed : List ℕ) → GoesOn k true seat heard b o printed → GoesOn k false seat heard b o printed
-goes_part k seat heard b o printed (works e t) = works e (talks_part k seat b o printed t)
-goes_part k seat heard b o printed (waits l n e p) = waits l n e p
-goes_part k seat heard b o printed (answers vs l a t) = answers vs l a (talks_part k seat _ o printed t)
-goes_part k seat heard b o printed (stalls w e p) = cc
-
-proceeds_part : (k : Setup) (seat : ℕ) (heard : List Noted) (b : HouseConnection) (o : Option HouseConnection) (printed : List ℕ) → Proceeds k true seat heard b o printed → Proceeds k false seat heard b o printed
-proceeds_part k seat heard b o printed (talks l g) = talks l (goes_part k seat heard b o printed g)
-proceeds_part k seat heard b o printed (lingers g n e p) = lingers g n e p
-proceeds_part k seat heard b o printed (fades vs g n e p) = fades vs g n e p
-
 bytes_part : (k : Setup) (s : Scene) (seat : ℕ) (piece : List ℕ) (t : Scene) (printed : List ℕ) → BytesPlay k true s seat piece t printed → BytesPlay k false s seat piece t printed
-bytes_part k s seat piece t printed (opens l n m f o g e) = opens l n m f o (proceeds_part k seat _ _ o printed g) e
-bytes_part k s seat piece t printed (goes_on b n l o g e) = goes_on b n l o (proceeds_part k seat _ _ o printed g) e
+bytes_part k s seat piece t printed (opens l n m f o g e) = opens l n m f o (goes_in_part k seat _ _ o printed g) e
+bytes_part k s seat piece t printed (goes_on b n l o g e) = goes_on b n l o (goes_in_part k seat _ _ o printed g) e
 
 vanish_part : (k : Setup) (s : Scene) (seat : ℕ) (t : Scene) (printed : List ℕ) → VanishPlay k true s seat t printed → VanishPlay k false s seat t printed
 vanish_part k s seat t printed p = record {
@@ -72,7 +60,7 @@ vanish_part k s seat t printed p = record {
   there = p.there;
   was_read = p.was_read;
   left = p.left;
-  goes = proceeds_part k seat (s.world.heard seat) (unread p.caller) p.left printed p.goes;
+  goes = goes_in_part k seat (s.world.heard seat) (unread p.caller) p.left printed p.goes;
   after = p.after;
 }
 
@@ -86,7 +74,7 @@ put_part k s seat t printed p = record {
   moved = p.moved;
   step = p.step;
   left = p.left;
-  goes = proceeds_part k seat (p.moved.heard seat) (record { serial = p.caller.serial; gone = p.caller.gone; talk = p.caller.talk; to_put = p.others }) p.left printed p.goes;
+  goes = goes_in_part k seat (p.moved.heard seat) (record { serial = p.caller.serial; gone = p.caller.gone; talk = p.caller.talk; to_put = p.others }) p.left printed p.goes;
   after = p.after;
 }
 
@@ -97,7 +85,7 @@ hear_part k s seat t printed p = record {
   moved = p.moved;
   step = p.step;
   left = p.left;
-  goes = proceeds_part k seat (p.moved.heard seat) p.caller p.left printed p.goes;
+  goes = goes_in_part k seat (p.moved.heard seat) p.caller p.left printed p.goes;
   after = p.after;
 }
 

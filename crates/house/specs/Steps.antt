@@ -1,7 +1,6 @@
 -- What a call of the house promises: for each scene for which it stood, a scene to which the event leads.
 use Rattle.std.specs.Prelude.{◌≡◌, ℕ, ◌<◌, ◌≤◌, ◌⊎◌, ◌++◌, ◌%◌, slice_index_or, slice_set, Bool, true, false, List, [], ◌∷◌, length, Option, Some, None, IsSome}
 use Rattle.delivery_token.specs.Book.{Book}
-use Rattle.delivery_token.specs.declared.CopyKey.{CopyKey}
 use Rattle.delivery_token.specs.declared.log.Noted.{Noted}
 use Rattle.house.specs.declared.event.Event.{Event}
 use Rattle.house.specs.declared.event.Event.TheVariants.{Bytes, Vanish, Put, Take, Deliver, Answer, Hear, End, Enter, Say, Idle, Leave}
@@ -17,10 +16,8 @@ use Rattle.delivery_core.specs.Stands as core
 use Rattle.house_connection.specs.Line.{Line}
 use Rattle.house_connection.specs.Taking.{due}
 use Rattle.house.specs.State.{State}
-use Rattle.house_connection.specs.HouseConnection.{HouseConnection}
-use Rattle.house.specs.Setup.{Setup, terms_of}
+use Rattle.house.specs.Setup.{Setup}
 use Rattle.house.specs.Scene.{Scene, HasNothing, Plays, most_serials, place_of, seat_of}
-use Rattle.house_connection.specs.ConnectionStands.{StandsForConnection}
 use Rattle.imap_session.specs.Exchange.{is_idling}
 use Rattle.house_session.specs.Folders.{has_user}
 use Rattle.house.specs.Stands.{StandsFor}
@@ -118,11 +115,6 @@ FollowsInPart before event h old new = (k : Setup) (s : Scene) → StandsFor k b
 -- In no scene for which it stood does the event change anything.
 abbrev pub IsIdle : State → Event → Type 0
 IsIdle before event = (k : Setup) (s : Scene) → StandsFor k before s → HasNothing k s event
-
--- after a caller went on: it is gone, or stands there still
-abbrev pub IsThere : Setup → ℕ → CopyKey → List Noted → What → Line → Option HouseConnection → Type 0
-IsThere k seat next heard what h None = what ≡ Quit
-IsThere k seat next heard what h (Some b) = (what ≡ Quit → ⊥) × StandsForConnection (terms_of k) seat next heard h b
 
 -- the delivery side took this copy, and told at once what was heard of it
 pub record CorePuts (old : Held) (c : Job) (new : Held) (why : Option Refusal) : Type 0 where

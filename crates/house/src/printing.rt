@@ -86,7 +86,7 @@ pub(crate) fn proceed(
         ConnectionWent k true seat next heard b what caller.new out.old.items out.new.items) }
     ensures err { OnErr result ((k : Setup) (seat : ℕ) (next : CopyKey) (heard : List Noted) (b : connection.HouseConnection) → IsOf k number seat directory.now → StandsForConnection (terms_of k) seat next heard caller.old b →
         ConnectionWent k false seat next heard b whats.More caller.new out.old.items out.new.items) }
-    ensures asks { OnErr result (caller.old.gone ≡ true → ⊥) }
+    ensures asks { OnErr result (caller.old.gone ≡ false) }
 {
     let Ok(what) = caller.proceed(directory) else {
         // What was done stands, and what was said is printed as far as memory goes.

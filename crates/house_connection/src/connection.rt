@@ -188,6 +188,7 @@ impl HouseConnection {
     fn work_off(&mut self, directory: &Directory) -> Result<What, AllocError>
         requires quiet { self.old.machine.pending ≡ [] }
         requires read { self.old.gone ≡ false }
+        ensures same { self.new.gone ≡ self.old.gone }
         ensures less { line_effort self.new ≤ line_effort self.old }
         ensures ok { IfOk result (λ what. (k : Terms) (seat : ℕ) (next : CopyKey) (heard : List Noted) (b : spec.HouseConnection) → directory.now ≡ k.directory → StandsForConnection k seat next heard self.old b →
             WorkedOff k true seat next heard b what self.new) }
@@ -219,6 +220,7 @@ impl HouseConnection {
     // Goes on as far as it can: where every verdict on the message at hand is known they are said, and what waits is taken.
     fn go_on(&mut self, directory: &Directory) -> Result<What, AllocError>
         requires read { self.old.gone ≡ false }
+        ensures same { self.new.gone ≡ self.old.gone }
         ensures less { line_effort self.new ≤ line_effort self.old }
         ensures ok { IfOk result (λ what. (k : Terms) (seat : ℕ) (next : CopyKey) (heard : List Noted) (b : spec.HouseConnection) → directory.now ≡ k.directory → StandsForConnection k seat next heard self.old b →
             WentOn k true seat next heard b what self.new) }
@@ -239,6 +241,7 @@ impl HouseConnection {
     fn answer(&mut self, directory: &Directory) -> Result<What, AllocError>
         requires one { length self.old.machine.pending ≡ 1 }
         requires read { self.old.gone ≡ false }
+        ensures same { self.new.gone ≡ self.old.gone }
         ensures less { line_effort self.new ≤ line_effort self.old }
         ensures ok { IfOk result (λ what. (k : Terms) (seat : ℕ) (next : CopyKey) (heard : List Noted) (b : spec.HouseConnection) → directory.now ≡ k.directory → StandsForConnection k seat next heard self.old b →
             WentOn k true seat next heard b what self.new) }
@@ -313,6 +316,7 @@ impl HouseConnection {
     /// Errors: `AllocError` where memory was refused, and only where there was something to be done and its peer is there. What was done stands,
     /// and the next call goes on from there.
     pub fn proceed(&mut self, directory: &Directory) -> Result<What, AllocError>
+        ensures same { self.new.gone ≡ self.old.gone }
         ensures less { line_effort self.new ≤ line_effort self.old }
         ensures ok { IfOk result (λ what. (k : Terms) (seat : ℕ) (next : CopyKey) (heard : List Noted) (b : spec.HouseConnection) → directory.now ≡ k.directory → StandsForConnection k seat next heard self.old b →
             Proceeded k true seat next heard b what self.new) }

@@ -1,5 +1,5 @@
-//! Tests of visitors: what one says, how it is printed, and which mailboxes its user has. What is answered to its lines is the
-//! session's matter.
+//! Tests of sessions as they stand in a house: what one says is kept until it was printed; and which mailboxes its user has. What is
+//! answered to its lines is the session's matter.
 
 use crate::nowhere::Nowhere;
 use envelope::{Directory, DirectoryFault};
@@ -7,51 +7,60 @@ use house_session::{HouseSession, folders_of, has_user};
 use imap_session::Folder;
 use std::alloc::{AllocError, Global};
 
-// A visitor with one mailbox.
-fn visitor(alloc: Global) -> Result<HouseSession, AllocError> {
+// A session with one mailbox.
+fn opened(alloc: Global) -> Result<HouseSession, AllocError> {
     let name = Vec::from_slice(alloc, b"INBOX")?;
     let mut folders = Vec::new(alloc);
     folders.push(Folder::new(name, 0))?;
     HouseSession::open(alloc, folders)
 }
 
+// What a session said goes out, and it is told so.
+fn print(session: &mut HouseSession, out: &mut Vec<u8>) -> Result<(), AllocError> {
+    out.extend_from_slice(session.unsaid())?;
+    session.note_printed();
+    Ok(())
+}
+
 #[test]
-fn each_line_is_marked(rt: HostRuntime) -> Result<(), AllocError> {
+fn words_are_kept_until_they_are_printed(rt: HostRuntime) -> Result<(), AllocError> {
     let alloc = rt.alloc();
-    let mut visitor = visitor(alloc)?;
+    let mut session = opened(alloc)?;
     let mut out = Vec::new(alloc);
-    visitor.go_on(alloc, 3, &mut Nowhere, &mut out)?;
-    visitor.append(b"a1 CLOSE\r\na2 LIST \"\" %\r\na3 LOG")?;
-    visitor.go_on(alloc, 3, &mut Nowhere, &mut out)?;
-    assert_eq!(rt; visitor.selected(), None);
-    visitor.append(b"OUT\r\na4 NOOP\r\n")?;
-    assert!(rt; !visitor.has_ended());
-    visitor.go_on(alloc, 3, &mut Nowhere, &mut out)?;
-    assert!(rt; visitor.has_ended());
-    visitor.go_on(alloc, 3, &mut Nowhere, &mut out)?;
+    session.go_on(alloc, &mut Nowhere)?;
+    session.append(b"a1 CLOSE\r\na2 LIST \"\" %\r\na3 LOG")?;
+    session.go_on(alloc, &mut Nowhere)?;
+    assert_eq!(rt; session.selected(), None);
+    print(&mut session, &mut out)?;
+    assert!(rt; session.unsaid().is_empty());
+    session.append(b"OUT\r\na4 NOOP\r\n")?;
+    assert!(rt; !session.has_ended());
+    session.go_on(alloc, &mut Nowhere)?;
+    assert!(rt; session.has_ended());
+    session.go_on(alloc, &mut Nowhere)?;
+    print(&mut session, &mut out)?;
     assert_eq!(rt;
         out.as_slice(),
-        b"I3 * PREAUTH IMAP4rev2 server ready\nI3 a1 BAD Wrong state\nI3 * LIST () \"/\" INBOX\nI3 a2 OK LIST completed\nI3 * BYE Logging out\nI3 a3 OK LOGOUT completed\n".as_slice()
+        b"* PREAUTH IMAP4rev2 server ready\r\na1 BAD Wrong state\r\n* LIST () \"/\" INBOX\r\na2 OK LIST completed\r\n* BYE Logging out\r\na3 OK LOGOUT completed\r\n".as_slice()
     );
     Ok(())
 }
 
 #[test]
-fn a_visitor_idles(rt: HostRuntime) -> Result<(), AllocError> {
+fn a_session_idles(rt: HostRuntime) -> Result<(), AllocError> {
     let alloc = rt.alloc();
-    let mut visitor = visitor(alloc)?;
-    let mut out = Vec::new(alloc);
-    assert!(rt; !visitor.is_idling());
-    visitor.append(b"a1 IDLE\r\n")?;
-    visitor.go_on(alloc, 2, &mut Nowhere, &mut out)?;
-    assert!(rt; visitor.is_idling());
-    assert_eq!(rt; visitor.idle_turn(2, &mut Nowhere, &mut out)?, 0);
-    visitor.append(b"DONE\r\n")?;
-    visitor.go_on(alloc, 2, &mut Nowhere, &mut out)?;
-    assert!(rt; !visitor.is_idling());
+    let mut session = opened(alloc)?;
+    assert!(rt; !session.is_idling());
+    session.append(b"a1 IDLE\r\n")?;
+    session.go_on(alloc, &mut Nowhere)?;
+    assert!(rt; session.is_idling());
+    assert_eq!(rt; session.idle_turn(&mut Nowhere)?, 0);
+    session.append(b"DONE\r\n")?;
+    session.go_on(alloc, &mut Nowhere)?;
+    assert!(rt; !session.is_idling());
     assert_eq!(rt;
-        out.as_slice(),
-        b"I2 * PREAUTH IMAP4rev2 server ready\nI2 + idling\nI2 a1 OK IDLE completed\n".as_slice()
+        session.unsaid(),
+        b"* PREAUTH IMAP4rev2 server ready\r\n+ idling\r\na1 OK IDLE completed\r\n".as_slice()
     );
     Ok(())
 }

@@ -1,5 +1,5 @@
 -- What bodies and proofs say besides: what a call of the house promises: for each scene for which it stood, a scene to which the event leads.
-use Rattle.std.specs.Prelude.{◌≡◌, ℕ, ◌<◌, ◌≤◌, ◌⊎◌, ◌++◌, ◌%◌, slice_index_or, Bool, true, false, List, [], ◌∷◌, length, Option, Some, None, IsSome}
+use Rattle.std.specs.Prelude.{◌≡◌, ℕ, ◌+◌, ◌<◌, ◌≤◌, ◌⊎◌, ◌++◌, ◌%◌, slice_index_or, Bool, true, false, List, [], ◌∷◌, length, Option, Some, None, IsSome}
 use Rattle.delivery_token.specs.declared.CopyKey.{CopyKey}
 use Rattle.delivery_token.specs.declared.log.Noted.{Noted}
 use Rattle.house.specs.declared.event.Event.TheVariants.{Put, Idle}
@@ -19,12 +19,16 @@ use Rattle.house_connection.specs.Taking.{due}
 use Rattle.house.specs.State.{State}
 use Rattle.house_connection.specs.HouseConnection.{HouseConnection}
 use Rattle.house.specs.Setup.{Setup, terms_of}
+use Rattle.envelope.specs.Directory.{Directory}
+use Rattle.lmtp_machine.specs.declared.connection.What.{What}
+use Rattle.lmtp_machine.specs.declared.connection.What.TheVariants.{Quit}
+use Rattle.house.specs.Printing.{ConnectionGoes}
 use Rattle.house.specs.Scene.{SessionGoes, SessionIdles, most_serials, seat_of}
 use Rattle.house_connection.specs.ConnectionStands.{StandsForConnection}
 use Rattle.house.specs.Stands.{StandsFor, StandsForVisit}
 use Rattle.house_session.specs.Place.{Place}
 use Rattle.house_session.specs.HouseSession.{HouseSession}
-use Rattle.house.specs.Steps.{IsEmptySeat, IsThere, is_unread}
+use Rattle.house.specs.Steps.{IsEmptySeat, is_unread}
 
 -- there is such a connection
 pub record HasSeat (h : State) (connection : ℕ) : Type 0 where
@@ -63,12 +67,17 @@ pub record IsOf (k : Setup) (number seat : ℕ) (directory : Directory) : Type 0
   pub numbered : number ≡ seat + 1
   pub looks_up : directory ≡ k.directory
 
+-- after a caller went on: it is gone, or stands there still
+abbrev pub IsStillThere : Setup → ℕ → CopyKey → List Noted → What → Line → Option HouseConnection → Type 0
+IsStillThere k seat next heard what h None = what ≡ Quit
+IsStillThere k seat next heard what h (Some b) = (what ≡ Quit → ⊥) × StandsForConnection (terms_of k) seat next heard h b
+
 -- From this caller the connection did what it could and this was printed, and it stands for the caller after it.
 pub record ConnectionWent (k : Setup) (whole : Bool) (seat : ℕ) (next : CopyKey) (heard : List Noted) (b : HouseConnection) (what : What) (h : Line) (old new : List ℕ) : Type 0 where
   pub left : Option HouseConnection
   pub printed : List ℕ
   pub goes : ConnectionGoes k whole seat heard b left printed
-  pub there : IsThere k seat next heard what h left
+  pub there : IsStillThere k seat next heard what h left
   pub out : new ≡ old ++ printed
 
 -- the caller at a place went on, and printed this

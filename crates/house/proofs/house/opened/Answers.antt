@@ -1,4 +1,3 @@
-use Rattle.house.specs.Setup.{terms_of}
 use Rattle.std.proofs.Common.{sym, subst}
 use Rattle.house_connection.specs.Line.{Line}
 use Rattle.house_connection.specs.ConnectionStands.{StandsForConnection}
@@ -8,5 +7,5 @@ use Rattle.house.proofs.house.opened.Goals as goal
 
 pub returns : goal.returns
 returns c k next heard host most a =
-    subst (λ (h : Line). StandsForConnection (terms_of k) c.args.seat next heard h (more_waits (greeted (terms_of k) c.args.seat c.args.serial) c.args.piece.now)) (sym c.in-Ok-append.ensures.ok)
-    (more_stands (terms_of k) c.args.seat next heard c.in-Ok.caller (greeted (terms_of k) c.args.seat c.args.serial) c.args.piece.now (c.in-Ok.ensures k next heard host most a))
+    subst (λ (h : Line). StandsForConnection k c.args.seat next heard h (more_waits (greeted k c.args.seat c.args.serial) c.args.piece.now)) (sym c.in-Ok-append.ensures.ok)
+    (more_stands k c.args.seat next heard c.in-Ok.caller (greeted k c.args.seat c.args.serial) c.args.piece.now (c.in-Ok.ensures k next heard host most a))

@@ -16,7 +16,7 @@ returns-in_default-take_turn-clause-err c k w b stands there =
     let before : Desk = record { core = c.args.desk.now.core; session = c.args.number - 1 } in
     let here = subst (λ (o : Option Place). StandsForVisit o (Some b)) c.in-Some.is there in
     let may = subst (λ (o : Option Place). IfSome o (λ p. MayIdle p (c.args.number - 1) c.args.desk.now.core)) c.in-Some.is c.requires.idles in
-    idled_in_part k c.args.number b before c.take_turn.new.desk w c.in-Some.visitor c.take_turn.new.visitor c.args.out.now.items c.idle_turn.new.out.items c.requires.counted refl stands here may
+    idled_in_part k c.args.number b before c.take_turn.new.desk w c.in-Some.visitor c.take_turn.new.visitor c.args.out.now.items c.take_turn.new.out.items c.requires.counted refl stands here may
     (c.in_default-take_turn.ensures.err b here)
 
 pub returns-then-has_ended-clause-ok : goal.returns-then-has_ended-clause-ok
@@ -24,7 +24,7 @@ returns-then-has_ended-clause-ok c k w b stands there =
     let before : Desk = record { core = c.args.desk.now.core; session = c.args.number - 1 } in
     let here = subst (λ (o : Option Place). StandsForVisit o (Some b)) c.in-Some.is there in
     let may = subst (λ (o : Option Place). IfSome o (λ p. MayIdle p (c.args.number - 1) c.args.desk.now.core)) c.in-Some.is c.requires.idles in
-    idled_out k c.args.number c.in-Ok._shown b before c.take_turn.new.desk c.leave.new.self (answer Left c.leave.result) w c.in-Some.visitor c.take_turn.new.visitor c.args.out.now.items c.idle_turn.new.out.items c.requires.counted refl stands
+    idled_out k c.args.number c.in-Ok._shown b before c.take_turn.new.desk c.leave.new.self (answer Left c.leave.result) w c.in-Some.visitor c.take_turn.new.visitor c.args.out.now.items c.take_turn.new.out.items c.requires.counted refl stands
     here may (c.in-Ok.ensures.ok b here) (sym c.has_ended.ensures ∙ c.if-has_ended.true) c.leave.ensures
 
 pub returns-else-has_ended-clause-ok : goal.returns-else-has_ended-clause-ok
@@ -32,7 +32,7 @@ returns-else-has_ended-clause-ok c k w b stands there =
     let before : Desk = record { core = c.args.desk.now.core; session = c.args.number - 1 } in
     let here = subst (λ (o : Option Place). StandsForVisit o (Some b)) c.in-Some.is there in
     let may = subst (λ (o : Option Place). IfSome o (λ p. MayIdle p (c.args.number - 1) c.args.desk.now.core)) c.in-Some.is c.requires.idles in
-    idled k true c.args.number c.in-Ok._shown b before c.take_turn.new.desk w c.in-Some.visitor c.take_turn.new.visitor c.args.out.now.items c.idle_turn.new.out.items c.requires.counted refl stands
+    idled k true c.args.number c.in-Ok._shown b before c.take_turn.new.desk w c.in-Some.visitor c.take_turn.new.visitor c.args.out.now.items c.take_turn.new.out.items c.requires.counted refl stands
     here may (c.in-Ok.ensures.ok b here) (λ _. sym c.has_ended.ensures ∙ c.if-has_ended.false)
 
 pub returns-else-has_ended-clause-less : goal.returns-else-has_ended-clause-less

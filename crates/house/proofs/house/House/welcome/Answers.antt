@@ -5,7 +5,7 @@ use Rattle.delivery_core.specs.Held.{has_ended}
 use Rattle.house.specs.Scene.{BytesPlay, most_serials}
 use Rattle.house.specs.Stands.{StandsFor}
 use Rattle.house.proofs.Events.{welcomed}
-use Rattle.house_connection.specs.HouseConnection.{greeted, more_waits}
+use Rattle.house_connection.specs.HouseConnection.{Terms, greeted, more_waits}
 use Rattle.house_connection.specs.ConnectionStands.{StandsForConnection}
 use Rattle.delivery_token.specs.Keys.{AtLeast}
 use Rattle.delivery_token.specs.declared.CopyKey.{CopyKey}
@@ -28,7 +28,7 @@ returns-in_default-go_on_at-clause-no_memory c k s st =
     let live = subst (λ (n : ℕ). has_ended i.desk.core n ≡ false) (sym e1) (subst (λ (x : State). has_ended x.core (c.args.connection - 1) ≡ false) (sym c.self.view_is) c.requires.vacant.goes_on) in
     let ls : seat < length i.serials.items = let z = c.self.invariant.0 in omega (arith, lt, z) in
     let serial : c.index-serial.result.now ≡ get_or i.serials.items seat 0 = c.index-serial.ensures ∙ get_or-any i.serials.items seat c.index-serial.result.now 0 ls in
-    let opened = λ (x : Setup) (next : CopyKey) (heard : List Noted) (a : x.host ≡ i.host.items) (b : x.max_message ≡ i.max_message) (l : AtLeast next (record { seat = seat; serial = get_or i.serials.items seat 0; message = 0; recipient = 0 })).
+    let opened = λ (x : Terms) (next : CopyKey) (heard : List Noted) (a : x.host ≡ i.host.items) (b : x.max_message ≡ i.max_message) (l : AtLeast next (record { seat = seat; serial = get_or i.serials.items seat 0; message = 0; recipient = 0 })).
     subst (λ (n : ℕ). StandsForConnection x seat next heard c.in-Ok.caller (more_waits (greeted x seat n) c.args.piece.now)) serial
     (subst (λ (n : ℕ). StandsForConnection x n next heard c.in-Ok.caller (more_waits (greeted x n c.index-serial.result.now) c.args.piece.now)) (sym e1)
     (c.in-Ok.ensures x next heard (a ∙ sym c.deref.ensures.value) b
@@ -58,7 +58,7 @@ returns-clause-follows c k s st =
     let live = subst (λ (n : ℕ). has_ended i.desk.core n ≡ false) (sym e1) (subst (λ (x : State). has_ended x.core (c.args.connection - 1) ≡ false) (sym c.self.view_is) c.requires.vacant.goes_on) in
     let ls : seat < length i.serials.items = let z = c.self.invariant.0 in omega (arith, lt, z) in
     let serial : c.index-serial.result.now ≡ get_or i.serials.items seat 0 = c.index-serial.ensures ∙ get_or-any i.serials.items seat c.index-serial.result.now 0 ls in
-    let opened = λ (x : Setup) (next : CopyKey) (heard : List Noted) (a : x.host ≡ i.host.items) (b : x.max_message ≡ i.max_message) (l : AtLeast next (record { seat = seat; serial = get_or i.serials.items seat 0; message = 0; recipient = 0 })).
+    let opened = λ (x : Terms) (next : CopyKey) (heard : List Noted) (a : x.host ≡ i.host.items) (b : x.max_message ≡ i.max_message) (l : AtLeast next (record { seat = seat; serial = get_or i.serials.items seat 0; message = 0; recipient = 0 })).
     subst (λ (n : ℕ). StandsForConnection x seat next heard c.in-Ok.caller (more_waits (greeted x seat n) c.args.piece.now)) serial
     (subst (λ (n : ℕ). StandsForConnection x n next heard c.in-Ok.caller (more_waits (greeted x n c.index-serial.result.now) c.args.piece.now)) (sym e1)
     (c.in-Ok.ensures x next heard (a ∙ sym c.deref.ensures.value) b

@@ -1,5 +1,6 @@
 -- What connections and sessions did, and what the house printed of it.
-use Rattle.std.proofs.Common.{◌≡◌, ℕ, ◌+◌, ◌<◌, ◌⊎◌, inl, inr, Bool, true, false, List, [], ◌++◌, refl, sym, ap, ◌∙◌, subst, append-nil, Option, Some, None}
+use Rattle.std.specs.declared.alloc.AllocError.{AllocError}
+use Rattle.std.proofs.Common.{Result, Ok, Err, OnOk, OnErr, ◌≡◌, ℕ, ◌+◌, ◌<◌, ◌⊎◌, inl, inr, Bool, true, false, List, [], ◌++◌, refl, sym, ap, ◌∙◌, subst, append-nil, Option, Some, None}
 use Rattle.delivery_token.specs.declared.CopyKey.{CopyKey}
 use Rattle.delivery_token.specs.declared.log.Noted.{Noted}
 use Rattle.line_io.specs.Marks.{marked}
@@ -12,7 +13,7 @@ use Rattle.house_connection.specs.HouseConnection.{HouseConnection, GoesOn, Proc
 use Rattle.house_connection.specs.ConnectionStands.{Proceeded}
 use Rattle.house_connection.specs.Taking.{with_all_said}
 use Rattle.house_connection.proofs.Connections.{printed_stands}
-use Rattle.house_session.specs.Place.{Answered, Place, StandsFor, Turned}
+use Rattle.house_session.specs.Place.{Answered, Place, StandsFor, Turned, with_all_said as with_all_said_at}
 use Rattle.house_session.specs.HouseSession.{Answers, HouseSession}
 use Rattle.house.specs.Printing.{Idles, goes, of_connection, of_session, prints_all, prints_none, stays}
 use Rattle.house.specs.inner.Printing.{Idled, WentOn}
@@ -120,6 +121,12 @@ module _ (k : Setup) (seat : ℕ) (next : CopyKey) (heard : List Noted) where
     out = o ∙ sym (append-nil old);
   }
 
+  -- the same, whatever came of printing
+  pub part_printed : (number : ℕ) (b : HouseConnection) (what : What) (h g : Line) (old new : List ℕ) → number ≡ seat + 1 → Proceeded (terms_of k) false seat next heard b what h → h.gone ≡ false
+      → (r : Result Unit AllocError) → OnOk r ((g ≡ with_all_said h) × (new ≡ old ++ marked of_connection number h.unsaid)) → OnErr r ((g ≡ h) × (new ≡ old)) → ConnectionWent k false seat next heard b More g old new
+  part_printed number b what h g old new e p live (Ok tt) ok err = subst (λ (x : Line). ConnectionWent k false seat next heard b More x old new) (sym ok.0) (went_in_part number b what h old new e p (λ x. let y : true ≡ false = sym x ∙ live in cc) ok.1)
+  part_printed number b what h g old new e p live (Err fault) ok err = subst (λ (x : Line). ConnectionWent k false seat next heard b More x old new) (sym err.0) (went_unprinted b what h old new p (λ x. let y : true ≡ false = sym x ∙ live in cc) err.1)
+
   pub in_part : (b : HouseConnection) (what : What) (h : Line) → Proceeded (terms_of k) true seat next heard b what h → Proceeded (terms_of k) false seat next heard b what h
   in_part b what h p = record { after = p.after; proceeds = proceeds_part (terms_of k) seat heard b what p.after p.proceeds; stands = p.stands }
 
@@ -150,6 +157,13 @@ unprinted step whole n v old new text p a = record {
   stands = a.stands;
   out = sym (append-nil text);
 }
+
+-- memory was refused before, whatever came of printing
+pub session_part : {S : Type 0} (step : S → Call → Answer → S → Type 0) (n : ℕ) (v : HouseSession) (old new : S) (text text_after : List ℕ) (p q : Place) → Answered step false v old new p
+    → (r : Result Unit AllocError) → OnOk r ((q ≡ with_all_said_at p) × (text_after ≡ text ++ marked of_session n p.unsaid)) → OnErr r ((q ≡ p) × (text_after ≡ text)) → WentOn step false n v old new text text_after q
+session_part step n v old new text text_after p q a (Ok tt) ok err = subst (λ (x : Place). WentOn step false n v old new text text_after x) (sym ok.0) (went_on step false n v old new text text_after p a ok.1)
+session_part step n v old new text text_after p q a (Err fault) ok err =
+    subst (λ (x : Place). WentOn step false n v old new text text_after x) (sym err.0) (subst (λ (t : List ℕ). WentOn step false n v old new text t p) (sym err.1) (unprinted step false n v old new text p a))
 
 -- all that was said in a turn is printed
 pub idled : {S : Type 0} (step : S → Call → Answer → S → Type 0) (n count : ℕ) (v : HouseSession) (old new : S) (text text_after : List ℕ) (p : Place) → Turned step count v old new p
