@@ -14,7 +14,7 @@ use Rattle.lmtp_machine.specs.Conversation.{Conversation, Leads}
 use Rattle.lmtp_machine.specs.Kept.{AreMessages, Kept}
 use Rattle.lmtp_machine.proofs.Kept.{event_keeps, fresh_kept, leads_keeps}
 use Rattle.house_connection.specs.HouseConnection.{HouseConnection, GoesOn, Proceeds, IsAnswered, Works, with_unsaid, works, waits, answers, stalls, talks, lingers, fades, greeted, keys_of, meets, setting_of, unread}
-use Rattle.house.specs.Printing.{ConnectionGoes, Leaves, Prints, goes, marked_connection, of_connection, prints_all, prints_none, stays}
+use Rattle.house.specs.Printing.{ConnectionGoes, Leaves, Prints, goes, marked_connection, of_connection as mark_of_connection, prints_all, prints_none, stays}
 use Rattle.house.proofs.Places.{does_serial}
 use Rattle.house.specs.Setup.{Setup, terms_of}
 use Rattle.exactly_once.specs.Promise as promise
@@ -182,7 +182,7 @@ left_ok k whole seat heard next told what after o t (stays f g e) = rw e t
 
 -- what it had to say is printed, or is still to be
 prints_spoke : (k : Setup) (whole : Bool) (seat : ℕ) (heard : List Noted) (next : ℕ) (told : List Noted) (what : What) (after : HouseConnection) (still : List ℕ) (o : Option HouseConnection) (printed : List ℕ)
-    → ConnectionOk k seat heard next told (Some after) → Prints of_connection (seat + 1) after.talk.unsaid still printed → Leaves whole what (with_unsaid still after) o → Spoke k seat after.serial heard next told o printed
+    → ConnectionOk k seat heard next told (Some after) → Prints mark_of_connection (seat + 1) after.talk.unsaid still printed → Leaves whole what (with_unsaid still after) o → Spoke k seat after.serial heard next told o printed
 prints_spoke k whole seat heard next told what after still o printed t (prints_all e p) l = record {
   said = t.said;
   is = p ∙ ap (λ (x : List ℕ). marked_connection (seat + 1) x) t.is;
@@ -294,7 +294,7 @@ unread_same k whole seat heard b what after (talks there g) = absurd (let x : tr
 unread_same k whole seat heard b what after (lingers gone none not q e) = e
 unread_same k whole seat heard b what after (fades vs gone none is q e) = e
 
-prints_nothing : (n : ℕ) (unsaid still printed : List ℕ) → unsaid ≡ [] → Prints of_connection n unsaid still printed → (still ≡ []) × (printed ≡ [])
+prints_nothing : (n : ℕ) (unsaid still printed : List ℕ) → unsaid ≡ [] → Prints mark_of_connection n unsaid still printed → (still ≡ []) × (printed ≡ [])
 prints_nothing n unsaid still printed none (prints_all e p) = (e, p ∙ ap (λ (x : List ℕ). marked_connection n x) none)
 prints_nothing n unsaid still printed none (prints_none e p) = (e ∙ none, p)
 
