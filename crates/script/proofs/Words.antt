@@ -9,7 +9,7 @@ use Rattle.std.proofs.lemmas.Slice.Eq.{bytes_eq-Decides, starts_is}
 use lib.Seq.{take-append_seam, drop-append_seam}
 use Rattle.memchr.specs.Find.{OccursAt, first_of, matches}
 use Rattle.memchr.proofs.lemmas.MatchLemmas.{OccursAt-split, OccursAt-from_part}
-use Rattle.memchr.proofs.lemmas.ConnectionLemmas.{All-matches}
+use Rattle.memchr.proofs.lemmas.CallerLemmas.{All-matches}
 use Rattle.memchr.proofs.lemmas.ValueLemmas.{FindsNeedle-value}
 use Rattle.std.specs.Prelude.{Option, codes}
 use Rattle.std.specs.Borrow.{Bor}
