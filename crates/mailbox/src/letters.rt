@@ -5,7 +5,7 @@
 //! as soon as more than half of all places are such: so neither a removal nor what is added moves others,
 //! and a message mostly stands as far from the first one as its UID is above that one's.
 
-ghost use Rattle.std.specs.Prelude.{◌≡◌, ◌^◌, ◌<◌, ◌-◌, false, [], ◌∷◌, ◌++◌, List, length, map, filter, All, IfOk, OnOk, OnErr, IfSome, IfNone, Some, None, option_map, slice_get};
+ghost use Rattle.std.specs.Prelude.{◌≡◌, ◌^◌, ◌<◌, ◌-◌, false, true, [], ◌∷◌, ◌++◌, List, length, map, filter, All, IfOk, OnOk, OnErr, IfSome, IfNone, Some, None, option_map, slice_get};
 ghost use Rattle.std.specs.List.Sorted.{IsStrictlyIncreasing};
 ghost use Rattle.change_ring.specs.Log.{no_flags};
 ghost use Rattle.mailbox.specs.Counts.{unseen_count, bytes_in_all};
@@ -122,7 +122,8 @@ fn close_up(letters: &mut Vec<Letter>)
 
 // Whether the last place has a UID that is not below this one.
 fn is_behind(letters: &[Letter], uid: u32) -> bool
-    ensures { result ≡ false → IsStrictlyIncreasing (letter_uids letters.now) → IsStrictlyIncreasing (letter_uids letters.now ++ uid ∷ []) }
+    ensures above { result ≡ false → IsStrictlyIncreasing (letter_uids letters.now) → IsStrictlyIncreasing (letter_uids letters.now ++ uid ∷ []) }
+    ensures needed { result ≡ true → All (λ u. u < uid) (letter_uids letters.now) → ⊥ }
 {
     match letters.last() {
         Some(last) => last.uid >= uid,
