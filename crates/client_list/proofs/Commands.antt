@@ -1,7 +1,7 @@
 -- The answers to lines that a client sends.
-use Rattle.std.proofs.Common.{◌≡◌, ℕ, Bool, true, false, List, [], ◌∷◌, ◌++◌, refl}
-use Rattle.std.specs.Prelude.{Option, Some, None, Result, Ok, Err, IfSome, codes, ◌&&◌, not, if◌then◌else◌}
-use Rattle.std.specs.List.{list_any}
+use Rattle.std.proofs.Common.{◌≡◌, ℕ, ◌<◌, ◌^◌, ◌==◌, length, append_assoc, sym, Bool, true, false, List, [], ◌∷◌, ◌++◌, refl}
+use Rattle.std.specs.Prelude.{Option, Some, None, Result, Ok, Err, IfSome, codes, decimal, nat_le, nat_lt, ◌&&◌, not, if◌then◌else◌}
+use Rattle.std.specs.List.{list_all, list_any}
 use Rattle.std.proofs.lemmas.Bool.{false≢true}
 use Rattle.std.proofs.lemmas.Option.{none-some}
 use Rattle.change_ring.specs.declared.change.Flags.{Flags}
@@ -13,6 +13,10 @@ use Rattle.imap_grammar.specs.Sets.{named_in}
 use Rattle.imap_grammar.specs.declared.set.SeqRange.{SeqRange}
 use Rattle.imap_grammar.specs.declared.command.Command.{Command}
 use Rattle.imap_grammar.specs.declared.command.Command.TheVariants as commands
+use Rattle.delivery_token.specs.declared.Verdict.{Verdict}
+use Rattle.delivery_token.specs.declared.Verdict.TheVariants as verdicts
+use Rattle.delivery_token.specs.declared.Refusal.TheVariants.{Full, MailboxFull, NoMemory, UidSpent}
+use Rattle.imap_grammar.specs.declared.command.Append.{Append}
 use Rattle.imap_grammar.specs.declared.command.Fetch.{Fetch}
 use Rattle.imap_grammar.specs.declared.command.Store.{Store}
 use Rattle.imap_grammar.specs.declared.items.StatusItem.{StatusItem}
@@ -20,17 +24,18 @@ use Rattle.imap_grammar.specs.declared.command.ImapFault.{ImapFault}
 use Rattle.imap_grammar.specs.declared.command.ImapFault.TheVariants.{NoTag, Unknown, LeftOut, Arguments}
 use Rattle.imap_session.specs.declared.standing.After.TheVariants.{Go}
 use Rattle.imap_session.specs.declared.standing.Selected.{Selected}
-use Rattle.imap_session.specs.Exchange.{Answer, Exchange, Expunge, Feed, Folder, Standing, Turn, Write}
-use Rattle.imap_session.specs.Commands.{completed, counting, expunge_set, fault_text, fetch_messages, fetched, fetching, flags_answer, folder_of, in_selected, in_writable, long_line_text, messages_done, on_chosen, on_command, on_found, on_idle_line, on_read, on_set, only_says, says, showing, store_messages, stored, storing, turn_while, unlimited, wrong_state}
+use Rattle.imap_session.specs.Exchange.{Answer, Appending, Exchange, Expunge, Feed, Folder, ForNothing, ForVerdict, Mailing, Sent, Standing, Turn, Wait, Write, bye, kept_behind, tagged}
+use Rattle.imap_session.specs.Commands.{appended_words, appending, awaiting, last_number, long_idle_text, long_rest_words, long_text, most_unasked, nowhere, number_named, on_rest, on_text, on_verdict, is_over, over, turn_behind, turn_with, wanting, without_begun, without_sent, completed, counting, expunge_set, fault_text, fetch_messages, fetched, fetching, flags_answer, folder_of, in_selected, in_writable, messages_done, on_chosen, on_command, on_found, on_idle_line, on_read, on_set, only_says, says, showing, store_messages, stored, storing, turn_while, unlimited, wrong_state}
 use Rattle.client_list.specs.Beliefs.{Leads, Leaves, TellsNothing}
-use Rattle.client_list.specs.Turns.{IsPlain, IsRowOf, IsTag, Says, SeesAll}
+use Rattle.client_list.specs.Turns.{is_inner, IsPlain, IsRowOf, IsTag, Says, SeesAll}
 use Rattle.client_list.specs.Fetches.{AreToldParts, IsNumbered}
-use Rattle.client_list.specs.Commands.{AreNames, IsFollowed, MayAnswer, MayAsk}
-use Rattle.client_list.specs.Laws.{AnswerIsFollowed, LongLineTellsNothing}
+use Rattle.client_list.specs.Commands.{AreNames, IsFollowed, IsPrinted, MayAnswer, MayAsk}
+use Rattle.client_list.specs.Laws.{AnswerIsFollowed, LongLineTellsNothing, VerdictIsFollowed}
 use Rattle.client_list.proofs.Ends.{leaves, plain_words, refusals, tagged_tells_nothing}
 use Rattle.client_list.proofs.Chosen.{AreIn, named_are_in, small_in}
 use Rattle.client_list.proofs.Fetched.{flags_leave, row_leaves}
-use Rattle.client_list.proofs.Untold.{folder_plain, list_tells_nothing, status_tells_nothing}
+use Rattle.client_list.proofs.Bytes.{decimal_word, words_are_inner}
+use Rattle.client_list.proofs.Untold.{folder_plain, inner_both, list_tells_nothing, status_tells_nothing}
 use Rattle.client_list.proofs.Played.{turn_follows}
 use Rattle.client_list.proofs.Tags.{Tagged, read_tagged}
 use Rattle.client_list.proofs.Turns.{ends}
@@ -156,6 +161,86 @@ status_says tag view now name items t names = (leaves view [] (λ messages. refl
       shows_then tag view now.selected (completed (commands.Status name items)) (λ new. last tag new (codes "OK STATUS complete") 100 t (plain_words (codes "OK STATUS complete") 100 refl refl)),
     )
 
+-- ---- APPEND
+
+nothing_leaves : (view : List ℕ) → Leaves view []
+nothing_leaves view = leaves view [] (λ messages. refl)
+
+nowhere_says : (tag view : List ℕ) → IsTag tag → Says tag view nowhere
+nowhere_says tag view t = last tag view (codes "NO [TRYCREATE] No such mailbo") 120 t (plain_words (codes "NO [TRYCREATE] No such mailbo") 120 refl refl)
+
+over_says : (tag view : List ℕ) (most : Option ℕ) → IsTag tag → Says tag view (over most)
+over_says tag view None t = last tag view (codes "NO [CANNOT] Not offered her") 101 t (plain_words (codes "NO [CANNOT] Not offered her") 101 refl refl)
+over_says tag view (Some most) t = last tag view (codes "NO Message too bi") 103 t (plain_words (codes "NO Message too bi") 103 refl refl)
+
+append_says : (tag view : List ℕ) (most : Option ℕ) (folders : List Folder) (a : Append) → IsTag tag → Says tag view (appending most folders a)
+append_says tag view most folders a t = by a.literal.waits (is_over most a.literal.size) (nat_lt most_unasked a.literal.size) (number_named a.name folders)
+  where
+    fits : (big : Bool) (mailbox : ℕ) → Says tag view (if big then over most else awaiting (codes "+ ready\r\n") (Some mailbox) a.flags a.literal.size)
+    fits true mailbox = over_says tag view most t
+    fits false mailbox = leaves view _ (λ messages. refl)
+
+    found : (big : Bool) (o : Option ℕ) → Says tag view (on_found (λ mailbox. if big then over most else awaiting (codes "+ ready\r\n") (Some mailbox) a.flags a.literal.size) nowhere o)
+    found big None = nowhere_says tag view t
+    found big (Some mailbox) = fits big mailbox
+
+    by : (waits big long : Bool) (o : Option ℕ)
+        → Says tag view (if waits then wanting (on_found (λ mailbox. if big then over most else awaiting (codes "+ ready\r\n") (Some mailbox) a.flags a.literal.size) nowhere o)
+        else (if long then Wait (bye (codes "Literal too big")) ForNothing else wanting (awaiting [] o a.flags a.literal.size)))
+    by true big long o = (nothing_leaves view, found big o)
+    by false big true o = leaves view _ (λ messages. refl)
+    by false big false o = (nothing_leaves view, nothing_leaves view)
+
+-- what stands behind a literal
+rest_says : (tag view : List ℕ) (mailing : Mailing) (a : Appending) (empty : Bool) → IsTag tag → Says tag view (on_rest mailing a empty)
+rest_says tag view mailing a empty t = kept a.text
+  where
+    text_says : (big nul spent : Bool) (text : List ℕ) (mailbox : ℕ)
+        → Says tag view (if big then over mailing.most else if nul then says (codes "NO NUL byte") else if spent then says (codes "NO Mailbox is spent") else wanting (Wait [] (ForVerdict mailbox a.flags text)))
+    text_says true nul spent text mailbox = over_says tag view mailing.most t
+    text_says false true spent text mailbox = last tag view (codes "NO NUL byt") 101 t (plain_words (codes "NO NUL byt") 101 refl refl)
+    text_says false false true text mailbox = last tag view (codes "NO Mailbox is spen") 116 t (plain_words (codes "NO Mailbox is spen") 116 refl refl)
+    text_says false false false text mailbox = (nothing_leaves view, nothing_leaves view)
+
+    named : (text : List ℕ) (mailbox : Option ℕ) → Says tag view (on_found (on_text mailing a text) nowhere mailbox)
+    named text None = nowhere_says tag view t
+    named text (Some mailbox) = text_says (is_over mailing.most a.size) (list_any (λ b. b == 0) text) (nat_le last_number mailing.number) text mailbox
+
+    ended : (b : Bool) (text : List ℕ) → Says tag view (if b then on_found (on_text mailing a text) nowhere a.mailbox else says (codes "BAD Invalid arguments"))
+    ended true text = named text a.mailbox
+    ended false text = last tag view (codes "BAD Invalid argument") 115 t (plain_words (codes "BAD Invalid argument") 115 refl refl)
+
+    kept : (text : Option (List ℕ))
+        → Says tag view (on_found (λ text. if empty then on_found (on_text mailing a text) nowhere a.mailbox else says (codes "BAD Invalid arguments")) (says (codes "NO Out of memory")) text)
+    kept None = last tag view (codes "NO Out of memor") 121 t (plain_words (codes "NO Out of memor") 121 refl refl)
+    kept (Some text) = ended empty text
+
+-- the line that tells where a message was stored
+stored_plain : (uidvalidity uid : ℕ) → uidvalidity < 2 ^ 64 → uid < 2 ^ 64 → IsPlain (appended_words uidvalidity uid)
+stored_plain uidvalidity uid v u =
+    let front : List ℕ = codes "OK [APPENDUID " ++ decimal uidvalidity ++ codes " " ++ decimal uid in
+    let inner : list_all is_inner front ≡ true =
+    inner_both (codes "OK [APPENDUID " ++ decimal uidvalidity ++ codes " ") (decimal uid)
+    (inner_both (codes "OK [APPENDUID " ++ decimal uidvalidity) (codes " ")
+    (inner_both (codes "OK [APPENDUID ") (decimal uidvalidity) refl (words_are_inner (decimal uidvalidity) (decimal_word uidvalidity v))) refl)
+    (words_are_inner (decimal uid) (decimal_word uid u)) in
+    record {
+      front = front ++ codes "] APPEND complete";
+      last = 100;
+      is = sym (append_assoc front (codes "] APPEND complete") (100 ∷ []));
+      no_count = refl;
+      inner = inner_both (front ++ codes "] APPEND complete") (100 ∷ []) (inner_both front (codes "] APPEND complete") inner refl) refl;
+    }
+
+verdict_says : (tag view : List ℕ) (selected : Option Selected) (mailbox : ℕ) (verdict : Verdict) → IsTag tag → IsPrinted verdict → Says tag view (on_verdict selected mailbox verdict)
+verdict_says tag view selected mailbox (verdicts.Stored uid) t u = λ status counted.
+    shows_then tag view selected (says (appended_words status.uidvalidity uid))
+    (λ new. leaves new _ (tagged_tells_nothing tag (appended_words status.uidvalidity uid) t (stored_plain status.uidvalidity uid counted.uidvalidity u)))
+verdict_says tag view selected mailbox (verdicts.Refused Full) t u = last tag view (codes "NO Shard ful") 108 t (plain_words (codes "NO Shard ful") 108 refl refl)
+verdict_says tag view selected mailbox (verdicts.Refused MailboxFull) t u = last tag view (codes "NO Mailbox ful") 108 t (plain_words (codes "NO Mailbox ful") 108 refl refl)
+verdict_says tag view selected mailbox (verdicts.Refused NoMemory) t u = last tag view (codes "NO Out of memor") 121 t (plain_words (codes "NO Out of memor") 121 refl refl)
+verdict_says tag view selected mailbox (verdicts.Refused UidSpent) t u = last tag view (codes "NO No UID lef") 116 t (plain_words (codes "NO No UID lef") 116 refl refl)
+
 -- ---- all of them
 
 command_says : (tag view : List ℕ) (now : Standing) (command : Command) → IsTag tag → MayAsk now view command → Says tag view (on_command now command)
@@ -167,7 +252,7 @@ command_says tag view now commands.Logout t may =
     (leaves view _ (λ messages. refl), leaves view _ (tagged_tells_nothing tag (codes "OK LOGOUT completed") t (plain_words (codes "OK LOGOUT complete") 100 refl refl)))
 command_says tag view now commands.Namespace t may =
     (leaves view _ (λ messages. refl), last tag view (codes "OK NAMESPACE complete") 100 t (plain_words (codes "OK NAMESPACE complete") 100 refl refl))
-command_says tag view now commands.Idle t may = tt
+command_says tag view now commands.Idle t may = leaves view _ (λ messages. refl)
 command_says tag view now commands.Login t may = wrong tag view t
 command_says tag view now commands.Authenticate t may = wrong tag view t
 command_says tag view now commands.StartTls t may = wrong tag view t
@@ -181,6 +266,7 @@ command_says tag view now commands.Expunge t may = writable tag view now.selecte
 command_says tag view now (commands.UidExpunge set) t may = writable tag view now.selected now (expunge_set set) refl t (set_expunged tag view set t)
 command_says tag view now (commands.Fetch fetch) t may = selected_says tag view now.selected now (fetch_messages fetch) refl t (λ selected. fetch_says tag view fetch selected t may.parts may.numbered)
 command_says tag view now (commands.Store store) t may = writable tag view now.selected now (store_messages store) refl t (store_says tag view store t may.numbered)
+command_says tag view now (commands.Append append) t may = append_says tag view now.mailing.most now.folders append t
 
 -- ---- lines that are no commands
 
@@ -219,12 +305,38 @@ while_follows None now line view answers turn new h e sees = read_follows now (r
 while_follows (Some tag) now line view answers turn new t e sees =
     turn_follows tag (refusals tag t) view (record now { idling = None }) (on_idle_line now.selected line) answers turn new e (idle_line_says tag view now.selected line t) sees
 
-pub answer_is_followed : AnswerIsFollowed
-answer_is_followed now line view answers turn new h e sees = while_follows now.idling now line view answers turn new h e sees
+behind_follows : (begun : Option Appending) (now : Standing) (line view : List ℕ) (answers : List Answer) (turn : Turn) (new : List ℕ)
+    → IsFollowed (kept_behind begun now.idling) now view line → turn_behind begun now line answers ≡ Some turn → SeesAll view turn.events new → Leads view turn.bytes new
+behind_follows None now line view answers turn new h e sees = while_follows now.idling now line view answers turn new h e sees
+behind_follows (Some a) now line view answers turn new t e sees =
+    turn_follows a.tag (refusals a.tag t) view (without_begun now) (on_rest now.mailing a (length line == 0)) answers turn new e (rest_says a.tag view now.mailing a (length line == 0) t) sees
 
-long_tells_nothing : (idling : Option (List ℕ)) → IfSome idling IsTag → TellsNothing (long_line_text idling)
-long_tells_nothing None t messages = refl
-long_tells_nothing (Some tag) t messages = tagged_tells_nothing tag (codes "BAD Expected DONE") t (plain_words (codes "BAD Expected DON") 69 refl refl) messages
+pub answer_is_followed : AnswerIsFollowed
+answer_is_followed now line view answers turn new h e sees = behind_follows now.mailing.begun now line view answers turn new h e sees
+
+long_idle_tells_nothing : (idling : Option (List ℕ)) → IfSome idling IsTag → TellsNothing (long_idle_text idling)
+long_idle_tells_nothing None t messages = refl
+long_idle_tells_nothing (Some tag) t messages = tagged_tells_nothing tag (codes "BAD Expected DONE") t (plain_words (codes "BAD Expected DON") 69 refl refl) messages
+
+long_rest_tells_nothing : (tag : List ℕ) (text : Option (List ℕ)) → IsTag tag → TellsNothing (tagged tag (long_rest_words text))
+long_rest_tells_nothing tag None t messages = tagged_tells_nothing tag (codes "NO Out of memory") t (plain_words (codes "NO Out of memor") 121 refl refl) messages
+long_rest_tells_nothing tag (Some text) t messages = tagged_tells_nothing tag (codes "BAD Invalid arguments") t (plain_words (codes "BAD Invalid argument") 115 refl refl) messages
+
+long_tells_nothing : (begun : Option Appending) (idling : Option (List ℕ)) → IfSome (kept_behind begun idling) IsTag → TellsNothing (long_text begun idling)
+long_tells_nothing None idling t = long_idle_tells_nothing idling t
+long_tells_nothing (Some a) idling t = long_rest_tells_nothing a.tag a.text t
 
 pub long_line_tells_nothing : LongLineTellsNothing
-long_line_tells_nothing now t = long_tells_nothing now.idling t
+long_line_tells_nothing now t = long_tells_nothing now.mailing.begun now.idling t
+
+-- ---- verdicts
+
+heard_follows : (sent : Option Sent) (now : Standing) (verdict : Verdict) (view : List ℕ) (answers : List Answer) (turn : Turn) (new : List ℕ)
+    → IfSome sent (λ s. IsTag s.tag) → IsPrinted verdict → turn_with sent now verdict answers ≡ Some turn → SeesAll view turn.events new → Leads view turn.bytes new
+heard_follows None now verdict view answers turn new t u e sees = absurd (none-some turn e)
+heard_follows (Some sent) now verdict view answers turn new t u e sees =
+    turn_follows sent.tag (refusals sent.tag t) view (without_sent now) (on_verdict now.selected sent.append.mailbox verdict) answers turn new e
+    (verdict_says sent.tag view now.selected sent.append.mailbox verdict t u) sees
+
+pub verdict_is_followed : VerdictIsFollowed
+verdict_is_followed now verdict view answers turn new t u e sees = heard_follows now.mailing.sent now verdict view answers turn new t u e sees

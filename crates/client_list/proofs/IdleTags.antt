@@ -1,6 +1,6 @@
--- The tag of an IDLE is a tag as long as the IDLE lasts: by induction over the exchange, a clause for each answer that there is.
+-- The tags that a session keeps are tags as long as it keeps them: by induction over the exchange, a clause for each answer that there is.
 use Rattle.std.proofs.Common.{zero, suc, ◌≡◌, ℕ, Bool, true, false, List, [], ◌∷◌, length, ap, refl, subst, sym}
-use Rattle.std.specs.Prelude.{Option, Some, None, IfSome, Result, Ok, Err, nat_lt, if◌then◌else◌}
+use Rattle.std.specs.Prelude.{Option, Some, None, IfSome, Result, Ok, Err, nat_lt, ◌==◌, ◌&&◌, if◌then◌else◌}
 use Rattle.std.specs.Option.{option_map}
 use Rattle.std.proofs.lemmas.Option.{none-some}
 use Rattle.cursor_set.specs.Lines.{lines}
@@ -12,54 +12,63 @@ use Rattle.imap_grammar.specs.declared.command.ImapFault.{ImapFault}
 use Rattle.imap_session.specs.declared.standing.After.{After}
 use Rattle.imap_session.specs.declared.standing.After.TheVariants.{Go, Bye}
 use Rattle.imap_session.specs.declared.standing.After.TheVariants as afters
-use Rattle.imap_session.specs.Exchange.{Answer, Entered, Looked, Found, Counted, Altered, Expunged, Fed, Left, Refused, Starved, Exchange, Done, Idle, Write, Put, Enter, Look, Read, Count, Alter, Expunge, Feed, Leave, Standing, Turn, closed, having, most_in_place, played, refusal_after, refusal_text, refused, saying, tagged}
-use Rattle.imap_session.specs.Commands.{fault_text, on_command, on_idle_line, on_read, only_says, turn_while}
-use Rattle.client_list.specs.Turns.{IsTag}
-use Rattle.client_list.specs.Laws.{IdleTagsAreTags}
+use Rattle.imap_session.specs.Exchange.{Answer, Entered, Looked, Found, Counted, Altered, Expunged, Fed, Left, Refused, Starved, Exchange, ForDone, ForLiteral, ForVerdict, ForNothing, Done, Wait, Write, Put, Enter, Look, Read, Count, Alter, Expunge, Feed, Leave, Standing, Turn, Appending, Sent, Waiting, closed, having, keeps_tag, most_in_place, played, refusal_after, refusal_text, refused, saying, tagged, waiting}
+use Rattle.imap_session.specs.Commands.{fault_text, on_command, on_idle_line, on_read, on_rest, on_verdict, only_says, taking, turn_behind, turn_of_verdict, turn_while, turn_with, with_bytes, without_begun, without_sent}
+use Rattle.delivery_token.specs.declared.Verdict.{Verdict}
+use Rattle.client_list.specs.Turns.{AreTags, IsTag}
+use Rattle.client_list.specs.Laws.{KeptTagsAreTags}
 use Rattle.client_list.proofs.Tags.{Tagged, read_tagged}
 use Rattle.client_list.proofs.Turns.{the_turn}
 
 abbrev pub Kept : Turn → Type 0
-Kept turn = IfSome turn.standing.idling IsTag
+Kept turn = AreTags turn.standing
 
 -- a turn with an event or a text more
 maps : (f : Turn → Turn) → ((s : Turn) → (f s).standing ≡ s.standing) → (rest : Option Turn) (turn : Turn) → option_map f rest ≡ Some turn → ((more : Turn) → rest ≡ Some more → Kept more) → Kept turn
 maps f same None turn e behind = absurd (none-some turn e)
 maps f same (Some more) turn e behind =
-    subst (λ (s : Turn). Kept s) (ap (the_turn turn) e) (subst (λ (s : Standing). IfSome s.idling IsTag) (sym (same more)) (behind more refl))
+    subst (λ (s : Turn). Kept s) (ap (the_turn turn) e) (subst (λ (s : Standing). AreTags s) (sym (same more)) (behind more refl))
 
-closed_keeps : (now : Standing) (how : After) → IfSome now.idling IsTag → Kept (closed now how)
+closed_keeps : (now : Standing) (how : After) → AreTags now → Kept (closed now how)
 closed_keeps now Go k = k
 closed_keeps now Bye k = k
 closed_keeps now afters.Idle k = k
+closed_keeps now (afters.Literal due) k = k
+closed_keeps now afters.Submit k = k
 
 -- a turn that ends
-told : (now : Standing) (f : Turn → Turn) → ((s : Turn) → (f s).standing ≡ s.standing) → (how : After) (turn : Turn) → IfSome now.idling IsTag → Some (f (closed now how)) ≡ Some turn → Kept turn
+told : (now : Standing) (f : Turn → Turn) → ((s : Turn) → (f s).standing ≡ s.standing) → (how : After) (turn : Turn) → AreTags now → Some (f (closed now how)) ≡ Some turn → Kept turn
 told now f same how turn k e = maps f same (Some (closed now how)) turn e (λ more d. subst (λ (s : Turn). Kept s) (ap (the_turn more) d) (closed_keeps now how k))
 
-given_up : (tag : List ℕ) (now : Standing) (fault : MailFault) (turn : Turn) → IfSome now.idling IsTag → Some (refused tag now fault) ≡ Some turn → Kept turn
+given_up : (tag : List ℕ) (now : Standing) (fault : MailFault) (turn : Turn) → AreTags now → Some (refused tag now fault) ≡ Some turn → Kept turn
 given_up tag now fault turn k e = told now (saying (refusal_text tag fault)) (λ s. refl) (refusal_after fault) turn k e
 
-given_up_if : (b : Bool) (tag : List ℕ) (now : Standing) (fault : MailFault) (turn : Turn) → IfSome now.idling IsTag → (if b then Some (refused tag now fault) else None) ≡ Some turn → Kept turn
+given_up_if : (b : Bool) (tag : List ℕ) (now : Standing) (fault : MailFault) (turn : Turn) → AreTags now → (if b then Some (refused tag now fault) else None) ≡ Some turn → Kept turn
 given_up_if true tag now fault turn k e = given_up tag now fault turn k e
 given_up_if false tag now fault turn k e = absurd (none-some turn e)
 
-played_keeps : (tag : List ℕ) → IsTag tag → (now : Standing) (x : Exchange) (answers : List Answer) (turn : Turn) → IfSome now.idling IsTag → played tag now x answers ≡ Some turn → Kept turn
+waiting_keeps : (tag : List ℕ) → IsTag tag → (now : Standing) (w : Waiting) → AreTags now → AreTags (waiting tag w now)
+waiting_keeps tag t now ForDone k = (t, k.1, k.2)
+waiting_keeps tag t now (ForLiteral mailbox flags size) k = (k.0, t, k.2)
+waiting_keeps tag t now (ForVerdict mailbox flags text) k = (k.0, k.1, t)
+waiting_keeps tag t now ForNothing k = k
+
+played_keeps : (tag : List ℕ) → IsTag tag → (now : Standing) (x : Exchange) (answers : List Answer) (turn : Turn) → AreTags now → played tag now x answers ≡ Some turn → Kept turn
 played_keeps tag t now (Done words how) [] turn k e = told now (saying (tagged tag words)) (λ s. refl) how turn k e
 played_keeps tag t now (Done words how) (a ∷ more) turn k e = absurd (none-some turn e)
-played_keeps tag t now Idle [] turn k e = subst (λ (s : Turn). Kept s) (ap (the_turn turn) e) t
-played_keeps tag t now Idle (Entered a ∷ more) turn k e = absurd (none-some turn e)
-played_keeps tag t now Idle (Looked a ∷ more) turn k e = absurd (none-some turn e)
-played_keeps tag t now Idle (Found a ∷ more) turn k e = absurd (none-some turn e)
-played_keeps tag t now Idle (Counted a ∷ more) turn k e = absurd (none-some turn e)
-played_keeps tag t now Idle (Altered a ∷ more) turn k e = absurd (none-some turn e)
-played_keeps tag t now Idle (Expunged a b c ∷ more) turn k e = absurd (none-some turn e)
-played_keeps tag t now Idle (Fed a b ∷ more) turn k e = absurd (none-some turn e)
-played_keeps tag t now Idle (Left a ∷ more) turn k e = absurd (none-some turn e)
-played_keeps tag t now Idle (Refused a ∷ more) turn k e = absurd (none-some turn e)
-played_keeps tag t now Idle (Starved zero ∷ []) turn k e = given_up_if (nat_lt most_in_place (length tag)) tag now NoMemory turn k e
-played_keeps tag t now Idle (Starved zero ∷ b ∷ more) turn k e = absurd (none-some turn e)
-played_keeps tag t now Idle (Starved (suc n) ∷ more) turn k e = absurd (none-some turn e)
+played_keeps tag t now (Wait bytes w) [] turn k e = subst (λ (s : Turn). Kept s) (ap (the_turn turn) e) (waiting_keeps tag t now w k)
+played_keeps tag t now (Wait bytes w) (Entered a ∷ more) turn k e = absurd (none-some turn e)
+played_keeps tag t now (Wait bytes w) (Looked a ∷ more) turn k e = absurd (none-some turn e)
+played_keeps tag t now (Wait bytes w) (Found a ∷ more) turn k e = absurd (none-some turn e)
+played_keeps tag t now (Wait bytes w) (Counted a ∷ more) turn k e = absurd (none-some turn e)
+played_keeps tag t now (Wait bytes w) (Altered a ∷ more) turn k e = absurd (none-some turn e)
+played_keeps tag t now (Wait bytes w) (Expunged a b c ∷ more) turn k e = absurd (none-some turn e)
+played_keeps tag t now (Wait bytes w) (Fed a b ∷ more) turn k e = absurd (none-some turn e)
+played_keeps tag t now (Wait bytes w) (Left a ∷ more) turn k e = absurd (none-some turn e)
+played_keeps tag t now (Wait bytes w) (Refused a ∷ more) turn k e = absurd (none-some turn e)
+played_keeps tag t now (Wait bytes w) (Starved zero ∷ []) turn k e = given_up_if (keeps_tag w && nat_lt most_in_place (length tag)) tag now NoMemory turn k e
+played_keeps tag t now (Wait bytes w) (Starved zero ∷ b ∷ more) turn k e = absurd (none-some turn e)
+played_keeps tag t now (Wait bytes w) (Starved (suc n) ∷ more) turn k e = absurd (none-some turn e)
 played_keeps tag t now (Write bytes x) [] turn k e = maps (saying bytes) (λ s. refl) (played tag now x []) turn e (λ s d. played_keeps tag t now x [] s k d)
 played_keeps tag t now (Write bytes x) (Entered a ∷ more) turn k e = maps (saying bytes) (λ s. refl) (played tag now x (Entered a ∷ more)) turn e (λ s d. played_keeps tag t now x (Entered a ∷ more) s k d)
 played_keeps tag t now (Write bytes x) (Looked a ∷ more) turn k e = maps (saying bytes) (λ s. refl) (played tag now x (Looked a ∷ more)) turn e (λ s d. played_keeps tag t now x (Looked a ∷ more) s k d)
@@ -174,17 +183,37 @@ played_keeps tag t now (Leave remove x) (Refused a ∷ []) turn k e = told now (
 played_keeps tag t now (Leave remove x) (Refused a ∷ b ∷ more) turn k e = absurd (none-some turn e)
 played_keeps tag t now (Leave remove x) (Starved a ∷ more) turn k e = absurd (none-some turn e)
 
-fault_keeps : (now : Standing) (text : List ℕ) (answers : List Answer) (turn : Turn) → IfSome now.idling IsTag → only_says text now answers ≡ Some turn → Kept turn
+fault_keeps : (now : Standing) (text : List ℕ) (answers : List Answer) (turn : Turn) → AreTags now → only_says text now answers ≡ Some turn → Kept turn
 fault_keeps now text [] turn k e = told now (saying text) (λ s. refl) Go turn k e
 fault_keeps now text (answer ∷ more) turn k e = absurd (none-some turn e)
 
-read_keeps : (now : Standing) (r : Result (List ℕ × Command) ImapFault) (answers : List Answer) (turn : Turn) → Tagged r → IfSome now.idling IsTag → on_read now r answers ≡ Some turn → Kept turn
+read_keeps : (now : Standing) (r : Result (List ℕ × Command) ImapFault) (answers : List Answer) (turn : Turn) → Tagged r → AreTags now → on_read now r answers ≡ Some turn → Kept turn
 read_keeps now (Ok line) answers turn t k e = played_keeps line.0 t now (on_command now line.1) answers turn k e
 read_keeps now (Err fault) answers turn t k e = fault_keeps now (fault_text fault) answers turn k e
 
-while_keeps : (idling : Option (List ℕ)) (now : Standing) (line : List ℕ) (answers : List Answer) (turn : Turn) → IfSome idling IsTag → IfSome now.idling IsTag → turn_while idling now line answers ≡ Some turn → Kept turn
+while_keeps : (idling : Option (List ℕ)) (now : Standing) (line : List ℕ) (answers : List Answer) (turn : Turn) → IfSome idling IsTag → AreTags now → turn_while idling now line answers ≡ Some turn → Kept turn
 while_keeps None now line answers turn t k e = read_keeps now (read line) answers turn (read_tagged line) k e
-while_keeps (Some tag) now line answers turn t k e = played_keeps tag t (record now { idling = None }) (on_idle_line now.selected line) answers turn tt e
+while_keeps (Some tag) now line answers turn t k e = played_keeps tag t (record now { idling = None }) (on_idle_line now.selected line) answers turn (tt, k.1, k.2) e
 
-pub idle_tags_are_tags : IdleTagsAreTags
-idle_tags_are_tags now line answers turn k e = while_keeps now.idling now line answers turn k k e
+behind_keeps : (begun : Option Appending) (now : Standing) (line : List ℕ) (answers : List Answer) (turn : Turn) → IfSome begun (λ a. IsTag a.tag) → AreTags now → turn_behind begun now line answers ≡ Some turn → Kept turn
+behind_keeps None now line answers turn t k e = while_keeps now.idling now line answers turn k.0 k e
+behind_keeps (Some a) now line answers turn t k e = played_keeps a.tag t (without_begun now) (on_rest now.mailing a (length line == 0)) answers turn (tt, tt, k.2) e
+
+pub kept_tags_are_tags : KeptTagsAreTags
+kept_tags_are_tags now line answers turn k e = behind_keeps now.mailing.begun now line answers turn k.1 k e
+
+-- ---- bytes of a literal, and verdicts
+
+taken_keeps : (kept : Bool) (bytes : List ℕ) (begun : Option Appending) → IfSome begun (λ a. IsTag a.tag) → IfSome (option_map (taking kept bytes) begun) (λ a. IsTag a.tag)
+taken_keeps kept bytes None t = tt
+taken_keeps kept bytes (Some a) t = t
+
+pub bytes_keep : (now : Standing) (kept : Bool) (bytes : List ℕ) → AreTags now → AreTags (with_bytes kept bytes now)
+bytes_keep now kept bytes k = (k.0, taken_keeps kept bytes now.mailing.begun k.1, k.2)
+
+heard_keeps : (sent : Option Sent) (now : Standing) (verdict : Verdict) (answers : List Answer) (turn : Turn) → IfSome sent (λ s. IsTag s.tag) → turn_with sent now verdict answers ≡ Some turn → Kept turn
+heard_keeps None now verdict answers turn t e = absurd (none-some turn e)
+heard_keeps (Some sent) now verdict answers turn t e = played_keeps sent.tag t (without_sent now) (on_verdict now.selected sent.append.mailbox verdict) answers turn (tt, tt, tt) e
+
+pub verdict_keeps : (now : Standing) (verdict : Verdict) (answers : List Answer) (turn : Turn) → AreTags now → turn_of_verdict now verdict answers ≡ Some turn → Kept turn
+verdict_keeps now verdict answers turn k e = heard_keeps now.mailing.sent now verdict answers turn k.2 e

@@ -1,30 +1,30 @@
 -- A client reads what a session says in a turn, over whatever store: by induction over the exchange, a clause for each answer that there is.
 use Rattle.std.proofs.Common.{zero, suc, ◌≡◌, ℕ, List, [], ◌∷◌, length, sym, subst}
-use Rattle.std.specs.Prelude.{Some, nat_lt}
+use Rattle.std.specs.Prelude.{Some, nat_lt, ◌&&◌}
 use Rattle.std.proofs.lemmas.Option.{none-some}
 use Rattle.mailbox.specs.declared.clients.MailFault.TheVariants.{NoMemory}
-use Rattle.imap_session.specs.Exchange.{Answer, Entered, Looked, Found, Counted, Altered, Expunged, Fed, Left, Refused, Starved, Exchange, Done, Idle, Write, Put, Enter, Look, Read, Count, Alter, Expunge, Feed, Leave, Standing, Turn, tagged, played, most_in_place}
+use Rattle.imap_session.specs.Exchange.{Answer, Entered, Looked, Found, Counted, Altered, Expunged, Fed, Left, Refused, Starved, Exchange, Done, Wait, Write, Put, Enter, Look, Read, Count, Alter, Expunge, Feed, Leave, Standing, Turn, after_waiting, keeps_tag, tagged, played, most_in_place, waiting}
 use Rattle.client_list.specs.Beliefs.{Leads}
 use Rattle.client_list.specs.Turns.{SeesAll, Says}
-use Rattle.client_list.proofs.Turns.{Refusals, writes, calls, shows, ends, idles, gives_up, gives_up_if, is_refused}
+use Rattle.client_list.proofs.Turns.{Refusals, writes, calls, shows, ends, waits_on, gives_up, gives_up_if, is_refused}
 
 pub turn_follows : (tag : List ℕ) (refusals : Refusals tag) (view : List ℕ) (now : Standing) (x : Exchange) (answers : List Answer) (turn : Turn) (new : List ℕ)
     → played tag now x answers ≡ Some turn → Says tag view x → SeesAll view turn.events new → Leads view turn.bytes new
 turn_follows tag refusals view now (Done words how) [] turn new e says sees = ends view now (tagged tag words) how turn new e says sees
 turn_follows tag refusals view now (Done words how) (a ∷ more) turn new e says sees = absurd (none-some turn e)
-turn_follows tag refusals view now Idle [] turn new e says sees = idles view (record now { idling = Some tag }) turn new e sees
-turn_follows tag refusals view now Idle (Entered a ∷ more) turn new e says sees = absurd (none-some turn e)
-turn_follows tag refusals view now Idle (Looked a ∷ more) turn new e says sees = absurd (none-some turn e)
-turn_follows tag refusals view now Idle (Found a ∷ more) turn new e says sees = absurd (none-some turn e)
-turn_follows tag refusals view now Idle (Counted a ∷ more) turn new e says sees = absurd (none-some turn e)
-turn_follows tag refusals view now Idle (Altered a ∷ more) turn new e says sees = absurd (none-some turn e)
-turn_follows tag refusals view now Idle (Expunged a b c ∷ more) turn new e says sees = absurd (none-some turn e)
-turn_follows tag refusals view now Idle (Fed a b ∷ more) turn new e says sees = absurd (none-some turn e)
-turn_follows tag refusals view now Idle (Left a ∷ more) turn new e says sees = absurd (none-some turn e)
-turn_follows tag refusals view now Idle (Refused a ∷ more) turn new e says sees = absurd (none-some turn e)
-turn_follows tag refusals view now Idle (Starved zero ∷ []) turn new e says sees = gives_up_if (nat_lt most_in_place (length tag)) tag refusals view now NoMemory turn new e sees
-turn_follows tag refusals view now Idle (Starved zero ∷ b ∷ more) turn new e says sees = absurd (none-some turn e)
-turn_follows tag refusals view now Idle (Starved (suc n) ∷ more) turn new e says sees = absurd (none-some turn e)
+turn_follows tag refusals view now (Wait bytes w) [] turn new e says sees = waits_on view bytes (after_waiting w) (waiting tag w now) turn new e says sees
+turn_follows tag refusals view now (Wait bytes w) (Entered a ∷ more) turn new e says sees = absurd (none-some turn e)
+turn_follows tag refusals view now (Wait bytes w) (Looked a ∷ more) turn new e says sees = absurd (none-some turn e)
+turn_follows tag refusals view now (Wait bytes w) (Found a ∷ more) turn new e says sees = absurd (none-some turn e)
+turn_follows tag refusals view now (Wait bytes w) (Counted a ∷ more) turn new e says sees = absurd (none-some turn e)
+turn_follows tag refusals view now (Wait bytes w) (Altered a ∷ more) turn new e says sees = absurd (none-some turn e)
+turn_follows tag refusals view now (Wait bytes w) (Expunged a b c ∷ more) turn new e says sees = absurd (none-some turn e)
+turn_follows tag refusals view now (Wait bytes w) (Fed a b ∷ more) turn new e says sees = absurd (none-some turn e)
+turn_follows tag refusals view now (Wait bytes w) (Left a ∷ more) turn new e says sees = absurd (none-some turn e)
+turn_follows tag refusals view now (Wait bytes w) (Refused a ∷ more) turn new e says sees = absurd (none-some turn e)
+turn_follows tag refusals view now (Wait bytes w) (Starved zero ∷ []) turn new e says sees = gives_up_if (keeps_tag w && nat_lt most_in_place (length tag)) tag refusals view now NoMemory turn new e sees
+turn_follows tag refusals view now (Wait bytes w) (Starved zero ∷ b ∷ more) turn new e says sees = absurd (none-some turn e)
+turn_follows tag refusals view now (Wait bytes w) (Starved (suc n) ∷ more) turn new e says sees = absurd (none-some turn e)
 turn_follows tag refusals view now (Write bytes x) [] turn new e says sees = writes view bytes (played tag now x []) turn new e sees says.0 (λ t d s. turn_follows tag refusals view now x [] t new d says.1 s)
 turn_follows tag refusals view now (Write bytes x) (Entered a ∷ more) turn new e says sees = writes view bytes (played tag now x (Entered a ∷ more)) turn new e sees says.0 (λ t d s. turn_follows tag refusals view now x (Entered a ∷ more) t new d says.1 s)
 turn_follows tag refusals view now (Write bytes x) (Looked a ∷ more) turn new e says sees = writes view bytes (played tag now x (Looked a ∷ more)) turn new e sees says.0 (λ t d s. turn_follows tag refusals view now x (Looked a ∷ more) t new d says.1 s)

@@ -4,20 +4,20 @@ use Rattle.std.specs.Prelude.{Option, Some, None, IfSome}
 use Rattle.std.proofs.lemmas.Option.{none-some}
 use Rattle.mailbox.specs.declared.clients.MailFault.TheVariants.{Stranger, Lapped, Spent, NoMemory}
 use Rattle.imap_session.specs.declared.standing.Selected.{Selected}
-use Rattle.imap_session.specs.Exchange.{Answer, Entered, Looked, Found, Counted, Altered, Expunged, Fed, Left, Refused, Starved, Standing, Turn, is_idling}
-use Rattle.imap_session.specs.Commands.{idle_turn_in, turn_of_long_line}
+use Rattle.imap_session.specs.Exchange.{Answer, Entered, Looked, Found, Counted, Altered, Expunged, Fed, Left, Refused, Starved, Standing, Turn, Appending, is_idling, kept_behind, kept_tag, may_send}
+use Rattle.imap_session.specs.Commands.{idle_turn_in, turn_of_long_line, with_bytes}
 use Rattle.client_list.specs.Beliefs.{IsOf, Follows, Leads}
 use Rattle.client_list.specs.Commands.{IsFollowed}
 use Rattle.client_list.specs.Laws.{TalkIsFollowed}
-use Rattle.client_list.specs.Talks.{Happening, Line, LongLine, Turned, MayCome, MayHappen, leads_to}
-use Rattle.client_list.specs.Turns.{IsTag, SeesAll}
-use Rattle.client_list.proofs.Commands.{answer_is_followed, long_line_tells_nothing}
+use Rattle.client_list.specs.Talks.{Happening, Line, LongLine, Turned, Literal, Heard, MayCome, MayHappen, leads_to}
+use Rattle.client_list.specs.Turns.{AreTags, IsTag, SeesAll}
+use Rattle.client_list.proofs.Commands.{answer_is_followed, long_line_tells_nothing, verdict_is_followed}
 use Rattle.client_list.proofs.Ends.{leaves}
-use Rattle.client_list.proofs.IdleTags.{Kept, idle_tags_are_tags}
+use Rattle.client_list.proofs.IdleTags.{Kept, bytes_keep, kept_tags_are_tags, verdict_keeps}
 use Rattle.client_list.proofs.IdleTurns.{idle_turn_is_followed}
-use Rattle.client_list.proofs.Turns.{the_turn, then_follows}
+use Rattle.client_list.proofs.Turns.{rests_in, the_turn, then_follows}
 
-turned_keeps : (selected : Option Selected) (idling : Bool) (now : Standing) (answers : List Answer) (turn : Turn) → IfSome now.idling IsTag → idle_turn_in selected idling now answers ≡ Some turn → Kept turn
+turned_keeps : (selected : Option Selected) (idling : Bool) (now : Standing) (answers : List Answer) (turn : Turn) → AreTags now → idle_turn_in selected idling now answers ≡ Some turn → Kept turn
 turned_keeps (Some selected) true now [] turn k e = absurd (none-some turn e)
 turned_keeps (Some selected) true now (Fed met changes ∷ []) turn k e = subst (λ (s : Turn). Kept s) (ap (the_turn turn) e) k
 turned_keeps (Some selected) true now (Fed met changes ∷ b ∷ more) turn k e = absurd (none-some turn e)
@@ -42,26 +42,34 @@ turned_keeps None true now (a ∷ more) turn k e = absurd (none-some turn e)
 turned_keeps None false now [] turn k e = subst (λ (s : Turn). Kept s) (ap (the_turn turn) e) k
 turned_keeps None false now (a ∷ more) turn k e = absurd (none-some turn e)
 
-happening_keeps : (now : Standing) (view : List ℕ) (happening : Happening) (turn : Turn) → IfSome now.idling IsTag → leads_to now happening ≡ Some turn → Kept turn
-happening_keeps now view (Line line answers) turn k e = idle_tags_are_tags now line answers turn k e
-happening_keeps now view LongLine turn k e = subst (λ (s : Turn). Kept s) (ap (the_turn turn) e) tt
+happening_keeps : (now : Standing) (view : List ℕ) (happening : Happening) (turn : Turn) → AreTags now → leads_to now happening ≡ Some turn → Kept turn
+happening_keeps now view (Line line answers) turn k e = kept_tags_are_tags now line answers turn k e
+happening_keeps now view LongLine turn k e = subst (λ (s : Turn). Kept s) (ap (the_turn turn) e) (tt, tt, k.2)
 happening_keeps now view (Turned answers) turn k e = turned_keeps now.selected (is_idling now) now answers turn k e
+happening_keeps now view (Literal kept bytes) turn k e = subst (λ (s : Turn). Kept s) (ap (the_turn turn) e) (bytes_keep now kept bytes k)
+happening_keeps now view (Heard verdict answers) turn k e = verdict_keeps now verdict answers turn k e
+
+kept_is_tag : (begun : Option Appending) (idling : Option (List ℕ)) → IfSome begun (λ a. IsTag a.tag) → IfSome idling IsTag → IfSome (kept_behind begun idling) IsTag
+kept_is_tag None idling b i = i
+kept_is_tag (Some a) idling b i = b
 
 may_follow : (idling : Option (List ℕ)) (now : Standing) (view line : List ℕ) → IfSome idling IsTag → MayCome idling now view line → IsFollowed idling now view line
 may_follow None now view line k may = may
 may_follow (Some tag) now view line k may = k
 
-long_follows : (now : Standing) (view : List ℕ) (turn : Turn) (new : List ℕ) → IfSome now.idling IsTag → Some (turn_of_long_line now) ≡ Some turn → SeesAll view turn.events new → Leads view turn.bytes new
+long_follows : (now : Standing) (view : List ℕ) (turn : Turn) (new : List ℕ) → AreTags now → Some (turn_of_long_line now) ≡ Some turn → SeesAll view turn.events new → Leads view turn.bytes new
 long_follows now view turn new k e sees =
     let same : turn_of_long_line now ≡ turn = ap (the_turn turn) e in
     let s : new ≡ view = subst (λ (t : Turn). SeesAll view t.events new) (sym same) sees in
-    subst (λ (t : Turn). Leads view t.bytes new) same (subst (λ (v : List ℕ). Leads view (turn_of_long_line now).bytes v) (sym s) (leaves view (turn_of_long_line now).bytes (long_line_tells_nothing now k)))
+    subst (λ (t : Turn). Leads view t.bytes new) same (subst (λ (v : List ℕ). Leads view (turn_of_long_line now).bytes v) (sym s) (leaves view (turn_of_long_line now).bytes (long_line_tells_nothing now (kept_is_tag now.mailing.begun now.idling k.1 k.0))))
 
-happening_follows : (now : Standing) (view : List ℕ) (happening : Happening) (turn : Turn) (new : List ℕ) → IfSome now.idling IsTag → MayHappen now view happening → leads_to now happening ≡ Some turn
+happening_follows : (now : Standing) (view : List ℕ) (happening : Happening) (turn : Turn) (new : List ℕ) → AreTags now → MayHappen now view happening → leads_to now happening ≡ Some turn
     → SeesAll view turn.events new → Leads view turn.bytes new
-happening_follows now view (Line line answers) turn new k may e sees = answer_is_followed now line view answers turn new (may_follow now.idling now view line k may) e sees
+happening_follows now view (Line line answers) turn new k may e sees = answer_is_followed now line view answers turn new (may_follow (kept_tag now) now view line (kept_is_tag now.mailing.begun now.idling k.1 k.0) may) e sees
 happening_follows now view LongLine turn new k may e sees = long_follows now view turn new k e sees
 happening_follows now view (Turned answers) turn new k may e sees = idle_turn_is_followed view now answers turn new e sees
+happening_follows now view (Literal kept bytes) turn new k may e sees = rests_in view (may_send (with_bytes kept bytes now)) (with_bytes kept bytes now) turn new e sees
+happening_follows now view (Heard verdict answers) turn new k may e sees = verdict_is_followed now verdict view answers turn new k.2 may e sees
 
 pub talk_is_followed : TalkIsFollowed
 talk_is_followed now view [] bytes new k talk list right =

@@ -103,11 +103,15 @@ closed_silent : (now : Standing) (how : After) → (closed now how).bytes ≡ []
 closed_silent now Go = refl
 closed_silent now Bye = refl
 closed_silent now afters.Idle = refl
+closed_silent now (afters.Literal due) = refl
+closed_silent now afters.Submit = refl
 
 closed_quiet : (now : Standing) (how : After) → (closed now how).events ≡ []
 closed_quiet now Go = refl
 closed_quiet now Bye = refl
 closed_quiet now afters.Idle = refl
+closed_quiet now (afters.Literal due) = refl
+closed_quiet now afters.Submit = refl
 
 -- nothing more is met, and this text is all
 alone : (view text : List ℕ) (last : Turn) (new : List ℕ) → last.bytes ≡ [] → SeesAll view [] new → Leaves view text → Leads view (text ++ last.bytes) new
@@ -122,17 +126,14 @@ ends view now text how turn new e leaves sees =
     let s : SeesAll view [] new = subst (λ (events : List Event). SeesAll view events new) (ap (λ (t : Turn). t.events) (sym same) ∙ closed_quiet now how) sees in
     subst (λ (t : Turn). Leads view t.bytes new) same (alone view text (closed now how) new (closed_silent now how) s leaves)
 
--- a line that has no number tells nothing
-pub plus_leaves : (view : List ℕ) → Leaves view (codes "+ idling\r\n")
-plus_leaves view list right = record { after = list; reads = refl; each = right }
-
-pub idles : (view : List ℕ) (now : Standing) (turn : Turn) (new : List ℕ) → Some (saying (codes "+ idling\r\n") (nothing_more afters.Idle now)) ≡ Some turn
+-- this is said, and the session waits
+pub waits_on : (view bytes : List ℕ) (how : After) (now : Standing) (turn : Turn) (new : List ℕ) → Some (saying bytes (nothing_more how now)) ≡ Some turn → Leaves view bytes
     → SeesAll view turn.events new → Leads view turn.bytes new
-idles view now turn new e sees =
-    let last : Turn = nothing_more afters.Idle now in
-    let same : saying (codes "+ idling\r\n") last ≡ turn = ap (the_turn turn) e in
+waits_on view bytes how now turn new e leaves sees =
+    let last : Turn = nothing_more how now in
+    let same : saying bytes last ≡ turn = ap (the_turn turn) e in
     let s : SeesAll view [] new = subst (λ (events : List Event). SeesAll view events new) (ap (λ (t : Turn). t.events) (sym same)) sees in
-    subst (λ (t : Turn). Leads view t.bytes new) same (alone view (codes "+ idling\r\n") last new refl s (plus_leaves view))
+    subst (λ (t : Turn). Leads view t.bytes new) same (alone view bytes last new refl s leaves)
 
 -- memory was refused, or the store refused
 pub gives_up : (tag : List ℕ) (refusals : Refusals tag) (view : List ℕ) (now : Standing) (fault : MailFault) (turn : Turn) (new : List ℕ) → Some (refused tag now fault) ≡ Some turn
@@ -149,9 +150,12 @@ pub is_refused : (tag : List ℕ) (refusals : Refusals tag) (view : List ℕ) (n
 is_refused tag refusals view now call fault turn new e sees =
     calls view call (Refused fault) (Some (refused tag now fault)) turn new e sees (λ mid s. s) (λ t mid after fits d s. gives_up tag refusals view now fault t new d s)
 
--- nothing happens, and nothing is written
-pub rests : (view : List ℕ) (now : Standing) (turn : Turn) (new : List ℕ) → Some (nothing_more afters.Idle now) ≡ Some turn → SeesAll view turn.events new → Leads view turn.bytes new
-rests view now turn new e sees list right =
-    let same : nothing_more afters.Idle now ≡ turn = ap (the_turn turn) e in
+-- nothing is met, and nothing is written
+pub rests_in : (view : List ℕ) (how : After) (now : Standing) (turn : Turn) (new : List ℕ) → Some (nothing_more how now) ≡ Some turn → SeesAll view turn.events new → Leads view turn.bytes new
+rests_in view how now turn new e sees list right =
+    let same : nothing_more how now ≡ turn = ap (the_turn turn) e in
     let s : new ≡ view = subst (λ (t : Turn). SeesAll view t.events new) (sym same) sees in
     subst (λ (t : Turn). Follows IsOf list t.bytes new) same (subst (λ (v : List ℕ). Follows IsOf list [] v) (sym s) (record { after = list; reads = refl; each = right }))
+
+pub rests : (view : List ℕ) (now : Standing) (turn : Turn) (new : List ℕ) → Some (nothing_more afters.Idle now) ≡ Some turn → SeesAll view turn.events new → Leads view turn.bytes new
+rests view now turn new e sees = rests_in view afters.Idle now turn new e sees

@@ -1,9 +1,11 @@
 -- The lines that a client sends, after whose answers its list is right again.
-use Rattle.std.specs.Prelude.{◌≡◌, ℕ, Bool, true, false, List, [], ◌∷◌, Option, Some, None, Result, Ok, Err}
+use Rattle.std.specs.Prelude.{◌≡◌, ℕ, ◌<◌, ◌^◌, Bool, true, false, List, [], ◌∷◌, Option, Some, None, Result, Ok, Err}
 use Rattle.imap_grammar.specs.Reading.{read}
 use Rattle.imap_grammar.specs.declared.command.Command.{Command}
 use Rattle.imap_grammar.specs.declared.command.Command.TheVariants as commands
 use Rattle.imap_grammar.specs.declared.command.ImapFault.{ImapFault}
+use Rattle.delivery_token.specs.declared.Verdict.{Verdict}
+use Rattle.delivery_token.specs.declared.Verdict.TheVariants as verdicts
 use Rattle.imap_session.specs.Exchange.{Folder, Standing}
 use Rattle.client_list.specs.Fetches.{AreToldParts, IsNumbered}
 use Rattle.client_list.specs.Turns.{IsPlain, IsTag}
@@ -38,7 +40,13 @@ abbrev pub MayAnswer : Standing → List ℕ → Result (List ℕ × Command) Im
 MayAnswer now view (Ok line) = MayAsk now view line.1
 MayAnswer now view (Err fault) = Unit {0}
 
--- Where the session idles any line ends that, under the tag of the IDLE; else the line is read
+-- Where the session idles any line ends that, under the tag of the IDLE, and where it waits for the rest of a line behind a literal that is this one, under the
+-- tag of the APPEND; else the line is read
 abbrev pub IsFollowed : Option (List ℕ) → Standing → List ℕ → List ℕ → Type 0
 IsFollowed None now view line = MayAnswer now view (read line)
 IsFollowed (Some tag) now view line = IsTag tag
+
+-- the UID of a message that was stored can be printed
+abbrev pub IsPrinted : Verdict → Type 0
+IsPrinted (verdicts.Stored uid) = uid < 2 ^ 64
+IsPrinted (verdicts.Refused why) = Unit {0}

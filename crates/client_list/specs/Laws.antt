@@ -11,14 +11,15 @@ use Rattle.imap_grammar.specs.Answers.{literal, row_answer}
 use Rattle.imap_grammar.specs.declared.items.FetchItem.{FetchItem}
 use Rattle.imap_grammar.specs.Reading.{read}
 use Rattle.imap_grammar.specs.declared.command.Command.{Command}
-use Rattle.imap_session.specs.Exchange.{Answer, Exchange, Standing, Turn, bye, played, refusal_text, tagged}
-use Rattle.imap_session.specs.Commands.{flags_answer, greeting, idle_turn, opening_text, turn_of, turn_of_long_line}
+use Rattle.imap_session.specs.Exchange.{Answer, Exchange, Standing, Turn, bye, kept_tag, played, refusal_text, tagged}
+use Rattle.imap_session.specs.Commands.{flags_answer, greeting, idle_turn, opening_text, turn_of, turn_of_long_line, turn_of_verdict}
+use Rattle.delivery_token.specs.declared.Verdict.{Verdict}
 use Rattle.client_list.specs.Client.{Client, Known, Messages, reads, within}
 use Rattle.client_list.specs.Beliefs.{Follows, IsOf, IsRight, Leads, Leaves, MayShow, TellsNothing}
-use Rattle.client_list.specs.Commands.{IsFollowed}
+use Rattle.client_list.specs.Commands.{IsFollowed, IsPrinted}
 use Rattle.client_list.specs.Fetches.{AreToldParts, IsNumbered}
 use Rattle.client_list.specs.Talks.{Happening, Talks}
-use Rattle.client_list.specs.Turns.{IsPlain, IsRowOf, IsTag, Says, SeesAll}
+use Rattle.client_list.specs.Turns.{AreTags, IsPlain, IsRowOf, IsTag, Says, SeesAll}
 
 -- ---- bytes
 
@@ -78,18 +79,23 @@ IdleTurnIsFollowed = (view : List ℕ) (now : Standing) (answers : List Answer) 
 abbrev pub TagsAreTags : Type 0
 TagsAreTags = (line tag : List ℕ) (command : Command) → read line ≡ Ok (tag, command) → IsTag tag
 
--- and so is the tag of an IDLE, as long as it lasts, if it was one before: a session begins with none
-abbrev pub IdleTagsAreTags : Type 0
-IdleTagsAreTags = (now : Standing) (line : List ℕ) (answers : List Answer) (turn : Turn) → IfSome now.idling IsTag → turn_of now line answers ≡ Some turn → IfSome turn.standing.idling IsTag
+-- and so are the tags that a session keeps, if they were before: it begins with none
+abbrev pub KeptTagsAreTags : Type 0
+KeptTagsAreTags = (now : Standing) (line : List ℕ) (answers : List Answer) (turn : Turn) → AreTags now → turn_of now line answers ≡ Some turn → AreTags turn.standing
 
 -- Over any store, whatever it answers: after the answer to such a line a client is right about the session's view. Of the exchange nothing is asked.
 abbrev pub AnswerIsFollowed : Type 0
 AnswerIsFollowed = (now : Standing) (line view : List ℕ) (answers : List Answer) (turn : Turn) (new : List ℕ)
-    → IsFollowed now.idling now view line → turn_of now line answers ≡ Some turn → SeesAll view turn.events new → Leads view turn.bytes new
+    → IsFollowed (kept_tag now) now view line → turn_of now line answers ≡ Some turn → SeesAll view turn.events new → Leads view turn.bytes new
 
 -- and after the answer to a line that is too long
 abbrev pub LongLineTellsNothing : Type 0
-LongLineTellsNothing = (now : Standing) → IfSome now.idling IsTag → TellsNothing (turn_of_long_line now).bytes
+LongLineTellsNothing = (now : Standing) → IfSome (kept_tag now) IsTag → TellsNothing (turn_of_long_line now).bytes
+
+-- and after the answer to the verdict on a message
+abbrev pub VerdictIsFollowed : Type 0
+VerdictIsFollowed = (now : Standing) (verdict : Verdict) (view : List ℕ) (answers : List Answer) (turn : Turn) (new : List ℕ)
+    → IfSome now.mailing.sent (λ sent. IsTag sent.tag) → IsPrinted verdict → turn_of_verdict now verdict answers ≡ Some turn → SeesAll view turn.events new → Leads view turn.bytes new
 
 -- ---- answers about messages
 
@@ -109,6 +115,6 @@ OpeningIsFollowed = (read_only : Bool) (name : List ℕ) (opening : Opening) (vi
 
 -- ---- a whole talk
 
--- Whatever comes, one line or turn behind the other: a client that was right about the session's view reads all that is written, and is right about the view to which it leads.
+-- Whatever comes, one line, turn, literal or verdict behind the other: a client that was right about the session's view reads all that is written, and is right about the view to which it leads.
 abbrev pub TalkIsFollowed : Type 0
-TalkIsFollowed = (now : Standing) (view : List ℕ) (talk : List Happening) (bytes new : List ℕ) → IfSome now.idling IsTag → Talks now view talk bytes new → Leads view bytes new
+TalkIsFollowed = (now : Standing) (view : List ℕ) (talk : List Happening) (bytes new : List ℕ) → AreTags now → Talks now view talk bytes new → Leads view bytes new

@@ -1,10 +1,10 @@
 -- What a turn of a session has to do with a client's list: which answers of its store it may lead to, and which texts leave the list as it is.
-use Rattle.std.specs.Prelude.{◌≡◌, ℕ, ◌<◌, ◌^◌, ◌==◌, Bool, true, false, length, List, [], ◌∷◌, ◌++◌, Option, Some, None, if◌then◌else◌}
+use Rattle.std.specs.Prelude.{◌≡◌, ℕ, ◌<◌, ◌^◌, ◌==◌, Bool, true, false, length, List, [], ◌∷◌, ◌++◌, Option, Some, None, IfSome, if◌then◌else◌}
 use Rattle.std.specs.List.{list_all}
 use Rattle.change_ring.specs.declared.change.Flags.{Flags}
 use Rattle.mailbox.specs.declared.clients.Row.{Row}
 use Rattle.mailbox.specs.declared.mailbox.Status.{Status}
-use Rattle.imap_session.specs.Exchange.{Call, Answer, Event, Found, Counted, Fed, Expunged, Exchange, Done, Idle, Write, Put, Enter, Look, Read, Count, Alter, Expunge, Feed, Leave, tagged}
+use Rattle.imap_session.specs.Exchange.{Call, Answer, Event, Found, Counted, Fed, Expunged, Exchange, Standing, Done, Wait, Write, Put, Enter, Look, Read, Count, Alter, Expunge, Feed, Leave, tagged}
 use Rattle.imap_session.specs.Store.{ViewAfter}
 use Rattle.client_list.specs.Beliefs.{MayShow, Leaves}
 
@@ -29,6 +29,10 @@ pub record IsPlain (text : List ℕ) : Type 0 where
   pub is : text ≡ front ++ last ∷ []
   pub no_count : (last == 125) ≡ false
   pub inner : list_all is_inner (front ++ last ∷ []) ≡ true
+
+-- the tags that a session keeps are tags: that of an IDLE, of a message whose bytes come, and of one that waits for its verdict
+abbrev pub AreTags : Standing → Type 0
+AreTags now = IfSome now.idling IsTag × IfSome now.mailing.begun (λ begun. IsTag begun.tag) × IfSome now.mailing.sent (λ sent. IsTag sent.tag)
 
 -- ---- what a store answers
 
@@ -74,7 +78,7 @@ SeesAll view (event ∷ events) new = (mid : List ℕ) × Sees view event mid ×
 -- exchange: of them nothing is asked.
 abbrev pub Says : List ℕ → List ℕ → Exchange → Type 0
 Says tag view (Done words how) = Leaves view (tagged tag words)
-Says tag view Idle = Unit {0}
+Says tag view (Wait bytes waits) = Leaves view bytes
 Says tag view (Write bytes x) = Leaves view bytes × Says tag view x
 Says tag view (Put bytes x) = Leaves view bytes × Says tag view x
 Says tag view (Enter selected next) = ⊥

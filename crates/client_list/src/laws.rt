@@ -1,7 +1,7 @@
 //! Laws of what a client reads, as functions that do nothing: bytes and literals, the lines of changes, and the
 //! turns of a session.
 
-ghost use Rattle.client_list.specs.Laws.{AnswerIsFollowed, ByeTellsNothing, FlagsAreTold, GreetingTellsNothing, IdleTagsAreTags, IdleTurnIsFollowed, LinesAreFollowed, ListIsAsLong, LiteralLeavesItsCount, LiteralsAreAlike, LongLineTellsNothing, OpeningIsFollowed, PiecesAreTheWhole, RefusalTellsNothing, RowIsTold, TaggedTellsNothing, TagsAreTags, TalkIsFollowed, TurnIsFollowed};
+ghost use Rattle.client_list.specs.Laws.{AnswerIsFollowed, ByeTellsNothing, FlagsAreTold, GreetingTellsNothing, IdleTurnIsFollowed, KeptTagsAreTags, LinesAreFollowed, ListIsAsLong, LiteralLeavesItsCount, LiteralsAreAlike, LongLineTellsNothing, OpeningIsFollowed, PiecesAreTheWhole, RefusalTellsNothing, RowIsTold, TaggedTellsNothing, TagsAreTags, TalkIsFollowed, TurnIsFollowed, VerdictIsFollowed};
 
 /// It makes no difference in which pieces bytes come, and a literal leaves nothing but its count in the line in which it
 /// stands, whatever its bytes (RFC 9051, 4.3). So a message's text can't be taken for lines.
@@ -46,19 +46,20 @@ pub fn messages_are_told()
     ensures opening { OpeningIsFollowed }
 {}
 
-/// The tag of each command that is read begins with no star and has no LF, and so does that of an IDLE while it lasts. Over any store, whatever it answers: after the
+/// The tag of each command that is read begins with no star and has no LF, and so does that of an IDLE or an APPEND while it lasts. Over any store, whatever it answers: after the
 /// answer to any line but SELECT, EXAMINE, CLOSE and UNSELECT, a client that was right about the session's view is right
-/// about its view then. So it is of a line that is no command, and of the line that ends an IDLE; one that is too long
-/// leaves the list as it was. What the store shows and answers is to fit the view (`SeesAll`), and the numbers of the view and
+/// about its view then. So it is of a line that is no command, of the line that ends an IDLE, of what stands behind a literal and of
+/// the verdict on a message; a line that is too long leaves the list as it was. What the store shows and answers is to fit the view (`SeesAll`), and the numbers of the view and
 /// of the command, and the names of mailboxes, are to be such as can be printed (`MayAsk`).
 pub fn answers_are_followed()
     ensures tags { TagsAreTags }
-    ensures idle_tags { IdleTagsAreTags }
+    ensures kept_tags { KeptTagsAreTags }
     ensures answer { AnswerIsFollowed }
     ensures long_line { LongLineTellsNothing }
+    ensures verdict { VerdictIsFollowed }
 {}
 
-/// So it is of a whole talk in one mailbox: lines, lines that are too long and turns of an IDLE, one behind the other, over any
+/// So it is of a whole talk in one mailbox: lines, lines that are too long, turns of an IDLE, literals and verdicts, one behind the other, over any
 /// store. A client that was right about the session's view reads all that is written, however it is cut into pieces, and
 /// is right about the view to which it all leads.
 pub fn talks_are_followed()

@@ -1,12 +1,12 @@
 -- What was answered over one store was answered over another, where each call of the one is the same call of the other.
 use Rattle.std.proofs.Common.{ℕ, List, [], ◌∷◌, refl, sym, subst, inl, inr}
 use Rattle.imap_session.specs.declared.standing.After.{After}
-use Rattle.imap_session.specs.declared.standing.After.TheVariants.{Bye}
+use Rattle.delivery_token.specs.declared.Verdict.{Verdict}
 use Rattle.mailbox.specs.declared.clients.MailFault.TheVariants.{NoMemory}
 use Rattle.imap_session.specs.Exchange.{Call, Answer, Event, Feed, Refused, Standing, waits_for}
 use Rattle.imap_session.specs.Commands.{most_changes}
-use Rattle.imap_session.specs.Store.{IdleTurns, Met, Starves}
-use Rattle.imap_connection.specs.Dialogue.{AnswersLine, Converses, goes_on, parts, reads, silent, too_long}
+use Rattle.imap_session.specs.Store.{AnswersVerdict, IdleTurns, Met, Starves}
+use Rattle.imap_connection.specs.Dialogue.{AnswersLine, AnswersOne, Bytes, Converses, Line, Sends, goes_on, parts, reads, silent, too_long}
 
 -- each call of a store for which another stood is that call of the other, which stands afterwards
 abbrev pub Carries : {S T : Type 0} → (S → Call → Answer → S → Type 0) → (T → Call → Answer → T → Type 0) → (S → T → Type 0) → Type 0
@@ -29,17 +29,35 @@ line_carried step other Stands carries now line old new before after how next t 
 line_carried step other Stands carries now line old new before after how next t (too_long long same wrote go stays) stands =
     (t, too_long long refl wrote go stays, subst (λ s. Stands s t) (sym same) stands)
 
+pub one_carried : {S T : Type 0} (step : S → Call → Answer → S → Type 0) (other : T → Call → Answer → T → Type 0) (Stands : S → T → Type 0) → Carries step other Stands
+    → (now : Standing) (one : Sends) (old new : S) (before after : List ℕ) (how : After) (next : Standing) (t : T) → AnswersOne step now one old new before after how next → Stands old t
+    → (u : T) × AnswersOne other now one t u before after how next × Stands new u
+one_carried step other Stands carries now (Line line) old new before after how next t a stands =
+    let k = line_carried step other Stands carries now line old new before after how next t a.1 stands in
+    (k.0, (a.0, k.1), k.2)
+one_carried step other Stands carries now (Bytes bytes) old new before after how next t a stands =
+    (t, record { some = a.some; due = a.due; takes = a.takes; unasked = refl; silent = a.silent; waits = a.waits }, subst (λ s. Stands s t) (sym a.unasked) stands)
+
 pub converses_carried : {S T : Type 0} (step : S → Call → Answer → S → Type 0) (other : T → Call → Answer → T → Type 0) (Stands : S → T → Type 0) → Carries step other Stands
-    → (now : Standing) (lines : List (List ℕ)) (old new : S) (said : List ℕ) (how : After) (next : Standing) (t : T) → Converses step now lines old new said how next → Stands old t
-    → (u : T) × Converses other now lines t u said how next × Stands new u
-converses_carried step other Stands carries now lines old new said how next t (silent a b) stands = (t, silent now t, stands)
-converses_carried step other Stands carries now lines old new said how next t (parts a b line c d x answered) stands =
-    let one = line_carried step other Stands carries now line old new [] said Bye next t answered stands in
-    (one.0, parts now next line t one.0 said one.1, one.2)
-converses_carried step other Stands carries now lines old new said how next t (goes_on a between b line others c mid d one two e answered more) stands =
-    let first = line_carried step other Stands carries now line old mid [] one (waits_for between.idling) between t answered stands in
-    let rest = converses_carried step other Stands carries between others mid new two how next first.0 more first.2 in
-    (rest.0, goes_on now between next line others t first.0 rest.0 one two how first.1 rest.1, rest.2)
+    → (now : Standing) (sent : List Sends) (old new : S) (said : List ℕ) (how : After) (next : Standing) (t : T) → Converses step now sent old new said how next → Stands old t
+    → (u : T) × Converses other now sent t u said how next × Stands new u
+converses_carried step other Stands carries now sent old new said how next t (silent a b) stands = (t, silent now t, stands)
+converses_carried step other Stands carries now sent old new said how next t (parts a b one c d x h stops answered) stands =
+    let k = one_carried step other Stands carries now one old new [] said how next t answered stands in
+    (k.0, parts now next one t k.0 said how stops k.1, k.2)
+converses_carried step other Stands carries now sent old new said how next t (goes_on a between b one others c mid d first second e follows answered more) stands =
+    let k = one_carried step other Stands carries now one old mid [] first (waits_for between) between t answered stands in
+    let rest = converses_carried step other Stands carries between others mid new second how next k.0 more k.2 in
+    (rest.0, goes_on now between next one others t k.0 rest.0 first second how follows k.1 rest.1, rest.2)
+
+-- ---- verdicts
+
+pub verdict_carried : {S T : Type 0} (step : S → Call → Answer → S → Type 0) (other : T → Call → Answer → T → Type 0) (Stands : S → T → Type 0) → Carries step other Stands
+    → (now : Standing) (verdict : Verdict) (old new : S) (before after : List ℕ) (how : After) (next : Standing) (t : T) → AnswersVerdict step now verdict old new before after how next → Stands old t
+    → (u : T) × AnswersVerdict other now verdict t u before after how next × Stands new u
+verdict_carried step other Stands carries now verdict old new before after how next t a stands =
+    let m = met_carried step other Stands carries old new a.events t a.met stands in
+    (m.0, record { answers = a.answers; events = a.events; bytes = a.bytes; played = a.played; met = m.1; wrote = a.wrote }, m.2)
 
 -- ---- turns while it idles
 

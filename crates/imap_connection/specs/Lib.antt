@@ -1,2 +1,1 @@
 pub mod Dialogue
-pub mod inner

@@ -1,16 +1,17 @@
-//! One IMAP connection, over bytes that come in any pieces: they are cut into lines, and the session answers each. It knows nothing of
+//! One IMAP connection, over bytes that come in any pieces: they are cut into lines and the literals behind them, and the session answers each. It knows nothing of
 //! sockets; how it gets at mailboxes is its store's matter.
 
-ghost use Rattle.std.specs.Prelude.{◌≡◌, ◌≢◌, ◌↔◌, ◌+◌, ◌^◌, ◌<◌, ◌≤◌, ◌++◌, false, true, None, Some, Err, [], length, IfOk, IfSome, OnOk, OnErr, vec_len};
+ghost use Rattle.std.specs.Prelude.{◌≡◌, ◌≢◌, ◌↔◌, ◌+◌, ◌^◌, ◌<◌, ◌≤◌, ◌++◌, false, true, is_some, min, take, None, Some, Err, [], length, IfOk, IfSome, OnOk, OnErr, vec_len};
+ghost use Rattle.std.specs.Option.{option_map};
 ghost use Rattle.std.specs.Vec.{vec_capacity};
-ghost use Rattle.imap_session.specs.Exchange.{Feed, Refused, is_idling, may_send, waits_for};
-ghost use Rattle.imap_session.specs.Commands.{greeting, most_changes};
-ghost use Rattle.imap_session.specs.Store.{IdleTurns, Starves};
+ghost use Rattle.imap_session.specs.Exchange.{Feed, Refused, Sent, is_idling, kept_tag, may_send, nothing_sent};
+ghost use Rattle.imap_session.specs.Commands.{due_of, greeting, most_changes};
+ghost use Rattle.imap_session.specs.Store.{AnswersVerdict, IdleTurns, Starves, TakesBytes, room_for_verdict};
 ghost use Rattle.mailbox.specs.declared.clients.MailFault.{MailFault};
-ghost use Rattle.imap_connection.specs.Dialogue.{Dialogue, StandsFor, Took, Turns, tag_len};
-ghost use Rattle.imap_connection.specs.inner.Dialogue.{Takes};
+ghost use Rattle.imap_connection.specs.Dialogue.{Dialogue, Hears, StandsFor, Takes, Took, Turns, may_follow, tag_len};
 
-use imap_session::{After, Folder, Selected, Session, SessionFault, Store};
+use delivery_token::Verdict;
+use imap_session::{After, Append, Folder, Selected, Session, SessionFault, Store};
 use line_io::{LineCutter, What};
 use std::alloc::{AllocError, Global};
 use std::marker::Model;
@@ -18,7 +19,7 @@ use std::marker::Model;
 /// The most bytes of a line with its CRLF.
 const MAX_LINE: usize = 8_192;
 
-/// Room for what a line's answer reserves before anything is done, beside the tag of an IDLE.
+/// Room for what a line's answer reserves before anything is done, beside the tag of an IDLE or an APPEND.
 const ANSWER_ROOM: usize = MAX_LINE + 80;
 
 // What a call took of a piece, and what the client may send next.
@@ -37,22 +38,12 @@ pub struct Progress {
     pub after: Option<After>,
 }
 
-// What the client may send while the session goes on.
-fn awaited(session: &Session) -> After
-    ensures { result ≡ waits_for session.now.idling }
-{
-    match session.idling() {
-        None => After::Go,
-        Some(_) => After::Idle,
-    }
-}
-
-// How long the tag of the IDLE is that isn't done yet.
+// How long the tag of the IDLE or the APPEND is that isn't done yet.
 fn tag_len(session: &Session) -> usize
-    ensures length { result ≡ tag_len session.now.idling }
+    ensures length { result ≡ tag_len (kept_tag session.now) }
     ensures bound { result < 2 ^ 63 }
 {
-    match session.idling() {
+    match session.kept_tag() {
         None => 0,
         Some(tag) => tag.len(),
     }
@@ -78,15 +69,19 @@ impl Model for ImapConnection {
 }
 
 impl ImapConnection {
-    /// A connection that was just opened, of a user with these mailboxes.
+    /// A connection that was just opened, of a user with these mailboxes, who appends messages of at most so many bytes, or none.
     ///
     /// Errors: `AllocError` where memory for a line was refused.
-    pub fn new(alloc: Global, folders: Vec<Folder>) -> Result<ImapConnection, AllocError>
-        ensures { IfOk result (λ c. StandsFor c (record { standing = record { folders = folders.items; selected = None; idling = None; ended = false }; begun = [] })) }
+    pub fn new(
+        alloc: Global,
+        folders: Vec<Folder>,
+        max_message: Option<u32>,
+    ) -> Result<ImapConnection, AllocError>
+        ensures { IfOk result (λ c. StandsFor c (record { standing = record { folders = folders.items; selected = None; idling = None; ended = false; mailing = nothing_sent max_message }; begun = [] })) }
     {
         let cutter = LineCutter::new(alloc, MAX_LINE)?;
         Ok(ImapConnection {
-            session: Session::new(folders),
+            session: Session::new(folders, max_message),
             cutter,
         })
     }
@@ -122,6 +117,43 @@ impl ImapConnection {
         self.session.is_idling()
     }
 
+    /// The message that was submitted and waits for the verdict on it (RFC 9051, 6.3.12). Till that is heard no more bytes are taken.
+    pub fn submission(&self) -> Option<&Append>
+        ensures { option_map (λ a. a.now) result ≡ option_map (λ (s : Sent). s.append) self.now.session.mailing.sent }
+    {
+        self.session.submission()
+    }
+
+    /// Whether a message was submitted, and the verdict on it isn't there: till then no bytes are taken.
+    pub fn awaits_verdict(&self) -> bool
+        ensures is { result ≡ is_some self.now.session.mailing.sent }
+        ensures none { result ≡ false → self.now.session.mailing.sent ≡ None }
+    {
+        self.session.awaits_verdict()
+    }
+
+    /// Answers the verdict on the message that was submitted. Bytes are taken again then.
+    ///
+    /// Errors, after which the connection, the store and `out` are as they were, and the same verdict is waited for: `Ended` exactly where the
+    /// session has ended; `NoMemory` where memory was refused, and `out` has no room for the tag's length and 56 bytes more.
+    pub fn appended<S: Store>(
+        &mut self,
+        verdict: Verdict,
+        store: &mut S,
+        out: &mut Vec<u8>,
+    ) -> Result<After, SessionFault>
+        requires waits { is_some self.old.session.mailing.sent ≡ true }
+        ensures session { IfOk result (λ after. AnswersVerdict S.step self.old.session verdict store.old store.new out.old.items out.new.items after self.new.session) }
+        ensures heard { IfOk result (λ after. (d : Dialogue) → StandsFor self.old d → Hears S.step d verdict store.old store.new out.old.items out.new.items after self.new) }
+        ensures ended { (result ≡ Err SessionFault.Ended) ↔ (self.old.session.ended ≡ true) }
+        ensures refused { OnErr result ((self.new ≡ self.old) × (store.new ≡ store.old) × (out.new.items ≡ out.old.items)) }
+        ensures memory { result ≡ Err SessionFault.NoMemory → vec_capacity out.old < vec_len out.old + room_for_verdict self.old.session }
+        ensures done { OnOk result (self.new.session.mailing.sent ≡ None) }
+        ensures sends { IfOk result (λ after. after ≡ may_send self.new.session) }
+    {
+        self.session.appended(verdict, store, out)
+    }
+
     /// The session has a turn while it idles: what is pending in its mailbox is shown, 64 changes at most. Answers how many were shown.
     ///
     /// Errors, after which the connection and `out` are as they were: `Ended` exactly where the session has ended, and the store isn't asked;
@@ -145,9 +177,31 @@ impl ImapConnection {
         self.session.idle_turn(store, out)
     }
 
-    // Takes bytes from the front of the piece, up to the end of one line, which is answered; a line of more than `MAX_LINE` bytes is
-    // answered as too long. On a session that has ended it uses nothing. Where the room for the longest line's last words is refused,
-    // no byte was used and nothing was done.
+    // Takes bytes of the literal that is due from the front of the piece.
+    fn take_literal(&mut self, piece: &[u8]) -> Fed
+        requires going { self.old.session.ended ≡ false }
+        requires unsent { self.old.session.mailing.sent ≡ None }
+        requires due { 0 < due_of self.old.session.mailing.begun }
+        ensures used { result.used ≡ min (length piece.now) (due_of self.old.session.mailing.begun) }
+        ensures none { length piece.now ≡ 0 → self.new ≡ self.old }
+        ensures takes { 0 < length piece.now → TakesBytes self.old.session (take result.used piece.now) self.new.session }
+        ensures cutter { self.new.cutter ≡ self.old.cutter }
+        ensures sends { result.after ≡ may_send self.new.session }
+    {
+        let used = if piece.is_empty() {
+            0
+        } else {
+            self.session.literal(piece)
+        };
+        Fed {
+            used,
+            after: self.session.may_send(),
+        }
+    }
+
+    // Takes bytes from the front of the piece, up to the end of one line, which is answered, or of the literal that is due; a line of more
+    // than `MAX_LINE` bytes is answered as too long. On a session that has ended it uses nothing. Where the room for the longest line's last
+    // words is refused, no byte was used and nothing was done.
     fn feed<S: Store>(
         &mut self,
         alloc: Global,
@@ -155,11 +209,12 @@ impl ImapConnection {
         store: &mut S,
         out: &mut Vec<u8>,
     ) -> Result<Fed, AllocError>
+        requires unsent { self.old.session.mailing.sent ≡ None }
         ensures used { IfOk result (λ fed. fed.used ≤ length piece.now) }
         ensures moves { IfOk result (λ fed. fed.after ≢ After.Bye → 0 < length piece.now → 0 < fed.used) }
         ensures ok { IfOk result (λ fed. (d : Dialogue) → StandsFor self.old d → Takes S.step d piece.now store.old store.new out.old.items out.new.items fed self.new) }
         ensures err { OnErr result ((self.new ≡ self.old) × (store.new ≡ store.old) × (out.new.items ≡ out.old.items)) }
-        ensures full { OnErr result (vec_capacity out.new < vec_len out.new + (8272 + tag_len self.new.session.idling)) }
+        ensures full { OnErr result (vec_capacity out.new < vec_len out.new + (8272 + tag_len (kept_tag self.new.session))) }
         ensures sends { IfOk result (λ fed. fed.after ≡ may_send self.new.session) }
     {
         if self.session.ended() {
@@ -168,12 +223,15 @@ impl ImapConnection {
                 after: After::Bye,
             });
         }
+        if self.session.literal_due() > 0 {
+            return Ok(self.take_literal(piece));
+        }
         out.reserve(ANSWER_ROOM + tag_len(&self.session))?;
         let cut = self.cutter.take(piece);
         match cut.what {
             What::NeedMore => Ok(Fed {
                 used: cut.used,
-                after: awaited(&self.session),
+                after: self.session.may_send(),
             }),
             What::Line => {
                 let after = match self.session.line(alloc, self.cutter.line(), store, out) {
@@ -200,10 +258,11 @@ impl ImapConnection {
         }
     }
 
-    /// Takes a piece to its end, or to the line that ends the session: each line that ends in it is answered (RFC 9051, 2.2), and one of
-    /// more than 8,192 bytes with its CRLF as too long. Where memory is refused before a line is answered, what was taken till then
-    /// stands, and the rest is for the next call. It is refused only where `out` has no room, behind what it has by then, for 8,272 bytes
-    /// and the tag of the IDLE that isn't done.
+    /// Takes a piece to its end, or to the line that ends the session or submits a message: each line that ends in it is answered
+    /// (RFC 9051, 2.2), one of more than 8,192 bytes with its CRLF as too long, and the bytes of a literal are kept for the line that announced
+    /// it (4.3), wherever they are cut. Where memory is refused before a line is answered, what was taken till then stands, and the rest is for
+    /// the next call. It is refused only where `out` has no room, behind what it has by then, for 8,272 bytes and the tag of the IDLE or the
+    /// APPEND that isn't done.
     pub fn take<S: Store>(
         &mut self,
         alloc: Global,
@@ -211,10 +270,12 @@ impl ImapConnection {
         store: &mut S,
         out: &mut Vec<u8>,
     ) -> Progress
-        requires { self.old.session.ended ≡ false }
+        requires going { self.old.session.ended ≡ false }
+        requires unsent { self.old.session.mailing.sent ≡ None }
         ensures used { result.used ≤ length piece.now }
-        ensures all { IfSome result.after (λ after. after ≢ After.Bye → result.used ≡ length piece.now) }
-        ensures full { result.after ≡ None → vec_capacity out.new < vec_len out.new + (8272 + tag_len self.new.session.idling) }
+        ensures all { IfSome result.after (λ after. may_follow after ≡ true → result.used ≡ length piece.now) }
+        ensures full { result.after ≡ None → vec_capacity out.new < vec_len out.new + (8272 + tag_len (kept_tag self.new.session)) }
+        ensures unsent { result.after ≡ None → self.new.session.mailing.sent ≡ None }
         ensures sends { IfSome result.after (λ after. after ≡ may_send self.new.session) }
         ensures took { (d : Dialogue) → StandsFor self.old d → Took S.step d piece.now store.old store.new out.old.items out.new.items result self.new }
     {
@@ -224,7 +285,7 @@ impl ImapConnection {
                 return Progress { used, after: None };
             };
             used += fed.used;
-            if used == piece.len() || self.has_ended() {
+            if used == piece.len() || self.has_ended() || self.awaits_verdict() {
                 return Progress {
                     used,
                     after: Some(fed.after),

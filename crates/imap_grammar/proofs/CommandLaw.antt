@@ -16,7 +16,7 @@ use Rattle.envelope.specs.Bytes.{is_space, is_not_space}
 use Rattle.envelope.specs.Grammar.{Many, Some1, Spaces, Gap, Exactly, Keyword, Anything, AfterGap, Joined}
 use Rattle.envelope.specs.Reading.{◌>>=◌}
 use Rattle.imap_grammar.specs.Bytes.{is_atom, is_pattern}
-use Rattle.imap_grammar.specs.Grammar.{Name, Pattern, SetIs, ItemsAre, StatusItemIs, Separated, Parenthesized, FlagsAre, operation_word, flags_of, ChangeIs, verb_of, ArgumentsOf}
+use Rattle.imap_grammar.specs.Grammar.{GivenDate, GivenFlags, LiteralIs, Name, Pattern, SetIs, ItemsAre, StatusItemIs, Separated, Parenthesized, FlagsAre, operation_word, flags_of, ChangeIs, verb_of, ArgumentsOf}
 use Rattle.imap_grammar.specs.Items.{status_item_of}
 use Rattle.imap_grammar.specs.Reading.{past_gap, word_at, string_at, is_blank, if_end, in_parentheses, set_at, name_alone, fetch_items_at, status_items_in, flags_at, operation_of, change_with, fetch_at, store_at, set_alone, list_at, status_at, command_at}
 use Rattle.imap_grammar.specs.declared.arguments.Operation.{Operation}
@@ -30,6 +30,9 @@ use Rattle.imap_grammar.specs.declared.command.Fetch.{Fetch}
 use Rattle.imap_grammar.specs.declared.command.Store.{Store}
 use Rattle.imap_grammar.specs.declared.command.Command.{Command}
 use Rattle.imap_grammar.specs.declared.command.Command.TheVariants as say
+use Rattle.imap_grammar.proofs.AppendLaw.{AppendIs, append_again, append_sound}
+use Rattle.imap_grammar.specs.declared.command.Append.{Append}
+use Rattle.imap_grammar.proofs.Chains.{regroup, ungroup, behind, inside, past, gap_first, end_again, end_sound, nothing_again, name_read, pattern_read}
 use Rattle.imap_grammar.proofs.Keywords.{word_length, word_clean, map_take, same_sound}
 use Rattle.imap_grammar.proofs.Tokens.{excludes, not_true, stops_class, starts, many_joined, spaced_first, blank_first, gap_again, gap_sound, word_again, word_parts, string_again, string_starts, string_sound}
 use Rattle.imap_grammar.proofs.Parens.{blank_again, blank_sound}
@@ -37,74 +40,7 @@ use Rattle.imap_grammar.proofs.SetLaw.{set_again, set_sound, set_bytes}
 use Rattle.imap_grammar.proofs.ItemLaw.{status_again, status_sound, status_bare, status_open}
 use Rattle.imap_grammar.proofs.ListLaw.{listed_again, listed_sound, items_again, items_sound, items_starts, flags_again, flags_sound, flags_starts}
 
--- ---- chains of rules
-
-pub regroup : (P Q R : List ℕ → Type 0) (text : List ℕ) → Joined (Joined P Q) R text → Joined P (Joined Q R) text
-regroup P Q R text q = record {
-  front = q.first.front;
-  back = q.first.back ++ q.back;
-  parts = q.parts ∙ ap (λ l. l ++ q.back) q.first.parts ∙ append_assoc q.first.front q.first.back q.back;
-  first = q.first.first;
-  second = record { front = q.first.back; back = q.back; parts = refl; first = q.first.second; second = q.second };
-}
-
-pub ungroup : (P Q R : List ℕ → Type 0) (text : List ℕ) → Joined P (Joined Q R) text → Joined (Joined P Q) R text
-ungroup P Q R text q = record {
-  front = q.front ++ q.second.front;
-  back = q.second.back;
-  parts = q.parts ∙ ap (λ l. q.front ++ l) q.second.parts ∙ sym (append_assoc q.front q.second.front q.second.back);
-  first = record { front = q.front; back = q.second.front; parts = refl; first = q.first; second = q.second.first };
-  second = q.second.second;
-}
-
-pub behind : (P Q R : List ℕ → Type 0) → ((l : List ℕ) → Q l → R l) → (text : List ℕ) → Joined P Q text → Joined P R text
-behind P Q R f text q = record { front = q.front; back = q.back; parts = q.parts; first = q.first; second = f q.back q.second }
-
-inside : {A : Type 0} (y z : A) → Some y ≡ Some z → y ≡ z
-inside y z h = cc
-
--- what follows a gap
-past : (P : List ℕ → Type 0) (bytes : List ℕ) → (q : Joined Gap P bytes) → Stops is_space q.back → past_gap bytes ≡ Some q.back
-past P bytes q s = ap past_gap q.parts ∙ gap_again q.front q.back q.first s
-
-gap_first : (P : List ℕ → Type 0) (bytes : List ℕ) → Joined Gap P bytes → Stops is_not_space bytes
-gap_first P bytes q = gap_stops q.front q.back bytes q.parts q.first
-
--- ---- nothing more
-
-end_again : {A : Type 0} (x : A) (rest : List ℕ) → Spaces rest → if_end x rest ≡ Some x
-end_again x rest s = ap (λ (t : Bool). cond t (Some x) None) (blank_again rest s)
-
-end_sound : {A : Type 0} (x y : A) (rest : List ℕ) → if_end x rest ≡ Some y → (x ≡ y) × Spaces rest
-end_sound x y rest e = let k = guard_some (is_blank rest) x y e in (k.1, blank_sound rest k.0)
-
-nothing_again : {A : Type 0} (x : A) (rest : List ℕ) → Joined (Exactly []) Spaces rest → if_end x rest ≡ Some x
-nothing_again x rest q = ap (if_end x) (q.parts ∙ ap (λ l. l ++ q.back) q.first) ∙ end_again x q.back q.second
-
 -- ---- names
-
-atom_not_space : (b : ℕ) → is_atom b ≡ true → is_space b ≡ false
-atom_not_space b e = not_true (b == 32) (excludes is_atom 32 refl b e)
-
-pattern_not_space : (b : ℕ) → is_pattern b ≡ true → is_space b ≡ false
-pattern_not_space b e = not_true (b == 32) (excludes is_pattern 32 refl b e)
-
-NameThen : List ℕ → (List ℕ → Type 0) → List ℕ → Type 0
-NameThen name P = Joined (Name name) P
-
-name_read : (name : List ℕ) (P : List ℕ → Type 0) (bytes : List ℕ) → (q : Joined (Name name) P bytes) → Stops is_not_space q.back
-    → (string_at is_atom bytes ≡ Some (name, q.back)) × Stops is_space bytes
-name_read name P bytes q s = (
-  ap (string_at is_atom) q.parts ∙ string_again is_atom name q.front q.back refl q.first (stops_class is_atom refl q.back s),
-  subst (Stops is_space) (sym q.parts) (string_starts is_atom atom_not_space name q.front q.back q.first),
-)
-
-pattern_read : (name : List ℕ) (P : List ℕ → Type 0) (bytes : List ℕ) → (q : Joined (Pattern name) P bytes) → Stops is_not_space q.back
-    → (string_at is_pattern bytes ≡ Some (name, q.back)) × Stops is_space bytes
-pattern_read name P bytes q s = (
-  ap (string_at is_pattern) q.parts ∙ string_again is_pattern name q.front q.back refl q.first (stops_class is_pattern refl q.back s),
-  subst (Stops is_space) (sym q.parts) (string_starts is_pattern pattern_not_space name q.front q.back q.first),
-)
 
 name_ends : (List ℕ → Command) → List ℕ × List ℕ → Option Command
 name_ends make read = if_end (make read.0) read.1
@@ -552,6 +488,16 @@ store_ungroup set silent change rest q =
     ungroup _ _ Spaces rest (behind Gap _ _ (λ l p. ungroup _ _ Spaces l (behind (SetIs set) _ _ (λ l p. ungroup _ _ Spaces l (behind Gap _ _ (λ l p. ungroup _ _ Spaces l
     (behind (Keyword (operation_word change)) _ _ (λ l p. ungroup _ _ Spaces l (behind (Keyword (cond silent (codes ".SILENT") [])) _ _ (λ l p. ungroup Gap (FlagsAre (flags_of change)) Spaces l p) l p)) l p)) l p)) l p)) rest q)
 
+append_regroup : (a : Append) (rest : List ℕ) → Joined (ArgumentsOf (say.Append a)) Spaces rest → AppendIs a rest
+append_regroup a rest q =
+    behind Gap _ _ (λ l p. behind (Name a.name) _ _ (λ l p. behind Gap _ _ (λ l p. behind (GivenFlags a.flags) _ _ (λ l p. regroup GivenDate (LiteralIs a.literal) Spaces l p) l (regroup _ _ Spaces l p))
+    l (regroup _ _ Spaces l p)) l (regroup _ _ Spaces l p)) rest (regroup _ _ Spaces rest q)
+
+append_ungroup : (a : Append) (rest : List ℕ) → AppendIs a rest → Joined (ArgumentsOf (say.Append a)) Spaces rest
+append_ungroup a rest q =
+    ungroup _ _ Spaces rest (behind Gap _ _ (λ l p. ungroup _ _ Spaces l (behind (Name a.name) _ _ (λ l p. ungroup _ _ Spaces l (behind Gap _ _ (λ l p. ungroup _ _ Spaces l
+    (behind (GivenFlags a.flags) _ _ (λ l p. ungroup GivenDate (LiteralIs a.literal) Spaces l p) l p)) l p)) l p)) rest q)
+
 pub command_again : (c : Command) (rest : List ℕ) → Joined (ArgumentsOf c) Spaces rest → command_at (verb_of c) rest ≡ Some c
 unfolding ListIs StatusIs FetchIs fetch_made store_made
 command_again say.Capability rest q = nothing_again say.Capability rest q
@@ -579,6 +525,7 @@ command_again (say.Fetch f) rest q =
     ∙ fetch_again f.by_uid f.set f.items rest
     (behind Gap _ _ (λ l p. behind (SetIs f.set) _ _ (λ l p. regroup Gap (ItemsAre f.items) Spaces l p) l (regroup _ _ Spaces l p)) rest (regroup _ _ Spaces rest q))
 command_again (say.Store s) rest q = store_verb s.by_uid rest ∙ store_again s.by_uid s.set s.silent s.change rest (store_regroup s.set s.silent s.change rest q)
+command_again (say.Append a) rest q = append_again a rest (append_regroup a rest q)
 
 -- a command of this verb, and what it is spelled with
 pub record Fits (v : Verb) (c : Command) (rest : List ℕ) : Type 0 where
@@ -643,4 +590,7 @@ command_sound verbs.Fetch c rest s e = let k = fetch_sound false c rest e in let
 command_sound verbs.UidFetch c rest s e = let k = fetch_sound true c rest e in let f : Fetch = record { by_uid = true; set = k.0; items = k.1 } in fetch_fits verbs.UidFetch f c rest refl k.2 k.3
 command_sound verbs.Store c rest s e = let k = store_sound false c rest e in let f : Store = record { by_uid = false; set = k.0; silent = k.1; change = k.2 } in store_fits verbs.Store f c rest refl k.3 k.4
 command_sound verbs.UidStore c rest s e = let k = store_sound true c rest e in let f : Store = record { by_uid = true; set = k.0; silent = k.1; change = k.2 } in store_fits verbs.UidStore f c rest refl k.3 k.4
+command_sound verbs.Append c rest s e =
+    let k = append_sound c rest e in
+    subst (λ y. Fits verbs.Append y rest) k.1 (record { verb = refl; is = append_ungroup k.0 rest k.2 })
 command_sound _ c rest s e = absurd (let bad : None ≡ Some c = e in cc)

@@ -16,6 +16,8 @@ pub mod SetLaw
 pub mod Keywords
 pub mod ItemLaw
 pub mod ListLaw
+pub mod Chains
+pub mod AppendLaw
 pub mod CommandLaw
 pub mod VerbLaw
 pub mod LineLaw

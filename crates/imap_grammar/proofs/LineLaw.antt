@@ -83,6 +83,7 @@ arguments_first say.Expunge l q = none_first l q
 arguments_first (say.UidExpunge set) l q = gap_first _ l q
 arguments_first (say.Fetch f) l q = gap_first _ l q
 arguments_first (say.Store s) l q = gap_first _ l q
+arguments_first (say.Append a) l q = gap_first _ l q
 
 kept_fetch : (by_uid : Bool) → is_left_out (cond by_uid verbs.UidFetch verbs.Fetch) ≡ false
 kept_fetch true = refl
@@ -111,6 +112,7 @@ kept say.Expunge = refl
 kept (say.UidExpunge set) = refl
 kept (say.Fetch f) = kept_fetch f.by_uid
 kept (say.Store s) = kept_store s.by_uid
+kept (say.Append a) = refl
 
 -- what is read behind a verb
 abbrev outcome : List ℕ → Verb → List ℕ → Result (List ℕ × Command) ImapFault

@@ -63,14 +63,14 @@ pub record ListRead {A : Type 0} (f : List ℕ → Option A) (bytes : List ℕ) 
   pub found : in_parentheses bytes ≡ Some inner
   pub read : list_in f inner ≡ Some xs
 
-paren_text : (P : List ℕ → Type 0) (text : List ℕ) → Parenthesized P text → (inner : List ℕ) × (text ≡ 40 ∷ (inner ++ 41 ∷ [])) × P inner
+pub paren_text : (P : List ℕ → Type 0) (text : List ℕ) → Parenthesized P text → (inner : List ℕ) × (text ≡ 40 ∷ (inner ++ 41 ∷ [])) × P inner
 paren_text P text q = (
   q.second.front,
   q.parts ∙ ap (λ l. l ++ q.back) q.first ∙ ap (λ l. 40 ∷ l) (q.second.parts ∙ ap (λ l. q.second.front ++ l) q.second.second),
   q.second.first,
 )
 
-text_paren : (P : List ℕ → Type 0) (inner : List ℕ) → P inner → Parenthesized P (40 ∷ (inner ++ 41 ∷ []))
+pub text_paren : (P : List ℕ → Type 0) (inner : List ℕ) → P inner → Parenthesized P (40 ∷ (inner ++ 41 ∷ []))
 text_paren P inner h = record {
   front = 40 ∷ [];
   back = inner ++ 41 ∷ [];
@@ -296,6 +296,23 @@ inner_again ws inner sp flags (inr h) s e =
     ∙ ap (λ l. Some (flags_among l)) (sym h.0)
     ∙ ap (λ f. Some f) e
 
+-- words of flags between parentheses
+pub flag_words_read : (ws : List (List ℕ)) (inner : List ℕ) (flags : Flags) → FlagWords ws inner → flags_among ws ≡ flags
+    → Many (is_other 41) inner × (is_tight inner ≡ true) × (flags_in inner ≡ Some flags)
+flag_words_read [] inner flags (inl q) e = absurd q
+flag_words_read (word ∷ ws) inner flags (inl q) e =
+    let k = words_again one_flag FlagWord flag_word_again flag_word_bare word ws inner [] q tt in
+    let all : AllRead one_flag (words inner) (word ∷ ws) = subst (λ l. AllRead one_flag (words l) (word ∷ ws)) (append_none inner) k in (
+      separated_many (is_other 41) FlagWord space_open (λ x t h. flag_word_clean 41 refl x t h) word ws inner q,
+      separated_tight FlagWord flag_word_bare word ws inner q,
+      read_flags inner (word ∷ ws) flags all e,
+    )
+flag_words_read ws inner flags (inr h) e = (
+  subst (Many (is_other 41)) (sym h.1) tt,
+  ap is_tight h.1,
+  ap flags_in h.1 ∙ ap (λ l. Some (flags_among l)) (sym h.0) ∙ ap (λ f. Some f) e,
+)
+
 pub flags_again : (flags : Flags) (text sp : List ℕ) → FlagsAre flags text → Spaces sp → flags_at (text ++ sp) ≡ Some flags
 flags_again flags text sp ([], e, inl q) s = absurd q
 flags_again flags text sp (word ∷ ws, e, inl q) s = bare_again word ws text sp flags q s e
@@ -312,7 +329,7 @@ flags_found bytes flags s some e =
     let w = words_sound one_flag FlagWord flag_word_sound bytes s some all in
     (w, ap flags_among (sym w.found.are ∙ (all_flags (words bytes) all).1) ∙ k.1)
 
-inner_flags : (inner : List ℕ) (flags : Flags) → is_tight inner ≡ true → flags_in inner ≡ Some flags → (ws : List (List ℕ)) × (flags_among ws ≡ flags) × FlagWords ws inner
+pub inner_flags : (inner : List ℕ) (flags : Flags) → is_tight inner ≡ true → flags_in inner ≡ Some flags → (ws : List (List ℕ)) × (flags_among ws ≡ flags) × FlagWords ws inner
 inner_flags [] flags t e =
     let none : List (List ℕ) = [] in
     (none, (guard_some true (flags_among none) flags e).1, inr (refl, refl))

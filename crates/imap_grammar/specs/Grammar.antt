@@ -1,12 +1,14 @@
 -- The command lines of IMAP, as ABNF (RFC 5234) would write them: a rule is the set of the texts that it
 -- spells, and P ⨾ Q is P followed by Q. The words that any such grammar needs are those of LMTP's.
-use Rattle.std.specs.Prelude.{◌≡◌, ℕ, ◌≤◌, Bool, true, false, codes, List, [], ◌∷◌, ◌⊎◌, Result, Ok, Err, Option, Some, None, if◌then◌else◌}
+use Rattle.std.specs.Prelude.{◌≡◌, ℕ, ◌≤◌, Bool, true, false, codes, List, [], ◌∷◌, ◌⊎◌, Result, Ok, Err, Option, Some, None, if◌then◌else◌, min}
+use Rattle.change_ring.specs.Log.{no_flags}
 use Rattle.change_ring.specs.declared.change.Flags.{Flags}
 use Rattle.change_ring.specs.declared.flag_op.FlagOp.{FlagOp}
 use Rattle.change_ring.specs.declared.flag_op.FlagOp.TheVariants.{Set, Insert, Remove}
 use Rattle.envelope.specs.Grammar.{Rule, ◌⨾◌, Exactly, Keyword, Some1, Spaces, Gap, AfterGap, Anything}
 use Rattle.imap_grammar.specs.Bytes.{is_tag, is_atom, is_pattern, is_digit, is_quotable, is_special}
-use Rattle.imap_grammar.specs.Numbers.{number_of}
+use Rattle.imap_grammar.specs.Numbers.{most_size, number_of}
+use Rattle.imap_grammar.specs.declared.command.Literal.{Literal}
 use Rattle.imap_grammar.specs.Items.{flags_among}
 use Rattle.imap_grammar.specs.Verbs.{word_of, stands_behind_uid, is_left_out}
 use Rattle.imap_grammar.specs.declared.set.SeqNumber.{SeqNumber}
@@ -133,6 +135,10 @@ FlagWords words text = Separated Gap FlagWord words text ⊎ ((words ≡ []) × 
 abbrev pub FlagsAre : Flags → Rule
 FlagsAre flags text = (words : List (List ℕ)) × (flags_among words ≡ flags) × (Separated Gap FlagWord words text ⊎ Parenthesized (FlagWords words) text)
 
+-- flags in parentheses, and none of them too
+abbrev pub FlagList : Flags → Rule
+FlagList flags text = (words : List (List ℕ)) × (flags_among words ≡ flags) × Parenthesized (FlagWords words) text
+
 -- the word of the operation, and its flags
 abbrev pub operation_word : FlagOp → List ℕ
 operation_word (Set flags) = codes "FLAGS"
@@ -147,6 +153,28 @@ flags_of (Remove flags) = flags
 abbrev pub ChangeIs : Bool → FlagOp → Rule
 ChangeIs silent change =
     Keyword (operation_word change) ⨾ Keyword (if silent then codes ".SILENT" else []) ⨾ Gap ⨾ FlagsAre (flags_of change)
+
+-- ---- new messages
+
+-- the flags of a new message, and a gap; or nothing, and it has none
+abbrev pub GivenFlags : Flags → Rule
+GivenFlags flags text = ((flags ≡ no_flags) × Exactly [] text) ⊎ (FlagList flags ⨾ Gap) text
+
+-- a quoted string, whatever it says
+abbrev pub AnyQuoted : Rule
+AnyQuoted text = (value : List ℕ) × (Exactly (codes "\"") ⨾ Quoted value ⨾ Exactly (codes "\"")) text
+
+-- the date and time of a new message, and a gap; or nothing
+abbrev pub GivenDate : Rule
+GivenDate text = Exactly [] text ⊎ (AnyQuoted ⨾ Gap) text
+
+-- digits that say how many bytes: those that say more than the most count as the most
+abbrev pub SizeIs : ℕ → Rule
+SizeIs size text = Some1 is_digit text × (size ≡ min (number_of text) most_size)
+
+-- `{n}`, where the client waits to be asked for the bytes, or `{n+}`
+abbrev pub LiteralIs : Literal → Rule
+LiteralIs literal = Exactly (codes "{") ⨾ SizeIs literal.size ⨾ Exactly (if literal.waits then codes "}" else codes "+}")
 
 -- ---- lines
 
@@ -180,6 +208,7 @@ verb_of say.Expunge = verbs.Expunge
 verb_of (say.UidExpunge set) = verbs.UidExpunge
 verb_of (say.Fetch fetch) = if fetch.by_uid then verbs.UidFetch else verbs.Fetch
 verb_of (say.Store store) = if store.by_uid then verbs.UidStore else verbs.Store
+verb_of (say.Append append) = verbs.Append
 
 -- what follows the verb
 abbrev pub ArgumentsOf : Command → Rule
@@ -201,6 +230,7 @@ ArgumentsOf say.Expunge = Exactly []
 ArgumentsOf (say.UidExpunge set) = Gap ⨾ SetIs set
 ArgumentsOf (say.Fetch fetch) = Gap ⨾ SetIs fetch.set ⨾ Gap ⨾ ItemsAre fetch.items
 ArgumentsOf (say.Store store) = Gap ⨾ SetIs store.set ⨾ Gap ⨾ ChangeIs store.silent store.change
+ArgumentsOf (say.Append append) = Gap ⨾ Name append.name ⨾ Gap ⨾ GivenFlags append.flags ⨾ GivenDate ⨾ LiteralIs append.literal
 
 -- a line that is this command under this tag. Spaces at its end say nothing
 abbrev pub Line : List ℕ → Command → Rule

@@ -18,3 +18,7 @@ are_digits text = list_all is_digit text && not (length text == 0)
 -- the number that a text says, if it is at most this
 abbrev pub number_up_to : ℕ → List ℕ → Option ℕ
 number_up_to most text = if are_digits text && nat_le (number_of text) most then Some (number_of text) else None
+
+-- a text of as many bytes or more has no size of its own
+abbrev pub most_size : ℕ
+most_size = 18446744073709551615

@@ -1,6 +1,6 @@
 -- Reading a line from left to right. The contract of `read_line` says that this is the one reading that the
 -- grammar allows; nobody has to believe this file.
-use Rattle.std.specs.Prelude.{ℕ, suc, Bool, true, false, codes, List, [], ◌∷◌, length, take, drop, Option, Some, None, is_some, Result, Ok, Err, ◌==◌, ◌&&◌, ◌||◌, not, if◌then◌else◌, ◌-◌, slice_index}
+use Rattle.std.specs.Prelude.{ℕ, suc, Bool, true, false, codes, List, [], ◌∷◌, length, take, drop, Option, Some, None, is_some, Result, Ok, Err, ◌==◌, ◌&&◌, ◌||◌, not, if◌then◌else◌, ◌-◌, slice_index, min}
 use Rattle.std.specs.List.{list_all, prefix_len, slice_split}
 use Rattle.std.specs.Option.{option_map}
 use Rattle.std.specs.Str.{str_eq_ignore_ascii_case as is_same}
@@ -11,7 +11,10 @@ use Rattle.envelope.specs.Bytes.{is_space, is_not_space}
 use Rattle.envelope.specs.Directory.{value_of}
 use Rattle.envelope.specs.Reading.{◌>>=◌, first_is, some_len, words, after_spaces, past_byte}
 use Rattle.imap_grammar.specs.Bytes.{is_tag, is_atom, is_pattern, is_comma, is_quotable, is_special, is_digit}
+use Rattle.change_ring.specs.Log.{no_flags}
 use Rattle.imap_grammar.specs.Cuts.{cut_at}
+use Rattle.imap_grammar.specs.Numbers.{most_size, number_of}
+use Rattle.imap_grammar.specs.declared.command.Literal.{Literal}
 use Rattle.imap_grammar.specs.Sets.{range_of, ranges_of}
 use Rattle.imap_grammar.specs.Items.{fetch_item_of, fetch_items_of, status_item_of, status_items_of, is_flag, is_word_of, flags_among}
 use Rattle.imap_grammar.specs.Verbs.{word_of, is_left_out}
@@ -176,6 +179,59 @@ status_at bytes = do
   items ← status_items_in inner
   Some (say.Status name.0 items)
 
+-- what stands in parentheses at the front, and what comes after them
+abbrev pub parens_at : List ℕ → Option (List ℕ × List ℕ)
+parens_at bytes = do
+  start ← past_byte 40 bytes
+  cut ← cut_at 41 start
+  if is_tight cut.0 then Some cut else None
+
+-- a list of flags at the front, and what comes after it and a gap
+abbrev pub flag_list_at : List ℕ → Option (Flags × List ℕ)
+flag_list_at bytes = do
+  cut ← parens_at bytes
+  flags ← flags_in cut.0
+  rest ← past_gap cut.1
+  Some (flags, rest)
+
+-- the flags of a new message, and what comes after them
+abbrev pub given_flags_at : List ℕ → Option (Flags × List ℕ)
+given_flags_at bytes = if first_is 40 bytes then flag_list_at bytes else Some (no_flags, bytes)
+
+abbrev pub past_quoted : List ℕ → Option (List ℕ)
+past_quoted bytes = do
+  read ← string_at is_atom bytes
+  past_gap read.1
+
+-- what comes after the date and time of a new message
+abbrev pub past_date : List ℕ → Option (List ℕ)
+past_date bytes = if first_is 34 bytes then past_quoted bytes else Some bytes
+
+-- `}` or `+}`: whether the client waits to be asked, and what comes after it
+abbrev pub literal_end : List ℕ → Option (Bool × List ℕ)
+literal_end bytes =
+    if first_is 43 bytes
+    then (past_byte 125 (drop 1 bytes) >>= λ rest. Some (false, rest))
+    else (past_byte 125 bytes >>= λ rest. Some (true, rest))
+
+-- the literal that is to come, and what comes after its size
+abbrev pub literal_at : List ℕ → Option (Literal × List ℕ)
+literal_at bytes = do
+  start ← past_byte 123 bytes
+  n ← some_len is_digit start
+  last ← literal_end (drop n start)
+  Some (record { size = min (number_of (take n start)) most_size; waits = last.0 }, last.1)
+
+abbrev pub append_at : List ℕ → Option Command
+append_at bytes = do
+  start ← past_gap bytes
+  name ← string_at is_atom start
+  next ← past_gap name.1
+  flags ← given_flags_at next
+  rest ← past_date flags.1
+  literal ← literal_at rest
+  if_end (say.Append (record { name = name.0; flags = flags.0; literal = literal.0 })) literal.1
+
 -- what a verb says with what comes after it. What is left out says nothing
 abbrev pub command_at : Verb → List ℕ → Option Command
 command_at verbs.Capability rest = if_end say.Capability rest
@@ -198,6 +254,7 @@ command_at verbs.Store rest = store_at false rest
 command_at verbs.UidFetch rest = fetch_at true rest
 command_at verbs.UidStore rest = store_at true rest
 command_at verbs.UidExpunge rest = set_alone rest
+command_at verbs.Append rest = append_at rest
 command_at _ rest = None
 
 -- ---- the line
@@ -209,11 +266,11 @@ verb_among (v ∷ vs) word = if is_same word (word_of v) then Some v else verb_a
 abbrev pub offered : List Verb
 offered =
     verbs.Capability ∷ verbs.Noop ∷ verbs.Logout ∷ verbs.Namespace ∷ verbs.Idle ∷ verbs.Login ∷ verbs.Authenticate ∷ verbs.StartTls ∷ verbs.Select ∷ verbs.Examine
-    ∷ verbs.List ∷ verbs.Status ∷ verbs.Close ∷ verbs.Unselect ∷ verbs.Expunge ∷ verbs.Fetch ∷ verbs.Store ∷ []
+    ∷ verbs.List ∷ verbs.Status ∷ verbs.Close ∷ verbs.Unselect ∷ verbs.Expunge ∷ verbs.Fetch ∷ verbs.Store ∷ verbs.Append ∷ []
 
 abbrev pub left_out : List Verb
 left_out =
-    verbs.Append ∷ verbs.Create ∷ verbs.Delete ∷ verbs.Rename ∷ verbs.Subscribe ∷ verbs.Unsubscribe ∷ verbs.Copy ∷ verbs.Move
+    verbs.Create ∷ verbs.Delete ∷ verbs.Rename ∷ verbs.Subscribe ∷ verbs.Unsubscribe ∷ verbs.Copy ∷ verbs.Move
     ∷ verbs.Search ∷ verbs.Enable ∷ []
 
 abbrev pub behind_uid : List Verb

@@ -51,7 +51,6 @@ stands_behind_uid _ = false
 
 -- a verb of IMAP that this server doesn't offer
 abbrev pub is_left_out : Verb → Bool
-is_left_out Append = true
 is_left_out Create = true
 is_left_out Delete = true
 is_left_out Rename = true

@@ -1,18 +1,20 @@
 //! What follows the verb, read from left to right. What each function answers is its namesake in
 //! specs/Reading.antt; that file is tied to the grammar by `read_line`.
 
-ghost use Rattle.std.specs.Prelude.{◌≡◌, ◌≤◌, length, false, true, IfSome};
+ghost use Rattle.std.specs.Prelude.{◌≡◌, ◌≤◌, length, take, false, true, IfSome};
+ghost use Rattle.std.specs.List.{list_all};
 ghost use Rattle.std.specs.Option.{option_copied, option_map};
-ghost use Rattle.envelope.specs.Reading.{first_is};
-ghost use Rattle.imap_grammar.specs.Reading.{is_of, quoted_len, string_len, string_at, in_parentheses, fetch_items_at, flags_at, operation_of, change_with, name_alone, list_at, status_at, fetch_at, store_at, set_alone, if_end};
-ghost use Rattle.imap_grammar.specs.Bytes.{is_special, is_quotable, is_atom};
+ghost use Rattle.envelope.specs.Reading.{first_is, some_len};
+ghost use Rattle.imap_grammar.specs.Reading.{is_of, quoted_len, string_len, string_at, in_parentheses, fetch_items_at, flags_at, operation_of, change_with, name_alone, list_at, status_at, fetch_at, store_at, set_alone, if_end, parens_at, flag_list_at, given_flags_at, past_quoted, past_date, literal_end, literal_at, append_at};
+ghost use Rattle.imap_grammar.specs.Bytes.{is_special, is_quotable, is_atom, is_digit};
 ghost use Rattle.imap_grammar.specs.declared.command.Command.TheVariants as say;
 
 use crate::bytes::{Class, is_blank, is_tight, past_byte, past_gap, run_len, word_at};
-use crate::command::{Command, Fetch, Store};
+use crate::command::{Append, Command, Fetch, Literal, Store};
 use crate::cut::cut_at;
 use crate::items::{FetchItems, StatusItems};
 use crate::name::Name;
+use crate::number::capped_number;
 use crate::set::SeqSet;
 use crate::words::flags_in;
 use change_ring::{FlagOp, Flags};
@@ -257,4 +259,130 @@ pub fn uid_expunge(bytes: &[u8]) -> Option<Command<'_>>
     let (word, rest) = word_at(start);
     let set = SeqSet::of(word)?;
     if_end(Command::UidExpunge(set), rest)
+}
+
+/// What stands in parentheses at the front, and what follows them.
+fn parens_at(bytes: &[u8]) -> Option<(&[u8], &[u8])>
+    ensures { option_map (λ x. (x.0.now, x.1.now)) result ≡ parens_at bytes.now }
+{
+    let start = past_byte(b'(', bytes)?;
+    let (inner, rest) = cut_at(b')', start)?;
+    if is_tight(inner) {
+        Some((inner, rest))
+    } else {
+        None
+    }
+}
+
+/// A list of flags at the front, and what follows it and a gap.
+fn flag_list_at(bytes: &[u8]) -> Option<(Flags, &[u8])>
+    ensures { option_map (λ x. (x.0, x.1.now)) result ≡ flag_list_at bytes.now }
+{
+    let (inner, rest) = parens_at(bytes)?;
+    let flags = flags_in(inner)?;
+    let rest = past_gap(rest)?;
+    Some((flags, rest))
+}
+
+/// The flags of a new message, which may be left out, and what follows them.
+fn given_flags_at(bytes: &[u8]) -> Option<(Flags, &[u8])>
+    ensures { option_map (λ x. (x.0, x.1.now)) result ≡ given_flags_at bytes.now }
+{
+    if begins_list(bytes) {
+        return flag_list_at(bytes);
+    }
+    let none = Flags {
+        answered: false,
+        flagged: false,
+        deleted: false,
+        seen: false,
+        draft: false,
+    };
+    Some((none, bytes))
+}
+
+/// What follows a quoted string and a gap.
+fn past_quoted(bytes: &[u8]) -> Option<&[u8]>
+    ensures { option_copied result ≡ past_quoted bytes.now }
+{
+    let (_said, rest) = string_at(Class::Atom, bytes)?;
+    past_gap(rest)
+}
+
+fn begins_quoted(bytes: &[u8]) -> bool
+    ensures { result ≡ first_is 34 bytes.now }
+{
+    matches!(bytes, [b'"', ..])
+}
+
+/// What follows the date and time of a new message, which may be left out.
+fn past_date(bytes: &[u8]) -> Option<&[u8]>
+    ensures { option_copied result ≡ past_date bytes.now }
+{
+    if begins_quoted(bytes) {
+        past_quoted(bytes)
+    } else {
+        Some(bytes)
+    }
+}
+
+/// The end of a literal's size: whether the client waits to be asked, and what follows it.
+fn literal_end(bytes: &[u8]) -> Option<(bool, &[u8])>
+    ensures { option_map (λ x. (x.0, x.1.now)) result ≡ literal_end bytes.now }
+{
+    match bytes {
+        [b'+', rest @ ..] => {
+            let rest = past_byte(b'}', rest)?;
+            Some((false, rest))
+        }
+        _ => {
+            let rest = past_byte(b'}', bytes)?;
+            Some((true, rest))
+        }
+    }
+}
+
+/// How many digits stand at the front, where there is one.
+#[tactic(auto, using(crate::proofs::AppendLaw::taken_digits))]
+fn digits_len(bytes: &[u8]) -> Option<usize>
+    ensures value { result ≡ some_len is_digit bytes.now }
+    ensures bound { IfSome result (λ n. n ≤ length bytes.now) }
+    ensures digits { IfSome result (λ n. list_all is_digit (take n bytes.now) ≡ true) }
+{
+    let n = run_len(Class::Digit, bytes);
+    if n == 0 { None } else { Some(n) }
+}
+
+/// The literal that is to come, and what follows its size.
+fn literal_at(bytes: &[u8]) -> Option<(Literal, &[u8])>
+    ensures { option_map (λ x. (x.0, x.1.now)) result ≡ literal_at bytes.now }
+{
+    let start = past_byte(b'{', bytes)?;
+    let (digits, rest) = start.split_at(digits_len(start)?);
+    let (waits, rest) = literal_end(rest)?;
+    let literal = Literal {
+        size: capped_number(digits),
+        waits,
+    };
+    Some((literal, rest))
+}
+
+/// What follows APPEND.
+pub fn append(bytes: &[u8]) -> Option<Command<'_>>
+    ensures { result ≡ append_at bytes.now }
+{
+    let start = past_gap(bytes)?;
+    let (name, rest) = string_at(Class::Atom, start)?;
+    let rest = past_gap(rest)?;
+    let (flags, rest) = given_flags_at(rest)?;
+    let rest = past_date(rest)?;
+    let (literal, rest) = literal_at(rest)?;
+    if_end(
+        Command::Append(Append {
+            name,
+            flags,
+            literal,
+        }),
+        rest,
+    )
 }

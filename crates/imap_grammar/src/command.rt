@@ -6,7 +6,7 @@ ghost use Rattle.std.specs.Prelude.{◌≡◌};
 use crate::items::{FetchItems, StatusItems};
 use crate::name::Name;
 use crate::set::SeqSet;
-use change_ring::FlagOp;
+use change_ring::{FlagOp, Flags};
 use std::marker::Model;
 
 /// What a client calls its command (RFC 9051, 2.2.1): in contracts its bytes.
@@ -96,6 +96,23 @@ pub struct Store<'a> {
     pub change: FlagOp,
 }
 
+/// Bytes that the client sends behind the line, as the line announces them (RFC 9051, 4.3).
+#[derive(Clone, Copy, Debug, PartialEq, Eq)]
+pub struct Literal {
+    /// How many; the greatest number of 64 bits where they are as many or more.
+    pub size: u64,
+    /// The client waits to be asked for them.
+    pub waits: bool,
+}
+
+/// APPEND (RFC 9051, 6.3.12), as far as its line goes. Its date and time are dropped.
+#[derive(Drop)]
+pub struct Append<'a> {
+    pub name: Name<'a>,
+    pub flags: Flags,
+    pub literal: Literal,
+}
+
 /// A command (RFC 9051, 6). What follows LOGIN, AUTHENTICATE and STARTTLS is dropped.
 #[derive(Drop)]
 pub enum Command<'a> {
@@ -124,6 +141,7 @@ pub enum Command<'a> {
     UidExpunge(SeqSet<'a>),
     Fetch(Fetch<'a>),
     Store(Store<'a>),
+    Append(Append<'a>),
 }
 
 /// Why a line is no command. The first that holds is the fault.

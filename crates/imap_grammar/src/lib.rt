@@ -22,7 +22,7 @@ mod view;
 mod words;
 
 pub use answers::{write_row, write_status};
-pub use command::{Command, Fetch, ImapFault, Store, Tag, Verb};
+pub use command::{Append, Command, Fetch, ImapFault, Literal, Store, Tag, Verb};
 pub use items::{FetchItem, FetchItems, Section, Span, StatusItem, StatusItems};
 pub use laws::patterns_match_what_they_stand_for;
 pub use list::write_list;

@@ -9,7 +9,7 @@ ghost use Rattle.imap_grammar.specs.declared.command.Command.{Command};
 ghost use Rattle.imap_grammar.specs.declared.command.ImapFault.{ImapFault};
 ghost use Rattle.imap_grammar.specs.Reading.{verb_among, offered, left_out, behind_uid, verb_alone, alone_at, second_at, verb_at, command_at, read, is_done};
 
-use crate::arguments::{examine, fetch, if_end, list, select, status, store, uid_expunge};
+use crate::arguments::{append, examine, fetch, if_end, list, select, status, store, uid_expunge};
 use crate::bytes::{Class, after_spaces, is_blank, word_at};
 use crate::command::{Command, ImapFault, Tag, Verb};
 use crate::words::is_word_of;
@@ -52,6 +52,8 @@ fn offered(word: &[u8]) -> Option<Verb>
         Some(Verb::Fetch)
     } else if word.eq_ignore_ascii_case(b"STORE") {
         Some(Verb::Store)
+    } else if word.eq_ignore_ascii_case(b"APPEND") {
+        Some(Verb::Append)
     } else {
         None
     }
@@ -61,9 +63,7 @@ fn offered(word: &[u8]) -> Option<Verb>
 fn left_out(word: &[u8]) -> Option<Verb>
     ensures { result ≡ verb_among left_out word.now }
 {
-    if word.eq_ignore_ascii_case(b"APPEND") {
-        Some(Verb::Append)
-    } else if word.eq_ignore_ascii_case(b"CREATE") {
+    if word.eq_ignore_ascii_case(b"CREATE") {
         Some(Verb::Create)
     } else if word.eq_ignore_ascii_case(b"DELETE") {
         Some(Verb::Delete)
@@ -151,8 +151,7 @@ fn is_left_out(verb: Verb) -> bool
 {
     matches!(
         verb,
-        Verb::Append
-            | Verb::Create
+        Verb::Create
             | Verb::Delete
             | Verb::Rename
             | Verb::Subscribe
@@ -192,6 +191,7 @@ fn command_at(verb: Verb, rest: &[u8]) -> Option<Command<'_>>
         Verb::UidFetch => fetch(true, rest),
         Verb::UidStore => store(true, rest),
         Verb::UidExpunge => uid_expunge(rest),
+        Verb::Append => append(rest),
         _ => None,
     }
 }

@@ -1,3 +1,4 @@
+pub mod Appends
 pub mod Runs
 pub mod Shown
 pub mod Showing
@@ -10,3 +11,4 @@ pub mod Ending
 pub mod Naming
 pub mod Lines
 pub mod Turns
+pub mod Verdicts

@@ -13,8 +13,11 @@ use Rattle.imap_grammar.specs.declared.command.Command.TheVariants as commands
 use Rattle.imap_grammar.specs.declared.command.Fetch.{Fetch}
 use Rattle.imap_grammar.specs.declared.command.Store.{Store}
 use Rattle.imap_session.specs.declared.standing.Selected.{Selected}
-use Rattle.imap_session.specs.Exchange.{Exchange, Expunge, Feed, Folder, Standing}
-use Rattle.imap_session.specs.Commands.{on_command, on_idle_line, counting, folder_of, showing, completed, closing, entering, on_folder, on_chosen, messages_done, on_found, fetching, storing, fetched, stored, flags_answer, if_writable, expunge_set, store_messages, fetch_messages, unlimited, wrong_state, says}
+use Rattle.std.specs.Prelude.{nat_lt}
+use Rattle.imap_grammar.specs.declared.command.Append.{Append}
+use Rattle.imap_session.specs.Exchange.{Exchange, Expunge, Feed, Folder, ForNothing, Standing, Wait, bye}
+use Rattle.imap_session.specs.Commands.{awaiting, most_unasked, nowhere, is_over, number_named, over, wanting, on_command, on_idle_line, counting, folder_of, showing, completed, closing, entering, on_folder, on_chosen, messages_done, on_found, fetching, storing, fetched, stored, flags_answer, if_writable, expunge_set, store_messages, fetch_messages, unlimited, wrong_state, says}
+use Rattle.imap_session.proofs.Appends.{asked_at, sent_at}
 use Rattle.imap_session.specs.Shows.{may_show, DoneShowsInPlace, IsFetchLine, MaySay, ShowsBefore, ShowsInPlace}
 
 no_must : (b : Bool) (o : Option Selected) → o ≡ None → (b && is_some o) ≡ true → ⊥
@@ -91,12 +94,33 @@ in_writable : (now : Standing) (command : Command) (selected : Option Selected) 
     → ShowsInPlace now command (on_found (if_writable x) wrong_state selected)
 in_writable now command selected x p = in_found now command selected (if_writable x) (λ s. in_either now command s.read_only (says (codes "NO Mailbox is read-only")) x (λ must. refl) p)
 
+may_not_be : (c : Bool) → (false && c) ≡ false
+may_not_be c = refl
+
+in_named : (now : Standing) (command : Command) (next : ℕ → Exchange) → ((m : ℕ) → ShowsInPlace now command (next m)) → (found : Option ℕ) → ShowsInPlace now command (on_found next nowhere found)
+in_named now command next p None = λ must. refl
+in_named now command next p (Some m) = p m
+
+in_over : (now : Standing) (command : Command) (most : Option ℕ) → ShowsInPlace now command (over most)
+in_over now command None = λ must. refl
+in_over now command (Some most) = λ must. refl
+
+in_append : (now : Standing) (most : Option ℕ) (a : Append) (found : Option ℕ) → ShowsInPlace now (commands.Append a) (if a.literal.waits then wanting (asked_at most a found) else sent_at most a found)
+in_append now most a found =
+    in_either now (commands.Append a) a.literal.waits (wanting (asked_at most a found)) (sent_at most a found) (
+      inl refl,
+      in_named now (commands.Append a) (λ m. if is_over most a.literal.size then over most else awaiting (codes "+ ready\r\n") (Some m) a.flags a.literal.size)
+          (λ m. in_either now (commands.Append a) (is_over most a.literal.size) (over most) (awaiting (codes "+ ready\r\n") (Some m) a.flags a.literal.size) (in_over now (commands.Append a) most) (inr (inl refl), refl)) found,
+    )
+    (in_either now (commands.Append a) (nat_lt most_unasked a.literal.size) (Wait (bye (codes "Literal too big")) ForNothing) (wanting (awaiting [] found a.flags a.literal.size))
+    (inr (inr refl), refl) (inl refl, (inl refl, refl)))
+
 pub shown_in_place : (now : Standing) (command : Command) → ShowsInPlace now command (on_command now command)
 shown_in_place now commands.Capability = (refl, λ must. absurd (may_not false (is_some now.selected) refl must))
 shown_in_place now commands.Noop = in_showing now commands.Noop refl now.selected refl
 shown_in_place now commands.Logout = (refl, λ must. absurd (may_not false (is_some now.selected) refl must))
 shown_in_place now commands.Namespace = (refl, λ must. absurd (may_not false (is_some now.selected) refl must))
-shown_in_place now commands.Idle = refl
+shown_in_place now commands.Idle = (refl, may_not_be (is_some now.selected))
 shown_in_place now commands.Login = λ must. refl
 shown_in_place now commands.Authenticate = λ must. refl
 shown_in_place now commands.StartTls = λ must. refl
@@ -132,6 +156,7 @@ shown_in_place now (commands.Store store) =
     (λ view. in_chosen now (commands.Store store) (named_in store.by_uid store.set view) _
     (λ uids. in_storing now (commands.Store store) store view _ (λ gone. in_done now (commands.Store store) store.by_uid gone refl)
     (λ uid flags. in_silence store.silent (flags_answer store.by_uid (place uid view) uid flags) (flags_form store.by_uid (place uid view) uid flags)) uids false))
+shown_in_place now (commands.Append append) = in_append now now.mailing.most append (number_named append.name now.folders)
 
 in_idle_line : (b : Bool) (selected : Option Selected)
     → ShowsBefore (completed commands.Idle) (λ bytes. ⊥) b (b && is_some selected) false (if b then showing selected (completed commands.Idle) else says (codes "BAD Expected DONE"))

@@ -1,5 +1,6 @@
 -- What a session does about each line (RFC 9051, 6 and 7).
-use Rattle.std.specs.Prelude.{ℕ, ◌+◌, ◌-◌, ◌^◌, length, Bool, true, false, codes, decimal, List, [], ◌∷◌, ◌++◌, map, Option, Some, None, Result, Ok, Err, ◌&&◌, ◌||◌, not, if◌then◌else◌}
+use Rattle.std.specs.Prelude.{ℕ, ◌+◌, ◌-◌, ◌^◌, length, Bool, true, false, codes, decimal, List, [], ◌∷◌, ◌++◌, map, Option, Some, None, Result, Ok, Err, ◌&&◌, ◌||◌, ◌==◌, nat_le, nat_lt, not, if◌then◌else◌}
+use Rattle.std.specs.Option.{option_map}
 use Rattle.std.specs.List.{list_any}
 use Rattle.std.specs.Str.{bytes_eq}
 use Rattle.mailbox.specs.declared.clients.Opening.{Opening}
@@ -12,7 +13,12 @@ use Rattle.imap_grammar.specs.declared.items.StatusItem.{StatusItem}
 use Rattle.imap_grammar.specs.declared.command.Command.{Command}
 use Rattle.imap_grammar.specs.declared.command.Command.TheVariants as commands
 use Rattle.imap_grammar.specs.declared.command.Fetch.{Fetch}
+use Rattle.imap_grammar.specs.declared.command.Append.{Append}
 use Rattle.imap_grammar.specs.declared.command.Store.{Store}
+use Rattle.delivery_token.specs.declared.Refusal.{Refusal}
+use Rattle.delivery_token.specs.declared.Refusal.TheVariants as refusals
+use Rattle.delivery_token.specs.declared.Verdict.{Verdict}
+use Rattle.delivery_token.specs.declared.Verdict.TheVariants as verdicts
 use Rattle.imap_grammar.specs.declared.command.Verb.{Verb}
 use Rattle.imap_grammar.specs.declared.command.ImapFault.{ImapFault}
 use Rattle.imap_grammar.specs.declared.command.ImapFault.TheVariants as faults
@@ -24,7 +30,7 @@ use Rattle.imap_grammar.specs.Answers.{crlf, row_answer, status_answer, list_ans
 use Rattle.imap_session.specs.declared.standing.After.TheVariants.{Go, Bye}
 use Rattle.imap_session.specs.declared.standing.After.TheVariants as afters
 use Rattle.imap_session.specs.declared.standing.Selected.{Selected}
-use Rattle.imap_session.specs.Exchange.{Answer, Fed, Refused, having, saying, nothing_more, refused, is_idling, Turn, Standing, Folder, Exchange, Done, Idle, Write, Put, Enter, Look, Read, Count, Alter, Expunge, Feed, Leave, tagged, bye, played}
+use Rattle.imap_session.specs.Exchange.{Answer, Appending, Mailing, Sent, Fed, Refused, having, saying, nothing_more, refused, is_idling, Turn, Standing, Folder, Exchange, ForDone, ForLiteral, ForVerdict, ForNothing, Done, Wait, Write, Put, Enter, Look, Read, Count, Alter, Expunge, Feed, Leave, tagged, bye, played}
 
 -- ---- how an answer ends
 
@@ -186,12 +192,81 @@ abbrev pub counting : Standing → List ℕ → List StatusItem → Folder → E
 counting now name items folder =
     Count folder.mailbox (λ status. Write (status_answer folder.name items status) (showing now.selected (completed (commands.Status name items))))
 
+-- no last line: the client may send DONE
+abbrev pub begins_idling : Exchange
+begins_idling = Wait (codes "+ idling\r\n") ForDone
+
+-- ---- APPEND
+
+-- the number of the mailbox that has this name
+abbrev pub number_named : List ℕ → List Folder → Option ℕ
+number_named name folders = option_map (λ (folder : Folder). folder.mailbox) (folder_of name folders)
+
+abbrev pub nowhere : Exchange
+nowhere = says (codes "NO [TRYCREATE] No such mailbox")
+
+-- a message of this size isn't taken, since none is or since it is too big
+abbrev pub is_over : Option ℕ → ℕ → Bool
+is_over None size = true
+is_over (Some most) size = nat_lt most size
+
+abbrev pub over : Option ℕ → Exchange
+over None = says (codes "NO [CANNOT] Not offered here")
+over (Some most) = says (codes "NO Message too big")
+
+-- the literal is due, and this is said
+abbrev pub awaiting : List ℕ → Option ℕ → Flags → ℕ → Exchange
+awaiting bytes mailbox flags size = Wait bytes (ForLiteral mailbox flags size)
+
+-- a literal that the client sends without being asked has at most so many bytes
+abbrev pub most_unasked : ℕ
+most_unasked = 4096
+
+-- Where the client waits to be asked, its message is refused before that; where it doesn't, its bytes are taken first. Memory is wanted for the name.
+abbrev pub appending : Option ℕ → List Folder → Append → Exchange
+appending most folders append =
+    if append.literal.waits
+    then wanting (on_found (λ mailbox. if is_over most append.literal.size then over most else awaiting (codes "+ ready\r\n") (Some mailbox) append.flags append.literal.size)
+    nowhere (number_named append.name folders))
+    else (if nat_lt most_unasked append.literal.size then Wait (bye (codes "Literal too big")) ForNothing
+    else wanting (awaiting [] (number_named append.name folders) append.flags append.literal.size))
+
+-- message numbers have 32 bits, and the last is never given
+abbrev pub last_number : ℕ
+last_number = 4294967295
+
+-- all bytes are there, and the line ends behind them. Memory is wanted for what the text's copies share
+abbrev pub on_text : Mailing → Appending → List ℕ → ℕ → Exchange
+on_text mailing a text mailbox =
+    if is_over mailing.most a.size then over mailing.most
+    else if list_any (λ b. b == 0) text then says (codes "NO NUL byte")
+    else if nat_le last_number mailing.number then says (codes "NO Mailbox is spent")
+    else wanting (Wait [] (ForVerdict mailbox a.flags text))
+
+-- the rest of the line, without its CRLF, behind the literal. A rest that is too long is told as no empty one
+abbrev pub on_rest : Mailing → Appending → Bool → Exchange
+on_rest mailing a empty = on_found (λ text. if empty then on_found (on_text mailing a text) nowhere a.mailbox else says (codes "BAD Invalid arguments")) (says (codes "NO Out of memory")) a.text
+
+abbrev pub refused_words : Refusal → List ℕ
+refused_words refusals.Full = codes "NO Shard full"
+refused_words refusals.MailboxFull = codes "NO Mailbox full"
+refused_words refusals.NoMemory = codes "NO Out of memory"
+refused_words refusals.UidSpent = codes "NO No UID left"
+
+abbrev pub appended_words : ℕ → ℕ → List ℕ
+appended_words uidvalidity uid = codes "OK [APPENDUID " ++ decimal uidvalidity ++ codes " " ++ decimal uid ++ codes "] APPEND completed"
+
+-- The verdict on the message. Where it was stored, its mailbox is counted for its UIDVALIDITY, and what is pending in the selected one is shown.
+abbrev pub on_verdict : Option Selected → ℕ → Verdict → Exchange
+on_verdict selected mailbox (verdicts.Stored uid) = Count mailbox (λ status. showing selected (says (appended_words status.uidvalidity uid)))
+on_verdict selected mailbox (verdicts.Refused why) = says (refused_words why)
+
 abbrev pub on_command : Standing → Command → Exchange
 on_command now commands.Capability = untagged_in_room (codes "CAPABILITY IMAP4rev2 IDLE") (completed commands.Capability)
 on_command now commands.Noop = showing now.selected (completed commands.Noop)
 on_command now commands.Logout = Put (bye (codes "Logging out")) (Done (codes "OK LOGOUT completed") Bye)
 on_command now commands.Namespace = untagged_in_room (codes "NAMESPACE ((\"\" \"/\")) NIL NIL") (completed commands.Namespace)
-on_command now commands.Idle = Idle
+on_command now commands.Idle = begins_idling
 on_command now commands.Login = wrong_state
 on_command now commands.Authenticate = wrong_state
 on_command now commands.StartTls = wrong_state
@@ -208,6 +283,7 @@ on_command now commands.Expunge = in_writable now (Expunge None (Feed unlimited 
 on_command now (commands.UidExpunge set) = in_writable now (expunge_set set)
 on_command now (commands.Fetch fetch) = in_selected now (fetch_messages fetch)
 on_command now (commands.Store store) = in_writable now (store_messages store)
+on_command now (commands.Append append) = appending now.mailing.most now.folders append
 
 -- ---- lines
 
@@ -235,9 +311,48 @@ abbrev pub turn_while : Option (List ℕ) → Standing → List ℕ → List Ans
 turn_while None now line answers = on_read now (read line) answers
 turn_while (Some tag) now line answers = played tag (record now { idling = None }) (on_idle_line now.selected line) answers
 
+-- A session waits for one thing at a time: the rest of a line, or a verdict. The message whose bytes came, or on which the verdict is there, is no longer kept.
+abbrev pub without_begun : Standing → Standing
+without_begun now = record now { idling = None; mailing = record now.mailing { begun = None } }
+
+abbrev pub without_sent : Standing → Standing
+without_sent now = record now { idling = None; mailing = record now.mailing { begun = None; sent = None } }
+
+abbrev pub turn_behind : Option Appending → Standing → List ℕ → List Answer → Option Turn
+turn_behind None now line answers = turn_while now.idling now line answers
+turn_behind (Some a) now line answers = played a.tag (without_begun now) (on_rest now.mailing a (length line == 0)) answers
+
 -- where a line leads, with these answers of the store
 abbrev pub turn_of : Standing → List ℕ → List Answer → Option Turn
-turn_of now line answers = turn_while now.idling now line answers
+turn_of now line answers = turn_behind now.mailing.begun now line answers
+
+-- ---- bytes of a literal
+
+-- so many are due
+abbrev pub due_of : Option Appending → ℕ
+due_of None = 0
+due_of (Some a) = a.due
+
+abbrev pub kept_text : Bool → List ℕ → Option (List ℕ) → Option (List ℕ)
+kept_text true bytes (Some text) = Some (text ++ bytes)
+kept_text kept bytes text = None
+
+abbrev pub taking : Bool → List ℕ → Appending → Appending
+taking kept bytes a = record a { due = a.due - length bytes; text = kept_text kept bytes a.text }
+
+-- these bytes came; memory may have been refused to them
+abbrev pub with_bytes : Bool → List ℕ → Standing → Standing
+with_bytes kept bytes now = record now { mailing = record now.mailing { begun = option_map (taking kept bytes) now.mailing.begun } }
+
+-- ---- verdicts
+
+abbrev pub turn_with : Option Sent → Standing → Verdict → List Answer → Option Turn
+turn_with None now verdict answers = None
+turn_with (Some sent) now verdict answers = played sent.tag (without_sent now) (on_verdict now.selected sent.append.mailbox verdict) answers
+
+-- where the verdict leads that a session waits for, with these answers of the store
+abbrev pub turn_of_verdict : Standing → Verdict → List Answer → Option Turn
+turn_of_verdict now verdict answers = turn_with now.mailing.sent now verdict answers
 
 -- ---- what comes without a line of its own
 
@@ -245,13 +360,25 @@ abbrev pub greeting : List ℕ
 greeting = codes "* PREAUTH IMAP4rev2 server ready\r\n"
 
 -- the answer to a line that is too long, of a session that idles with this tag or doesn't idle
-abbrev pub long_line_text : Option (List ℕ) → List ℕ
-long_line_text None = codes "* BAD Line too long\r\n"
-long_line_text (Some tag) = tagged tag (codes "BAD Expected DONE")
+abbrev pub long_idle_text : Option (List ℕ) → List ℕ
+long_idle_text None = codes "* BAD Line too long\r\n"
+long_idle_text (Some tag) = tagged tag (codes "BAD Expected DONE")
 
--- where a line leads that is too long. It ends an IDLE
+-- the same behind a literal
+abbrev pub long_rest_words : Option (List ℕ) → List ℕ
+long_rest_words None = codes "NO Out of memory"
+long_rest_words (Some text) = codes "BAD Invalid arguments"
+
+abbrev pub long_text : Option Appending → Option (List ℕ) → List ℕ
+long_text None idling = long_idle_text idling
+long_text (Some a) idling = tagged a.tag (long_rest_words a.text)
+
+abbrev pub long_line_text : Standing → List ℕ
+long_line_text now = long_text now.mailing.begun now.idling
+
+-- where a line leads that is too long. It ends an IDLE and an APPEND
 abbrev pub turn_of_long_line : Standing → Turn
-turn_of_long_line now = record { events = []; bytes = long_line_text now.idling; after = Go; standing = record now { idling = None } }
+turn_of_long_line now = record { events = []; bytes = long_line_text now; after = Go; standing = without_begun now }
 
 -- at most so many changes are shown in a turn of a session that idles
 abbrev pub most_changes : ℕ

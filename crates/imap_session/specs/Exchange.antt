@@ -1,5 +1,5 @@
 -- What a session asks of its store, in which order, and what it writes.
-use Rattle.std.specs.Prelude.{ℕ, zero, suc, Bool, true, codes, length, nat_lt, List, [], ◌∷◌, ◌++◌, Option, Some, None, is_some, ◌&&◌, not, if◌then◌else◌}
+use Rattle.std.specs.Prelude.{ℕ, zero, suc, ◌+◌, Bool, true, false, codes, length, nat_lt, List, [], ◌∷◌, ◌++◌, Option, Some, None, is_some, ◌&&◌, not, if◌then◌else◌}
 use Rattle.std.specs.Option.{option_map}
 use Rattle.change_ring.specs.declared.change.Flags.{Flags}
 use Rattle.change_ring.specs.declared.change.Change.{Change}
@@ -14,6 +14,7 @@ use Rattle.imap_session.specs.declared.standing.After.{After}
 use Rattle.imap_session.specs.declared.standing.After.TheVariants.{Go, Bye}
 use Rattle.imap_session.specs.declared.standing.After.TheVariants as afters
 use Rattle.imap_session.specs.declared.standing.Selected.{Selected}
+use Rattle.imap_session.specs.declared.standing.Append.{Append}
 
 -- ---- the store
 
@@ -57,33 +58,113 @@ pub record Folder : Type 0 where
   pub name : List ℕ
   pub mailbox : ℕ
 
+-- a message that a client appends, while its bytes come: the tag, the mailbox that was named, where there is one, and how many bytes were announced
+pub record Appending : Type 0 where
+  pub tag : List ℕ
+  pub mailbox : Option ℕ
+  pub flags : Flags
+  pub size : ℕ
+  -- so many bytes are still to come; and those that came, unless memory was refused to them
+  pub due : ℕ
+  pub text : Option (List ℕ)
+
+-- a message that was submitted, and waits for the verdict on its copy
+pub record Sent : Type 0 where
+  pub tag : List ℕ
+  pub append : Append
+
+-- What a session knows of messages that its client appends: the most bytes of one, or that none is taken; the number of the next that is submitted, the one whose bytes come,
+-- and the one that waits for its verdict.
+pub record Mailing : Type 0 where
+  pub most : Option ℕ
+  pub number : ℕ
+  pub begun : Option Appending
+  pub sent : Option Sent
+
 pub record Standing : Type 0 where
   pub folders : List Folder
   pub selected : Option Selected
   -- the tag of the IDLE that isn't done yet
   pub idling : Option (List ℕ)
   pub ended : Bool
+  pub mailing : Mailing
+
+-- before anything was appended
+abbrev pub nothing_sent : Option ℕ → Mailing
+nothing_sent most = record { most = most; number = 0; begun = None; sent = None }
 
 -- a session that idles, with this tag or none, waits for DONE, and any other for a command
-abbrev pub waits_for : Option (List ℕ) → After
-waits_for None = Go
-waits_for (Some tag) = afters.Idle
+abbrev pub waits_idling : Option (List ℕ) → After
+waits_idling None = Go
+waits_idling (Some tag) = afters.Idle
+
+-- one to which bytes of a literal are due waits for those, and for the rest of the line behind them
+abbrev pub waits_begun : Option Appending → After → After
+waits_begun None other = other
+waits_begun (Some a) other = afters.Literal a.due
+
+-- one that submitted a message waits for the verdict
+abbrev pub waits_sent : Option Sent → After → After
+waits_sent None other = other
+waits_sent (Some sent) other = afters.Submit
+
+-- what a session waits for that has not ended
+abbrev pub waits_for : Standing → After
+waits_for now = waits_sent now.mailing.sent (waits_begun now.mailing.begun (waits_idling now.idling))
 
 -- what the client may send now
 abbrev pub may_send : Standing → After
-may_send now = if now.ended then Bye else waits_for now.idling
+may_send now = if now.ended then Bye else waits_for now
+
+-- the tag of an IDLE or an APPEND that isn't done yet
+abbrev pub kept_behind : Option Appending → Option (List ℕ) → Option (List ℕ)
+kept_behind None idling = idling
+kept_behind (Some a) idling = Some a.tag
+
+abbrev pub kept_tag : Standing → Option (List ℕ)
+kept_tag now = kept_behind now.mailing.begun now.idling
 
 -- it waits for DONE, and may have a turn while it does
 abbrev pub is_idling : Standing → Bool
 is_idling now = is_some now.idling && not now.ended
+
+-- what a session waits for while its last line isn't due
+pub data Waiting : Type 0 where
+  ForDone : Waiting
+  -- so many bytes of a literal, and the rest of the line behind them
+  ForLiteral : (mailbox : Option ℕ) → Flags → (size : ℕ) → Waiting
+  -- the verdict on a message, which is submitted under the next number
+  ForVerdict : (mailbox : ℕ) → Flags → (text : List ℕ) → Waiting
+  -- nothing more: it has ended
+  ForNothing : Waiting
+
+abbrev pub after_waiting : Waiting → After
+after_waiting ForDone = afters.Idle
+after_waiting (ForLiteral mailbox flags size) = afters.Literal size
+after_waiting (ForVerdict mailbox flags text) = afters.Submit
+after_waiting ForNothing = Bye
+
+-- the standing of a session that waits so, with this tag
+abbrev pub waiting : List ℕ → Waiting → Standing → Standing
+waiting tag ForDone now = record now { idling = Some tag }
+waiting tag (ForLiteral mailbox flags size) now =
+    record now { mailing = record now.mailing { begun = Some (record { tag = tag; mailbox = mailbox; flags = flags; size = size; due = size; text = Some [] }) } }
+waiting tag (ForVerdict mailbox flags text) now =
+    record now {
+      mailing = record now.mailing {
+        number = now.mailing.number + 1;
+        sent = Some (record { tag = tag; append = record { message = now.mailing.number; mailbox = mailbox; text = text; flags = flags } });
+      };
+    }
+waiting tag ForNothing now = record now { ended = true }
 
 -- What a session does about one command. What it does after a call depends on the answer; what it does where the store refuses is the
 -- same everywhere, and stands in `refused`.
 pub data Exchange : Type 0 where
   -- the last line: the tag, and these words. Room for it is reserved before anything is done, so memory can't be refused to it
   Done : (words : List ℕ) → After → Exchange
-  -- no last line: the client may send DONE. Memory may be wanting for a tag of more than 32 bytes
-  Idle : Exchange
+  -- No last line: this is said, and the session waits. Memory may be wanting for a tag of more than 32 bytes, where one is to be kept
+  Wait : (bytes : List ℕ) → Waiting → Exchange
   -- room for these may be wanting, and then the exchange ends here
   Write : List ℕ → Exchange → Exchange
   -- room for these was reserved before anything was done, as for the last line, so memory can't be refused to them
@@ -118,7 +199,7 @@ having call answer turn = record turn { events = record { call = call; answer = 
 abbrev pub closed : Standing → After → Turn
 closed now Go = nothing_more Go now
 closed now Bye = nothing_more Bye (record now { ended = true })
-closed now afters.Idle = nothing_more afters.Idle now
+closed now how = nothing_more how now
 
 abbrev pub bye : List ℕ → List ℕ
 bye words = codes "* BYE " ++ words ++ codes "\r\n"
@@ -146,14 +227,20 @@ refused tag now fault = saying (refusal_text tag fault) (closed now (refusal_aft
 abbrev pub most_in_place : ℕ
 most_in_place = 32
 
+-- who waits for more of an IDLE or an APPEND keeps its tag till then; behind a literal it is kept already
+abbrev pub keeps_tag : Waiting → Bool
+keeps_tag ForDone = true
+keeps_tag (ForLiteral mailbox flags size) = true
+keeps_tag _ = false
+
 -- Where an exchange leads with these answers; nowhere where they are none to its calls. Memory is refused to the session itself only where it
--- may want some: at a Write, at a Look, and for the tag of an IDLE that is long. Nobody is told so who asks to leave a mailbox, or for lines whose room was reserved.
+-- may want some: at a Write, at a Look, and for a long tag that is kept. Nobody is told so who asks to leave a mailbox, or for lines whose room was reserved.
 abbrev pub played : List ℕ → Standing → Exchange → List Answer → Option Turn
 played tag now (Done words how) [] = Some (saying (tagged tag words) (closed now how))
 played tag now (Done words how) (answer ∷ more) = None
-played tag now Idle [] = Some (saying (codes "+ idling\r\n") (nothing_more afters.Idle (record now { idling = Some tag })))
-played tag now Idle (Starved zero ∷ []) = if nat_lt most_in_place (length tag) then Some (refused tag now NoMemory) else None
-played tag now Idle (answer ∷ more) = None
+played tag now (Wait bytes waits) [] = Some (saying bytes (nothing_more (after_waiting waits) (waiting tag waits now)))
+played tag now (Wait bytes waits) (Starved zero ∷ []) = if keeps_tag waits && nat_lt most_in_place (length tag) then Some (refused tag now NoMemory) else None
+played tag now (Wait bytes waits) (answer ∷ more) = None
 played tag now (Write bytes x) (Starved zero ∷ []) = Some (refused tag now NoMemory)
 played tag now (Write bytes x) (Starved (suc n) ∷ []) = option_map (saying bytes) (played tag now x (Starved n ∷ []))
 played tag now (Write bytes x) answers = option_map (saying bytes) (played tag now x answers)

@@ -2,5 +2,5 @@ pub mod Exchange
 pub mod Commands
 pub mod Store
 pub mod Shows
-pub mod inner
 pub mod rows
+pub mod inner

@@ -8,10 +8,13 @@ use Rattle.mailbox.specs.declared.mailbox.Status.{Status}
 use Rattle.imap_grammar.specs.declared.command.Command.{Command}
 use Rattle.imap_grammar.specs.declared.command.Command.TheVariants as commands
 use Rattle.imap_grammar.specs.Reading.{is_done}
+use Rattle.delivery_token.specs.declared.Verdict.{Verdict}
+use Rattle.delivery_token.specs.declared.Verdict.TheVariants.{Stored, Refused}
 use Rattle.imap_grammar.specs.Answers.{list_answer}
+use Rattle.imap_session.specs.declared.standing.After.TheVariants.{Submit}
 use Rattle.imap_session.specs.declared.standing.Selected.{Selected}
-use Rattle.imap_session.specs.Exchange.{Exchange, Folder, Standing, Done, Idle, Write, Put, Enter, Look, Read, Count, Alter, Expunge, Feed, Leave}
-use Rattle.imap_session.specs.Commands.{completed, opening_text, unlimited}
+use Rattle.imap_session.specs.Exchange.{Exchange, Folder, Standing, Done, Wait, Write, Put, Enter, Look, Read, Count, Alter, Expunge, Feed, Leave, after_waiting, bye}
+use Rattle.imap_session.specs.Commands.{appended_words, completed, opening_text, says as last_line, unlimited}
 
 -- the command may show changes right before its tagged OK
 abbrev pub may_show : Command → Bool
@@ -54,6 +57,8 @@ MaySay now (commands.List reference pattern) bytes = bytes ≡ list_answer refer
 MaySay now (commands.Status name items) bytes = (bytes ≡ []) ⊎ ((rest : List ℕ) × (bytes ≡ codes "* STATUS " ++ rest))
 MaySay now (commands.Fetch fetch) bytes = IsFetchLine bytes
 MaySay now (commands.Store store) bytes = (bytes ≡ []) ⊎ IsFetchLine bytes
+MaySay now commands.Idle bytes = bytes ≡ codes "+ idling\r\n"
+MaySay now (commands.Append append) bytes = (bytes ≡ []) ⊎ (bytes ≡ codes "+ ready\r\n") ⊎ (bytes ≡ bye (codes "Literal too big"))
 MaySay now _ bytes = ⊥
 
 -- ---- where
@@ -67,7 +72,7 @@ IsNoOk words = bytes_eq (take 2 words) (codes "OK") ≡ false
 -- without them.
 abbrev pub ShowsBefore : (ok : Exchange) (says : List ℕ → Type 0) (shows must removes : Bool) → Exchange → Type 0
 ShowsBefore ok says shows must removes (Done words how) = must ≡ true → IsNoOk words
-ShowsBefore ok says shows must removes Idle = must ≡ false
+ShowsBefore ok says shows must removes (Wait bytes waits) = says bytes × (must ≡ false)
 ShowsBefore ok says shows must removes (Write bytes x) = says bytes × ShowsBefore ok says shows must removes x
 ShowsBefore ok says shows must removes (Put bytes x) = says bytes × ShowsBefore ok says shows must removes x
 ShowsBefore ok says shows must removes (Enter selected next) = (opening : Opening) → ShowsBefore ok says shows must removes (next opening)
@@ -79,10 +84,34 @@ ShowsBefore ok says shows must removes (Expunge uids x) = (removes ≡ true) × 
 ShowsBefore ok says shows must removes (Feed limit x) = (shows ≡ true) × (limit ≡ unlimited) × (x ≡ ok)
 ShowsBefore ok says shows must removes (Leave remove x) = ShowsBefore ok says shows must removes x
 
--- A command shows changes in its place, where a mailbox is selected, and there alone. IDLE itself shows none
+-- A command shows changes in its place, where a mailbox is selected, and there alone. IDLE itself shows none, nor does the line of an APPEND
 abbrev pub ShowsInPlace : Standing → Command → Exchange → Type 0
 ShowsInPlace now command = ShowsBefore (completed command) (MaySay now command) (may_show command) (may_show command && is_some now.selected) (may_remove command)
 
 -- the line that ends an IDLE shows changes where it is DONE and a mailbox is selected, right before the tagged OK. Any other line shows none
 abbrev pub DoneShowsInPlace : Option Selected → List ℕ → Exchange → Type 0
 DoneShowsInPlace selected line = ShowsBefore (completed commands.Idle) (λ bytes. ⊥) (is_done line) (is_done line && is_some selected) false
+
+-- The rest of a line behind a literal asks nothing of the store, and says no tagged OK: the message is refused, or it is submitted and nothing is said.
+abbrev pub RestShowsNone : Exchange → Type 0
+RestShowsNone (Done words how) = IsNoOk words
+RestShowsNone (Wait bytes waits) = (bytes ≡ []) × (after_waiting waits ≡ Submit)
+RestShowsNone (Write bytes x) = (bytes ≡ []) × RestShowsNone x
+RestShowsNone _ = ⊥
+
+-- a last line that is no tagged OK, and nothing before it
+abbrev pub IsRefused : Exchange → Type 0
+IsRefused (Done words how) = IsNoOk words
+IsRefused _ = ⊥
+
+-- a mailbox is counted, and then changes are shown right before this tagged OK, in which its UIDVALIDITY stands
+abbrev pub CountsThenShows : Option Selected → ℕ → Exchange → Type 0
+CountsThenShows selected uid (Count mailbox next) = (status : Status)
+    → ShowsBefore (last_line (appended_words status.uidvalidity uid)) (λ bytes. bytes ≡ []) true (is_some selected) false (next status)
+CountsThenShows selected uid _ = ⊥
+
+-- The verdict on an appended message shows changes right before its tagged OK, where a mailbox is selected. Where the message was refused there is no tagged
+-- OK, and none are shown.
+abbrev pub VerdictShowsInPlace : Option Selected → Verdict → Exchange → Type 0
+VerdictShowsInPlace selected (Stored uid) = CountsThenShows selected uid
+VerdictShowsInPlace selected (Refused why) = IsRefused

@@ -7,11 +7,12 @@ use Rattle.std.specs.Prelude.{◌≡◌, ◌≤◌, ◌⊎◌, ◌+◌, length, 
 use Rattle.change_ring.specs.declared.change.Change.{Change}
 use Rattle.mailbox.specs.declared.clients.MailFault.{MailFault}
 use Rattle.mailbox.specs.declared.clients.MailFault.TheVariants.{NoMemory}
+use Rattle.delivery_token.specs.declared.Verdict.{Verdict}
 use Rattle.change_ring.specs.Log.{replay}
 use Rattle.cursor_set.specs.Lines.{lines}
 use Rattle.imap_session.specs.declared.standing.After.{After}
-use Rattle.imap_session.specs.Exchange.{Call, Answer, Entered, Looked, Expunged, Fed, Left, Refused, Event, Feed, Standing, played, refused}
-use Rattle.imap_session.specs.Commands.{count_shown, idle_turn, most_changes, turn_of}
+use Rattle.imap_session.specs.Exchange.{Appending, Call, Answer, Entered, Looked, Expunged, Fed, Left, Refused, Event, Feed, Sent, Standing, played, refused}
+use Rattle.imap_session.specs.Commands.{count_shown, idle_turn, most_changes, turn_of, turn_of_verdict, with_bytes}
 
 -- ---- answers of the code
 
@@ -64,6 +65,19 @@ pub record Answers {S : Type 0} (step : S → Call → Answer → S → Type 0) 
   pub met : Met step old events new
   pub wrote : after ≡ before ++ bytes
 
+-- from the standing `now`, the verdict that it waits for was answered over any store
+pub record AnswersVerdict {S : Type 0} (step : S → Call → Answer → S → Type 0) (now : Standing) (verdict : Verdict) (old new : S) (before after : List ℕ) (how : After) (next : Standing) : Type 0 where
+  pub answers : List Answer
+  pub events : List Event
+  pub bytes : List ℕ
+  pub played : turn_of_verdict now verdict answers ≡ Some (record { events = events; bytes = bytes; after = how; standing = next })
+  pub met : Met step old events new
+  pub wrote : after ≡ before ++ bytes
+
+-- these bytes of the literal were taken, or dropped where memory was refused
+abbrev pub TakesBytes : Standing → List ℕ → Standing → Type 0
+TakesBytes now bytes next = (kept : Bool) × (next ≡ with_bytes kept bytes now)
+
 -- The session `now` had a turn while it idles, over any store, and showed so many changes.
 pub record IdleTurns {S : Type 0} (step : S → Call → Answer → S → Type 0) (now : Standing) (old new : S) (before after : List ℕ) (count : ℕ) (next : Standing) : Type 0 where
   pub answers : List Answer
@@ -79,8 +93,23 @@ pub record IdleTurns {S : Type 0} (step : S → Call → Answer → S → Type 0
 abbrev pub Starves : {S : Type 0} → (S → Call → Answer → S → Type 0) → S → S → Type 0
 Starves step old new = (new ≡ old) ⊎ step old (Feed most_changes) (Refused NoMemory) new
 
--- The room that is reserved before a line is answered: for its own tag or that of the IDLE that it ends, for the lines that end the answer,
+-- The room that is reserved before a line is answered: for its own tag or that of the IDLE or the APPEND that it ends, for the lines that end the answer,
 -- and for the line before the last of CAPABILITY, NAMESPACE and LOGOUT.
-abbrev pub room_for : Option (List ℕ) → List ℕ → ℕ
-room_for None line = length line + 80
-room_for (Some tag) line = length tag + 48
+abbrev pub room_while : Option (List ℕ) → List ℕ → ℕ
+room_while None line = length line + 80
+room_while (Some tag) line = length tag + 48
+
+abbrev pub room_behind : Option Appending → Option (List ℕ) → List ℕ → ℕ
+room_behind None idling line = room_while idling line
+room_behind (Some a) idling line = length a.tag + 48
+
+abbrev pub room_for : Standing → List ℕ → ℕ
+room_for now line = room_behind now.mailing.begun now.idling line
+
+-- The room that is reserved before a verdict is answered: for the tag, and for the line that tells where a message was stored.
+abbrev pub room_sent : Option Sent → ℕ
+room_sent None = 0
+room_sent (Some sent) = length sent.tag + 56
+
+abbrev pub room_for_verdict : Standing → ℕ
+room_for_verdict now = room_sent now.mailing.sent

@@ -1,1 +1,3 @@
+pub mod Appends
+pub mod Seen
 pub mod Store

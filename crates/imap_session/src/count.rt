@@ -4,7 +4,7 @@ ghost use Rattle.std.specs.Prelude.{◌≡◌, ◌+◌, ◌≤◌, ◌++◌, fal
 ghost use Rattle.std.specs.Vec.{vec_capacity};
 ghost use Rattle.imap_grammar.specs.Answers.{list_answer, status_answer};
 ghost use Rattle.imap_grammar.specs.declared.command.Command.TheVariants as commands;
-ghost use Rattle.imap_session.specs.Exchange.{Exchange, Count, Folder as Place, Write};
+ghost use Rattle.imap_session.specs.Exchange.{Exchange, Count, Folder as Place, Write, nothing_sent};
 ghost use Rattle.imap_session.specs.Commands.{completed, counting, on_folder, showing, wanting};
 ghost use Rattle.imap_session.specs.inner.Store.{Does, last};
 
@@ -75,7 +75,7 @@ fn count_named<S: Store>(
 ) -> Result<&'static [u8], MailFault>
     requires room { vec_len out.old + keep ≤ vec_capacity out.old }
     ensures done { Does S.step
-        (on_folder name.now folders.now (counting (record { folders = folders.now; selected = selected; idling = None; ended = false }) name.now items.now))
+        (on_folder name.now folders.now (counting (record { folders = folders.now; selected = selected; idling = None; ended = false; mailing = nothing_sent 0 }) name.now items.now))
         last store.old store.new out.old.items out.new.items result }
     ensures short { IfOk result (λ words. length words.now ≤ 45) }
     ensures room { vec_len out.new + keep ≤ vec_capacity out.new }
@@ -102,7 +102,7 @@ pub(crate) fn count_mailbox<S: Store>(
 ) -> Result<&'static [u8], MailFault>
     requires room { vec_len out.old + keep ≤ vec_capacity out.old }
     ensures done { Does S.step
-        (wanting (on_folder name.now folders.now (counting (record { folders = folders.now; selected = selected; idling = None; ended = false }) name.now items.now)))
+        (wanting (on_folder name.now folders.now (counting (record { folders = folders.now; selected = selected; idling = None; ended = false; mailing = nothing_sent 0 }) name.now items.now)))
         last store.old store.new out.old.items out.new.items result }
     ensures short { IfOk result (λ words. length words.now ≤ 45) }
     ensures room { vec_len out.new + keep ≤ vec_capacity out.new }

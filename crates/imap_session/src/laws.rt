@@ -1,10 +1,11 @@
 //! What holds of every command, whatever the store answers.
 
 ghost use Rattle.imap_grammar.specs.declared.command.Command.{Command};
-ghost use Rattle.std.specs.Prelude.{ℕ, List, Option};
-ghost use Rattle.imap_session.specs.Exchange.{Standing};
-ghost use Rattle.imap_session.specs.Commands.{on_command, on_idle_line};
-ghost use Rattle.imap_session.specs.Shows.{DoneShowsInPlace, ShowsInPlace};
+ghost use Rattle.std.specs.Prelude.{◌≡◌, ◌&&◌, ◌++◌, ℕ, Bool, List, Option};
+ghost use Rattle.delivery_token.specs.declared.Verdict.{Verdict};
+ghost use Rattle.imap_session.specs.Exchange.{Appending, Mailing, Standing};
+ghost use Rattle.imap_session.specs.Commands.{on_command, on_idle_line, on_rest, on_verdict, with_bytes};
+ghost use Rattle.imap_session.specs.Shows.{DoneShowsInPlace, RestShowsNone, ShowsInPlace, VerdictShowsInPlace};
 ghost use Rattle.imap_session.specs.declared.standing.Selected.{Selected};
 
 /// Changes are shown right before the tagged OK of NOOP, EXPUNGE, STATUS, LIST, UID FETCH, UID STORE and UID EXPUNGE, and as EXPUNGE and
@@ -17,4 +18,21 @@ pub fn changes_are_shown_in_place()
 /// The line that ends an IDLE shows changes right before its tagged OK where it is DONE. Any other line shows none.
 pub fn done_shows_in_place()
     ensures { (selected : Option Selected) (line : List ℕ) → DoneShowsInPlace selected line (on_idle_line selected line) }
+{}
+
+/// What stands behind a literal shows no changes, asks nothing of the store and has no tagged OK: the message is refused, or it is submitted and
+/// nothing is said before the verdict on it.
+pub fn rest_shows_none()
+    ensures { (mailing : Mailing) (begun : Appending) (ends : Bool) → RestShowsNone (on_rest mailing begun ends) }
+{}
+
+/// The verdict on an appended message shows changes right before the tagged OK that tells its UID, where a mailbox is selected. A message that was
+/// refused has no tagged OK, and shows none.
+pub fn verdicts_show_in_place()
+    ensures { (selected : Option Selected) (mailbox : ℕ) (verdict : Verdict) → VerdictShowsInPlace selected verdict (on_verdict selected mailbox verdict) }
+{}
+
+/// However the bytes of a literal are cut, the session comes to stand where it would by all at once.
+pub fn literals_may_be_cut()
+    ensures { (now : Standing) (front back : List ℕ) (kept also_kept : Bool) → with_bytes also_kept back (with_bytes kept front now) ≡ with_bytes (kept && also_kept) (front ++ back) now }
 {}

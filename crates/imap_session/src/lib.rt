@@ -2,11 +2,13 @@
 //! (RFC 9051, 6 and 7). How lines are spelled is told in `imap_grammar`; the store's mailboxes stand elsewhere.
 #![tactic(auto)]
 
+mod appended;
 mod count;
 mod expunge;
 mod fetch;
 mod folders;
 mod laws;
+mod mailing;
 mod say;
 mod select;
 mod selected;
@@ -18,7 +20,10 @@ mod store;
 mod tag;
 mod turn;
 
-pub use laws::{changes_are_shown_in_place, done_shows_in_place};
+pub use laws::{
+    changes_are_shown_in_place, done_shows_in_place, literals_may_be_cut, rest_shows_none,
+    verdicts_show_in_place,
+};
 pub use session::Session;
-pub use standing::{After, Folder, Selected, SessionFault};
+pub use standing::{After, Append, Folder, Selected, SessionFault};
 pub use store::Store;

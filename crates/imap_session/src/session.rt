@@ -1,13 +1,19 @@
 //! The session of one client, from its greeting to its end.
 //! What it answers to a line is told in specs/Commands.antt, and how one line is carried out in `turn`.
 
+use crate::appended::{STORED, tell_verdict};
+use crate::folders::find_folder;
+use crate::mailing::{Appending, Mailing, Sent, begin_text, judge, refused_size};
 use crate::say::{put, put_tagged};
 use crate::show::show;
-use crate::standing::{After, Folder, Selected, SessionFault};
+use crate::standing::{After, Append, Folder, Selected, SessionFault};
 use crate::store::Store;
 use crate::tag::Tag;
-use crate::turn::{FIRST, LAST, after_command, carry_out, conclude, end_idle, is_idle, put_fault};
-use imap_grammar::{Command, read_line};
+use crate::turn::{
+    FIRST, LAST, after_command, append_of, carry_out, conclude, end_idle, is_idle, put_fault,
+};
+use delivery_token::{Text, Verdict};
+use imap_grammar::{Append as AppendCommand, Command, Name, read_line};
 use mailbox::MailFault;
 use std::alloc::{AllocError, Global};
 use std::marker::Model;
@@ -20,10 +26,16 @@ const IDLING: &[u8] = b"+ idling\r\n";
 
 const NOT_DONE: &[u8] = b"BAD Expected DONE";
 
+const READY: &[u8] = b"+ ready\r\n";
+
+/// A literal that the client sends without being asked has at most so many bytes.
+const MOST_UNASKED: u64 = 4_096;
+
 /// At most so many changes are shown in a turn of a session that idles.
 const MOST_CHANGES: usize = 64;
 
-/// One client's session: its mailboxes by their names, the one that it selected, whether it idles, and whether it has ended.
+/// One client's session: its mailboxes by their names, the one that it selected, whether it idles, the message that its client appends, and
+/// whether it has ended.
 ///
 /// It holds no mailbox: the store that each call is handed does, and has entered the mailbox that is selected. Where the session has ended the
 /// mailbox may still be selected, and whoever holds the session leaves it.
@@ -34,6 +46,7 @@ pub struct Session {
     // The tag of the IDLE that isn't done yet.
     idling: Option<Tag>,
     ended: bool,
+    mailing: Mailing,
 }
 
 impl Model for Session {
@@ -41,27 +54,36 @@ impl Model for Session {
 
     ghost Value = { Standing };
 
-    ghost view = { λ s. record { folders = s.folders.items; selected = s.selected; idling = s.idling; ended = s.ended } };
+    ghost view = { λ s. record { folders = s.folders.items; selected = s.selected; idling = s.idling; ended = s.ended; mailing = s.mailing } };
 }
 
 impl Session {
-    ghost use Rattle.std.specs.Prelude.{◌≡◌, ◌≢◌, ◌+◌, ◌<◌, ◌≤◌, ◌++◌, ◌↔◌, true, false, [], codes, length, None, Some, Err, OnOk, OnErr, IfOk, vec_len};
-    ghost use Rattle.std.specs.Option.{option_copied};
+    ghost use Rattle.std.specs.Prelude.{◌≡◌, ◌≢◌, ◌==◌, ◌^◌, ◌⊎◌, ◌+◌, ◌<◌, ◌≤◌, ◌++◌, ◌↔◌, ℕ, List, take, min, if◌then◌else◌, true, false, [], codes, length, is_some, None, Some, Err, OnOk, OnErr, IfOk, vec_len};
+    ghost use Rattle.std.specs.Option.{option_copied, option_map};
     ghost use Rattle.std.specs.Vec.{vec_capacity};
-    ghost use Rattle.imap_session.specs.Exchange.{Feed, Refused, closed, is_idling, may_send, refusal_text, tagged};
-    ghost use Rattle.imap_session.specs.Commands.{greeting, long_line_text, most_changes, on_command, on_idle_line, turn_of_long_line};
-    ghost use Rattle.imap_session.specs.Store.{Answers, IdleTurns, Starves, room_for};
-    ghost use Rattle.imap_session.specs.inner.Store.{Plays, is_idle};
+    ghost use Rattle.imap_session.specs.Exchange.{Sent as SentSpec, kept_tag, nothing_sent, Feed, Refused, closed, is_idling, may_send, refusal_text, tagged};
+    ghost use Rattle.imap_session.specs.Commands.{appending, awaiting, due_of, number_named, on_rest, on_verdict, wanting, greeting, long_line_text, most_changes, on_command, on_idle_line, turn_of_long_line};
+    ghost use Rattle.imap_session.specs.inner.Seen.{appending_of, sent_of};
+    ghost use Rattle.imap_session.specs.inner.Appends.{Leads};
+    ghost use Rattle.imap_session.specs.Store.{Answers, AnswersVerdict, IdleTurns, Starves, TakesBytes, room_for, room_for_verdict};
+    ghost use Rattle.imap_session.specs.inner.Store.{Plays, is_open};
 
-    /// The session of a client whose mailboxes have these names. It has selected none. Where two have the same name, the first is found.
-    pub fn new(folders: Vec<Folder>) -> Session
-        ensures { result ≡ record { folders = folders.items; selected = None; idling = None; ended = false } }
+    /// The session of a client whose mailboxes have these names, and which appends messages of so many bytes at most, or none. It has
+    /// selected no mailbox. Where two have the same name, the first is found.
+    pub fn new(folders: Vec<Folder>, max_message: Option<u32>) -> Session
+        ensures { result ≡ record { folders = folders.items; selected = None; idling = None; ended = false; mailing = nothing_sent max_message } }
     {
         Session {
             folders,
             selected: None,
             idling: None,
             ended: false,
+            mailing: Mailing {
+                most: max_message,
+                number: 0,
+                begun: None,
+                sent: None,
+            },
         }
     }
 
@@ -109,13 +131,45 @@ impl Session {
         }
     }
 
+    /// The tag of the IDLE or the APPEND that isn't done yet, which its last line will have.
+    pub fn kept_tag(&self) -> Option<&[u8]>
+        ensures { option_copied result ≡ kept_tag self.now }
+    {
+        match &self.mailing.begun {
+            None => self.idling(),
+            Some(begun) => Some(begun.tag.as_slice()),
+        }
+    }
+
+    /// What the client may send next.
+    pub fn may_send(&self) -> After
+        ensures { result ≡ may_send self.now }
+    {
+        if self.ended {
+            return After::Bye;
+        }
+        if self.mailing.sent.is_some() {
+            return After::Submit;
+        }
+        match &self.mailing.begun {
+            Some(begun) => After::Literal(begun.due),
+            None => {
+                if self.idling.is_some() {
+                    After::Idle
+                } else {
+                    After::Go
+                }
+            }
+        }
+    }
+
     // Begins to idle, in the room that was reserved for a last line. Where memory for the tag is refused, that is told: of a tag of at
     // most 32 bytes it isn't asked.
     fn begin_idling(&mut self, alloc: Global, tag: &[u8], out: &mut Vec<u8>) -> After
         requires room { vec_len out.old + (length tag.now + LAST) ≤ vec_capacity out.old }
         ensures begun { result ≡ After.Idle → (self.new ≡ record self.old { idling = Some tag.now }) × (out.new.items ≡ out.old.items ++ codes "+ idling\r\n") }
         ensures starved { result ≡ After.Go → (32 < length tag.now) × (self.new ≡ self.old) × (out.new.items ≡ out.old.items ++ tagged tag.now (codes "NO Out of memory")) }
-        ensures goes_on { result ≢ After.Bye }
+        ensures only { (result ≡ After.Idle) ⊎ (result ≡ After.Go) }
     {
         let Ok(kept) = Tag::new(alloc, tag) else {
             put_tagged(tag, b"NO Out of memory", out);
@@ -126,7 +180,122 @@ impl Session {
         After::Idle
     }
 
-    // Answers a command other than IDLE, in the room that was reserved for its last line and the one before it of CAPABILITY, NAMESPACE and LOGOUT.
+    // Waits for the bytes of a literal, and asks for them where the client waits for that. Where memory for the tag is refused, that is told.
+    fn await_literal(
+        &mut self,
+        alloc: Global,
+        tag: &[u8],
+        mailbox: Option<u8>,
+        append: &AppendCommand<'_>,
+        out: &mut Vec<u8>,
+    ) -> After
+        requires going { self.old.ended ≡ false }
+        requires awake { self.old.idling ≡ None }
+        requires alone { self.old.mailing.begun ≡ None }
+        requires unsent { self.old.mailing.sent ≡ None }
+        requires room { vec_len out.old + (length tag.now + LAST) ≤ vec_capacity out.old }
+        requires size { append.now.literal.size < 2 ^ 32 }
+        ensures leads { Leads tag.now self.old (wanting (awaiting (if append.now.literal.waits then codes "+ ready\r\n" else []) mailbox append.now.flags append.now.literal.size)) out.old.items out.new.items result self.new }
+        ensures folders { self.new.folders ≡ self.old.folders }
+        ensures sends { result ≡ may_send self.new }
+    {
+        let Ok(own_tag) = Tag::new(alloc, tag) else {
+            put_tagged(tag, b"NO Out of memory", out);
+            return After::Go;
+        };
+        let size = append.literal.size as usize;
+        let text = begin_text(alloc, size);
+        self.mailing.begun = Some(Appending {
+            tag: own_tag,
+            mailbox,
+            flags: append.flags,
+            size,
+            due: size,
+            text: Some(text),
+        });
+        if append.literal.waits {
+            put(READY, out);
+        }
+        After::Literal(size)
+    }
+
+    // The number of the mailbox of this name, where there is one.
+    fn number_of(&self, alloc: Global, name: &Name<'_>) -> Result<Option<u8>, AllocError>
+        ensures { IfOk result (λ number. number ≡ number_named name.now self.now.folders) }
+    {
+        let name = name.to_bytes(alloc)?;
+        match find_folder(&name, &self.folders) {
+            None => Ok(None),
+            Some(folder) => Ok(Some(folder.mailbox())),
+        }
+    }
+
+    // Takes the line of an APPEND whose client waits to be asked for the literal.
+    fn ask_for_literal(
+        &mut self,
+        alloc: Global,
+        tag: &[u8],
+        append: &AppendCommand<'_>,
+        out: &mut Vec<u8>,
+    ) -> After
+        requires going { self.old.ended ≡ false }
+        requires awake { self.old.idling ≡ None }
+        requires alone { self.old.mailing.begun ≡ None }
+        requires unsent { self.old.mailing.sent ≡ None }
+        requires room { vec_len out.old + (length tag.now + LAST) ≤ vec_capacity out.old }
+        requires waits { append.now.literal.waits ≡ true }
+        ensures leads { Leads tag.now self.old (appending self.old.mailing.most self.old.folders append.now) out.old.items out.new.items result self.new }
+        ensures folders { self.new.folders ≡ self.old.folders }
+        ensures sends { result ≡ may_send self.new }
+    {
+        let Ok(mailbox) = self.number_of(alloc, &append.name) else {
+            put_tagged(tag, b"NO Out of memory", out);
+            return After::Go;
+        };
+        let Some(number) = mailbox else {
+            put_tagged(tag, b"NO [TRYCREATE] No such mailbox", out);
+            return After::Go;
+        };
+        if let Some(words) = refused_size(self.mailing.most, append.literal.size) {
+            put_tagged(tag, words, out);
+            return After::Go;
+        }
+        self.await_literal(alloc, tag, Some(number), append, out)
+    }
+
+    // Takes the line of an APPEND, in the room that was reserved for a last line.
+    fn begin_append(
+        &mut self,
+        alloc: Global,
+        tag: &[u8],
+        append: &AppendCommand<'_>,
+        out: &mut Vec<u8>,
+    ) -> After
+        requires going { self.old.ended ≡ false }
+        requires awake { self.old.idling ≡ None }
+        requires alone { self.old.mailing.begun ≡ None }
+        requires unsent { self.old.mailing.sent ≡ None }
+        requires room { vec_len out.old + (length tag.now + LAST) ≤ vec_capacity out.old }
+        ensures leads { Leads tag.now self.old (appending self.old.mailing.most self.old.folders append.now) out.old.items out.new.items result self.new }
+        ensures folders { self.new.folders ≡ self.old.folders }
+        ensures sends { result ≡ may_send self.new }
+    {
+        if append.literal.waits {
+            return self.ask_for_literal(alloc, tag, append, out);
+        }
+        if append.literal.size > MOST_UNASKED {
+            put(b"* BYE Literal too big\r\n", out);
+            self.ended = true;
+            return After::Bye;
+        }
+        let Ok(mailbox) = self.number_of(alloc, &append.name) else {
+            put_tagged(tag, b"NO Out of memory", out);
+            return After::Go;
+        };
+        self.await_literal(alloc, tag, mailbox, append, out)
+    }
+
+    // Answers a command other than IDLE and APPEND, in the room that was reserved for its last line and the one before it of CAPABILITY, NAMESPACE and LOGOUT.
     fn answer<S: Store>(
         &mut self,
         alloc: Global,
@@ -137,7 +306,9 @@ impl Session {
     ) -> After
         requires going { self.old.ended ≡ false }
         requires awake { self.old.idling ≡ None }
-        requires other { is_idle command.now ≡ false }
+        requires alone { self.old.mailing.begun ≡ None }
+        requires unsent { self.old.mailing.sent ≡ None }
+        requires other { is_open command.now ≡ false }
         requires room { vec_len out.old + (length tag.now + LAST + FIRST) ≤ vec_capacity out.old }
         ensures plays { Plays S.step tag.now self.old (record self.old { selected = self.new.selected }) (on_command self.old command.now) store.old store.new out.old.items out.new.items result }
         ensures standing { self.new ≡ (closed (record self.old { selected = self.new.selected }) result).standing }
@@ -168,6 +339,8 @@ impl Session {
     ) -> Result<After, SessionFault>
         requires going { self.old.ended ≡ false }
         requires awake { self.old.idling ≡ None }
+        requires alone { self.old.mailing.begun ≡ None }
+        requires unsent { self.old.mailing.sent ≡ None }
         ensures answered { IfOk result (λ after. Answers S.step self.old line.now store.old store.new out.old.items out.new.items after self.new) }
         ensures lasts { result ≢ Err SessionFault.Ended }
         ensures refused { OnErr result ((self.new ≡ self.old) × (store.new ≡ store.old) × (out.new.items ≡ out.old.items)) }
@@ -184,10 +357,15 @@ impl Session {
                 Ok(After::Go)
             }
             Ok((tag, command)) => {
-                if is_idle(&command) {
-                    return Ok(self.begin_idling(alloc, tag.as_bytes(), out));
+                match append_of(&command) {
+                    Some(append) => Ok(self.begin_append(alloc, tag.as_bytes(), append, out)),
+                    None => {
+                        if is_idle(&command) {
+                            return Ok(self.begin_idling(alloc, tag.as_bytes(), out));
+                        }
+                        Ok(self.answer(alloc, tag.as_bytes(), &command, store, out))
+                    }
                 }
-                Ok(self.answer(alloc, tag.as_bytes(), &command, store, out))
             }
         }
     }
@@ -202,6 +380,8 @@ impl Session {
     ) -> After
         requires going { self.old.ended ≡ false }
         requires awake { self.old.idling ≡ None }
+        requires alone { self.old.mailing.begun ≡ None }
+        requires unsent { self.old.mailing.sent ≡ None }
         requires room { vec_len out.old + (length tag.now + LAST) ≤ vec_capacity out.old }
         ensures plays { Plays S.step tag.now self.old self.old (on_idle_line self.old.selected line.now) store.old store.new out.old.items out.new.items result }
         ensures standing { self.new ≡ (closed self.old result).standing }
@@ -223,6 +403,8 @@ impl Session {
     ) -> Result<After, SessionFault>
         requires going { self.old.ended ≡ false }
         requires awake { self.old.idling ≡ None }
+        requires alone { self.old.mailing.begun ≡ None }
+        requires unsent { self.old.mailing.sent ≡ None }
         ensures answered { IfOk result (λ after. Answers S.step (record self.old { idling = Some tag }) line.now store.old store.new out.old.items out.new.items after self.new) }
         ensures lasts { result ≢ Err SessionFault.Ended }
         ensures refused { OnErr result ((self.new ≡ record self.old { idling = Some tag }) × (store.new ≡ store.old) × (out.new.items ≡ out.old.items)) }
@@ -245,8 +427,13 @@ impl Session {
     /// is always written: room for it is reserved first, so that a client can log out where memory is refused. So is room for all that
     /// CAPABILITY and NAMESPACE say, and to idle, with a tag of at most 32 bytes, or to leave a mailbox the session itself wants no memory.
     ///
+    /// Behind the literal of an APPEND the line is the rest of that command's, which is to be empty: the message is then submitted, or it is said
+    /// why not (6.3.12). It has the bytes that were taken till then, so a caller hands over all that are due first. While the verdict on a message
+    /// is awaited no line may come.
+    ///
     /// Errors, after which the session, the store and `out` are as they were: `Ended` exactly where the session has ended; `NoMemory` where
-    /// memory was refused, and `out` has no room for the line's length and 80 bytes more; while it idles, for the tag's length and 48 more.
+    /// memory was refused, and `out` has no room for the line's length and 80 bytes more; where the line ends an IDLE or an APPEND, for the
+    /// length of its tag and 48 more.
     pub fn line<S: Store>(
         &mut self,
         alloc: Global,
@@ -254,15 +441,19 @@ impl Session {
         store: &mut S,
         out: &mut Vec<u8>,
     ) -> Result<After, SessionFault>
+        requires unsent { self.old.mailing.sent ≡ None }
         ensures answered { IfOk result (λ after. Answers S.step self.old line.now store.old store.new out.old.items out.new.items after self.new) }
         ensures ended { (result ≡ Err SessionFault.Ended) ↔ (self.old.ended ≡ true) }
         ensures refused { OnErr result ((self.new ≡ self.old) × (store.new ≡ store.old) × (out.new.items ≡ out.old.items)) }
-        ensures memory { result ≡ Err SessionFault.NoMemory → vec_capacity out.old < vec_len out.old + room_for self.old.idling line.now }
+        ensures memory { result ≡ Err SessionFault.NoMemory → vec_capacity out.old < vec_len out.old + room_for self.old line.now }
         ensures folders { self.new.folders ≡ self.old.folders }
         ensures sends { IfOk result (λ after. after ≡ may_send self.new) }
     {
         if self.ended {
             return Err(SessionFault::Ended);
+        }
+        if let Some(begun) = self.mailing.begun.take() {
+            return self.rest_line(begun, line, out);
         }
         match self.idling.take() {
             None => self.awake_line(alloc, line, store, out),
@@ -270,19 +461,234 @@ impl Session {
         }
     }
 
-    /// Answers a line that was too long to be kept, of which nothing was read. While the session idles it ends that, as any line does.
+    /// How many bytes of the literal are still due that APPEND announced.
+    pub fn literal_due(&self) -> usize
+        ensures { result ≡ due_of self.now.mailing.begun }
+    {
+        match &self.mailing.begun {
+            None => 0,
+            Some(begun) => begun.due,
+        }
+    }
+
+    /// Takes bytes of the literal that APPEND announced, those at the front of the piece, and answers how many: as many as are due. When
+    /// none is due the rest of the line goes to `line`. Where memory is refused the bytes are dropped, and the command ends with that.
+    pub fn literal(&mut self, piece: &[u8]) -> usize
+        ensures count { result ≡ min (length piece.now) (due_of self.old.mailing.begun) }
+        ensures taken { TakesBytes self.old (take result piece.now) self.new }
+    {
+        let Some(mut begun) = self.mailing.begun.take() else {
+            return 0;
+        };
+        let count = piece.len().min(begun.due);
+        begun.keep(&piece[..count]);
+        self.mailing.begun = Some(begun);
+        count
+    }
+
+    /// The message that was submitted and waits for the verdict on it.
+    pub fn submission(&self) -> Option<&Append>
+        ensures { option_map (λ a. a.now) result ≡ option_map (λ (s : SentSpec). s.append) self.now.mailing.sent }
+    {
+        match &self.mailing.sent {
+            None => None,
+            Some(sent) => Some(&sent.append),
+        }
+    }
+
+    /// Whether a message was submitted, and the verdict on it isn't there: till then the session takes no line.
+    pub fn awaits_verdict(&self) -> bool
+        ensures is { result ≡ is_some self.now.mailing.sent }
+        ensures none { result ≡ false → self.now.mailing.sent ≡ None }
+    {
+        self.mailing.sent.is_some()
+    }
+
+    // Answers the rest of a line behind a literal.
+    fn rest_line(
+        &mut self,
+        begun: Appending,
+        line: &[u8],
+        out: &mut Vec<u8>,
+    ) -> Result<After, SessionFault>
+        requires going { self.old.ended ≡ false }
+        requires alone { self.old.mailing.begun ≡ None }
+        requires unsent { self.old.mailing.sent ≡ None }
+        ensures answered { IfOk result (λ after. Leads begun.tag (record self.old { idling = None }) (on_rest self.old.mailing (appending_of begun) (length line.now == 0)) out.old.items out.new.items after self.new) }
+        ensures lasts { result ≢ Err SessionFault.Ended }
+        ensures refused { OnErr result ((self.new ≡ record self.old { mailing = record self.old.mailing { begun = Some (appending_of begun) } }) × (out.new.items ≡ out.old.items)) }
+        ensures memory { OnErr result (vec_capacity out.old < vec_len out.old + (length begun.tag + 48)) }
+        ensures folders { self.new.folders ≡ self.old.folders }
+        ensures sends { IfOk result (λ after. after ≡ may_send self.new) }
+    {
+        if out.reserve(begun.tag.as_slice().len() + LAST).is_err() {
+            self.mailing.begun = Some(begun);
+            return Err(SessionFault::NoMemory);
+        }
+        self.idling = None;
+        Ok(self.submit(begun, line.is_empty(), out))
+    }
+
+    // Submits a message whose bytes are all there, or says why not, in the room that was reserved for a last line.
+    fn submit(&mut self, begun: Appending, ends: bool, out: &mut Vec<u8>) -> After
+        requires going { self.old.ended ≡ false }
+        requires awake { self.old.idling ≡ None }
+        requires alone { self.old.mailing.begun ≡ None }
+        requires unsent { self.old.mailing.sent ≡ None }
+        requires room { vec_len out.old + (length begun.tag + LAST) ≤ vec_capacity out.old }
+        ensures leads { Leads begun.tag self.old (on_rest self.old.mailing (appending_of begun) ends) out.old.items out.new.items result self.new }
+        ensures folders { self.new.folders ≡ self.old.folders }
+        ensures sends { result ≡ may_send self.new }
+    {
+        let Appending {
+            tag,
+            mailbox,
+            flags,
+            size,
+            due: _,
+            text,
+        } = begun;
+        let most = self.mailing.most;
+        let message = self.mailing.number;
+        match judge(text, mailbox, size, most, message, ends) {
+            Err(words) => {
+                put_tagged(tag.as_slice(), words, out);
+                After::Go
+            }
+            Ok((mailbox, text)) => {
+                let Ok(text) = Text::new(text) else {
+                    put_tagged(tag.as_slice(), b"NO Out of memory", out);
+                    return After::Go;
+                };
+                self.mailing.number = message + 1;
+                self.mailing.sent = Some(Sent {
+                    tag,
+                    append: Append {
+                        message,
+                        mailbox,
+                        text,
+                        flags,
+                    },
+                });
+                After::Submit
+            }
+        }
+    }
+
+    // Answers the verdict on a message under its tag, in the room that was reserved.
+    fn answer_verdict<S: Store>(
+        &mut self,
+        tag: &[u8],
+        mailbox: u8,
+        verdict: Verdict,
+        store: &mut S,
+        out: &mut Vec<u8>,
+    ) -> After
+        requires going { self.old.ended ≡ false }
+        requires awake { self.old.idling ≡ None }
+        requires alone { self.old.mailing.begun ≡ None }
+        requires unsent { self.old.mailing.sent ≡ None }
+        requires room { vec_len out.old + (length tag.now + STORED) ≤ vec_capacity out.old }
+        ensures plays { Plays S.step tag.now self.old self.old (on_verdict self.old.selected mailbox verdict) store.old store.new out.old.items out.new.items result }
+        ensures standing { self.new ≡ (closed self.old result).standing }
+        ensures mailing { self.new.mailing ≡ self.old.mailing }
+        ensures sends { result ≡ may_send self.new }
+    {
+        let after = tell_verdict(tag, mailbox, verdict, self.selected, store, out);
+        self.ended = matches!(after, After::Bye);
+        after
+    }
+
+    // Hears the verdict on a message that was submitted. It is no longer waited for, unless memory was refused.
+    fn hear<S: Store>(
+        &mut self,
+        sent: Sent,
+        verdict: Verdict,
+        store: &mut S,
+        out: &mut Vec<u8>,
+    ) -> Result<After, SessionFault>
+        requires going { self.old.ended ≡ false }
+        requires unsent { self.old.mailing.sent ≡ None }
+        ensures answered { IfOk result (λ after. AnswersVerdict S.step (record self.old { mailing = record self.old.mailing { sent = Some (sent_of sent) } }) verdict store.old store.new out.old.items out.new.items after self.new) }
+        ensures lasts { result ≢ Err SessionFault.Ended }
+        ensures refused { OnErr result ((self.new ≡ record self.old { mailing = record self.old.mailing { sent = Some (sent_of sent) } }) × (store.new ≡ store.old) × (out.new.items ≡ out.old.items)) }
+        ensures memory { OnErr result (vec_capacity out.old < vec_len out.old + (length sent.tag + STORED)) }
+        ensures done { OnOk result ((self.new.mailing.begun ≡ None) × (self.new.mailing.sent ≡ None)) }
+        ensures folders { self.new.folders ≡ self.old.folders }
+        ensures sends { IfOk result (λ after. after ≡ may_send self.new) }
+    {
+        if out.reserve(sent.tag.as_slice().len() + STORED).is_err() {
+            self.mailing.sent = Some(sent);
+            return Err(SessionFault::NoMemory);
+        }
+        self.idling = None;
+        self.mailing.begun = None;
+        Ok(self.answer_verdict(
+            sent.tag.as_slice(),
+            sent.append.mailbox,
+            verdict,
+            store,
+            out,
+        ))
+    }
+
+    /// Answers the verdict on the message that was submitted (RFC 9051, 6.3.12): where it was stored, shows what is pending in the selected
+    /// mailbox and says under which UID (RFC 4315, 3); else says why it wasn't. The session then takes lines again.
+    ///
+    /// Errors, after which the session, the store and `out` are as they were, and the same verdict is waited for: `Ended` exactly where the
+    /// session has ended; `NoMemory` where memory was refused, and `out` has no room for the tag's length and 56 bytes more.
+    pub fn appended<S: Store>(
+        &mut self,
+        verdict: Verdict,
+        store: &mut S,
+        out: &mut Vec<u8>,
+    ) -> Result<After, SessionFault>
+        requires waits { is_some self.old.mailing.sent ≡ true }
+        ensures answered { IfOk result (λ after. AnswersVerdict S.step self.old verdict store.old store.new out.old.items out.new.items after self.new) }
+        ensures ended { (result ≡ Err SessionFault.Ended) ↔ (self.old.ended ≡ true) }
+        ensures refused { OnErr result ((self.new ≡ self.old) × (store.new ≡ store.old) × (out.new.items ≡ out.old.items)) }
+        ensures memory { result ≡ Err SessionFault.NoMemory → vec_capacity out.old < vec_len out.old + room_for_verdict self.old }
+        ensures done { OnOk result ((self.new.mailing.begun ≡ None) × (self.new.mailing.sent ≡ None)) }
+        ensures folders { self.new.folders ≡ self.old.folders }
+        ensures sends { IfOk result (λ after. after ≡ may_send self.new) }
+    {
+        if self.ended {
+            return Err(SessionFault::Ended);
+        }
+        match self.mailing.sent.take() {
+            None => unreachable!(),
+            Some(sent) => self.hear(sent, verdict, store, out),
+        }
+    }
+
+    /// Answers a line that was too long to be kept, of which nothing was read. While the session idles it ends that, as any line does, and so it
+    /// ends an APPEND whose literal it stands behind.
     ///
     /// Errors, after which the session and `out` are as they were: `Ended` exactly where the session has ended; `NoMemory` where `out` has no
     /// room for the answer and memory was refused.
     pub fn long_line(&mut self, out: &mut Vec<u8>) -> Result<After, SessionFault>
-        ensures answered { IfOk result (λ after. (after ≡ After.Go) × (out.new.items ≡ out.old.items ++ long_line_text self.old.idling)) }
+        ensures answered { IfOk result (λ after. (after ≡ After.Go) × (out.new.items ≡ out.old.items ++ long_line_text self.old)) }
         ensures standing { OnOk result (self.new ≡ (turn_of_long_line self.old).standing) }
         ensures ended { (result ≡ Err SessionFault.Ended) ↔ (self.old.ended ≡ true) }
         ensures refused { OnErr result ((self.new ≡ self.old) × (out.new.items ≡ out.old.items)) }
-        ensures memory { result ≡ Err SessionFault.NoMemory → vec_capacity out.old < vec_len out.old + length (long_line_text self.old.idling) }
+        ensures memory { result ≡ Err SessionFault.NoMemory → vec_capacity out.old < vec_len out.old + length (long_line_text self.old) }
     {
         if self.ended {
             return Err(SessionFault::Ended);
+        }
+        if let Some(begun) = &self.mailing.begun {
+            let words: &[u8] = match &begun.text {
+                None => b"NO Out of memory",
+                Some(_) => b"BAD Invalid arguments",
+            };
+            let tag = begun.tag.as_slice();
+            if out.reserve(tag.len() + words.len() + 3).is_err() {
+                return Err(SessionFault::NoMemory);
+            }
+            put_tagged(tag, words, out);
+            self.mailing.begun = None;
+            self.idling = None;
+            return Ok(After::Go);
         }
         match &self.idling {
             None => {
@@ -325,6 +731,7 @@ impl Session {
         out: &mut Vec<u8>,
     ) -> Result<usize, SessionFault>
         ensures turned { IfOk result (λ count. IdleTurns S.step self.old store.old store.new out.old.items out.new.items count self.new) }
+        ensures mailing { self.new.mailing ≡ self.old.mailing }
         ensures few { IfOk result (λ count. count ≤ 64) }
         ensures quiet { IfOk result (λ count. count ≡ 0 → self.new.ended ≡ false → (self.new ≡ self.old) × (out.new.items ≡ out.old.items)) }
         ensures ended { (result ≡ Err SessionFault.Ended) ↔ (self.old.ended ≡ true) }

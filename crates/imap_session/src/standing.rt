@@ -1,6 +1,8 @@
 //! Where a session stands: its folders, the mailbox that it selected, and whether it idles or has ended.
 //! What it answers is told in specs/Commands.antt.
 
+use change_ring::Flags;
+use delivery_token::Text;
 use std::marker::Model;
 
 /// What a client may send next.
@@ -10,8 +12,23 @@ pub enum After {
     Go,
     /// DONE, since the session idles (RFC 2177).
     Idle,
+    /// So many bytes of the literal that APPEND announced, and behind them the rest of its line.
+    Literal(usize),
+    /// Nothing before the verdict is there on the message that was submitted.
+    Submit,
     /// Nothing: the session has ended.
     Bye,
+}
+
+/// A message that a client appended, on its way to its mailbox (RFC 9051, 6.3.12).
+#[derive(Drop)]
+pub struct Append {
+    /// Which message of the session it is, from 0.
+    pub message: u32,
+    /// The mailbox's number.
+    pub mailbox: u8,
+    pub text: Text,
+    pub flags: Flags,
 }
 
 /// Why a line wasn't taken. Nothing happened, and nothing changed.

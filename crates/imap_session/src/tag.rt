@@ -1,4 +1,4 @@
-//! The tag of an IDLE, kept until that is done.
+//! The tag of an IDLE or an APPEND, kept until that is done.
 
 use arrayvec::ArrayVec;
 use std::alloc::{AllocError, Global};

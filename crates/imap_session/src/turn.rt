@@ -1,11 +1,12 @@
 //! One command, carried out: the part that fits it, in the state that it wants, and then its last line in the room that was kept for it.
 //! What each part does is told in the modules of the commands.
 
-ghost use Rattle.std.specs.Prelude.{◌≡◌, ◌↔◌, ◌+◌, ◌≤◌, ◌++◌, length, true, false, None, IfOk, vec_len};
+ghost use Rattle.std.specs.Prelude.{◌≡◌, ◌↔◌, ◌+◌, ◌≤◌, ◌++◌, length, true, false, None, IfOk, IfSome, IfNone, vec_len};
 ghost use Rattle.std.specs.Vec.{vec_capacity};
 ghost use Rattle.imap_grammar.specs.declared.command.Command.TheVariants as commands;
 ghost use Rattle.imap_session.specs.Commands.{completed, fault_text, on_command, on_idle_line, showing};
-ghost use Rattle.imap_session.specs.inner.Store.{Does, Moves, after_command, after_result, ending, is_idle, last, last_words};
+ghost use Rattle.imap_session.specs.Exchange.{Mailing};
+ghost use Rattle.imap_session.specs.inner.Store.{Does, Moves, after_command, after_result, ending, is_idle, is_open, last, last_words};
 
 use crate::count::{count_mailbox, list_folders};
 use crate::expunge::show_pending;
@@ -14,7 +15,7 @@ use crate::select::select_mailbox;
 use crate::selected::{close, expunge, fetch, store_flags, uid_expunge, unselect};
 use crate::standing::{After, Folder, Selected};
 use crate::store::Store;
-use imap_grammar::{Command, ImapFault, is_done};
+use imap_grammar::{Append, Command, ImapFault, is_done};
 use mailbox::MailFault;
 use std::alloc::Global;
 
@@ -87,11 +88,22 @@ pub(crate) fn after_command(command: &Command<'_>) -> After
     }
 }
 
-/// Whether it is IDLE, which has no last line.
+/// Whether it is IDLE.
 pub(crate) fn is_idle(command: &Command<'_>) -> bool
     ensures { result ≡ is_idle command.now }
 {
     matches!(command, Command::Idle)
+}
+
+/// The message that is to be appended, where it is APPEND.
+pub(crate) fn append_of<'a, 'b>(command: &'b Command<'a>) -> Option<&'b Append<'a>>
+    ensures some { IfSome result (λ a. command.now ≡ commands.Append a.now) }
+    ensures none { IfNone result (is_open command.now ≡ is_idle command.now) }
+{
+    match command {
+        Command::Append(append) => Some(append),
+        _ => None,
+    }
 }
 
 /// Answers a line of a session that idles but for the last line, and answers what that says: DONE shows what is pending, where a mailbox is
@@ -133,7 +145,7 @@ fn note_nothing<S: Store>(
     }
 }
 
-// Carries out a command other than IDLE but for its last line, and answers what that says.
+// Carries out a command other than IDLE and APPEND but for its last line, and answers what that says.
 pub(crate) fn carry_out<S: Store>(
     alloc: Global,
     folders: &[Folder],
@@ -144,9 +156,9 @@ pub(crate) fn carry_out<S: Store>(
     out: &mut Vec<u8>,
 ) -> Result<&'static [u8], MailFault>
     requires room { vec_len out.old + (keep + FIRST) ≤ vec_capacity out.old }
-    requires other { is_idle command.now ≡ false }
-    ensures done { Moves S.step selected.old selected.new
-        (on_command (record { folders = folders.now; selected = selected.old; idling = None; ended = false }) command.now)
+    requires other { is_open command.now ≡ false }
+    ensures done { (mailing : Mailing) → Moves S.step selected.old selected.new
+        (on_command (record { folders = folders.now; selected = selected.old; idling = None; ended = false; mailing = mailing }) command.now)
         (ending (after_command command.now)) store.old store.new out.old.items out.new.items result }
     ensures short { IfOk result (λ words. length words.now ≤ 45) }
     ensures room { vec_len out.new + keep ≤ vec_capacity out.new }
@@ -166,6 +178,7 @@ pub(crate) fn carry_out<S: Store>(
             Ok(b"OK LOGOUT completed")
         }
         Command::Idle => unreachable!(),
+        Command::Append(_) => unreachable!(),
         Command::Login => Ok(b"BAD Wrong state"),
         Command::Authenticate => Ok(b"BAD Wrong state"),
         Command::StartTls => Ok(b"BAD Wrong state"),

@@ -17,7 +17,7 @@ fn session(alloc: Global) -> Result<Session, AllocError> {
     folders.reserve(1)?;
     let inbox = Vec::from_slice(alloc, b"INBOX")?;
     let _ = folders.push(Folder::new(inbox, 3));
-    Ok(Session::new(folders))
+    Ok(Session::new(folders, Some(1_048_576)))
 }
 
 // A mailbox with one message, before any session entered it.
@@ -56,6 +56,9 @@ fn says(
     wanted: &[u8],
 ) -> Result<bool, SessionFault> {
     let mut out = Vec::new(alloc);
+    if session.awaits_verdict() {
+        return Ok(false);
+    }
     session.line(alloc, line, shelf, &mut out)?;
     Ok(out.as_slice() == wanted)
 }
@@ -77,7 +80,9 @@ fn goes(
 ) -> bool {
     match step {
         Step::Says(line, wanted) => says(alloc, session, shelf, line, wanted) == Ok(true),
-        Step::Line(line, wanted) => session.line(alloc, line, shelf, out) == wanted,
+        Step::Line(line, wanted) => {
+            !session.awaits_verdict() && session.line(alloc, line, shelf, out) == wanted
+        }
         Step::LongLine(wanted) => session.long_line(out) == wanted,
         Step::IdleTurn(wanted) => session.idle_turn(shelf, out) == wanted,
         Step::Log(change) => {
@@ -394,6 +399,7 @@ fn a_refused_line_can_be_sent_again(rt: HostRuntime) -> Result<(), AllocError> {
     let mut session = session(alloc)?;
     let mut shelf = Shelf::new(alloc);
     let mut out = Vec::new(alloc);
+    assert!(rt; !session.awaits_verdict());
     let mut after = session.line(alloc, b"a1 LOGOUT", &mut shelf, &mut out);
     if after.is_err() {
         assert_eq!(rt; after, Err(SessionFault::NoMemory));

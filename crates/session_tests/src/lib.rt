@@ -4,6 +4,8 @@
 #[cfg(test)]
 mod answers;
 #[cfg(test)]
+mod appends;
+#[cfg(test)]
 mod connections;
 #[cfg(test)]
 mod dialogues;

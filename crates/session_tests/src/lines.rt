@@ -2,7 +2,7 @@
 //! grammar of `imap_grammar` leaves to this server.
 
 use change_ring::{FlagOp, Flags, NO_FLAGS};
-use imap_grammar::{Command, Fetch, ImapFault, read_line};
+use imap_grammar::{Append, Command, Fetch, ImapFault, read_line};
 use std::alloc::{AllocError, Global};
 
 fn command_kind(command: &Command<'_>) -> &'static str {
@@ -25,6 +25,7 @@ fn command_kind(command: &Command<'_>) -> &'static str {
         Command::UidExpunge(_) => "UID EXPUNGE",
         Command::Fetch(_) => "FETCH",
         Command::Store(_) => "STORE",
+        Command::Append(_) => "APPEND",
     }
 }
 
@@ -68,6 +69,8 @@ const COMMANDS: &[(&[u8], &str)] = &[
     (b"x LOGIN a \x07", "LOGIN"),
     (b"x AUTHENTICATE", "AUTHENTICATE"),
     (b"x STARTTLS", "STARTTLS"),
+    (b"a1 APPEND INBOX {5+}", "APPEND"),
+    (b"a1 append \"a b\" (\\Seen $x) \"1-Jan-2026\" {007} ", "APPEND"),
 ];
 
 #[test]
@@ -88,7 +91,7 @@ const FAULTS: &[(&[u8], &str)] = &[
     (b"a1 UID NOOP", "unknown"),
     (b"a1 NOOP\x01", "unknown"),
     (b"a1 UID search (", "left out"),
-    (b"a1 APPEND INBOX {5+}", "left out"),
+    (b"a1 COPY 1 INBOX", "left out"),
     (b"a1 IDLE x", "arguments"),
     (b"a1 NOOP x", "arguments"),
     (b"a1 FETCH 0 FLAGS", "arguments"),
@@ -104,6 +107,16 @@ const FAULTS: &[(&[u8], &str)] = &[
     (b"a1 SELECT a*", "arguments"),
     (b"a1 STATUS INBOX ()", "arguments"),
     (b"a1 STORE 1 FLAGS (\\*)", "arguments"),
+    (b"a1 APPEND INBOX", "arguments"),
+    (b"a1 APPEND INBOX {}", "arguments"),
+    (b"a1 APPEND INBOX {3-}", "arguments"),
+    (b"a1 APPEND INBOX {3}x", "arguments"),
+    (b"a1 APPEND INBOX \\Seen {3}", "arguments"),
+    (b"a1 APPEND INBOX (\\Seen){3}", "arguments"),
+    (b"a1 APPEND INBOX (\\Seen ) {3}", "arguments"),
+    (b"a1 APPEND INBOX 1-Jan-2026 {3}", "arguments"),
+    (b"a1 APPEND {3}", "arguments"),
+    (b"a1 SELECT {5}", "arguments"),
 ];
 
 #[test]
@@ -190,4 +203,46 @@ fn marks_seen(line: &[u8]) -> bool {
 fn reads_that_set_seen(rt: HostRuntime) {
     assert!(rt; marks_seen(b"a FETCH 1 (UID BODY[HEADER])"));
     assert!(rt; !marks_seen(b"a FETCH 1 (UID BODY.PEEK[])"));
+}
+
+fn append_of(line: &[u8]) -> Option<Append<'_>> {
+    let Ok((_tag, command)) = read_line(line) else {
+        return None;
+    };
+    match command {
+        Command::Append(append) => Some(append),
+        _ => None,
+    }
+}
+
+fn literal(line: &[u8]) -> Option<(u64, bool)> {
+    let append = append_of(line)?;
+    Some((append.literal.size, append.literal.waits))
+}
+
+fn given_flags(line: &[u8]) -> Option<Flags> {
+    let append = append_of(line)?;
+    Some(append.flags)
+}
+
+#[test]
+fn literals_are_announced(rt: HostRuntime) {
+    assert_eq!(rt; literal(b"a1 APPEND INBOX {5}"), Some((5, true)));
+    assert_eq!(rt; literal(b"a1 APPEND INBOX {005+}"), Some((5, false)));
+    assert_eq!(rt; literal(b"a1 APPEND INBOX () \"x\" {0}  "), Some((0, true)));
+    // As many bytes as nobody sends.
+    assert_eq!(rt; literal(b"a1 APPEND INBOX {18446744073709551615}"), Some((18_446_744_073_709_551_615, true)));
+    assert_eq!(rt; literal(b"a1 APPEND INBOX {99999999999999999999+}"), Some((18_446_744_073_709_551_615, false)));
+}
+
+#[test]
+fn flags_of_a_new_message(rt: HostRuntime) {
+    let given = Flags {
+        seen: true,
+        flagged: true,
+        ..NO_FLAGS
+    };
+    assert_eq!(rt; given_flags(b"a1 APPEND INBOX (\\flagged $x \\SEEN) {1}"), Some(given));
+    assert_eq!(rt; given_flags(b"a1 APPEND INBOX () {1}"), Some(NO_FLAGS));
+    assert_eq!(rt; given_flags(b"a1 APPEND INBOX {1}"), Some(NO_FLAGS));
 }

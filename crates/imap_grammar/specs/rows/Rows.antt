@@ -1,5 +1,5 @@
 -- Worked cases: lines and what they are, and what sets name.
-use Rattle.std.specs.Prelude.{◌≡◌, Bool, Bool, codes, [], ◌∷◌, ◌++◌, Ok, Err, true, false, refl, Some, None, Option}
+use Rattle.std.specs.Prelude.{◌≡◌, ℕ, List, Bool, Bool, codes, [], ◌∷◌, ◌++◌, Ok, Err, true, false, refl, Some, None, Option}
 use Rattle.change_ring.specs.declared.change.Flags.{Flags}
 use Rattle.imap_grammar.specs.declared.items.Section.{Section}
 use Rattle.imap_grammar.specs.declared.items.Span.{Span}
@@ -13,6 +13,7 @@ use Rattle.imap_grammar.specs.declared.set.SeqRange.{SeqRange}
 use Rattle.imap_grammar.specs.declared.items.Section.TheVariants.{Whole, Header, Text}
 use Rattle.imap_grammar.specs.declared.items.FetchItem.TheVariants as fetch
 use Rattle.imap_grammar.specs.declared.items.StatusItem.TheVariants as status
+use Rattle.imap_grammar.specs.declared.command.Append.{Append}
 use Rattle.imap_grammar.specs.declared.command.Command.TheVariants as say
 use Rattle.imap_grammar.specs.declared.command.ImapFault.TheVariants.{NoTag, Unknown, LeftOut, Arguments}
 
@@ -24,6 +25,9 @@ flags a b c d e = record { answered = a; flagged = b; deleted = c; seen = d; dra
 
 abbrev body_item : Bool → Section → Option Span → FetchItem
 body_item peek section part = fetch.Body peek section part
+
+abbrev appended : List ℕ → Flags → ℕ → Bool → Append
+appended name given size waits = record { name = name; flags = given; literal = record { size = size; waits = waits } }
 
 noop : read (codes "a1 NOOP") ≡ Ok (codes "a1", say.Noop)
 unfolding read
@@ -155,9 +159,54 @@ search : read (codes "a1 UID search (") ≡ Err (LeftOut (codes "a1"))
 unfolding read
 search = refl
 
-append : read (codes "a1 APPEND INBOX {5+}") ≡ Err (LeftOut (codes "a1"))
+append : read (codes "a1 APPEND INBOX {5+}") ≡ Ok (codes "a1", say.Append (appended (codes "INBOX") (flags false false false false false) 5 false))
 unfolding read
 append = refl
+
+append_flags : read (codes "a1 append INBOX (\\Seen \\Flagged $x) \" 1-Jan-2026 00:00:00 +0000\" {02} ") ≡ Ok (codes "a1", say.Append (appended (codes "INBOX") (flags false true false true false) 2 true))
+unfolding read
+append_flags = refl
+
+append_dated : read (codes "a1 APPEND \"a b\" \"\" {0}") ≡ Ok (codes "a1", say.Append (appended (codes "a b") (flags false false false false false) 0 true))
+unfolding read
+append_dated = refl
+
+append_no_flags : read (codes "a1 APPEND INBOX () {7}") ≡ Ok (codes "a1", say.Append (appended (codes "INBOX") (flags false false false false false) 7 true))
+unfolding read
+append_no_flags = refl
+
+-- as many bytes as anybody may ask for
+append_most : read (codes "a1 APPEND INBOX {99999999999999999999}") ≡ Ok (codes "a1", say.Append (appended (codes "INBOX") (flags false false false false false) 18446744073709551615 true))
+unfolding read
+append_most = refl
+
+append_tight : read (codes "a1 APPEND INBOX (\\Seen){3}") ≡ Err (Arguments (codes "a1"))
+unfolding read
+append_tight = refl
+
+append_minus : read (codes "a1 APPEND INBOX {3-}") ≡ Err (Arguments (codes "a1"))
+unfolding read
+append_minus = refl
+
+append_more : read (codes "a1 APPEND INBOX {3} x") ≡ Err (Arguments (codes "a1"))
+unfolding read
+append_more = refl
+
+append_bare : read (codes "a1 APPEND INBOX \\Seen {3}") ≡ Err (Arguments (codes "a1"))
+unfolding read
+append_bare = refl
+
+append_turned : read (codes "a1 APPEND INBOX \"x\" (\\Seen) {3}") ≡ Err (Arguments (codes "a1"))
+unfolding read
+append_turned = refl
+
+append_none : read (codes "a1 APPEND INBOX {}") ≡ Err (Arguments (codes "a1"))
+unfolding read
+append_none = refl
+
+select_literal : read (codes "a1 SELECT {5}") ≡ Err (Arguments (codes "a1"))
+unfolding read
+select_literal = refl
 
 noop_more : read (codes "a1 NOOP x") ≡ Err (Arguments (codes "a1"))
 unfolding read

@@ -77,10 +77,15 @@ abbrev pub after_command : Command → After
 after_command commands.Logout = Bye
 after_command _ = Go
 
--- IDLE, which has no last line
 abbrev pub is_idle : Command → Bool
 is_idle commands.Idle = true
 is_idle _ = false
+
+-- IDLE and APPEND, which have no last line yet where they are taken
+abbrev pub is_open : Command → Bool
+is_open commands.Idle = true
+is_open (commands.Append append) = true
+is_open _ = false
 
 -- the last line of a command, after which a client may send this
 abbrev pub ending : After → Bor (List ℕ) → Exchange

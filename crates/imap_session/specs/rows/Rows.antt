@@ -5,12 +5,18 @@ use Rattle.std.specs.Fmt.{digits}
 use Rattle.change_ring.specs.declared.change.Flags.{Flags}
 use Rattle.change_ring.specs.declared.change.Change.TheVariants.{Add, Gone, Flags as SetFlags}
 use Rattle.mailbox.specs.declared.clients.MailFault.TheVariants.{Lapped, Spent}
+use Rattle.delivery_token.specs.declared.Verdict.{Verdict}
+use Rattle.delivery_token.specs.declared.Verdict.TheVariants as verdicts
+use Rattle.delivery_token.specs.declared.Refusal.TheVariants.{Full, MailboxFull}
 use Rattle.imap_grammar.specs.Reading.{read}
-use Rattle.imap_session.specs.Exchange.{Answer, Entered, Looked, Found, Counted, Altered, Expunged, Fed, Left, Refused, Starved, Turn, Standing}
+use Rattle.imap_session.specs.Exchange.{Answer, Entered, Looked, Found, Counted, Altered, Expunged, Fed, Left, Refused, Starved, Turn, Sent, Standing, may_send, nothing_sent}
 use Rattle.imap_grammar.specs.declared.command.Command.TheVariants as commands
-use Rattle.imap_session.specs.Exchange.{Exchange, Leave, Write}
-use Rattle.imap_session.specs.Shows.{ShowsInPlace}
-use Rattle.imap_session.specs.Commands.{completed, idle_turn, turn_of, turn_of_long_line}
+use Rattle.imap_session.specs.Exchange.{Exchange, Done, Leave, Write}
+use Rattle.imap_session.specs.Shows.{RestShowsNone, ShowsInPlace, VerdictShowsInPlace}
+use Rattle.imap_session.specs.declared.standing.After.TheVariants.{Go}
+use Rattle.imap_session.specs.declared.standing.After.TheVariants as afters
+use Rattle.imap_session.specs.declared.standing.Append.{Append}
+use Rattle.imap_session.specs.Commands.{completed, with_bytes, turn_of_verdict, idle_turn, turn_of, turn_of_long_line}
 
 differ : true ≡ false → ⊥
 differ e = cc
@@ -24,11 +30,16 @@ data Happening : Type 0 where
   Line : List ℕ → List Answer → Happening
   Turned : List Answer → Happening
   LongLine : Happening
+  -- bytes of a literal, to which memory is refused or not
+  Literal : Bool → List ℕ → Happening
+  Heard : Verdict → List Answer → Happening
 
 abbrev happens : Standing → Happening → Option Turn
 happens now (Line line answers) = turn_of now line answers
 happens now (Turned answers) = idle_turn now answers
 happens now LongLine = Some (turn_of_long_line now)
+happens now (Literal kept bytes) = Some (record { events = []; bytes = []; after = may_send (with_bytes kept bytes now); standing = with_bytes kept bytes now })
+happens now (Heard verdict answers) = turn_of_verdict now verdict answers
 
 -- all that is written
 abbrev written : Standing → List Happening → Option (List ℕ)
@@ -44,6 +55,7 @@ awake = record {
   selected = None;
   idling = None;
   ended = false;
+  mailing = nothing_sent (Some 10);
 }
 
 abbrev in_inbox : Standing
@@ -280,3 +292,168 @@ told_by_close x p = p.0
 
 told_by_noop : (x : Exchange) → ShowsInPlace in_inbox commands.Noop (Write (codes "* 1 EXPUNGE\r\n") x) → ⊥
 told_by_noop x p = p.0
+
+-- ---- APPEND
+
+counted : ℕ → Answer
+counted uidvalidity = Counted (record { messages = 1; uidnext = 2; uidvalidity = uidvalidity; unseen = 1; deleted = 0; size = 5 })
+
+-- a literal that is sent at once, and a second that is too big
+appended : written awake
+    (Line (codes "a1 APPEND INBOX {5+}") [] ∷ Literal true (codes "hel") ∷ Literal true (codes "lo") ∷ Line [] [] ∷ Heard (verdicts.Stored 1) (counted 7 ∷ []) ∷ Line (codes "a2 APPEND INBOX {4097+}") [] ∷ [])
+    ≡ Some (codes "a1 OK [APPENDUID 7 1] APPEND completed\r\n* BYE Literal too big\r\n")
+unfolding read digits counted
+appended = refl
+
+-- one that is asked for
+asked_for : written awake
+    (Line (codes "a2 APPEND Nope {3}") [] ∷ Line (codes "a3 APPEND inbox (\\Seen) {3}") [] ∷ Literal true (codes "abc") ∷ Line [] [] ∷ Heard (verdicts.Stored 2) (counted 7 ∷ []) ∷ [])
+    ≡ Some (codes "a2 NO [TRYCREATE] No such mailbox\r\n+ ready\r\na3 OK [APPENDUID 7 2] APPEND completed\r\n")
+unfolding read digits counted
+asked_for = refl
+
+-- a shard without room
+full_shard : written awake (Line (codes "a1 APPEND INBOX {1+}") [] ∷ Literal true (codes "x") ∷ Line [] [] ∷ Heard (verdicts.Refused Full) [] ∷ [])
+    ≡ Some (codes "a1 NO Shard full\r\n")
+unfolding read digits
+full_shard = refl
+
+-- the empty text
+empty_text : written awake (Line (codes "a1 APPEND INBOX {0}") [] ∷ Line [] [] ∷ Heard (verdicts.Stored 1) (counted 7 ∷ []) ∷ [])
+    ≡ Some (codes "+ ready\r\na1 OK [APPENDUID 7 1] APPEND completed\r\n")
+unfolding read digits counted
+empty_text = refl
+
+-- what is refused, in its order: bytes behind the literal, the name, the size, NUL
+refused_in_order : written awake
+    (Line (codes "a1 APPEND Nope {11+}") [] ∷ Literal true (codes "hello hello") ∷ Line (codes " ") []
+    ∷ Line (codes "a2 APPEND Nope {11+}") [] ∷ Literal true (codes "hello hello") ∷ Line [] []
+    ∷ Line (codes "a3 APPEND INBOX {11+}") [] ∷ Literal true (codes "hello hello") ∷ Line [] []
+    ∷ Line (codes "a4 APPEND INBOX {1+}") [] ∷ Literal true (0 ∷ []) ∷ Line [] []
+    ∷ Line (codes "a5 APPEND INBOX {11}") []
+    ∷ Line (codes "a6 APPEND INBOX {1+}") [] ∷ Literal false (codes "x") ∷ Line (codes "x") []
+    ∷ Line (codes "a7 APPEND INBOX {1+}") [] ∷ Literal true (codes "x") ∷ LongLine ∷ Line (codes "a8 NOOP") [] ∷ [])
+    ≡ Some (codes "a1 BAD Invalid arguments\r\na2 NO [TRYCREATE] No such mailbox\r\na3 NO Message too big\r\na4 NO NUL byte\r\na5 NO Message too big\r\na6 NO Out of memory\r\na7 BAD Invalid arguments\r\na8 OK NOOP completed\r\n")
+unfolding read digits
+refused_in_order = refl
+
+-- the same where the client waits: nothing is asked of it that is refused
+refused_before : written awake
+    (Line (codes "a1 APPEND Nope {11}") [] ∷ Line (codes "a2 APPEND INBOX {11}") []
+    ∷ Line (codes "a3 APPEND INBOX {1}") [] ∷ Literal true (0 ∷ []) ∷ Line (codes "x") []
+    ∷ Line (codes "a4 APPEND INBOX {1}") [] ∷ Literal true (0 ∷ []) ∷ Line [] []
+    ∷ Line (codes "a5 APPEND INBOX {99999999999999999999}") [] ∷ [])
+    ≡ Some (codes "a1 NO [TRYCREATE] No such mailbox\r\na2 NO Message too big\r\n+ ready\r\na3 BAD Invalid arguments\r\n+ ready\r\na4 NO NUL byte\r\na5 NO Message too big\r\n")
+unfolding read digits
+refused_before = refl
+
+-- a literal that is too long for one that isn't asked for ends the session, whatever mailbox is named
+too_long_unasked : written awake (Line (codes "a1 APPEND Nope {99999999999999999999+}") [] ∷ []) ≡ Some (codes "* BYE Literal too big\r\n")
+unfolding read digits
+too_long_unasked = refl
+
+-- where the line is refused its literal is read as a line, and so it is while the session idles
+bytes_read_as_lines : written awake
+    (Line (codes "a1 APPEND INBOX {3+} x") [] ∷ Line (codes "abc") [] ∷ Line (codes "a2 IDLE") [] ∷ Line (codes "a3 APPEND INBOX {3+}") [] ∷ Line (codes "abc") [] ∷ [])
+    ≡ Some (codes "a1 BAD Invalid arguments\r\nabc BAD Unknown command\r\n+ idling\r\na2 BAD Expected DONE\r\nabc BAD Unknown command\r\n")
+unfolding read digits
+bytes_read_as_lines = refl
+
+-- a session that takes no message says so before it asks for one, and behind one that it didn't ask for
+taken_nowhere : written (record awake { mailing = nothing_sent None })
+    (Line (codes "a1 APPEND Nope {5}") [] ∷ Line (codes "a2 APPEND INBOX {5}") [] ∷ Line (codes "a3 APPEND INBOX {1+}") [] ∷ Literal true (codes "x") ∷ Line [] [] ∷ [])
+    ≡ Some (codes "a1 NO [TRYCREATE] No such mailbox\r\na2 NO [CANNOT] Not offered here\r\na3 NO [CANNOT] Not offered here\r\n")
+unfolding read digits
+taken_nowhere = refl
+
+-- no number is left for a message
+abbrev numberless : Standing
+numberless = record awake { mailing = record (nothing_sent (Some 10)) { number = 4294967295 } }
+
+spent_numbers : written numberless
+    (Line (codes "a1 APPEND INBOX {1+}") [] ∷ Literal true (0 ∷ []) ∷ Line [] [] ∷ Line (codes "a2 APPEND INBOX {1+}") [] ∷ Literal true (codes "x") ∷ Line [] [] ∷ [])
+    ≡ Some (codes "a1 NO NUL byte\r\na2 NO Mailbox is spent\r\n")
+unfolding read digits
+spent_numbers = refl
+
+-- memory is refused for the mailbox's name, for bytes in the middle, and for what the text's copies share
+starved_appends : written awake
+    (Line (codes "a1 APPEND INBOX {3}") (Starved 0 ∷ [])
+    ∷ Line (codes "a2 APPEND Nope {5+}") [] ∷ Literal true (codes "h") ∷ Literal false (codes "el") ∷ Literal true (codes "lo") ∷ Line [] []
+    ∷ Line (codes "a3 APPEND INBOX {1+}") [] ∷ Literal true (codes "x") ∷ Line [] (Starved 0 ∷ [])
+    ∷ Line (codes "a4 APPEND INBOX {1+}") [] ∷ Literal false (codes "x") ∷ LongLine ∷ [])
+    ≡ Some (codes "a1 NO Out of memory\r\na2 NO Out of memory\r\na3 NO Out of memory\r\na4 NO Out of memory\r\n")
+unfolding read digits
+starved_appends = refl
+
+-- the selected mailbox shows its new message before the OK
+appended_in_selected : written in_inbox
+    (Line (codes "a1 APPEND Work (\\Seen) {1+}") [] ∷ Literal true (codes "x") ∷ Line [] [] ∷ Heard (verdicts.Stored 4) (counted 9 ∷ Fed (1 ∷ []) (Add 2 ∷ SetFlags 2 (flags false false false true false) ∷ []) ∷ []) ∷ [])
+    ≡ Some (codes "* 2 EXISTS\r\n* 2 FETCH (UID 2 FLAGS (\\Seen))\r\na1 OK [APPENDUID 9 4] APPEND completed\r\n")
+unfolding read digits counted
+appended_in_selected = refl
+
+-- a message that was refused shows nothing, and a session that missed changes says no OK
+refused_and_lapped : written in_inbox
+    (Line (codes "a1 APPEND INBOX {1+}") [] ∷ Literal true (codes "x") ∷ Line [] [] ∷ Heard (verdicts.Refused MailboxFull) []
+    ∷ Line (codes "a2 APPEND INBOX {1+}") [] ∷ Literal true (codes "x") ∷ Line [] [] ∷ Heard (verdicts.Stored 2) (counted 7 ∷ Refused Lapped ∷ []) ∷ [])
+    ≡ Some (codes "a1 NO Mailbox full\r\n* BYE Too many changes were missed\r\n")
+unfolding read digits counted
+refused_and_lapped = refl
+
+-- ---- what is submitted
+
+-- where all this leads
+abbrev led : Standing → List Happening → Option Standing
+led now [] = Some now
+led now (h ∷ hs) = onto (happens now h) (λ (turn : Turn). led turn.standing hs)
+
+abbrev submitted : Option Standing → Option Append
+submitted now = onto now (λ (s : Standing). option_map (λ (sent : Sent). sent.append) s.mailing.sent)
+
+-- its bytes and nothing before them, its flags, and the number of messages that were submitted before
+second_message : submitted (led awake
+    (Line (codes "a1 APPEND INBOX {1+}") [] ∷ Literal true (codes "x") ∷ Line [] [] ∷ Heard (verdicts.Refused Full) []
+    ∷ Line (codes "a2 APPEND Nope {1+}") [] ∷ Literal true (codes "x") ∷ Line [] []
+    ∷ Line (codes "a3 APPEND Work (\\Flagged \\Seen) {5+}") [] ∷ Literal true (codes "h") ∷ Literal true (codes "el") ∷ Literal true (codes "lo") ∷ Line [] [] ∷ []))
+    ≡ Some (record { message = 1; mailbox = 1; text = codes "hello"; flags = (flags false true false true false) })
+unfolding read digits
+second_message = refl
+
+-- as many bytes are waited for as are due
+waits_for_the_rest : option_map may_send (led awake (Line (codes "a1 APPEND INBOX {5+}") [] ∷ Literal true (codes "hel") ∷ [])) ≡ Some (afters.Literal 2)
+unfolding read digits
+waits_for_the_rest = refl
+
+waits_for_the_line_end : option_map may_send (led awake (Line (codes "a1 APPEND INBOX {0}") [] ∷ [])) ≡ Some (afters.Literal 0)
+unfolding read digits
+waits_for_the_line_end = refl
+
+-- ---- what isn't said
+
+-- memory isn't wanted to part with a client that sends too much
+too_big_without_memory : turn_of awake (codes "a1 APPEND INBOX {4097+}") (Starved 0 ∷ []) ≡ None
+unfolding read digits
+too_big_without_memory = refl
+
+abbrev sent_one : Standing
+sent_one = record awake { mailing = record (nothing_sent (Some 10)) { number = 1; sent = Some (record { tag = codes "a1"; append = record { message = 0; mailbox = 0; text = codes "x"; flags = (flags false false false false false) } }) } }
+
+-- the OK isn't said before its mailbox is counted, nor without a verdict
+uncounted : turn_of_verdict sent_one (verdicts.Stored 1) [] ≡ None
+uncounted = refl
+
+starved_verdict : turn_of_verdict sent_one (verdicts.Stored 1) (counted 7 ∷ Starved 0 ∷ []) ≡ None
+unfolding counted
+starved_verdict = refl
+
+no_verdict : turn_of_verdict awake (verdicts.Stored 1) (counted 7 ∷ []) ≡ None
+no_verdict = refl
+
+-- an OK behind a literal, before the verdict
+told_before : RestShowsNone (Done (codes "OK [APPENDUID 7 1] APPEND completed") Go) → ⊥
+told_before p = differ p
+
+-- an OK for a message that was refused
+told_of_refused : VerdictShowsInPlace None (verdicts.Refused Full) (Done (codes "OK [APPENDUID 7 1] APPEND completed") Go) → ⊥
+told_of_refused p = differ p

@@ -1,5 +1,5 @@
-use Rattle.client_list.proofs.Commands.{answer_is_followed, long_line_tells_nothing}
-use Rattle.client_list.proofs.IdleTags.{idle_tags_are_tags}
+use Rattle.client_list.proofs.Commands.{answer_is_followed, long_line_tells_nothing, verdict_is_followed}
+use Rattle.client_list.proofs.IdleTags.{kept_tags_are_tags}
 use Rattle.client_list.proofs.Tags.{tags_are_tags}
 use Rattle.client_list.proofs.laws.answers_are_followed.Goals as goal
 
@@ -12,5 +12,8 @@ returns-clause-answer c = answer_is_followed
 pub returns-clause-long_line : goal.returns-clause-long_line
 returns-clause-long_line c = long_line_tells_nothing
 
-pub returns-clause-idle_tags : goal.returns-clause-idle_tags
-returns-clause-idle_tags c = idle_tags_are_tags
+pub returns-clause-kept_tags : goal.returns-clause-kept_tags
+returns-clause-kept_tags c = kept_tags_are_tags
+
+pub returns-clause-verdict : goal.returns-clause-verdict
+returns-clause-verdict c = verdict_is_followed

@@ -7,49 +7,49 @@ use Rattle.imap_session.proofs.Ending.{moves_still, moves_told}
 use Rattle.imap_session.proofs.turn.carry_out.Goals as goal
 
 pub returns-in-Capability-clause-done : goal.returns-in-Capability-clause-done
-returns-in-Capability-clause-done g c = rw c.in-Capability.is
+returns-in-Capability-clause-done g c mailing = rw c.in-Capability.is
     (moves_told g.S.Store.step c.args.selected.now (codes "* CAPABILITY IMAP4rev2 IDLE\r\n") (codes "OK CAPABILITY completed") Go _ _ _ c.put.ensures.text)
 
 pub returns-in-Namespace-clause-done : goal.returns-in-Namespace-clause-done
-returns-in-Namespace-clause-done g c = rw c.in-Namespace.is
+returns-in-Namespace-clause-done g c mailing = rw c.in-Namespace.is
     (moves_told g.S.Store.step c.args.selected.now (codes "* NAMESPACE ((\"\" \"/\")) NIL NIL\r\n") (codes "OK NAMESPACE completed") Go _ _ _ c.put-in-Namespace.ensures.text)
 
 pub returns-in-Logout-clause-done : goal.returns-in-Logout-clause-done
-returns-in-Logout-clause-done g c = rw c.in-Logout.is
+returns-in-Logout-clause-done g c mailing = rw c.in-Logout.is
     (moves_told g.S.Store.step c.args.selected.now (bye (codes "Logging out")) (codes "OK LOGOUT completed") Bye _ _ _ c.put-in-Logout.ensures.text)
 
 pub returns-in-Login-clause-done : goal.returns-in-Login-clause-done
-returns-in-Login-clause-done g c tag now was = rw (c.in-Login.is, ← was) (reaches_here g.S.Store.step tag now wrong_state _ _)
+returns-in-Login-clause-done g c mailing tag now was = rw (c.in-Login.is, ← was) (reaches_here g.S.Store.step tag now wrong_state _ _)
 
 pub returns-in-Authenticate-clause-done : goal.returns-in-Authenticate-clause-done
-returns-in-Authenticate-clause-done g c tag now was = rw (c.in-Authenticate.is, ← was) (reaches_here g.S.Store.step tag now wrong_state _ _)
+returns-in-Authenticate-clause-done g c mailing tag now was = rw (c.in-Authenticate.is, ← was) (reaches_here g.S.Store.step tag now wrong_state _ _)
 
 pub returns-in-StartTls-clause-done : goal.returns-in-StartTls-clause-done
-returns-in-StartTls-clause-done g c tag now was = rw (c.in-StartTls.is, ← was) (reaches_here g.S.Store.step tag now wrong_state _ _)
+returns-in-StartTls-clause-done g c mailing tag now was = rw (c.in-StartTls.is, ← was) (reaches_here g.S.Store.step tag now wrong_state _ _)
 
 pub returns-in-Noop-clause-done : goal.returns-in-Noop-clause-done
-returns-in-Noop-clause-done g c = rw c.in-Noop.is (moves_still g.S.Store.step c.args.selected.now _ _ _ _ _ _ c.note_nothing.result c.note_nothing.ensures.done)
+returns-in-Noop-clause-done g c mailing = rw c.in-Noop.is (moves_still g.S.Store.step c.args.selected.now _ _ _ _ _ _ c.note_nothing.result c.note_nothing.ensures.done)
 
 pub returns-in-List-clause-done : goal.returns-in-List-clause-done
-returns-in-List-clause-done g c = rw c.in-List.is (moves_still g.S.Store.step c.args.selected.now _ _ _ _ _ _ c.list_folders.result c.list_folders.ensures.done)
+returns-in-List-clause-done g c mailing = rw c.in-List.is (moves_still g.S.Store.step c.args.selected.now _ _ _ _ _ _ c.list_folders.result c.list_folders.ensures.done)
 
 pub returns-in-Status-clause-done : goal.returns-in-Status-clause-done
-returns-in-Status-clause-done g c = rw c.in-Status.is (moves_still g.S.Store.step c.args.selected.now _ _ _ _ _ _ c.count_mailbox.result c.count_mailbox.ensures.done)
+returns-in-Status-clause-done g c mailing = rw c.in-Status.is (moves_still g.S.Store.step c.args.selected.now _ _ _ _ _ _ c.count_mailbox.result c.count_mailbox.ensures.done)
 
 pub returns-in-Expunge-clause-done : goal.returns-in-Expunge-clause-done
-returns-in-Expunge-clause-done g c = rw c.in-Expunge.is (moves_still g.S.Store.step c.args.selected.now _ _ _ _ _ _ c.expunge.result c.expunge.ensures.done)
+returns-in-Expunge-clause-done g c mailing = rw c.in-Expunge.is (moves_still g.S.Store.step c.args.selected.now _ _ _ _ _ _ c.expunge.result c.expunge.ensures.done)
 
 pub returns-in-UidExpunge-clause-done : goal.returns-in-UidExpunge-clause-done
-returns-in-UidExpunge-clause-done g c = rw c.in-UidExpunge.is (moves_still g.S.Store.step c.args.selected.now _ _ _ _ _ _ c.uid_expunge.result c.uid_expunge.ensures.done)
+returns-in-UidExpunge-clause-done g c mailing = rw c.in-UidExpunge.is (moves_still g.S.Store.step c.args.selected.now _ _ _ _ _ _ c.uid_expunge.result c.uid_expunge.ensures.done)
 
 pub returns-in-Fetch-clause-done : goal.returns-in-Fetch-clause-done
-returns-in-Fetch-clause-done g c = rw c.in-Fetch.is (moves_still g.S.Store.step c.args.selected.now _ _ _ _ _ _ c.fetch.result c.fetch.ensures.done)
+returns-in-Fetch-clause-done g c mailing = rw c.in-Fetch.is (moves_still g.S.Store.step c.args.selected.now _ _ _ _ _ _ c.fetch.result c.fetch.ensures.done)
 
 pub returns-in-Store-clause-done : goal.returns-in-Store-clause-done
-returns-in-Store-clause-done g c = rw c.in-Store.is (moves_still g.S.Store.step c.args.selected.now _ _ _ _ _ _ c.store_flags.result c.store_flags.ensures.done)
+returns-in-Store-clause-done g c mailing = rw c.in-Store.is (moves_still g.S.Store.step c.args.selected.now _ _ _ _ _ _ c.store_flags.result c.store_flags.ensures.done)
 
 pub returns-in-Close-clause-done : goal.returns-in-Close-clause-done
-returns-in-Close-clause-done g c = rw c.in-Close.is (c.close.ensures.done c.args.out.now.items)
+returns-in-Close-clause-done g c mailing = rw c.in-Close.is (c.close.ensures.done c.args.out.now.items)
 
 pub returns-in-Unselect-clause-done : goal.returns-in-Unselect-clause-done
-returns-in-Unselect-clause-done g c = rw c.in-Unselect.is (c.unselect.ensures.done c.args.out.now.items)
+returns-in-Unselect-clause-done g c mailing = rw c.in-Unselect.is (c.unselect.ensures.done c.args.out.now.items)

@@ -8,7 +8,8 @@ use Rattle.imap_connection.proofs.connection.ImapConnection.take.Goals as goal
 pub loop-fed-init : goal.loop-fed-init
 loop-fed-init g c = record {
   within = omega arith;
-  goes_on = c.requires;
+  goes_on = c.requires.going;
+  unsent = c.requires.unsent;
   took = λ d s. ([], d, nothing_taken g.S.Store.step d c.args.store.now, s, sym (append-nil c.args.out.now.items));
 }
 
@@ -20,10 +21,11 @@ loop-fed-preserved g c =
     record {
       within = omega (arith, e.used, ap length (take_rest c.args.piece.now c.loop-fed.used), length-drop c.loop-fed.used c.args.piece.now);
       goes_on = live;
+      unsent = c.awaits_verdict.ensures.none c.if-awaits_verdict.false;
       took = λ d s.
           let t = i.took d s in
           let m = taken_on g.S.Store.step d t.1 c.args.piece.now c.loop-fed.used c.args.store.now c.loop-fed.store c.feed.new.store t.0 c.args.out.now.items c.loop-fed.out.items c.feed.new.out.items
-          c.in-Ok.fed c.loop-fed.self c.feed.new.self t.2 t.3 i.goes_on t.4 e.sends (e.ok t.1 t.3) in
+          c.in-Ok.fed c.loop-fed.self c.feed.new.self t.2 t.3 i.goes_on i.unsent t.4 e.sends (e.ok t.1 t.3) in
           let after = goes_to c.in-Ok.fed.after c.feed.new.self m.next e.sends live m.stands in
           (m.said, m.next, subst (λ (a : After). Answered g.S.Store.step d (take (c.loop-fed.used + c.in-Ok.fed.used) c.args.piece.now) c.args.store.now c.feed.new.store m.said a m.next) after m.answered, m.stands, m.wrote);
     }
@@ -34,5 +36,5 @@ returns-then-used-piece-clause-took g c d s =
     let e = c.in-Ok.ensures in
     let t = i.took d s in
     let m = taken_on g.S.Store.step d t.1 c.args.piece.now c.loop-fed.used c.args.store.now c.loop-fed.store c.feed.new.store t.0 c.args.out.now.items c.loop-fed.out.items c.feed.new.out.items
-    c.in-Ok.fed c.loop-fed.self c.feed.new.self t.2 t.3 i.goes_on t.4 e.sends (e.ok t.1 t.3) in
+    c.in-Ok.fed c.loop-fed.self c.feed.new.self t.2 t.3 i.goes_on i.unsent t.4 e.sends (e.ok t.1 t.3) in
     record { said = m.said; how = c.in-Ok.fed.after; next = m.next; answered = m.answered; stands = m.stands; wrote = m.wrote; is = inr refl }

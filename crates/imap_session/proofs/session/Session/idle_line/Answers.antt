@@ -10,4 +10,4 @@ returns-clause-answered g c =
     c.end_idling.new.out.items c.end_idling.result in
     let plays = subst (at c.args.tag) c.reserve.ensures.items (subst (λ (tag : List ℕ). at tag c.reserve.new.self.items) c.as_slice-2.ensures c.end_idling.ensures.plays) in
     answers_idle_line g.S.Store.step c.args.self.now c.end_idling.new.self c.args.tag c.args.line.now c.args.store.now c.end_idling.new.store c.args.out.now.items c.end_idling.new.out.items c.end_idling.result
-    c.requires.awake plays c.end_idling.ensures.standing
+    c.requires.alone c.requires.awake plays c.end_idling.ensures.standing

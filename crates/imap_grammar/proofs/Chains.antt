@@ -1,0 +1,82 @@
+-- Parts of a command, one after the other: gaps, names, and the end of the line.
+use Rattle.std.proofs.Common.{◌≡◌, ℕ, Bool, true, false, cond, List, [], ◌∷◌, ◌++◌, refl, ap, sym, subst, ◌∙◌, append_assoc}
+use Rattle.std.specs.Prelude.{Option, Some, None, ◌==◌}
+use Rattle.envelope.proofs.Begins.{gap_stops}
+use Rattle.envelope.proofs.Sound.{guard_some}
+use Rattle.envelope.proofs.Tokens.{Stops}
+use Rattle.envelope.specs.Bytes.{is_space, is_not_space}
+use Rattle.envelope.specs.Grammar.{Spaces, Gap, Exactly, Joined}
+use Rattle.imap_grammar.specs.Bytes.{is_atom, is_pattern}
+use Rattle.imap_grammar.specs.Grammar.{Name, Pattern}
+use Rattle.imap_grammar.specs.Reading.{past_gap, string_at, is_blank, if_end}
+use Rattle.imap_grammar.proofs.Tokens.{excludes, not_true, stops_class, gap_again, string_again, string_starts}
+use Rattle.imap_grammar.proofs.Parens.{blank_again, blank_sound}
+
+-- ---- chains of rules
+
+pub regroup : (P Q R : List ℕ → Type 0) (text : List ℕ) → Joined (Joined P Q) R text → Joined P (Joined Q R) text
+regroup P Q R text q = record {
+  front = q.first.front;
+  back = q.first.back ++ q.back;
+  parts = q.parts ∙ ap (λ l. l ++ q.back) q.first.parts ∙ append_assoc q.first.front q.first.back q.back;
+  first = q.first.first;
+  second = record { front = q.first.back; back = q.back; parts = refl; first = q.first.second; second = q.second };
+}
+
+pub ungroup : (P Q R : List ℕ → Type 0) (text : List ℕ) → Joined P (Joined Q R) text → Joined (Joined P Q) R text
+ungroup P Q R text q = record {
+  front = q.front ++ q.second.front;
+  back = q.second.back;
+  parts = q.parts ∙ ap (λ l. q.front ++ l) q.second.parts ∙ sym (append_assoc q.front q.second.front q.second.back);
+  first = record { front = q.front; back = q.second.front; parts = refl; first = q.first; second = q.second.first };
+  second = q.second.second;
+}
+
+pub behind : (P Q R : List ℕ → Type 0) → ((l : List ℕ) → Q l → R l) → (text : List ℕ) → Joined P Q text → Joined P R text
+behind P Q R f text q = record { front = q.front; back = q.back; parts = q.parts; first = q.first; second = f q.back q.second }
+
+pub inside : {A : Type 0} (y z : A) → Some y ≡ Some z → y ≡ z
+inside y z h = cc
+
+-- what follows a gap
+pub past : (P : List ℕ → Type 0) (bytes : List ℕ) → (q : Joined Gap P bytes) → Stops is_space q.back → past_gap bytes ≡ Some q.back
+past P bytes q s = ap past_gap q.parts ∙ gap_again q.front q.back q.first s
+
+pub gap_first : (P : List ℕ → Type 0) (bytes : List ℕ) → Joined Gap P bytes → Stops is_not_space bytes
+gap_first P bytes q = gap_stops q.front q.back bytes q.parts q.first
+
+-- ---- nothing more
+
+pub end_again : {A : Type 0} (x : A) (rest : List ℕ) → Spaces rest → if_end x rest ≡ Some x
+end_again x rest s = ap (λ (t : Bool). cond t (Some x) None) (blank_again rest s)
+
+pub end_sound : {A : Type 0} (x y : A) (rest : List ℕ) → if_end x rest ≡ Some y → (x ≡ y) × Spaces rest
+end_sound x y rest e = let k = guard_some (is_blank rest) x y e in (k.1, blank_sound rest k.0)
+
+pub nothing_again : {A : Type 0} (x : A) (rest : List ℕ) → Joined (Exactly []) Spaces rest → if_end x rest ≡ Some x
+nothing_again x rest q = ap (if_end x) (q.parts ∙ ap (λ l. l ++ q.back) q.first) ∙ end_again x q.back q.second
+
+-- ---- names
+
+atom_not_space : (b : ℕ) → is_atom b ≡ true → is_space b ≡ false
+atom_not_space b e = not_true (b == 32) (excludes is_atom 32 refl b e)
+
+pattern_not_space : (b : ℕ) → is_pattern b ≡ true → is_space b ≡ false
+pattern_not_space b e = not_true (b == 32) (excludes is_pattern 32 refl b e)
+
+NameThen : List ℕ → (List ℕ → Type 0) → List ℕ → Type 0
+NameThen name P = Joined (Name name) P
+
+pub name_read : (name : List ℕ) (P : List ℕ → Type 0) (bytes : List ℕ) → (q : Joined (Name name) P bytes) → Stops is_not_space q.back
+    → (string_at is_atom bytes ≡ Some (name, q.back)) × Stops is_space bytes
+name_read name P bytes q s = (
+  ap (string_at is_atom) q.parts ∙ string_again is_atom name q.front q.back refl q.first (stops_class is_atom refl q.back s),
+  subst (Stops is_space) (sym q.parts) (string_starts is_atom atom_not_space name q.front q.back q.first),
+)
+
+pub pattern_read : (name : List ℕ) (P : List ℕ → Type 0) (bytes : List ℕ) → (q : Joined (Pattern name) P bytes) → Stops is_not_space q.back
+    → (string_at is_pattern bytes ≡ Some (name, q.back)) × Stops is_space bytes
+pattern_read name P bytes q s = (
+  ap (string_at is_pattern) q.parts ∙ string_again is_pattern name q.front q.back refl q.first (stops_class is_pattern refl q.back s),
+  subst (Stops is_space) (sym q.parts) (string_starts is_pattern pattern_not_space name q.front q.back q.first),
+)

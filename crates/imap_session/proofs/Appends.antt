@@ -1,0 +1,108 @@
+-- What is said of a message that a client appends.
+use Rattle.std.specs.Prelude.{nat_lt, if◌then◌else◌}
+use Rattle.std.proofs.lemmas.Bool.Decides.{nat_tests}
+use Rattle.std.proofs.Common.{◌≡◌, ◌<◌, ◌≤◌, arith, ℕ, Bool, true, false, codes, Option, List, [], ◌∷◌, ◌++◌, None, Some, ap, sym, ◌∙◌, append-nil, refl, subst}
+use Rattle.imap_session.specs.declared.standing.After.TheVariants.{Go}
+use Rattle.imap_session.specs.Exchange.{Exchange, Folder, ForLiteral, ForNothing, ForVerdict, Standing, Starved, Wait, Waiting, after_waiting, bye, played, tagged, waiting}
+use Rattle.change_ring.specs.declared.change.Flags.{Flags}
+use Rattle.imap_grammar.specs.declared.command.Append.{Append}
+use Rattle.imap_session.specs.inner.Appends.{Leads}
+use Rattle.imap_session.specs.Commands.{appending, awaiting, most_unasked, nowhere, is_over, number_named, on_found, over, says, wanting}
+
+-- ---- where an exchange without a call leads
+
+pub leads_says : (tag words : List ℕ) (now next : Standing) (x : Exchange) (before text : List ℕ) → x ≡ says words → text ≡ before ++ tagged tag words → next ≡ now → Leads tag now x before text Go next
+leads_says tag words now next x before text e w same =
+    subst (λ (n : Standing). Leads tag now x before text Go n) (sym same)
+    ([], tagged tag words ++ [], ap (λ y. played tag now y []) e, w ∙ ap (λ t. before ++ t) (sym (append-nil (tagged tag words))))
+
+pub leads_waits : (tag bytes : List ℕ) (waits : Waiting) (now next : Standing) (x : Exchange) (before text : List ℕ)
+    → x ≡ Wait bytes waits → text ≡ before ++ bytes → next ≡ waiting tag waits now → Leads tag now x before text (after_waiting waits) next
+leads_waits tag bytes waits now next x before text e w same =
+    subst (λ (n : Standing). Leads tag now x before text (after_waiting waits) n) (sym same)
+    ([], bytes ++ [], ap (λ y. played tag now y []) e, w ∙ ap (λ t. before ++ t) (sym (append-nil bytes)))
+
+-- memory is refused before anything is done
+pub leads_starved : (tag : List ℕ) (now next : Standing) (x y : Exchange) (before text : List ℕ) → x ≡ wanting y → text ≡ before ++ tagged tag (codes "NO Out of memory") → next ≡ now
+    → Leads tag now x before text Go next
+leads_starved tag now next x y before text e w same =
+    subst (λ (n : Standing). Leads tag now x before text Go n) (sym same)
+    (Starved 0 ∷ [], tagged tag (codes "NO Out of memory") ++ [], ap (λ z. played tag now z (Starved 0 ∷ [])) e, w ∙ ap (λ t. before ++ t) (sym (append-nil (tagged tag (codes "NO Out of memory")))))
+
+-- memory that may be wanted is there
+pub leads_wanting_says : (tag words : List ℕ) (now next : Standing) (x : Exchange) (before text : List ℕ) → x ≡ wanting (says words) → text ≡ before ++ tagged tag words → next ≡ now
+    → Leads tag now x before text Go next
+leads_wanting_says tag words now next x before text e w same =
+    subst (λ (n : Standing). Leads tag now x before text Go n) (sym same)
+    ([], tagged tag words ++ [], ap (λ y. played tag now y []) e, w ∙ ap (λ t. before ++ t) (sym (append-nil (tagged tag words))))
+
+pub leads_wanting_waits : (tag bytes : List ℕ) (waits : Waiting) (now next : Standing) (x : Exchange) (before text : List ℕ)
+    → x ≡ wanting (Wait bytes waits) → text ≡ before ++ bytes → next ≡ waiting tag waits now → Leads tag now x before text (after_waiting waits) next
+leads_wanting_waits tag bytes waits now next x before text e w same =
+    subst (λ (n : Standing). Leads tag now x before text (after_waiting waits) n) (sym same)
+    ([], bytes ++ [], ap (λ y. played tag now y []) e, w ∙ ap (λ t. before ++ t) (sym (append-nil bytes)))
+
+pub submitted_again : {s now : Standing} (mailbox : ℕ) (flags : Flags) (t u tag : List ℕ) → t ≡ u → s ≡ now
+    → waiting tag (ForVerdict mailbox flags t) s ≡ waiting tag (ForVerdict mailbox flags u) now
+submitted_again {s} {now} mailbox flags t u tag e f =
+    ap (λ (y : List ℕ). waiting tag (ForVerdict mailbox flags y) s) e ∙ ap (λ (x : Standing). waiting tag (ForVerdict mailbox flags u) x) f
+
+-- ---- the line of an APPEND
+
+pub begun_again : {s now : Standing} (mailbox : Option ℕ) (flags : Flags) (size : ℕ) (t tag y : List ℕ) → t ≡ tag → y ≡ [] → s ≡ now
+    → record s { mailing = record s.mailing { begun = Some (record { tag = t; mailbox = mailbox; flags = flags; size = size; due = size; text = Some y }) } } ≡ waiting tag (ForLiteral mailbox flags size) now
+begun_again {s} {now} mailbox flags size t tag y e f same =
+    ap (λ (z : List ℕ). record s { mailing = record s.mailing { begun = Some (record { tag = t; mailbox = mailbox; flags = flags; size = size; due = size; text = Some z }) } }) f
+    ∙ ap (λ (z : List ℕ). waiting z (ForLiteral mailbox flags size) s) e
+    ∙ ap (waiting tag (ForLiteral mailbox flags size)) same
+
+-- a literal that is asked for
+abbrev pub asked_at : Option ℕ → Append → Option ℕ → Exchange
+asked_at most a o = on_found (λ mailbox. if is_over most a.literal.size then over most else awaiting (codes "+ ready\r\n") (Some mailbox) a.flags a.literal.size) nowhere o
+
+pub asked : (most : Option ℕ) (folders : List Folder) (a : Append) → a.literal.waits ≡ true → appending most folders a ≡ wanting (asked_at most a (number_named a.name folders))
+asked most folders a e = rw e refl
+
+abbrev pub sent_at : Option ℕ → Append → Option ℕ → Exchange
+sent_at most a o = if nat_lt most_unasked a.literal.size then Wait (bye (codes "Literal too big")) ForNothing else wanting (awaiting [] o a.flags a.literal.size)
+
+pub unasked : (most : Option ℕ) (folders : List Folder) (a : Append) → a.literal.waits ≡ false → appending most folders a ≡ sent_at most a (number_named a.name folders)
+unasked most folders a e = rw e refl
+
+less_true : (a b : ℕ) → a < b → nat_lt a b ≡ true
+less_true a b l = grind (arith, nat_tests)
+
+not_less : (a b : ℕ) → b ≤ a → nat_lt a b ≡ false
+not_less a b l = grind (arith, nat_tests)
+
+pub ended_again : {s now : Standing} → s ≡ now → record s { ended = true } ≡ record now { ended = true }
+ended_again {s} {now} e = ap (λ (x : Standing). record x { ended = true }) e
+
+-- where there is no such mailbox, where the message is too big, and where it isn't
+pub asked_nowhere : (most : Option ℕ) (folders : List Folder) (a : Append) → a.literal.waits ≡ true → number_named a.name folders ≡ None → appending most folders a ≡ wanting nowhere
+asked_nowhere most folders a e none = asked most folders a e ∙ ap (λ o. wanting (asked_at most a o)) none
+
+if_fits : Option ℕ → Append → ℕ → Bool → Exchange
+if_fits most a number big = wanting (if big then over most else awaiting (codes "+ ready\r\n") (Some number) a.flags a.literal.size)
+
+pub asked_over : (most : Option ℕ) (number : ℕ) (folders : List Folder) (a : Append) → a.literal.waits ≡ true → number_named a.name folders ≡ Some number → is_over most a.literal.size ≡ true → appending most folders a ≡ wanting (over most)
+unfolding if_fits
+asked_over most number folders a e some big =
+    asked most folders a e ∙ ap (λ o. wanting (asked_at most a o)) some ∙ ap (if_fits most a number) big
+
+pub asked_fits : (most : Option ℕ) (number : ℕ) (folders : List Folder) (a : Append) → a.literal.waits ≡ true → number_named a.name folders ≡ Some number → is_over most a.literal.size ≡ false
+    → appending most folders a ≡ wanting (awaiting (codes "+ ready\r\n") (Some number) a.flags a.literal.size)
+unfolding if_fits
+asked_fits most number folders a e some fits =
+    asked most folders a e ∙ ap (λ o. wanting (asked_at most a o)) some ∙ ap (if_fits most a number) fits
+
+if_asked : Option ℕ → Append → Option ℕ → Bool → Exchange
+if_asked most a o big = if big then Wait (bye (codes "Literal too big")) ForNothing else wanting (awaiting [] o a.flags a.literal.size)
+
+pub sent_too_big : (most : Option ℕ) (folders : List Folder) (a : Append) → a.literal.waits ≡ false → most_unasked < a.literal.size → appending most folders a ≡ Wait (bye (codes "Literal too big")) ForNothing
+unfolding if_asked
+sent_too_big most folders a e big = unasked most folders a e ∙ ap (if_asked most a (number_named a.name folders)) (less_true most_unasked a.literal.size big)
+
+pub sent_fits : (most : Option ℕ) (folders : List Folder) (a : Append) → a.literal.waits ≡ false → a.literal.size ≤ most_unasked → appending most folders a ≡ wanting (awaiting [] (number_named a.name folders) a.flags a.literal.size)
+unfolding if_asked
+sent_fits most folders a e fits = unasked most folders a e ∙ ap (if_asked most a (number_named a.name folders)) (not_less most_unasked a.literal.size fits)

@@ -1,0 +1,124 @@
+-- The verdict on an appended message, answered.
+use Rattle.std.proofs.Common.{◌≡◌, ◌<◌, ◌≤◌, ◌^◌, ◌-◌, ◌==◌, ◌++◌, ℕ, arith, length, Bool, true, false, codes, Option, Some, None, List, [], refl, ap, ap₂, sym, ◌∙◌, subst, append_assoc}
+use Rattle.std.specs.Prelude.{decimal, is_some, ◌&&◌, nat_le, if◌then◌else◌}
+use Rattle.std.specs.List.{list_any}
+use Rattle.std.specs.Option.{option_map}
+use Rattle.std.proofs.lemmas.List.{length-append}
+use Rattle.std.proofs.lemmas.Fmt.{length-decimal-le}
+use Rattle.delivery_token.specs.declared.Verdict.{Verdict}
+use Rattle.imap_session.specs.declared.standing.After.{After}
+use Rattle.delivery_token.specs.declared.Verdict.TheVariants.{Stored, Refused}
+use Rattle.delivery_token.specs.declared.Refusal.{Refusal}
+use Rattle.delivery_token.specs.declared.Refusal.TheVariants.{Full, MailboxFull, NoMemory, UidSpent}
+use Rattle.imap_session.specs.declared.standing.Selected.{Selected}
+use Rattle.imap_session.specs.Exchange.{Answer, Appending, Call, Exchange, ForVerdict, Mailing, Sent, Standing, Wait, closed, tagged}
+use Rattle.imap_session.specs.Commands.{appended_words, is_over, kept_text, last_number, nowhere, on_found, on_rest, on_text, on_verdict, refused_words, says, showing, over, taking, turn_with, wanting, with_bytes, without_sent}
+use Rattle.imap_session.specs.Shows.{IsNoOk, RestShowsNone, ShowsBefore, VerdictShowsInPlace}
+use Rattle.imap_session.specs.Store.{AnswersVerdict}
+use Rattle.imap_session.specs.inner.Store.{Plays}
+
+pub ten_digits : (n : ℕ) → n < 2 ^ 32 → length (decimal n) ≤ 10
+ten_digits n l = length-decimal-le 10 n (omega arith) (omega (arith, l)) (omega (arith, l))
+
+-- ---- the line that tells where a message was stored
+
+in_parts : (out tag space first validity gap number last end : List ℕ)
+    → (((((out ++ tag) ++ (space ++ first)) ++ validity) ++ gap) ++ number) ++ (last ++ end) ≡ out ++ (((tag ++ space) ++ ((((first ++ validity) ++ gap) ++ number) ++ last)) ++ end)
+in_parts out tag space first validity gap number last end = simp append_assoc refl
+
+pub line_in_parts : (out tag : List ℕ) (validity number : ℕ) (a b c d e f : List ℕ) → a ≡ out ++ tag → b ≡ a ++ codes " OK [APPENDUID " → c ≡ b ++ decimal validity → d ≡ c ++ codes " " → e ≡ d ++ decimal number
+    → f ≡ e ++ codes "] APPEND completed\r\n" → f ≡ out ++ tagged tag (appended_words validity number)
+line_in_parts out tag validity number a b c d e f one two three four five six =
+    six ∙ ap (λ (t : List ℕ). t ++ codes "] APPEND completed\r\n")
+    (five ∙ ap (λ (t : List ℕ). t ++ decimal number) (four ∙ ap (λ (t : List ℕ). t ++ codes " ") (three ∙ ap (λ (t : List ℕ). t ++ decimal validity) (two ∙ ap (λ (t : List ℕ). t ++ codes " OK [APPENDUID ") one))))
+    ∙ in_parts out tag (codes " ") (codes "OK [APPENDUID ") (decimal validity) (codes " ") (decimal number) (codes "] APPEND completed") (codes "\r\n")
+
+-- ---- a whole answer
+
+pub answers_verdict : {S : Type 0} (step : S → Call → Answer → S → Type 0) (now next : Standing) (sent : Sent) (verdict : Verdict) (old new : S) (before after : List ℕ) (how : After)
+    → now.mailing.sent ≡ Some sent
+    → Plays step sent.tag (without_sent now) (without_sent now) (on_verdict now.selected sent.append.mailbox verdict) old new before after how → next ≡ (closed (without_sent now) how).standing
+    → AnswersVerdict step now verdict old new before after how next
+answers_verdict {S} step now next sent verdict old new before after how is p e =
+    subst (λ (s : Standing). AnswersVerdict step now verdict old new before after how s) (sym e) (record {
+      answers = p.answers;
+      events = p.events;
+      bytes = p.bytes;
+      played = ap (λ s. turn_with s now verdict p.answers) is ∙ p.leads;
+      met = p.met;
+      wrote = p.wrote;
+    })
+
+-- ---- what shows changes
+
+none_either : (b : Bool) (x y : Exchange) → RestShowsNone x → RestShowsNone y → RestShowsNone (if b then x else y)
+none_either true x y p q = p
+none_either false x y p q = q
+
+over_none : (most : Option ℕ) → RestShowsNone (over most)
+over_none None = refl
+over_none (Some most) = refl
+
+text_none : (mailing : Mailing) (a : Appending) (text : List ℕ) (mailbox : ℕ) → RestShowsNone (on_text mailing a text mailbox)
+text_none mailing a text mailbox =
+    none_either (is_over mailing.most a.size) (over mailing.most) _ (over_none mailing.most)
+    (none_either (list_any (λ b. b == 0) text) (says (codes "NO NUL byte")) _ refl
+    (none_either (nat_le last_number mailing.number) (says (codes "NO Mailbox is spent")) (wanting (Wait [] (ForVerdict mailbox a.flags text))) refl (refl, (refl, refl))))
+
+named_none : (mailing : Mailing) (a : Appending) (text : List ℕ) (mailbox : Option ℕ) → RestShowsNone (on_found (on_text mailing a text) nowhere mailbox)
+named_none mailing a text None = refl
+named_none mailing a text (Some mailbox) = text_none mailing a text mailbox
+
+kept_none : (mailing : Mailing) (a : Appending) (empty : Bool) (text : Option (List ℕ))
+    → RestShowsNone (on_found (λ text. if empty then on_found (on_text mailing a text) nowhere a.mailbox else says (codes "BAD Invalid arguments")) (says (codes "NO Out of memory")) text)
+kept_none mailing a empty None = refl
+kept_none mailing a empty (Some text) = none_either empty (on_found (on_text mailing a text) nowhere a.mailbox) (says (codes "BAD Invalid arguments")) (named_none mailing a text a.mailbox) refl
+
+pub rest_none : (mailing : Mailing) (a : Appending) (empty : Bool) → RestShowsNone (on_rest mailing a empty)
+rest_none mailing a empty = kept_none mailing a empty a.text
+
+shown_before : (selected : Option Selected) (words : List ℕ)
+    → ShowsBefore (says words) (λ bytes. bytes ≡ []) true (is_some selected) false (showing selected (says words))
+shown_before None words = λ must. absurd cc
+shown_before (Some selected) words = (refl, refl, refl)
+
+refused_says : (why : Refusal) → IsNoOk (refused_words why)
+refused_says Full = refl
+refused_says MailboxFull = refl
+refused_says NoMemory = refl
+refused_says UidSpent = refl
+
+pub verdict_shown : (selected : Option Selected) (mailbox : ℕ) (verdict : Verdict) → VerdictShowsInPlace selected verdict (on_verdict selected mailbox verdict)
+verdict_shown selected mailbox (Stored uid) = λ status. shown_before selected (appended_words status.uidvalidity uid)
+verdict_shown selected mailbox (Refused why) = refused_says why
+
+-- ---- bytes of a literal
+
+kept_again : (kept also_kept : Bool) (front back : List ℕ) (text : Option (List ℕ)) → kept_text also_kept back (kept_text kept front text) ≡ kept_text (kept && also_kept) (front ++ back) text
+kept_again true true front back (Some text) = ap (λ t. Some t) (append_assoc text front back)
+kept_again true false front back (Some text) = refl
+kept_again false true front back (Some text) = refl
+kept_again false false front back (Some text) = refl
+kept_again true true front back None = refl
+kept_again true false front back None = refl
+kept_again false true front back None = refl
+kept_again false false front back None = refl
+
+due_again : (due : ℕ) (front back : List ℕ) → due - length front - length back ≡ due - length (front ++ back)
+due_again due front back = rw (length-append front back) (omega arith)
+
+taking_again : (kept also_kept : Bool) (front back : List ℕ) (a : Appending) → taking also_kept back (taking kept front a) ≡ taking (kept && also_kept) (front ++ back) a
+taking_again kept also_kept front back a =
+    ap₂ (λ (due : ℕ) (text : Option (List ℕ)). (let x : Appending = record { tag = a.tag; mailbox = a.mailbox; flags = a.flags; size = a.size; due = due; text = text } in x))
+    (due_again a.due front back) (kept_again kept also_kept front back a.text)
+
+pub cut_anywhere : (now : Standing) (front back : List ℕ) (kept also_kept : Bool) → with_bytes also_kept back (with_bytes kept front now) ≡ with_bytes (kept && also_kept) (front ++ back) now
+cut_anywhere now front back kept also_kept = with_begun now front back kept also_kept now.mailing.begun
+  where
+    begun_as : Standing → Option Appending → Standing
+    begun_as now b = record now { mailing = record now.mailing { begun = b } }
+
+    with_begun : (now : Standing) (front back : List ℕ) (kept also_kept : Bool) (b : Option Appending)
+        → begun_as now (option_map (taking also_kept back) (option_map (taking kept front) b)) ≡ begun_as now (option_map (taking (kept && also_kept) (front ++ back)) b)
+    with_begun now front back kept also_kept None = refl
+    with_begun now front back kept also_kept (Some a) = ap (λ (x : Appending). begun_as now (Some x)) (taking_again kept also_kept front back a)

@@ -1,0 +1,158 @@
+//! A message that a client appends: its bytes as they come, what is said of it when all are there, and its way to the mailbox.
+//! What is said where is told in specs/Commands.antt; no mailbox is asked here.
+
+ghost use Rattle.std.specs.Prelude.{◌≡◌, ◌<◌, ◌≤◌, ◌==◌, ℕ, Bool, List, [], length, IfErr, IfOk, IfSome, None, true, false};
+ghost use Rattle.std.specs.List.{list_any};
+ghost use Rattle.std.specs.Option.{option_map};
+ghost use Rattle.change_ring.specs.declared.change.Flags.{Flags as FlagSet};
+ghost use Rattle.imap_session.specs.Commands.{is_over, on_rest, over, says, taking, wanting};
+ghost use Rattle.imap_session.specs.Exchange.{Appending as AppendingSpec, Mailing as MailingSpec, ForVerdict, Wait};
+ghost use Rattle.imap_session.specs.inner.Seen.{appending_of};
+
+use crate::standing::Append;
+use crate::tag::Tag;
+use change_ring::Flags;
+use std::alloc::Global;
+use std::marker::Model;
+
+/// The greatest number of a message, which none has.
+pub(crate) const LAST_NUMBER: u32 = 4_294_967_295;
+
+/// So much room a message's text begins with, or less where it is shorter.
+const FIRST_ROOM: usize = 4_096;
+
+/// A message whose bytes come.
+#[derive(Drop)]
+pub(crate) struct Appending {
+    pub(crate) tag: Tag,
+    pub(crate) mailbox: Option<u8>,
+    pub(crate) flags: Flags,
+    pub(crate) size: usize,
+    pub(crate) due: usize,
+    // None where memory was refused.
+    pub(crate) text: Option<Vec<u8>>,
+}
+
+/// A message that waits for the verdict on its copy.
+#[derive(Drop)]
+pub(crate) struct Sent {
+    pub(crate) tag: Tag,
+    pub(crate) append: Append,
+}
+
+/// What a session knows of the messages that its client appends.
+#[derive(Drop)]
+pub(crate) struct Mailing {
+    // The most bytes of a message. None: no message is taken.
+    pub(crate) most: Option<u32>,
+    // The number of the next that is submitted.
+    pub(crate) number: u32,
+    pub(crate) begun: Option<Appending>,
+    pub(crate) sent: Option<Sent>,
+}
+
+impl Model for Mailing {
+    ghost use Rattle.std.specs.Option.{option_map};
+    ghost use Rattle.imap_session.specs.Exchange.{Mailing as Known};
+    ghost use Rattle.imap_session.specs.inner.Seen.{appending_of, sent_of};
+
+    ghost Value = { Known };
+
+    ghost view = { λ m. record { most = m.most; number = m.number; begun = option_map appending_of m.begun; sent = option_map sent_of m.sent } };
+}
+
+impl Appending {
+    // Keeps bytes that came, or drops all where memory is refused.
+    pub(crate) fn keep(&mut self, bytes: &[u8])
+        requires fits { length bytes.now ≤ self.old.due }
+        ensures { (kept : Bool) × (appending_of self.new ≡ taking kept bytes.now (appending_of self.old)) }
+    {
+        self.due -= bytes.len();
+        let Some(mut text) = self.text.take() else {
+            return;
+        };
+        if text.extend_from_slice(bytes).is_ok() {
+            self.text = Some(text);
+        }
+    }
+}
+
+// A message's text, before its bytes come. A client may announce more than it sends, so room for all is asked only as they come; where memory
+// for the first is refused, it is asked again then.
+pub(crate) fn begin_text(alloc: Global, size: usize) -> Vec<u8>
+    ensures { result.items ≡ [] }
+{
+    match Vec::with_capacity(alloc, size.min(FIRST_ROOM)) {
+        Ok(text) => text,
+        Err(_) => Vec::new(alloc),
+    }
+}
+
+// Gives back the room that a text has over, which may be kept for long, unless it is little. Where that is refused, the room stays.
+fn trim(text: &mut Vec<u8>)
+    ensures { text.new.items ≡ text.old.items }
+{
+    let spare = text.capacity() - text.len();
+    if spare > text.len() / 8 {
+        text.shrink_to_fit();
+    }
+}
+
+fn has_nul(text: &[u8]) -> bool
+    ensures { result ≡ list_any (λ b. b == 0) text.now }
+{
+    text.contains(&0)
+}
+
+// What is said where a message of this size isn't taken.
+pub(crate) fn refused_size(most: Option<u32>, size: u64) -> Option<&'static [u8]>
+    ensures taken { result ≡ None → is_over most size ≡ false }
+    ensures refused { IfSome result (λ words. (is_over most size ≡ true) × (over most ≡ says words.now)) }
+    ensures short { IfSome result (λ words. length words.now ≤ 45) }
+{
+    let Some(most) = most else {
+        return Some(b"NO [CANNOT] Not offered here");
+    };
+    if size > most as u64 {
+        return Some(b"NO Message too big");
+    }
+    None
+}
+
+// The message whose bytes are all there, or what is said of it.
+pub(crate) fn judge(
+    text: Option<Vec<u8>>,
+    mailbox: Option<u8>,
+    size: usize,
+    most: Option<u32>,
+    number: u32,
+    empty: bool,
+) -> Result<(u8, Vec<u8>), &'static [u8]>
+    ensures says { IfErr result (λ words. (mailing : MailingSpec) (a : AppendingSpec) → mailing.most ≡ most → mailing.number ≡ number → a.mailbox ≡ mailbox → a.size ≡ size → a.text ≡ option_map (λ t. t.items) text →
+        on_rest mailing a empty ≡ says words.now) }
+    ensures short { IfErr result (λ words. length words.now ≤ 45) }
+    ensures ready { IfOk result (λ made. (mailing : MailingSpec) (a : AppendingSpec) → mailing.most ≡ most → mailing.number ≡ number → a.mailbox ≡ mailbox → a.size ≡ size → a.text ≡ option_map (λ t. t.items) text →
+        on_rest mailing a empty ≡ wanting (Wait [] (ForVerdict made.0 a.flags made.1.items))) }
+    ensures numbered { IfOk result (λ made. number < 4294967295) }
+{
+    let Some(mut text) = text else {
+        return Err(b"NO Out of memory");
+    };
+    if !empty {
+        return Err(b"BAD Invalid arguments");
+    }
+    let Some(mailbox) = mailbox else {
+        return Err(b"NO [TRYCREATE] No such mailbox");
+    };
+    if let Some(words) = refused_size(most, size as u64) {
+        return Err(words);
+    }
+    if has_nul(&text) {
+        return Err(b"NO NUL byte");
+    }
+    if number >= LAST_NUMBER {
+        return Err(b"NO Mailbox is spent");
+    }
+    trim(&mut text);
+    Ok((mailbox, text))
+}
