@@ -246,7 +246,7 @@ goes_visited k told s place b v o printed ok whole g =
 enter_did : (k : Setup) (told : ℕ → List Noted) (s : Scene) (session : ℕ) (user : Bor (List ℕ)) (t : Scene) (printed : List ℕ) → SceneOk k told s
     → EnterPlay k false s (place_of session) user.now t printed → Did k told s (Enter session user) t printed
 enter_did k told s session user t printed ok p = go (subst (λ (x : Scene). Visited k told s x (place_of session + 1) (greeting ++ p.goes.speaks.said) printed) (sym p.after)
-    (goes_visited k told s (place_of session) (greeted_visitor (folders_of k.directory user.now)) p.moved p.left printed ok greeting_whole p.goes))
+    (goes_visited k told s (place_of session) (greeted_visitor None (folders_of k.directory user.now)) p.moved p.left printed ok greeting_whole p.goes))
   where
     by : (v : Visited k told s t (place_of session + 1) (greeting ++ p.goes.speaks.said) printed) → Wrote k (place_of session + 1) (greeting ++ p.goes.speaks.said) printed → Did k told s (Enter session user) t printed
     by v (nothing e) = record { piece = Silence; is = e; own = tt; ok = v.ok; reached = v.reached }

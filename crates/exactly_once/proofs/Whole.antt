@@ -1,6 +1,7 @@
 -- What a session says is whole lines, whatever its store answers.
 use Rattle.std.proofs.Common.{◌≡◌, ◌⊎◌, inl, inr, ℕ, zero, suc, ◌+◌, Bool, true, false, List, [], ◌∷◌, ◌++◌, map, length, refl, sym, ap, ◌∙◌, subst, append_assoc, append-nil, Option, Some, None, Result, Ok, Err}
-use Rattle.std.specs.Prelude.{codes, decimal, flat_map, if◌then◌else◌, nat_lt}
+use Rattle.std.specs.Prelude.{codes, decimal, flat_map, if◌then◌else◌, nat_le, nat_lt, ◌==◌, ◌&&◌}
+use Rattle.std.specs.List.{list_any}
 use Rattle.std.specs.Option.{option_map}
 use Rattle.change_ring.specs.declared.change.Change.{Change}
 use Rattle.change_ring.specs.declared.change.Change.TheVariants.{Add, Gone, Flags as SetFlags}
@@ -16,6 +17,7 @@ use Rattle.mailbox.specs.declared.clients.Row.{Row}
 use Rattle.mailbox.specs.declared.mailbox.Status.{Status}
 use Rattle.imap_grammar.specs.Answers.{answered, asks_for_root, item_text, is_listed, list_answer, listed, name_answer, root_answer, status_text}
 use Rattle.imap_grammar.specs.Reading.{is_done, read}
+use Rattle.imap_grammar.specs.declared.command.Append.{Append}
 use Rattle.imap_grammar.specs.declared.command.Command.{Command}
 use Rattle.imap_grammar.specs.declared.command.Command.TheVariants as commands
 use Rattle.imap_grammar.specs.declared.command.Fetch.{Fetch}
@@ -28,11 +30,12 @@ use Rattle.imap_session.specs.declared.standing.After.TheVariants.{Go, Bye}
 use Rattle.imap_session.specs.declared.standing.After.TheVariants as afters
 use Rattle.imap_session.specs.declared.standing.Selected.{Selected}
 use Rattle.imap_session.specs.Exchange as ex
-use Rattle.imap_session.specs.Exchange.{Answer, Call, Entered, Looked, Found, Counted, Altered, Expunged, Fed, Left, Refused, Starved, Exchange, Folder, Standing, Turn, played, refused, refusal_text, refusal_after, saying, having, closed, tagged, bye, is_idling}
-use Rattle.imap_session.specs.Commands.{all_flags, closing, completed, counting, entering, expunge_set, fetch_messages, fetched, fetching, flags_answer, folder_of, greeting, idle_turn, idle_turn_in, if_writable, long_line_text, messages_done, on_chosen, on_command, on_folder, on_found, on_idle_line, opened, opening_text, says, showing, store_messages, stored, storing, turn_of, turn_of_long_line, unlimited, wrong_state}
+use Rattle.imap_session.specs.Exchange.{Answer, Appending, ForVerdict, Mailing, Call, Entered, Looked, Found, Counted, Altered, Expunged, Fed, Left, Refused, Starved, Exchange, Folder, Standing, Turn, played, refused, refusal_text, refusal_after, saying, having, closed, tagged, bye, is_idling}
+use Rattle.imap_session.specs.Commands.{all_flags, appending, is_over, last_number, most_unasked, nowhere, number_named, on_rest, on_text, over, wanting, closing, completed, counting, entering, expunge_set, fetch_messages, fetched, fetching, flags_answer, folder_of, greeting, idle_turn, idle_turn_in, if_writable, messages_done, on_chosen, on_command, on_folder, on_found, on_idle_line, opened, opening_text, says, showing, store_messages, stored, storing, turn_of, turn_of_long_line, unlimited, wrong_state}
 use Rattle.imap_session.specs.Commands as commands_of
 use Rattle.imap_session.specs.Store.{IdleTurns}
-use Rattle.imap_connection.specs.Dialogue.{AnswersLine, Converses, goes_on, parts, reads, silent, too_long}
+use Rattle.imap_connection.specs.Dialogue as dialogue
+use Rattle.imap_connection.specs.Dialogue.{AnswersLine, AnswersOne, Converses, Sends, goes_on, parts, reads, silent, too_long}
 
 -- nothing, or lines of which the last one has ended
 abbrev pub IsWhole : List ℕ → Type 0
@@ -75,6 +78,8 @@ closed_whole : (now : Standing) (how : After) → IsWhole (closed now how).bytes
 closed_whole now Go = inl refl
 closed_whole now Bye = inl refl
 closed_whole now afters.Idle = inl refl
+closed_whole now (afters.Literal due) = inl refl
+closed_whole now afters.Submit = inl refl
 
 refusal_whole : (tag : List ℕ) (fault : MailFault) → IsWhole (refusal_text tag fault)
 refusal_whole tag Stranger = bye_whole (codes "Internal fault")
@@ -90,7 +95,7 @@ refused_whole tag now fault = whole_append (refusal_text tag fault) (closed now 
 -- whatever the store answers, each piece that it writes is whole lines
 abbrev pub SaysWhole : Exchange → Type 0
 SaysWhole (ex.Done words how) = Unit {0}
-SaysWhole ex.Idle = Unit {0}
+SaysWhole (ex.Wait bytes waits) = IsWhole bytes
 SaysWhole (ex.Write bytes x) = IsWhole bytes × SaysWhole x
 SaysWhole (ex.Put bytes x) = IsWhole bytes × SaysWhole x
 SaysWhole (ex.Enter selected next) = (opening : Opening) → SaysWhole (next opening)
@@ -126,19 +131,19 @@ either false turn p = tt
 played_whole : (tag : List ℕ) (now : Standing) (x : Exchange) (answers : List Answer) → SaysWhole x → TurnWhole (played tag now x answers)
 played_whole tag now (ex.Done words how) [] p = whole_append (tagged tag words) (closed now how).bytes (tagged_whole tag words) (closed_whole now how)
 played_whole tag now (ex.Done words how) (answer ∷ more) p = tt
-played_whole tag now ex.Idle [] p = inr (codes "+ idling", refl)
-played_whole tag now ex.Idle ((Entered a) ∷ more) p = tt
-played_whole tag now ex.Idle ((Looked a) ∷ more) p = tt
-played_whole tag now ex.Idle ((Found a) ∷ more) p = tt
-played_whole tag now ex.Idle ((Counted a) ∷ more) p = tt
-played_whole tag now ex.Idle ((Altered a) ∷ more) p = tt
-played_whole tag now ex.Idle ((Expunged a b c) ∷ more) p = tt
-played_whole tag now ex.Idle ((Fed a b) ∷ more) p = tt
-played_whole tag now ex.Idle ((Left a) ∷ more) p = tt
-played_whole tag now ex.Idle ((Refused a) ∷ more) p = tt
-played_whole tag now ex.Idle (Starved zero ∷ []) p = either (nat_lt ex.most_in_place (length tag)) (refused tag now NoMemory) (refused_whole tag now NoMemory)
-played_whole tag now ex.Idle (Starved zero ∷ d ∷ more) p = tt
-played_whole tag now ex.Idle ((Starved (suc a)) ∷ more) p = tt
+played_whole tag now (ex.Wait bytes waits) [] p = whole_append bytes [] p (inl refl)
+played_whole tag now (ex.Wait bytes waits) ((Entered a) ∷ more) p = tt
+played_whole tag now (ex.Wait bytes waits) ((Looked a) ∷ more) p = tt
+played_whole tag now (ex.Wait bytes waits) ((Found a) ∷ more) p = tt
+played_whole tag now (ex.Wait bytes waits) ((Counted a) ∷ more) p = tt
+played_whole tag now (ex.Wait bytes waits) ((Altered a) ∷ more) p = tt
+played_whole tag now (ex.Wait bytes waits) ((Expunged a b c) ∷ more) p = tt
+played_whole tag now (ex.Wait bytes waits) ((Fed a b) ∷ more) p = tt
+played_whole tag now (ex.Wait bytes waits) ((Left a) ∷ more) p = tt
+played_whole tag now (ex.Wait bytes waits) ((Refused a) ∷ more) p = tt
+played_whole tag now (ex.Wait bytes waits) (Starved zero ∷ []) p = either (ex.keeps_tag waits && nat_lt ex.most_in_place (length tag)) (refused tag now NoMemory) (refused_whole tag now NoMemory)
+played_whole tag now (ex.Wait bytes waits) (Starved zero ∷ d ∷ more) p = tt
+played_whole tag now (ex.Wait bytes waits) ((Starved (suc a)) ∷ more) p = tt
 played_whole tag now (ex.Write bytes x) [] p = then_saying bytes (played tag now x []) p.0 (played_whole tag now x [] p.1)
 played_whole tag now (ex.Write bytes x) ((Entered a) ∷ more) p = then_saying bytes (played tag now x ((Entered a) ∷ more)) p.0 (played_whole tag now x ((Entered a) ∷ more) p.1)
 played_whole tag now (ex.Write bytes x) ((Looked a) ∷ more) p = then_saying bytes (played tag now x ((Looked a) ∷ more)) p.0 (played_whole tag now x ((Looked a) ∷ more) p.1)
@@ -337,12 +342,35 @@ list_whole reference pattern names = if_whole (asks_for_root reference pattern) 
 in_folder : (next : Folder → Exchange) → ((folder : Folder) → SaysWhole (next folder)) → (found : Option Folder) → SaysWhole (on_found next (says (codes "NO [NONEXISTENT] No such mailbox")) found)
 in_folder next p found = in_found next _ p tt found
 
+-- ---- APPEND
+
+in_over : (most : Option ℕ) → SaysWhole (over most)
+in_over None = tt
+in_over (Some most) = tt
+
+in_append : (most : Option ℕ) (folders : List Folder) (a : Append) → SaysWhole (appending most folders a)
+in_append most folders a =
+    in_either a.literal.waits _ _
+    (inl refl, in_found _ nowhere (λ (mailbox : ℕ). in_either (is_over most a.literal.size) (over most) _ (in_over most) (inr (codes "+ ready", refl))) tt (number_named a.name folders))
+    (in_either (nat_lt most_unasked a.literal.size) _ _ (bye_whole (codes "Literal too big")) (inl refl, inl refl))
+
+in_text : (mailing : Mailing) (a : Appending) (text : List ℕ) (mailbox : ℕ) → SaysWhole (on_text mailing a text mailbox)
+in_text mailing a text mailbox =
+    in_either (is_over mailing.most a.size) (over mailing.most) _ (in_over mailing.most)
+    (in_either (list_any (λ b. b == 0) text) (says (codes "NO NUL byte")) _ tt
+    (in_either (nat_le last_number mailing.number) (says (codes "NO Mailbox is spent")) (wanting (ex.Wait [] (ForVerdict mailbox a.flags text))) tt (inl refl, inl refl)))
+
+in_rest : (mailing : Mailing) (a : Appending) (empty : Bool) → SaysWhole (on_rest mailing a empty)
+in_rest mailing a empty =
+    in_found _ (says (codes "NO Out of memory"))
+    (λ (text : List ℕ). in_either empty (on_found (on_text mailing a text) nowhere a.mailbox) (says (codes "BAD Invalid arguments")) (in_found (on_text mailing a text) nowhere (in_text mailing a text) tt a.mailbox) tt) tt a.text
+
 command_whole : (now : Standing) (command : Command) → SaysWhole (on_command now command)
 command_whole now commands.Capability = (inr (codes "* CAPABILITY IMAP4rev2 IDLE", refl), tt)
 command_whole now commands.Noop = in_showing now.selected _ tt
 command_whole now commands.Logout = (bye_whole (codes "Logging out"), tt)
 command_whole now commands.Namespace = (inr (codes "* NAMESPACE ((\"\" \"/\")) NIL NIL", refl), tt)
-command_whole now commands.Idle = tt
+command_whole now commands.Idle = inr (codes "+ idling", refl)
 command_whole now commands.Login = tt
 command_whole now commands.Authenticate = tt
 command_whole now commands.StartTls = tt
@@ -365,6 +393,7 @@ command_whole now (commands.Store store) =
     in_found _ wrong_state
     (λ (s : Selected). in_either s.read_only _ (store_messages store) tt
     (λ view. in_chosen (named_in store.by_uid store.set view) _ (λ uids. in_storing store view (messages_done (commands.Store store) store.by_uid) (in_done (commands.Store store) store.by_uid) uids false))) tt now.selected
+command_whole now (commands.Append append) = in_append now.mailing.most now.folders append
 
 -- ---- lines
 
@@ -384,21 +413,30 @@ while_whole None now line answers = read_whole now (read line) answers
 while_whole (Some tag) now line answers =
     played_whole tag (record now { idling = None }) (on_idle_line now.selected line) answers (in_either (is_done line) _ _ (in_showing now.selected _ tt) tt)
 
+behind_whole : (begun : Option Appending) (now : Standing) (line : List ℕ) (answers : List Answer) → TurnWhole (commands_of.turn_behind begun now line answers)
+behind_whole None now line answers = while_whole now.idling now line answers
+behind_whole (Some a) now line answers = played_whole a.tag (commands_of.without_begun now) (on_rest now.mailing a (length line == 0)) answers (in_rest now.mailing a (length line == 0))
+
 some_whole : (o : Option Turn) (turn : Turn) → TurnWhole o → o ≡ Some turn → IsWhole turn.bytes
 some_whole o turn p e = subst TurnWhole e p
 
-long_whole : (idling : Option (List ℕ)) → IsWhole (long_line_text idling)
-long_whole None = inr (codes "* BAD Line too long", refl)
-long_whole (Some tag) = tagged_whole tag (codes "BAD Expected DONE")
+long_whole : (begun : Option Appending) (idling : Option (List ℕ)) → IsWhole (commands_of.long_text begun idling)
+long_whole None None = inr (codes "* BAD Line too long", refl)
+long_whole None (Some tag) = tagged_whole tag (codes "BAD Expected DONE")
+long_whole (Some a) idling = tagged_whole a.tag (commands_of.long_rest_words a.text)
 
 line_answered : {S : Type 0} (step : S → Call → Answer → S → Type 0) (now : Standing) (l : List ℕ) (old new : S) (said : List ℕ) (how : After) (next : Standing) → AnswersLine step now l old new [] said how next → IsWhole said
-line_answered step now l old new said how next (reads few a) = subst IsWhole (sym a.wrote) (some_whole _ _ (while_whole now.idling now l a.answers) a.played)
-line_answered step now l old new said how next (too_long many s w h n) = subst IsWhole (sym w) (long_whole now.idling)
+line_answered step now l old new said how next (reads few a) = subst IsWhole (sym a.wrote) (some_whole _ _ (behind_whole now.mailing.begun now l a.answers) a.played)
+line_answered step now l old new said how next (too_long many s w h n) = subst IsWhole (sym w) (whole_append _ [] (long_whole now.mailing.begun now.idling) (inl refl))
 
-pub converses_whole : {S : Type 0} (step : S → Call → Answer → S → Type 0) {now next : Standing} {lines : List (List ℕ)} {old new : S} {said : List ℕ} {how : After} → Converses step now lines old new said how next → IsWhole said
+one_answered : {S : Type 0} (step : S → Call → Answer → S → Type 0) (now : Standing) (one : Sends) (old new : S) (said : List ℕ) (how : After) (next : Standing) → AnswersOne step now one old new [] said how next → IsWhole said
+one_answered step now (dialogue.Line line) old new said how next a = line_answered step now line old new said how next a.1
+one_answered step now (dialogue.Bytes bytes) old new said how next t = inl t.silent
+
+pub converses_whole : {S : Type 0} (step : S → Call → Answer → S → Type 0) {now next : Standing} {sent : List Sends} {old new : S} {said : List ℕ} {how : After} → Converses step now sent old new said how next → IsWhole said
 converses_whole step (silent now old) = inl refl
-converses_whole step (parts now next line old new said a) = line_answered step now line old new said Bye next a
-converses_whole step (goes_on now between next line others old mid new one two how a more) = whole_append one two (line_answered step now line old mid one _ between a) (converses_whole step more)
+converses_whole step (parts now next one old new said how stops a) = one_answered step now one old new said how next a
+converses_whole step (goes_on now between next one others old mid new first second how follows a more) = whole_append first second (one_answered step now one old mid first _ between a) (converses_whole step more)
 
 -- ---- turns while it idles
 

@@ -9,8 +9,8 @@ pub speaks_carried : {S T : Type 0} (step : S → Call → Answer → S → Type
     → (n : ℕ) (before : HouseSession) (old new : S) (after : HouseSession) (printed : List ℕ) (t : T) → Speaks step n before old new after printed → Stands old t
     → (u : T) × Speaks other n before t u after printed × Stands new u
 speaks_carried step other Stands carries n before old new after printed t s stands =
-    let c = converses_carried step other Stands carries before.standing s.answers.lines old new s.said s.answers.how after.standing t s.answers.converses stands in
-    (c.0, record { said = s.said; answers = record { lines = s.answers.lines; how = s.answers.how; waited = s.answers.waited; converses = c.1 }; prints = s.prints }, c.2)
+    let c = converses_carried step other Stands carries before.standing s.answers.sent old new s.said s.answers.how after.standing t s.answers.converses stands in
+    (c.0, record { said = s.said; answers = record { sent = s.answers.sent; how = s.answers.how; waited = s.answers.waited; converses = c.1 }; prints = s.prints }, c.2)
 
 pub idles_carried : {S T : Type 0} (step : S → Call → Answer → S → Type 0) (other : T → Call → Answer → T → Type 0) (Stands : S → T → Type 0) → Carries step other Stands
     → (n : ℕ) (before : HouseSession) (old new : S) (after : HouseSession) (count : ℕ) (printed : List ℕ) (t : T) → Idles step n before old new after count printed → Stands old t

@@ -134,7 +134,7 @@ module _ (k : Setup) (seat : ℕ) (next : CopyKey) (heard : List Noted) where
 
 speaks_with : {S : Type 0} (step : S → Call → Answer → S → Type 0) (before after : HouseSession) (old new : S) (said unsaid : List ℕ) → Answers step before old new after said
     → Answers step before old new (record { standing = after.standing; waits = after.waits; unsaid = unsaid }) said
-speaks_with step before after old new said unsaid a = record { lines = a.lines; how = a.how; waited = a.waited; converses = a.converses }
+speaks_with step before after old new said unsaid a = record { sent = a.sent; how = a.how; waited = a.waited; converses = a.converses }
 
 pub went_on : {S : Type 0} (step : S → Call → Answer → S → Type 0) (whole : Bool) (n : ℕ) (v : HouseSession) (old new : S) (text text_after : List ℕ) (p : Place) → Answered step whole v old new p
     → text_after ≡ text ++ marked of_session n p.unsaid → WentOn step whole n v old new text text_after (record { link = p.link; came = p.came; unsaid = [] })

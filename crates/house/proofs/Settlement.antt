@@ -117,7 +117,7 @@ plays_part k s (Deliver shard) t printed p = p
 plays_part k s (Answer shard) t printed p = p
 plays_part k s (Hear connection) t printed p = hear_part k s _ t printed p
 plays_part k s (End connection shard) t printed p = p
-plays_part k s (Enter session user) t printed p = record { there = p.there; free = p.free; known = p.known; moved = p.moved; left = p.left; goes = visits_part k (place_of session) s.world (greeted_visitor (folders_of k.directory user.now)) p.moved p.left printed p.goes; after = p.after }
+plays_part k s (Enter session user) t printed p = record { there = p.there; free = p.free; known = p.known; moved = p.moved; left = p.left; goes = visits_part k (place_of session) s.world (greeted_visitor None (folders_of k.directory user.now)) p.moved p.left printed p.goes; after = p.after }
 plays_part k s (Say session piece) t printed p = record { visitor = p.visitor; there = p.there; moved = p.moved; left = p.left; goes = visits_part k (place_of session) s.world (visitor_more_waits p.visitor piece.now) p.moved p.left printed p.goes; after = p.after }
 plays_part k s (Idle session) t printed p = record { visitor = p.visitor; there = p.there; moved = p.moved; left = p.left; goes = idles_part k (place_of session) s.world p.visitor p.moved p.left printed p.goes; after = p.after }
 plays_part k s (Leave session) t printed p = p

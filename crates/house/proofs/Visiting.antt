@@ -10,7 +10,8 @@ use Rattle.house.specs.Setup.{Setup}
 use Rattle.imap_session.specs.Exchange.{Answer, Call, Standing}
 use Rattle.imap_session.specs.Exchange as calls
 use Rattle.imap_session.specs.declared.standing.After.{After}
-use Rattle.imap_connection.specs.Dialogue.{AnswersLine, Converses, goes_on, parts, reads, silent, too_long}
+use Rattle.imap_connection.specs.Dialogue as dialogue
+use Rattle.imap_connection.specs.Dialogue.{AnswersLine, Converses, goes_on, parts, reads, silent, too_long, AnswersOne, Sends}
 use Rattle.session_store.specs.declared.desk.Desk.{Desk}
 use Rattle.session_store.specs.Desk.{Serves}
 use Rattle.session_store.specs.Meets.{Meets}
@@ -43,11 +44,15 @@ line_delivery : (now : Standing) (line : List ℕ) (old new : Desk) (before afte
 line_delivery now line old new before after how next (reads short a) = met_delivery old new a.events a.met
 line_delivery now line old new before after how next (too_long long same wrote go stays) = subst (λ (d : Desk). SameDelivery old.core d.core) (sym same) (same_delivery old.core)
 
-converses_delivery : (now : Standing) (lines : List (List ℕ)) (old new : Desk) (said : List ℕ) (how : After) (next : Standing) → Converses Serves now lines old new said how next → SameDelivery old.core new.core
-converses_delivery now lines old new said how next (silent a b) = same_delivery old.core
-converses_delivery now lines old new said how next (parts a b line c d x answered) = line_delivery now line old new [] said _ next answered
-converses_delivery now lines old new said how next (goes_on a between b line others c mid d one two e answered more) =
-    delivery_then old.core mid.core new.core (line_delivery now line old mid [] one _ between answered) (converses_delivery between others mid new two how next more)
+one_delivery : (now : Standing) (one : Sends) (old new : Desk) (before after : List ℕ) (how : After) (next : Standing) → AnswersOne Serves now one old new before after how next → SameDelivery old.core new.core
+one_delivery now (dialogue.Line line) old new before after how next answered = line_delivery now line old new before after how next answered.1
+one_delivery now (dialogue.Bytes bytes) old new before after how next taken = subst (λ (d : Desk). SameDelivery old.core d.core) (sym taken.unasked) (same_delivery old.core)
+
+converses_delivery : (now : Standing) (sent : List Sends) (old new : Desk) (said : List ℕ) (how : After) (next : Standing) → Converses Serves now sent old new said how next → SameDelivery old.core new.core
+converses_delivery now sent old new said how next (silent a b) = same_delivery old.core
+converses_delivery now sent old new said how next (parts a b one c d x e stops answered) = one_delivery now one old new [] said how next answered
+converses_delivery now sent old new said how next (goes_on a between b one others c mid d first second e follows answered more) =
+    delivery_then old.core mid.core new.core (one_delivery now one old mid [] first _ between answered) (converses_delivery between others mid new second how next more)
 
 -- ---- one visit
 
@@ -83,7 +88,7 @@ visited k whole number b old new w p before after some at stands o live =
       };
       there = o.stands;
       core = g.serving.stands;
-      rest = converses_delivery b.standing o.speaks.answers.lines old new o.speaks.said o.speaks.answers.how o.after.standing o.speaks.answers.converses;
+      rest = converses_delivery b.standing o.speaks.answers.sent old new o.speaks.said o.speaks.answers.how o.after.standing o.speaks.answers.converses;
       out = o.out;
     }
 
@@ -108,7 +113,7 @@ parted k number b old mid new answer w p before after some at stands o over leav
       };
       there = tt;
       core = gone.2.stands;
-      rest = delivery_then old.core mid.core new.core (converses_delivery b.standing o.speaks.answers.lines old mid o.speaks.said o.speaks.answers.how o.after.standing o.speaks.answers.converses) leaves.rest;
+      rest = delivery_then old.core mid.core new.core (converses_delivery b.standing o.speaks.answers.sent old mid o.speaks.said o.speaks.answers.how o.after.standing o.speaks.answers.converses) leaves.rest;
       out = o.out;
     }
 
@@ -198,12 +203,12 @@ said k whole h s place piece p q c old new st within some goes =
     )
 
 pub entered : (k : Setup) (whole : Bool) (h : State) (s : Scene) (place : ℕ) (user : List ℕ) (p : Place) (q : Option Place) (c : Held) (old new : List ℕ) → StandsFor k h s → place < length h.visitors
-    → get_or h.visitors place None ≡ None → has_user h.directory user ≡ true → visit.StandsFor p (greeted (folders_of h.directory user))
+    → get_or h.visitors place None ≡ None → has_user h.directory user ≡ true → visit.StandsFor p (greeted None (folders_of h.directory user))
     → ((w : World) (b : HouseSession) → core.StandsFor k.config h.core w → StandsForVisit (Some p) (Some b) → PlaceVisited k whole place w b h.core q c old new)
     → (t : Scene) × (printed : List ℕ) × EnterPlay k whole s place user t printed × StandsFor k (with_visits h c place q) t × (new ≡ old ++ printed)
 entered k whole h s place user p q c old new st within free known is goes =
-    let here : visit.StandsFor p (greeted (folders_of k.directory user)) = subst (λ (d : Directory). visit.StandsFor p (greeted (folders_of d user))) st.directory is in
-    let m = goes s.world (greeted (folders_of k.directory user)) st.core here in (
+    let here : visit.StandsFor p (greeted None (folders_of k.directory user)) = subst (λ (d : Directory). visit.StandsFor p (greeted None (folders_of d user))) st.directory is in
+    let m = goes s.world (greeted None (folders_of k.directory user)) st.core here in (
       with_visitor (with_world s m.moved) place m.left,
       m.printed,
       record {

@@ -50,7 +50,7 @@ pub record ConnectionGoes (k : Setup) (whole : Bool) (seat : ℕ) (heard : List 
 
 -- ---- sessions
 
--- some lines of what waited were answered, and this was printed
+-- some of what waited was answered, and this was printed
 pub record Speaks {S : Type 0} (step : S → Call → Answer → S → Type 0) (n : ℕ) (before : HouseSession) (old new : S) (after : HouseSession) (printed : List ℕ) : Type 0 where
   pub said : List ℕ
   pub answers : Answers step before old new after said
@@ -63,7 +63,7 @@ pub record Idles {S : Type 0} (step : S → Call → Answer → S → Type 0) (n
   pub waits : after.waits ≡ before.waits
   pub prints : Prints of_session n (before.unsaid ++ said) after.unsaid printed
 
--- all that was said is printed, and no line waits that may be answered
+-- all that was said is printed, and nothing waits that may be answered
 pub record IsWhole (v : HouseSession) : Type 0 where
   pub said : v.unsaid ≡ []
   pub answered : HasAnswered v

@@ -132,7 +132,7 @@ pub record EnterPlay (k : Setup) (whole : Bool) (s : Scene) (place : ℕ) (user 
   pub known : has_user k.directory user ≡ true
   pub moved : World
   pub left : Option HouseSession
-  pub goes : SessionGoes k whole place s.world (greeted_visitor (folders_of k.directory user)) moved left printed
+  pub goes : SessionGoes k whole place s.world (greeted_visitor None (folders_of k.directory user)) moved left printed
   pub after : t ≡ with_visitor (with_world s moved) place left
 
 -- bytes came from a session's client

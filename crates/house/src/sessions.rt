@@ -48,6 +48,9 @@ fn go_on_at(
     Ok(())
 }
 
+// No message is taken from a session: only connections are producers.
+const NO_MESSAGES: Option<u32> = None;
+
 impl House {
     // Whether there is no such session.
     pub(crate) fn has_no_place(&self, session: u8) -> bool
@@ -81,7 +84,7 @@ impl House {
         let Ok(folders) = folders_of(alloc, &self.directory, user) else {
             return Err(HouseFault::NoMemory);
         };
-        let Ok(visitor) = HouseSession::open(alloc, folders) else {
+        let Ok(visitor) = HouseSession::open(alloc, folders, NO_MESSAGES) else {
             return Err(HouseFault::NoMemory);
         };
         let mut here = Some(visitor);

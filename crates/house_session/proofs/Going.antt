@@ -1,18 +1,18 @@
 -- What a visitor's connection took, and what was printed of it, as what the visitor does.
-use Rattle.std.proofs.Common.{◌≡◌, ℕ, ◌+◌, ◌-◌, ◌<◌, ◌⊎◌, inl, inr, arith, if◌then◌else◌, Bool, true, false, List, [], ◌++◌, length, take, drop, refl, sym, ap, ◌∙◌, subst, append-nil, append_assoc, take-append-drop, Option, Some, None, Result, Ok, Err, OnErr}
+use Rattle.std.proofs.Common.{◌≡◌, ℕ, ◌+◌, ◌-◌, ◌<◌, ◌⊎◌, inl, inr, arith, if◌then◌else◌, Bool, true, false, List, [], ◌++◌, flat_map, length, take, drop, refl, sym, ap, ◌∙◌, subst, append-nil, append_assoc, take-append-drop, Option, Some, None, Result, Ok, Err, OnErr}
 use Rattle.std.proofs.Math.Seq.{drop-length}
-use Rattle.std.specs.Prelude.{◌≢◌, ◌&&◌, not, IfSome}
+use Rattle.std.specs.Prelude.{◌&&◌, not, IfSome}
 use Rattle.std.specs.Option.{is_some}
-use Rattle.line_io.specs.Wire.{IsUncut, joined}
+use Rattle.line_io.specs.Wire.{IsUncut}
 use Rattle.imap_session.specs.declared.standing.After.{After}
 use Rattle.imap_session.specs.declared.standing.After.TheVariants.{Bye}
-use Rattle.imap_session.specs.Exchange.{Call, Answer, Standing, is_idling, may_send, waits_for}
+use Rattle.imap_session.specs.Exchange.{Call, Answer, Sent, Standing, is_idling, may_send, waits_begun, waits_for, waits_idling, waits_sent}
+use Rattle.imap_session.specs.Commands.{due_of}
 use Rattle.imap_session.proofs.Turns.{turns_awake}
 use Rattle.imap_session.specs.Store.{IdleTurns}
-use Rattle.imap_connection.proofs.Conversing.{never_bye}
 use Rattle.imap_connection.specs.declared.connection.Progress.{Progress}
 use Rattle.imap_connection.specs.Dialogue as dialogue
-use Rattle.imap_connection.specs.Dialogue.{Dialogue, Link, Took, Turns}
+use Rattle.imap_connection.specs.Dialogue.{Dialogue, Link, Took, Turns, may_follow, spelled}
 use Rattle.house_session.specs.HouseSession.{HouseSession, Answers}
 use Rattle.house_session.specs.Place.{HadTurn, Answered, Place, StandsFor, Turned}
 
@@ -21,13 +21,12 @@ none_left : (waits : List ℕ) (used : ℕ) → used ≡ length waits → drop u
 none_left waits used e = ap (λ n. drop n waits) e ∙ drop-length waits
 
 -- nothing that may be answered waits, where the connection says what may come next
-all_answered : (next : Dialogue) (rest : List ℕ) (link : Link) (how : After) → dialogue.StandsFor link next → (how ≢ Bye → rest ≡ []) → how ≡ may_send link.session
-    → next.standing.ended ≡ false → IsUncut (next.begun ++ rest)
-all_answered next rest link how s none sends open_still =
-    let live : link.session.ended ≡ false = ap (λ (x : Standing). x.ended) s.session ∙ open_still in
-    let goes : how ≡ waits_for link.session.idling = sends ∙ ap (λ (b : Bool). if b then Bye else waits_for link.session.idling) live in
-    let empty : rest ≡ [] = none (λ bye. never_bye link.session.idling (sym bye ∙ goes)) in
-    subst (λ (t : List ℕ). IsUncut t) (sym (ap (λ (t : List ℕ). next.begun ++ t) empty ∙ append-nil next.begun)) s.uncut
+all_answered : (next : Dialogue) (rest : List ℕ) (link : Link) (how : After) → dialogue.StandsFor link next → (may_follow how ≡ true → rest ≡ []) → how ≡ may_send link.session
+    → may_follow (may_send next.standing) ≡ true → IsUncut (next.begun ++ rest) × (0 < due_of next.standing.mailing.begun → next.begun ++ rest ≡ [])
+all_answered next rest link how s none sends free =
+    let follows : may_follow how ≡ true = ap may_follow (sends ∙ ap may_send s.session) ∙ free in
+    let is : next.begun ++ rest ≡ next.begun = ap (λ (t : List ℕ). next.begun ++ t) (none follows) ∙ append-nil next.begun in
+    (subst (λ (t : List ℕ). IsUncut t) (sym is) s.uncut, λ due. is ∙ s.alone due)
 
 if_some : {A : Type 0} (o : Option A) (x : A) (P : A → Type 0) → o ≡ Some x → IfSome o P → P x
 if_some o x P e h = subst (λ y. IfSome y P) e h
@@ -35,7 +34,7 @@ if_some o x P e h = subst (λ y. IfSome y P) e h
 pub answered : {S : Type 0} (step : S → Call → Answer → S → Type 0) (whole : Bool) (v : HouseSession) (old new : S) (link new_link : Link) (came : List ℕ) (unsaid new_unsaid : List ℕ) (progress : Progress)
     → StandsFor (record { link = link; came = came; unsaid = unsaid }) v
     → ((d : Dialogue) → dialogue.StandsFor link d → Took step d came old new unsaid new_unsaid progress new_link)
-    → IfSome progress.after (λ after. after ≢ Bye → progress.used ≡ length came)
+    → IfSome progress.after (λ after. may_follow after ≡ true → progress.used ≡ length came)
     → IfSome progress.after (λ after. after ≡ may_send new_link.session)
     → whole ≡ is_some progress.after
     → Answered step whole v old new (record { link = new_link; came = drop progress.used came; unsaid = new_unsaid })
@@ -47,16 +46,16 @@ answered step whole v old new link new_link came unsaid new_unsaid progress s to
       after = record { standing = t.next.standing; waits = t.next.begun ++ drop progress.used came; unsaid = v.unsaid ++ t.said };
       said = t.said;
       answers = record {
-        lines = t.answered.lines;
+        sent = t.answered.sent;
         how = t.how;
         waited = s.waits ∙ ap (λ (x : List ℕ). s.begun ++ x) (sym (take-append-drop progress.used came)) ∙ sym (append_assoc s.begun used rest) ∙ ap (λ (x : List ℕ). x ++ rest) t.answered.whole
-            ∙ append_assoc (joined t.answered.lines) t.next.begun rest;
+            ∙ append_assoc (flat_map spelled t.answered.sent) t.next.begun rest;
         converses = t.answered.converses;
       };
       kept = refl;
       all = λ w. all_answered t.next (drop progress.used came) new_link t.how t.stands
           (λ goes. none_left came progress.used
-          (if_some progress.after t.how (λ after. after ≢ Bye → progress.used ≡ length came) (some_how progress.after t.how t.is (sym is ∙ w)) all goes))
+          (if_some progress.after t.how (λ after. may_follow after ≡ true → progress.used ≡ length came) (some_how progress.after t.how t.is (sym is ∙ w)) all goes))
           (if_some progress.after t.how (λ after. after ≡ may_send new_link.session) (some_how progress.after t.how t.is (sym is ∙ w)) sends);
       stands = record { begun = t.next.begun; connection = t.stands; waits = refl; unsaid = t.wrote ∙ ap (λ (x : List ℕ). x ++ t.said) s.unsaid };
     }
@@ -65,14 +64,25 @@ answered step whole v old new link new_link came unsaid new_unsaid progress s to
     some_how a how (inl none) is = absurd (let e : is_some a ≡ false = ap is_some none in let f = is in cc)
     some_how a how (inr some) is = some
 
--- a session that has ended answers nothing
-pub has_parted : {S : Type 0} (step : S → Call → Answer → S → Type 0) (v : HouseSession) (old : S) (p : Place) → StandsFor p v → p.link.session.ended ≡ true → Answered step true v old old p
-has_parted step v old p s over = record {
+-- a session that has ended, or awaits a verdict, answers nothing
+pub ended_rests : (x : Standing) → x.ended ≡ true → may_follow (may_send x) ≡ false
+ended_rests x e = ap (λ (b : Bool). may_follow (if b then Bye else waits_for x)) e
+
+sent_rests : (over : Bool) (sent : Option Sent) (other : After) → is_some sent ≡ true → may_follow (if over then Bye else waits_sent sent other) ≡ false
+sent_rests true sent other e = refl
+sent_rests false None other e = absurd (let f : false ≡ true = e in cc)
+sent_rests false (Some s) other e = refl
+
+pub awaiting_rests : (x : Standing) → is_some x.mailing.sent ≡ true → may_follow (may_send x) ≡ false
+awaiting_rests x e = sent_rests x.ended x.mailing.sent (waits_begun x.mailing.begun (waits_idling x.idling)) e
+
+pub rests : {S : Type 0} (step : S → Call → Answer → S → Type 0) (v : HouseSession) (old : S) (p : Place) → StandsFor p v → may_follow (may_send p.link.session) ≡ false → Answered step true v old old p
+rests step v old p s over = record {
   after = v;
   said = [];
-  answers = record { lines = []; how = waits_for v.standing.idling; waited = refl; converses = dialogue.silent v.standing old };
+  answers = record { sent = []; how = waits_for v.standing; waited = refl; converses = dialogue.silent v.standing old };
   kept = sym (append-nil v.unsaid);
-  all = λ w o. absurd (let a = over in let b = ap (λ (x : Standing). x.ended) s.connection.session in let c = o in cc);
+  all = λ w free. absurd (let a : may_follow (may_send v.standing) ≡ false = ap (λ (x : Standing). may_follow (may_send x)) (sym s.connection.session) ∙ over in let b = free in cc);
   stands = s;
 }
 

@@ -1,10 +1,10 @@
 -- A session that visits a house: what came for it, and what it answers over its mailboxes.
-use Rattle.std.specs.Prelude.{◌≡◌, ℕ, List, [], ◌++◌, None, false}
-use Rattle.line_io.specs.Wire.{IsUncut, joined}
+use Rattle.std.specs.Prelude.{◌≡◌, ◌<◌, ℕ, List, [], ◌++◌, flat_map, Option, None, true, false}
+use Rattle.line_io.specs.Wire.{IsUncut}
 use Rattle.imap_session.specs.declared.standing.After.{After}
-use Rattle.imap_session.specs.Exchange.{Call, Answer, Folder, Standing}
-use Rattle.imap_session.specs.Commands.{greeting}
-use Rattle.imap_connection.specs.Dialogue.{Converses}
+use Rattle.imap_session.specs.Exchange.{Call, Answer, Folder, Standing, may_send, nothing_sent}
+use Rattle.imap_session.specs.Commands.{due_of, greeting}
+use Rattle.imap_connection.specs.Dialogue.{Converses, Sends, may_follow, spelled}
 
 -- where its session stands; the bytes that came and aren't answered yet; and what was said and isn't printed yet
 pub record HouseSession : Type 0 where
@@ -12,20 +12,20 @@ pub record HouseSession : Type 0 where
   pub waits : List ℕ
   pub unsaid : List ℕ
 
--- one that was just let in, with these mailboxes. Its greeting is still to be printed
-abbrev pub greeted : List Folder → HouseSession
-greeted folders = record { standing = record { folders = folders; selected = None; idling = None; ended = false }; waits = []; unsaid = greeting }
+-- One that was just let in, with these mailboxes, and of which messages of at most so many bytes are taken, or none. Its greeting is still to be printed.
+abbrev pub greeted : Option ℕ → List Folder → HouseSession
+greeted most folders = record { standing = record { folders = folders; selected = None; idling = None; ended = false; mailing = nothing_sent most }; waits = []; unsaid = greeting }
 
 abbrev pub more_waits : HouseSession → List ℕ → HouseSession
 more_waits v piece = record { standing = v.standing; waits = v.waits ++ piece; unsaid = v.unsaid }
 
--- some lines of what waited were answered over a store, in their order, and this was said
+-- some of what waited was answered over a store, in its order, and this was said
 pub record Answers {S : Type 0} (step : S → Call → Answer → S → Type 0) (before : HouseSession) (old new : S) (after : HouseSession) (said : List ℕ) : Type 0 where
-  pub lines : List (List ℕ)
+  pub sent : List Sends
   pub how : After
-  pub waited : before.waits ≡ joined lines ++ after.waits
-  pub converses : Converses step before.standing lines old new said how after.standing
+  pub waited : before.waits ≡ flat_map spelled sent ++ after.waits
+  pub converses : Converses step before.standing sent old new said how after.standing
 
--- no line waits that may be answered
+-- Nothing waits that may be answered: no line, and no byte where bytes of a literal are due. A session that has ended, or awaits a verdict, answers nothing.
 abbrev pub HasAnswered : HouseSession → Type 0
-HasAnswered v = v.standing.ended ≡ false → IsUncut v.waits
+HasAnswered v = may_follow (may_send v.standing) ≡ true → IsUncut v.waits × (0 < due_of v.standing.mailing.begun → v.waits ≡ [])

@@ -31,13 +31,18 @@ impl Model for HouseSession {
 }
 
 impl HouseSession {
-    /// A visitor that was just let in, whose mailboxes have these names. Its greeting is said, and still to be printed.
+    /// A visitor that was just let in, whose mailboxes have these names, and of which messages of at most so many bytes are taken, or none. Its
+    /// greeting is said, and still to be printed.
     ///
     /// Errors: `AllocError` where memory for a line or the greeting was refused.
-    pub fn open(alloc: Global, folders: Vec<Folder>) -> Result<HouseSession, AllocError>
-        ensures { IfOk result (λ v. StandsFor v (greeted folders.items)) }
+    pub fn open(
+        alloc: Global,
+        folders: Vec<Folder>,
+        max_message: Option<u32>,
+    ) -> Result<HouseSession, AllocError>
+        ensures { IfOk result (λ v. StandsFor v (greeted max_message folders.items)) }
     {
-        let connection = ImapConnection::new(alloc, folders)?;
+        let connection = ImapConnection::new(alloc, folders, max_message)?;
         let mut unsaid = Vec::new(alloc);
         connection.greet(&mut unsaid)?;
         Ok(HouseSession {
@@ -79,7 +84,8 @@ impl HouseSession {
         self.connection.is_idling()
     }
 
-    /// Answers what waits, over its store, as far as it goes. What it says is still to be printed.
+    /// Answers what waits, over its store, as far as it goes: to its end, to that of the session, or to a message that was submitted, behind which
+    /// nothing is answered before the verdict. What it says is still to be printed.
     ///
     /// Errors: `AllocError` where memory was refused. What was done stands, and the next call goes on from there.
     pub fn go_on<S: Store>(&mut self, alloc: Global, store: &mut S) -> Result<(), AllocError>
@@ -87,6 +93,9 @@ impl HouseSession {
         ensures err { OnErr result ((v : spec.HouseSession) → StandsFor self.old v → Answered S.step false v store.old store.new self.new) }
     {
         if self.connection.has_ended() {
+            return Ok(());
+        }
+        if self.connection.awaits_verdict() {
             return Ok(());
         }
         let waits = self.incoming.as_slice();

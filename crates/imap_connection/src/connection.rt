@@ -132,6 +132,13 @@ impl ImapConnection {
         self.session.awaits_verdict()
     }
 
+    /// What the client may send next.
+    pub fn may_send(&self) -> After
+        ensures { result ≡ may_send self.now.session }
+    {
+        self.session.may_send()
+    }
+
     /// Answers the verdict on the message that was submitted. Bytes are taken again then.
     ///
     /// Errors, after which the connection, the store and `out` are as they were, and the same verdict is waited for: `Ended` exactly where the

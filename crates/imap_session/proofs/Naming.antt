@@ -92,7 +92,7 @@ pub selects : {S V : Type 0} (step : S → Call → Answer → S → Type 0) (fr
     → given ≡ name
     → ((x : Exchange) (tag : List ℕ) (now : Standing) → now.selected ≡ from → Reaches step tag now (record now { selected = between }) (closing from x) x old mid first second)
     → Moves step between to (on_folder given folders (entering read_only)) z mid new second third r
-    → Moves step from to (selecting (record { folders = folders; selected = from; idling = None; ended = false; mailing = nothing_sent 0 }) read_only name) z old new first third r
+    → Moves step from to (selecting (record { folders = folders; selected = from; idling = None; ended = false; mailing = nothing_sent None }) read_only name) z old new first third r
 selects step from between to folders read_only name given z old mid new first second third r e p q =
     rw (← e)
     (moves_wanting step from to (closing from (on_folder given folders (entering read_only))) z old new first third r

@@ -75,7 +75,7 @@ fn count_named<S: Store>(
 ) -> Result<&'static [u8], MailFault>
     requires room { vec_len out.old + keep ≤ vec_capacity out.old }
     ensures done { Does S.step
-        (on_folder name.now folders.now (counting (record { folders = folders.now; selected = selected; idling = None; ended = false; mailing = nothing_sent 0 }) name.now items.now))
+        (on_folder name.now folders.now (counting (record { folders = folders.now; selected = selected; idling = None; ended = false; mailing = nothing_sent None }) name.now items.now))
         last store.old store.new out.old.items out.new.items result }
     ensures short { IfOk result (λ words. length words.now ≤ 45) }
     ensures room { vec_len out.new + keep ≤ vec_capacity out.new }
@@ -102,7 +102,7 @@ pub(crate) fn count_mailbox<S: Store>(
 ) -> Result<&'static [u8], MailFault>
     requires room { vec_len out.old + keep ≤ vec_capacity out.old }
     ensures done { Does S.step
-        (wanting (on_folder name.now folders.now (counting (record { folders = folders.now; selected = selected; idling = None; ended = false; mailing = nothing_sent 0 }) name.now items.now)))
+        (wanting (on_folder name.now folders.now (counting (record { folders = folders.now; selected = selected; idling = None; ended = false; mailing = nothing_sent None }) name.now items.now)))
         last store.old store.new out.old.items out.new.items result }
     ensures short { IfOk result (λ words. length words.now ≤ 45) }
     ensures room { vec_len out.new + keep ≤ vec_capacity out.new }

@@ -1,7 +1,7 @@
 //! A message that a client appends: its bytes as they come, what is said of it when all are there, and its way to the mailbox.
 //! What is said where is told in specs/Commands.antt; no mailbox is asked here.
 
-ghost use Rattle.std.specs.Prelude.{◌≡◌, ◌<◌, ◌≤◌, ◌==◌, ℕ, Bool, List, [], length, IfErr, IfOk, IfSome, None, true, false};
+ghost use Rattle.std.specs.Prelude.{◌≡◌, ◌^◌, ◌<◌, ◌≤◌, ◌==◌, ℕ, Bool, List, [], length, IfErr, IfOk, IfSome, None, true, false};
 ghost use Rattle.std.specs.List.{list_any};
 ghost use Rattle.std.specs.Option.{option_map};
 ghost use Rattle.change_ring.specs.declared.change.Flags.{Flags as FlagSet};
@@ -107,6 +107,7 @@ fn has_nul(text: &[u8]) -> bool
 // What is said where a message of this size isn't taken.
 pub(crate) fn refused_size(most: Option<u32>, size: u64) -> Option<&'static [u8]>
     ensures taken { result ≡ None → is_over most size ≡ false }
+    ensures fits { result ≡ None → size < 2 ^ 32 }
     ensures refused { IfSome result (λ words. (is_over most size ≡ true) × (over most ≡ says words.now)) }
     ensures short { IfSome result (λ words. length words.now ≤ 45) }
 {

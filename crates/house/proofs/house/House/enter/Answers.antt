@@ -24,7 +24,7 @@ returns-in_default-gone-clause-no_memory c e k s st =
     let lt : c.from-place.result < length i.visitors.items = omega (arith, e1, many, there.0, there.1) in
     let free : ◌≡◌ {A = Option Place} (slice_index_or i.visitors.items c.from-place.result None) None = get_or-any i.visitors.items c.from-place.result None c.index.result.now lt ∙ sym c.index.ensures ∙ no_place c.index.result.now (sym c.is_some.ensures ∙ c.if-is_some.false) in
     let known : has_user i.directory c.args.user.now ≡ true = sym c.has_user.ensures ∙ c.if-not-has_user.false in
-    let is = subst (λ (f : List Folder). visit.StandsFor c.in-Ok-open.visitor (greeted f)) c.in-Ok.ensures c.in-Ok-open.ensures in
+    let is = subst (λ (f : List Folder). visit.StandsFor c.in-Ok-open.visitor (greeted None f)) c.in-Ok.ensures c.in-Ok-open.ensures in
     let r = entered k false h s c.from-place.result c.args.user.now c.in-Ok-open.visitor c.go_on_at-gone.new.place c.go_on_at-gone.new.desk.core c.args.out.now.items c.go_on_at-gone.new.out.items st1 lt free known is
     (λ w b stands at. subst (λ (n : ℕ). PlaceVisited k false n w b i.desk.core c.go_on_at-gone.new.place c.go_on_at-gone.new.desk.core c.args.out.now.items c.go_on_at-gone.new.out.items) (sym e1)
     (c.in_default-gone.ensures.err k w b stands at)) in
@@ -41,7 +41,7 @@ returns-clause-follows c k s st =
     let lt : c.from-place.result < length i.visitors.items = omega (arith, e1, many, there.0, there.1) in
     let free : ◌≡◌ {A = Option Place} (slice_index_or i.visitors.items c.from-place.result None) None = get_or-any i.visitors.items c.from-place.result None c.index.result.now lt ∙ sym c.index.ensures ∙ no_place c.index.result.now (sym c.is_some.ensures ∙ c.if-is_some.false) in
     let known : has_user i.directory c.args.user.now ≡ true = sym c.has_user.ensures ∙ c.if-not-has_user.false in
-    let is = subst (λ (f : List Folder). visit.StandsFor c.in-Ok-open.visitor (greeted f)) c.in-Ok.ensures c.in-Ok-open.ensures in
+    let is = subst (λ (f : List Folder). visit.StandsFor c.in-Ok-open.visitor (greeted None f)) c.in-Ok.ensures c.in-Ok-open.ensures in
     let r = entered k true h s c.from-place.result c.args.user.now c.in-Ok-open.visitor c.go_on_at-gone.new.place c.go_on_at-gone.new.desk.core c.args.out.now.items c.go_on_at-gone.new.out.items st1 lt free known is
     (λ w b stands at. subst (λ (n : ℕ). PlaceVisited k true n w b i.desk.core c.go_on_at-gone.new.place c.go_on_at-gone.new.desk.core c.args.out.now.items c.go_on_at-gone.new.out.items) (sym e1)
     (c.in-Ok-gone.ensures.ok k w b stands at)) in

@@ -2,12 +2,16 @@ use Rattle.std.proofs.Common.{◌≡◌, ◌∙◌, List, ℕ, Bool, true, false
 use Rattle.std.specs.Option.{is_some}
 use Rattle.imap_session.specs.declared.standing.After.{After}
 use Rattle.house_session.specs.Place.{Answered, Place, StandsFor}
-use Rattle.house_session.proofs.Going.{answered, has_parted}
+use Rattle.house_session.proofs.Going.{answered, awaiting_rests, ended_rests, rests}
 use Rattle.house_session.proofs.session.HouseSession.go_on.Goals as goal
 
 pub returns-then-has_ended-clause-ok : goal.returns-then-has_ended-clause-ok
 returns-then-has_ended-clause-ok g c v s =
-    has_parted g.S.Store.step v c.args.store.now c.args.self.now s (ap (λ (p : Place). p.link.session.ended) (sym c.self.view_is) ∙ sym c.has_ended.ensures ∙ c.if-has_ended.true)
+    rests g.S.Store.step v c.args.store.now c.args.self.now s (ended_rests c.args.self.now.link.session (ap (λ (p : Place). p.link.session.ended) (sym c.self.view_is) ∙ sym c.has_ended.ensures ∙ c.if-has_ended.true))
+
+pub returns-then-awaits_verdict-clause-ok : goal.returns-then-awaits_verdict-clause-ok
+returns-then-awaits_verdict-clause-ok g c v s =
+    rests g.S.Store.step v c.args.store.now c.args.self.now s (awaiting_rests c.args.self.now.link.session (ap (λ (p : Place). is_some p.link.session.mailing.sent) (sym c.self.view_is) ∙ sym c.awaits_verdict.ensures.is ∙ c.if-awaits_verdict.true))
 
 pub returns-in-None-clause-err : goal.returns-in-None-clause-err
 returns-in-None-clause-err g c v s =

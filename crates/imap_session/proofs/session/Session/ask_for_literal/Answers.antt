@@ -1,5 +1,7 @@
-use Rattle.std.proofs.Common.{◌∙◌, codes, rules, refl, sym}
-use Rattle.imap_session.specs.Commands.{appending, number_named}
+use Rattle.std.proofs.Common.{◌≡◌, ◌∙◌, ap, codes, refl, subst, sym, true, Option, ℕ}
+use Rattle.imap_session.specs.contracts.session.Session.{the_view}
+use Rattle.imap_session.specs.Exchange.{Standing}
+use Rattle.imap_session.specs.Commands.{appending, is_over, number_named, over, says, wanting}
 use Rattle.imap_session.proofs.Appends.{asked, asked_at, asked_nowhere, asked_over, leads_starved, leads_wanting_says}
 use Rattle.imap_session.proofs.session.Session.ask_for_literal.Goals as goal
 
@@ -17,9 +19,11 @@ returns-in_default-mailbox-clause-leads c =
     leads_wanting_says c.args.tag.now (codes "NO [TRYCREATE] No such mailbox") now now (appending now.mailing.most now.folders a) c.args.out.now.items c.put_tagged-in_default-mailbox.new.out.items
     (asked_nowhere now.mailing.most now.folders a c.requires.waits (sym c.in-Ok.ensures ∙ c.in_default-mailbox.is)) c.put_tagged-in_default-mailbox.ensures.text refl
 
-pub returns-then-append-self-clause-leads : goal.returns-then-append-self-clause-leads
-returns-then-append-self-clause-leads c =
+pub returns-in-Some-refused_size-clause-leads : goal.returns-in-Some-refused_size-clause-leads
+returns-in-Some-refused_size-clause-leads c =
     let now = c.args.self.now in
     let a = c.args.append.now in
-    leads_wanting_says c.args.tag.now (codes "NO Message too big") now now (appending now.mailing.most now.folders a) c.args.out.now.items c.put_tagged-then-append-self.new.out.items
-    (asked_too_big now.mailing.most c.in-Some.number now.folders a c.requires.waits (sym c.in-Ok.ensures ∙ c.in-Some.is) (search (rules, c.if-append-self.true))) c.put_tagged-then-append-self.ensures.text refl
+    let words = c.in-Some-refused_size.words.now in
+    let over_most = subst (λ (most : Option ℕ). (is_over most a.literal.size ≡ true) × (over most ≡ says words)) (ap (λ (s : Standing). s.mailing.most) (ap the_view c.self-inside.view_is ∙ c.self.view_is)) c.in-Some-refused_size.ensures.refused in
+    leads_wanting_says c.args.tag.now words now now (appending now.mailing.most now.folders a) c.args.out.now.items c.put_tagged-in-Some-refused_size.new.out.items
+    (asked_over now.mailing.most c.in-Some.number now.folders a c.requires.waits (sym c.in-Ok.ensures ∙ c.in-Some.is) over_most.0 ∙ ap wanting over_most.1) c.put_tagged-in-Some-refused_size.ensures.text refl
