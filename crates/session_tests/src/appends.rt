@@ -33,14 +33,14 @@ enum Step {
     Refused(Refusal, &'static [u8]),
 }
 
-// A session with two mailboxes that takes messages of ten bytes.
-fn session(alloc: Global) -> Result<Session, AllocError> {
+// A session with two mailboxes that takes messages of at most so many bytes, or none.
+fn session(alloc: Global, most: Option<u32>) -> Result<Session, AllocError> {
     let inbox = Vec::from_slice(alloc, b"INBOX")?;
     let work = Vec::from_slice(alloc, b"Work")?;
     let mut folders = Vec::new(alloc);
     folders.push(Folder::new(inbox, 3))?;
     folders.push(Folder::new(work, 4))?;
-    Ok(Session::new(folders, Some(10)))
+    Ok(Session::new(folders, most))
 }
 
 // What comes of a line, where no verdict is awaited.
@@ -150,8 +150,12 @@ struct Dialogue {
 }
 
 // The first step that doesn't come to what is wanted.
-fn play(alloc: Global, dialogue: &Dialogue) -> Result<Option<usize>, AllocError> {
-    let mut session = session(alloc)?;
+fn play(
+    alloc: Global,
+    most: Option<u32>,
+    dialogue: &Dialogue,
+) -> Result<Option<usize>, AllocError> {
+    let mut session = session(alloc, most)?;
     let mut shelf = Shelf::new(alloc);
     for (i, step) in dialogue.steps.iter().enumerate() {
         if !goes(alloc, &mut session, &mut shelf, *step) {
@@ -389,10 +393,43 @@ const DIALOGUES: &[Dialogue] = &[
     },
 ];
 
+// No message is taken: that is said before one is asked for, and behind one that came unasked.
+const NONE_TAKEN: Dialogue = Dialogue {
+    name: "none is taken",
+    steps: &[
+        Step::Line(
+            b"a1 APPEND Nope {1}",
+            After::Go,
+            b"a1 NO [TRYCREATE] No such mailbox\r\n",
+        ),
+        Step::Line(
+            b"a2 APPEND INBOX {1}",
+            After::Go,
+            b"a2 NO [CANNOT] Not offered here\r\n",
+        ),
+        Step::Line(b"a3 APPEND INBOX {4+}", After::Literal(4), NOTHING),
+        Step::Literal(b"a4 N", 4, 0),
+        Step::Line(END, After::Go, b"a3 NO [CANNOT] Not offered here\r\n"),
+        Step::NoneSubmitted,
+        Step::Line(
+            b"a4 APPEND INBOX {4097+}",
+            After::Bye,
+            b"* BYE Literal too big\r\n",
+        ),
+    ],
+};
+
+#[test]
+fn a_session_may_take_no_message(rt: HostRuntime) -> Result<(), AllocError> {
+    let unlike = play(rt.alloc(), None, &NONE_TAKEN)?;
+    assert_eq!(rt; unlike, None);
+    Ok(())
+}
+
 #[test]
 fn each_append_goes_as_wanted(rt: HostRuntime) -> Result<(), AllocError> {
     for dialogue in DIALOGUES {
-        let unlike = play(rt.alloc(), dialogue)?;
+        let unlike = play(rt.alloc(), Some(10), dialogue)?;
         assert_eq!(rt; unlike, None, "{}", dialogue.name);
     }
     literals_may_be_cut();

@@ -12,7 +12,7 @@ fn opened(alloc: Global) -> Result<HouseSession, AllocError> {
     let name = Vec::from_slice(alloc, b"INBOX")?;
     let mut folders = Vec::new(alloc);
     folders.push(Folder::new(name, 0))?;
-    HouseSession::open(alloc, folders)
+    HouseSession::open(alloc, folders, None)
 }
 
 // What a session said goes out, and it is told so.
