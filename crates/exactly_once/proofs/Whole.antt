@@ -427,7 +427,7 @@ long_whole (Some a) idling = tagged_whole a.tag (commands_of.long_rest_words a.t
 
 line_answered : {S : Type 0} (step : S → Call → Answer → S → Type 0) (now : Standing) (l : List ℕ) (old new : S) (said : List ℕ) (how : After) (next : Standing) → AnswersLine step now l old new [] said how next → IsWhole said
 line_answered step now l old new said how next (reads few a) = subst IsWhole (sym a.wrote) (some_whole _ _ (behind_whole now.mailing.begun now l a.answers) a.played)
-line_answered step now l old new said how next (too_long many s w h n) = subst IsWhole (sym w) (whole_append _ [] (long_whole now.mailing.begun now.idling) (inl refl))
+line_answered step now l old new said how next (too_long many s w h n) = subst IsWhole (sym w) (long_whole now.mailing.begun now.idling)
 
 one_answered : {S : Type 0} (step : S → Call → Answer → S → Type 0) (now : Standing) (one : Sends) (old new : S) (said : List ℕ) (how : After) (next : Standing) → AnswersOne step now one old new [] said how next → IsWhole said
 one_answered step now (dialogue.Line line) old new said how next a = line_answered step now line old new said how next a.1

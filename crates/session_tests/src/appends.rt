@@ -81,13 +81,7 @@ fn deliver(alloc: Global, session: &Session, shelf: &mut Shelf) -> Option<u32> {
     Some(uid)
 }
 
-fn is_submitted(
-    session: &Session,
-    message: u32,
-    mailbox: u8,
-    text: &[u8],
-    flags: Flags,
-) -> bool {
+fn is_submitted(session: &Session, message: u32, mailbox: u8, text: &[u8], flags: Flags) -> bool {
     match session.submission() {
         None => false,
         Some(append) => {
@@ -130,9 +124,7 @@ fn goes(alloc: Global, session: &mut Session, shelf: &mut Shelf, step: Step) -> 
             is_submitted(session, message, mailbox, text, flags)
         }
         Step::NoneSubmitted => !session.awaits_verdict(),
-        Step::Line(_, wanted, said)
-        | Step::LongLine(wanted, said)
-        | Step::Stored(wanted, said) => {
+        Step::Line(_, wanted, said) | Step::LongLine(wanted, said) | Step::Stored(wanted, said) => {
             after(alloc, session, shelf, step, &mut out) == Some(wanted)
                 && out.as_slice() == said
                 && session.may_send() == wanted
@@ -183,10 +175,7 @@ const DIALOGUES: &[Dialogue] = &[
             Step::NoneSubmitted,
             Step::Line(END, After::Submit, NOTHING),
             Step::Submitted(0, 3, b"ok", SEEN_AND_FLAGGED),
-            Step::Stored(
-                After::Go,
-                b"a1 OK [APPENDUID 7 1] APPEND completed\r\n",
-            ),
+            Step::Stored(After::Go, b"a1 OK [APPENDUID 7 1] APPEND completed\r\n"),
             Step::NoneSubmitted,
             Step::Line(
                 b"a2 APPEND Nope {3}",
@@ -197,10 +186,7 @@ const DIALOGUES: &[Dialogue] = &[
             Step::Literal(b"abc", 3, 0),
             Step::Line(END, After::Submit, NOTHING),
             Step::Submitted(1, 3, b"abc", NO_FLAGS),
-            Step::Stored(
-                After::Go,
-                b"a3 OK [APPENDUID 7 2] APPEND completed\r\n",
-            ),
+            Step::Stored(After::Go, b"a3 OK [APPENDUID 7 2] APPEND completed\r\n"),
         ],
     },
     Dialogue {
@@ -226,10 +212,7 @@ const DIALOGUES: &[Dialogue] = &[
             Step::Line(b"a1 APPEND INBOX {0}", After::Literal(0), b"+ ready\r\n"),
             Step::Line(END, After::Submit, NOTHING),
             Step::Submitted(0, 3, b"", NO_FLAGS),
-            Step::Stored(
-                After::Go,
-                b"a1 OK [APPENDUID 7 1] APPEND completed\r\n",
-            ),
+            Step::Stored(After::Go, b"a1 OK [APPENDUID 7 1] APPEND completed\r\n"),
             Step::Line(b"a2 APPEND INBOX {0+}", After::Literal(0), NOTHING),
             Step::Line(END, After::Submit, NOTHING),
             Step::Submitted(1, 3, b"", NO_FLAGS),
@@ -244,11 +227,7 @@ const DIALOGUES: &[Dialogue] = &[
             Step::Line(b" ", After::Go, b"a1 BAD Invalid arguments\r\n"),
             Step::Line(b"a2 APPEND Nope {11+}", After::Literal(11), NOTHING),
             Step::Literal(b"\0ello hello", 11, 0),
-            Step::Line(
-                END,
-                After::Go,
-                b"a2 NO [TRYCREATE] No such mailbox\r\n",
-            ),
+            Step::Line(END, After::Go, b"a2 NO [TRYCREATE] No such mailbox\r\n"),
             Step::Line(b"a3 APPEND INBOX {11+}", After::Literal(11), NOTHING),
             Step::Literal(b"\0ello hello", 11, 0),
             Step::Line(END, After::Go, b"a3 NO Message too big\r\n"),

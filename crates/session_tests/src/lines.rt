@@ -70,7 +70,10 @@ const COMMANDS: &[(&[u8], &str)] = &[
     (b"x AUTHENTICATE", "AUTHENTICATE"),
     (b"x STARTTLS", "STARTTLS"),
     (b"a1 APPEND INBOX {5+}", "APPEND"),
-    (b"a1 append \"a b\" (\\Seen $x) \"1-Jan-2026\" {007} ", "APPEND"),
+    (
+        b"a1 append \"a b\" (\\Seen $x) \"1-Jan-2026\" {007} ",
+        "APPEND",
+    ),
 ];
 
 #[test]
@@ -231,8 +234,14 @@ fn literals_are_announced(rt: HostRuntime) {
     assert_eq!(rt; literal(b"a1 APPEND INBOX {005+}"), Some((5, false)));
     assert_eq!(rt; literal(b"a1 APPEND INBOX () \"x\" {0}  "), Some((0, true)));
     // As many bytes as nobody sends.
-    assert_eq!(rt; literal(b"a1 APPEND INBOX {18446744073709551615}"), Some((18_446_744_073_709_551_615, true)));
-    assert_eq!(rt; literal(b"a1 APPEND INBOX {99999999999999999999+}"), Some((18_446_744_073_709_551_615, false)));
+    assert_eq!(rt;
+        literal(b"a1 APPEND INBOX {18446744073709551615}"),
+        Some((18_446_744_073_709_551_615, true))
+    );
+    assert_eq!(rt;
+        literal(b"a1 APPEND INBOX {99999999999999999999+}"),
+        Some((18_446_744_073_709_551_615, false))
+    );
 }
 
 #[test]
@@ -242,7 +251,10 @@ fn flags_of_a_new_message(rt: HostRuntime) {
         flagged: true,
         ..NO_FLAGS
     };
-    assert_eq!(rt; given_flags(b"a1 APPEND INBOX (\\flagged $x \\SEEN) {1}"), Some(given));
+    assert_eq!(rt;
+        given_flags(b"a1 APPEND INBOX (\\flagged $x \\SEEN) {1}"),
+        Some(given)
+    );
     assert_eq!(rt; given_flags(b"a1 APPEND INBOX () {1}"), Some(NO_FLAGS));
     assert_eq!(rt; given_flags(b"a1 APPEND INBOX {1}"), Some(NO_FLAGS));
 }
