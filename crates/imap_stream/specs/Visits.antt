@@ -3,9 +3,9 @@ use Rattle.std.specs.Prelude.{◌≡◌, ℕ, ◌<◌, ◌||◌, Bool, true, fal
 use Rattle.std.specs.Io.KnownBytes.{Appends}
 use Rattle.imap_session.specs.declared.standing.After.{After}
 use Rattle.imap_session.specs.declared.standing.After.TheVariants.{Bye}
-use Rattle.imap_session.specs.Exchange.{Folder, bye, is_idling, may_send}
+use Rattle.imap_session.specs.Exchange.{Folder, bye, is_idling, may_send, nothing_sent}
 use Rattle.imap_session.specs.Commands.{greeting}
-use Rattle.imap_connection.specs.Dialogue.{Dialogue, Link, StandsFor}
+use Rattle.imap_connection.specs.Dialogue.{Dialogue, Link, StandsFor, may_follow}
 use Rattle.session_thread.specs.Locks.{Place}
 use Rattle.session_thread.specs.Life.{HasTurn, IsShort, Moment, Says, SaysFirst, moment}
 
@@ -29,6 +29,10 @@ is_over visit = visit.closed || visit.link.session.ended
 -- what the client may send next
 abbrev pub awaited : VisitState → After
 awaited visit = if visit.closed then Bye else may_send visit.link.session
+
+-- Bytes of the client are taken: the visit isn't over, and its session awaits no verdict on a message.
+abbrev pub takes_bytes : VisitState → Bool
+takes_bytes visit = may_follow (awaited visit)
 
 -- ---- turns
 
@@ -54,7 +58,7 @@ pub record ShowsInPart (room : ℕ) (first last : Moment) : Type 0 where
 
 -- ---- a piece of the client's bytes
 
--- The bytes were taken, to their end or to the line that ended the session, and each line that ended in them was answered. Where the session
+-- The bytes were taken, to their end or to the line that ended the session or submitted a message, and each line that ended in them was answered. Where the session
 -- idled then, the client was shown what there is.
 pub record Hears (piece : List ℕ) (before after : Moment) : Type 0 where
   pub between : Moment
@@ -93,9 +97,9 @@ pub record Tells (P : Moment → Moment → Type 0) (Sends : VisitState → List
 
 -- ---- the first and the last words
 
--- The client was greeted (RFC 9051, 7.1.4), and nothing else was done: its session is in no mailbox, and its line has not begun.
+-- The client was greeted (RFC 9051, 7.1.4), and nothing else was done: its session is in no mailbox and takes no message, and its line has not begun.
 pub record IsGreeted (folders : List Folder) (place : Place) (taken : Option (List ℕ)) (visit : VisitState) : Type 0 where
-  pub stands : StandsFor visit.link (record { standing = record { folders = folders; selected = None; idling = None; ended = false }; begun = [] })
+  pub stands : StandsFor visit.link (record { standing = record { folders = folders; selected = None; idling = None; ended = false; mailing = nothing_sent None }; begun = [] })
   pub desk : visit.place ≡ place
   pub took : Appends taken visit.taken greeting
   pub live : visit.failed ≡ false

@@ -57,11 +57,11 @@ impl<'a, R: Wait, G: Gate, W: Sink + Drop> Place<'a, R, G, W> {
         }
     }
 
-    /// Reads what a client sends and answers it, until it goes or reading fails, its session ends, its
-    /// output fails, memory is refused, or `stop` is set: then it is dismissed. At the end its session
-    /// leaves its mailbox, and the place has no client. `stop` is looked at before each read and
-    /// behind it, so who sets it has to end a read that waits, as by shutting the stream down. `buffer`
-    /// is what a read may fill, and is not empty.
+    /// Reads what a client sends and answers it, until it goes or reading fails, its session ends or
+    /// submits a message, on which no verdict would come, its output fails, memory is refused, or `stop`
+    /// is set: then it is dismissed. At the end its session leaves its mailbox, and the place has no
+    /// client. `stop` is looked at before each read and behind it, so who sets it has to end a read that
+    /// waits, as by shutting the stream down. `buffer` is what a read may fill, and is not empty.
     ///
     /// Errors: the visit is given back where the place has a client, and nothing was done.
     pub fn attend<I: Read>(
@@ -163,7 +163,7 @@ impl<'a, R: Wait, G: Gate, W: Sink + Drop> Place<'a, R, G, W> {
             return false;
         };
         match visit.hear(alloc, piece, &*self.idles) {
-            Ok(after) => after != After::Bye,
+            Ok(after) => !matches!(after, After::Bye | After::Submit),
             Err(_) => false,
         }
     }

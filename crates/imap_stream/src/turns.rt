@@ -1,7 +1,7 @@
 //! What a visit says, over the parts that it is made of: the answers to a piece of the client's bytes,
 //! and the turns of a session that idles. All of it is appended; who sends it stands in `visit`.
 
-ghost use Rattle.std.specs.Prelude.{◌≡◌, ◌≢◌, ℕ, false, true, OnErr, OnOk, IfOk};
+ghost use Rattle.std.specs.Prelude.{◌≡◌, ◌≢◌, ℕ, None, false, true, OnErr, OnOk, IfOk};
 ghost use Rattle.std.specs.Vec.{vec_capacity};
 ghost use Rattle.imap_session.specs.Exchange.{is_idling};
 ghost use Rattle.imap_connection.specs.Dialogue.{Dialogue, StandsFor};
@@ -18,7 +18,7 @@ use std::sync::atomic::{AtomicBool, Ordering};
 /// Room for the line that a turn may end a session with.
 const TURN_ROOM: usize = 48;
 
-// Each line that ends in the bytes is answered, unless the session ends before.
+// Each line that ends in the bytes is answered, unless the session ends before, or submits a message.
 fn answer<R: Wait, G: Gate>(
     alloc: Global,
     connection: &mut ImapConnection,
@@ -26,7 +26,8 @@ fn answer<R: Wait, G: Gate>(
     bytes: &[u8],
     out: &mut Vec<u8>,
 ) -> Result<(), AllocError>
-    requires { connection.old.session.ended ≡ false }
+    requires going { connection.old.session.ended ≡ false }
+    requires unsent { connection.old.session.mailing.sent ≡ None }
     ensures ok { OnOk result ((d : Dialogue) → StandsFor connection.old d → (next : Dialogue) × StandsFor connection.new next
         × Says bytes.now (moment d desk.old out.old.items) (moment next desk.new out.new.items)) }
     ensures err { OnErr result ((d : Dialogue) → StandsFor connection.old d → (next : Dialogue) × StandsFor connection.new next
@@ -101,7 +102,8 @@ pub(crate) fn answer_and_show<R: Wait, G: Gate>(
     idles: &AtomicBool,
     out: &mut Vec<u8>,
 ) -> Result<(), AllocError>
-    requires { connection.old.session.ended ≡ false }
+    requires going { connection.old.session.ended ≡ false }
+    requires unsent { connection.old.session.mailing.sent ≡ None }
     ensures ok { OnOk result ((d : Dialogue) → StandsFor connection.old d → (next : Dialogue) × StandsFor connection.new next
         × Hears piece.now (moment d desk.old out.old.items) (moment next desk.new out.new.items)) }
     ensures err { OnErr result ((d : Dialogue) → StandsFor connection.old d → (next : Dialogue) × StandsFor connection.new next

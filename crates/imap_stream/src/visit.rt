@@ -6,18 +6,21 @@ ghost use Rattle.std.specs.Io.KnownBytes.{Appends};
 ghost use Rattle.std.specs.Vec.{vec_capacity};
 ghost use Rattle.session_thread.specs.Life.{Departs};
 ghost use Rattle.imap_session.specs.Commands.{greeting};
-ghost use Rattle.imap_stream.specs.Visits.{Hears, HearsInPart, IsGreeted, SendsAll, SendsFirst, ShowsAll, ShowsInPart, Tells, VisitState, awaited, farewell, is_over};
+ghost use Rattle.imap_stream.specs.Visits.{Hears, HearsInPart, IsGreeted, SendsAll, SendsFirst, ShowsAll, ShowsInPart, Tells, VisitState, awaited, farewell, is_over, takes_bytes};
 
 use crate::turns::{answer_and_show, show_all};
 use imap_connection::ImapConnection;
 use imap_session::{After, Folder, Store};
 use line_io::{Sink, send};
 use pace::Gate;
-use session_thread::LockedDesk;
+use session_thread::{LockedDesk, takes_more};
 use std::alloc::Global;
 use std::marker::Model;
 use std::sync::Wait;
 use std::sync::atomic::AtomicBool;
+
+// No message is taken from a client: nobody here would hear the verdict on it.
+const NO_MESSAGES: Option<u32> = None;
 
 /// What a client is told that is dismissed.
 const FAREWELL: &[u8] = b"* BYE Shutting down\r\n";
@@ -101,7 +104,7 @@ impl<'a, R: Wait, G: Gate, W: Sink> Visit<'a, R, G, W> {
         ensures cut { IfErr result (λ stop. stop.1 ≡ VisitFault.Write → (sent : ℕ) × (sent < length greeting) × Appends (W.taken output) (W.taken stop.0) (take sent greeting)) }
         ensures failed { IfErr result (λ stop. stop.1 ≡ VisitFault.Write → W.failed stop.0 ≡ true) }
     {
-        let Ok(connection) = ImapConnection::new(alloc, folders) else {
+        let Ok(connection) = ImapConnection::new(alloc, folders, NO_MESSAGES) else {
             return Err((output, VisitFault::NoMemory));
         };
         let mut out = Vec::new(alloc);
@@ -133,19 +136,26 @@ impl<'a, R: Wait, G: Gate, W: Sink> Visit<'a, R, G, W> {
     pub fn awaited(&self) -> After
         ensures { result ≡ awaited self.now }
     {
-        if self.is_over() {
+        if self.is_closed {
             return After::Bye;
         }
-        if self.connection.is_idling() {
-            return After::Idle;
-        }
-        After::Go
+        self.connection.may_send()
+    }
+
+    // Whether bytes of the client are taken.
+    fn takes_bytes(&self) -> bool
+        ensures is { result ≡ takes_bytes self.now }
+        ensures goes { result ≡ true → self.now.link.session.ended ≡ false }
+        ensures unsent { result ≡ true → self.now.link.session.mailing.sent ≡ None }
+    {
+        !self.is_closed && takes_more(&self.connection)
     }
 
     /// Takes a piece of the client's bytes: each line that ends in it is answered, up to the one that
-    /// ends the session. Where the session idles then, it has turns until one shows nothing. What was
-    /// said is sent, all at once, and no mailbox is held meanwhile. Answers what the client may send
-    /// next; a visit that is over does nothing.
+    /// ends the session or submits a message: what the piece has behind that is lost. Where the session
+    /// idles then, it has turns until one shows nothing. What was said is sent, all at once, and no
+    /// mailbox is held meanwhile. Answers what the client may send next; a visit that is over does
+    /// nothing, nor does one whose session awaits a verdict on a message.
     ///
     /// Whether the session idles is stored in `idles` before its first turn: a change that this turn
     /// doesn't meet was logged by someone who can read there that it idles.
@@ -159,16 +169,16 @@ impl<'a, R: Wait, G: Gate, W: Sink> Visit<'a, R, G, W> {
         piece: &[u8],
         idles: &AtomicBool,
     ) -> Result<After, VisitFault>
-        ensures over { is_over self.old ≡ true → (result ≡ Ok After.Bye) × (self.new ≡ self.old) }
-        ensures ok { OnOk result (is_over self.old ≡ false → Tells (Hears piece.now) SendsAll self.old self.new) }
+        ensures over { takes_bytes self.old ≡ false → (result ≡ Ok (awaited self.old)) × (self.new ≡ self.old) }
+        ensures ok { OnOk result (takes_bytes self.old ≡ true → Tells (Hears piece.now) SendsAll self.old self.new) }
         ensures next { IfOk result (λ after. after ≡ awaited self.new) }
         ensures goes_on { OnOk result (self.new.closed ≡ self.old.closed) }
         ensures ends { OnErr result (self.new.closed ≡ true) }
         ensures short { result ≡ Err VisitFault.NoMemory → Tells (HearsInPart self.new.room piece.now) SendsAll self.old self.new }
         ensures cut { result ≡ Err VisitFault.Write → Tells (Hears piece.now) SendsFirst self.old self.new ⊎ Tells (HearsInPart self.new.room piece.now) SendsFirst self.old self.new }
     {
-        if self.is_over() {
-            return Ok(After::Bye);
+        if !self.takes_bytes() {
+            return Ok(self.awaited());
         }
         let heard = answer_and_show(
             self.rt,

@@ -8,14 +8,14 @@ use Rattle.std.proofs.lemmas.List.{take_more}
 use Rattle.imap_session.specs.declared.standing.SessionFault.{SessionFault}
 use Rattle.imap_session.specs.declared.standing.SessionFault.TheVariants as faults
 use Rattle.imap_session.specs.declared.standing.SessionFault.TheVariants.{Ended}
-use Rattle.imap_session.specs.Exchange.{Feed, Folder, Refused, Standing, is_idling}
+use Rattle.imap_session.specs.Exchange.{Feed, Folder, Refused, Standing, is_idling, nothing_sent}
 use Rattle.mailbox.specs.declared.clients.MailFault.TheVariants.{NoMemory}
 use Rattle.imap_connection.specs.Dialogue as dialogue
 use Rattle.imap_connection.specs.Dialogue.{Dialogue, Link, StandsFor}
 use Rattle.session_thread.specs.declared.life.Step.{Step}
 use Rattle.session_thread.specs.declared.life.Step.TheVariants.{Say, Await}
 use Rattle.session_thread.specs.Locks.{Holds, Place, shown_in}
-use Rattle.session_thread.specs.Life.{Begins, Departs, HasTurn, IsOver, IsShort, Lives, LivesInPart, Moment, SaysFirst, Steps, Turns, another, goes_on, greeted_at, moment}
+use Rattle.session_thread.specs.Life.{Begins, Departs, HasTurn, IsOver, IsShort, Lives, LivesInPart, Moment, SaysFirst, Steps, Turns, another, goes_on, greeted_at, moment, takes_more}
 
 -- ---- results
 
@@ -73,27 +73,27 @@ pub lived_on : (turns : ℕ) (first : Moment) (steps : List Step) (i : ℕ) (ste
 lived_on turns first steps i step now next l is lives does =
     subst (λ (xs : List Step). Lives turns first xs next) (sym (take_more steps i step l ∙ ap (λ (s : Step). take i steps ++ s ∷ []) (sym is))) (goes_on (take i steps) step now next lives does)
 
--- a step was begun by a session that hasn't ended
-going : (turns room : ℕ) (step kind : Step) (d next : Dialogue) (old new : Place) (before after : List ℕ) (was link : Link) → was.session.ended ≡ false → step ≡ kind → StandsFor was d → StandsFor link next
+-- a step was begun by a session whose client may send more
+going : (turns room : ℕ) (step kind : Step) (d next : Dialogue) (old new : Place) (before after : List ℕ) (was link : Link) → takes_more was.session ≡ true → step ≡ kind → StandsFor was d → StandsFor link next
     → Begins turns kind (moment d old before) (moment next new after) → IsShort room (moment next new after)
-    → (x : Dialogue) × StandsFor link x × (d.standing.ended ≡ false) × Begins turns step (moment d old before) (moment x new after) × IsShort room (moment x new after)
+    → (x : Dialogue) × StandsFor link x × (takes_more d.standing ≡ true) × Begins turns step (moment d old before) (moment x new after) × IsShort room (moment x new after)
 going turns room step kind d next old new before after was link goes is stands there b short =
-    (next, there, subst (λ (s : Standing). s.ended ≡ false) stands.session goes, subst (λ (s : Step). Begins turns s (moment d old before) (moment next new after)) (sym is) b, short)
+    (next, there, subst (λ (s : Standing). takes_more s ≡ true) stands.session goes, subst (λ (s : Step). Begins turns s (moment d old before) (moment next new after)) (sym is) b, short)
 
-pub said_first : {A E : Type 0} (r : Result A E) (turns room : ℕ) (step : Step) (v : Vec ℕ Global) (bytes : List ℕ) (old new : Place) (before after : List ℕ) (was link : Link) → was.session.ended ≡ false → step ≡ Say v → bytes ≡ v.items
+pub said_first : {A E : Type 0} (r : Result A E) (turns room : ℕ) (step : Step) (v : Vec ℕ Global) (bytes : List ℕ) (old new : Place) (before after : List ℕ) (was link : Link) → takes_more was.session ≡ true → step ≡ Say v → bytes ≡ v.items
     → OnErr r ((d : Dialogue) → StandsFor was d → (next : Dialogue) × StandsFor link next × ((used : ℕ) × SaysFirst bytes used (moment d old before) (moment next new after)) × IsShort room (moment next new after))
-    → OnErr r ((d : Dialogue) → StandsFor was d → (next : Dialogue) × StandsFor link next × (d.standing.ended ≡ false) × Begins turns step (moment d old before) (moment next new after) × IsShort room (moment next new after))
+    → OnErr r ((d : Dialogue) → StandsFor was d → (next : Dialogue) × StandsFor link next × (takes_more d.standing ≡ true) × Begins turns step (moment d old before) (moment next new after) × IsShort room (moment next new after))
 said_first r turns room step v bytes old new before after was link goes is items h = on_err r _ _
     (λ f d stands. let t = f d stands in going turns room step (Say v) d t.0 old new before after was link goes is stands t.1 (t.2.0, subst (λ (b : List ℕ). SaysFirst b t.2.0 (moment d old before) (moment t.0 new after)) items t.2.1) t.3) h
 
-pub awaited_first : {A E : Type 0} (r : Result A E) (turns room : ℕ) (step : Step) (count : ℕ) (old new : Place) (before after : List ℕ) (was link : Link) → was.session.ended ≡ false → step ≡ Await count
+pub awaited_first : {A E : Type 0} (r : Result A E) (turns room : ℕ) (step : Step) (count : ℕ) (old new : Place) (before after : List ℕ) (was link : Link) → takes_more was.session ≡ true → step ≡ Await count
     → OnErr r ((d : Dialogue) → StandsFor was d → (next : Dialogue) × StandsFor link next × ((had : ℕ) × (had < turns) × Turns count (moment d old before) had (moment next new after) × (IsOver count (moment next new after) → ⊥)) × IsShort room (moment next new after))
-    → OnErr r ((d : Dialogue) → StandsFor was d → (next : Dialogue) × StandsFor link next × (d.standing.ended ≡ false) × Begins turns step (moment d old before) (moment next new after) × IsShort room (moment next new after))
+    → OnErr r ((d : Dialogue) → StandsFor was d → (next : Dialogue) × StandsFor link next × (takes_more d.standing ≡ true) × Begins turns step (moment d old before) (moment next new after) × IsShort room (moment next new after))
 awaited_first r turns room step count old new before after was link goes is h = on_err r _ _
     (λ f d stands. let t = f d stands in going turns room step (Await count) d t.0 old new before after was link goes is stands t.1 t.2 t.3) h
 
 -- the first steps were made, and the next was begun
-pub lived_in_part : (turns room : ℕ) (first : Moment) (steps : List Step) (i : ℕ) (step : Step) (now last : Moment) → i < length steps → step ≡ get_or steps i step → Lives turns first (take i steps) now → now.dialogue.standing.ended ≡ false
+pub lived_in_part : (turns room : ℕ) (first : Moment) (steps : List Step) (i : ℕ) (step : Step) (now last : Moment) → i < length steps → step ≡ get_or steps i step → Lives turns first (take i steps) now → takes_more now.dialogue.standing ≡ true
     → Begins turns step now last → IsShort room last → LivesInPart turns room first steps last
 lived_in_part turns room first steps i step now last l is lives goes begun short = record {
   made = take i steps;
@@ -111,7 +111,7 @@ lived_in_part turns room first steps i step now last l is lives goes begun short
 
 -- a client that was just greeted
 abbrev pub first_dialogue : List Folder → Dialogue
-first_dialogue folders = record { standing = record { folders = folders; selected = None; idling = None; ended = false }; begun = [] }
+first_dialogue folders = record { standing = record { folders = folders; selected = None; idling = None; ended = false; mailing = nothing_sent None }; begun = [] }
 
 pub lived : {A E : Type 0} (r : Result A E) (turns : ℕ) (folders : List Folder) (steps : List Step) (old new end : Place) (before text after : List ℕ) (link last : Link) → StandsFor link (first_dialogue folders) → text ≡ before ++ greeting
     → OnOk r ((d : Dialogue) → StandsFor link d → (next : Dialogue) × StandsFor last next × Lives turns (moment d old text) steps (moment next new after)) → Departs new end

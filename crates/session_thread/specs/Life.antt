@@ -1,11 +1,11 @@
 -- The life of a session's thread: its steps, one after another, over mailboxes behind locks.
-use Rattle.std.specs.Prelude.{◌≡◌, ℕ, suc, ◌+◌, ◌<◌, ◌≤◌, ◌⊎◌, true, false, List, [], ◌∷◌, ◌++◌, length, take, None}
+use Rattle.std.specs.Prelude.{◌≡◌, ℕ, suc, ◌+◌, ◌<◌, ◌≤◌, ◌⊎◌, Bool, true, false, List, [], ◌∷◌, ◌++◌, length, take, None}
 use Rattle.mailbox.specs.declared.clients.MailFault.TheVariants.{NoMemory}
 use Rattle.imap_session.specs.declared.standing.After.{After}
-use Rattle.imap_session.specs.Exchange.{Answer, Feed, Folder, Leave, Refused, is_idling}
+use Rattle.imap_session.specs.Exchange.{Answer, Feed, Folder, Leave, Refused, Standing, is_idling, kept_tag, may_send, nothing_sent}
 use Rattle.imap_session.specs.Commands.{most_changes}
 use Rattle.imap_session.specs.Store.{IdleTurns}
-use Rattle.imap_connection.specs.Dialogue.{Answered, Dialogue, tag_len}
+use Rattle.imap_connection.specs.Dialogue.{Answered, Dialogue, may_follow, tag_len}
 use Rattle.session_thread.specs.declared.life.Step.{Step}
 use Rattle.session_thread.specs.declared.life.Step.TheVariants.{Say, Await}
 use Rattle.session_thread.specs.Locks.{Holds, Place, shown_in}
@@ -19,13 +19,17 @@ pub record Moment : Type 0 where
 abbrev pub moment : Dialogue → Place → List ℕ → Moment
 moment dialogue place text = record { dialogue = dialogue; place = place; text = text }
 
--- the first moment of a session with these mailboxes, which has been greeted
+-- the first moment of a session with these mailboxes, which has been greeted, and takes no message
 abbrev pub greeted_at : List Folder → Place → List ℕ → Moment
 greeted_at folders place text = record {
-  dialogue = record { standing = record { folders = folders; selected = None; idling = None; ended = false }; begun = [] };
+  dialogue = record { standing = record { folders = folders; selected = None; idling = None; ended = false; mailing = nothing_sent None }; begun = [] };
   place = place;
   text = text;
 }
+
+-- its client may send more: it goes on, and awaits no verdict on a message
+abbrev pub takes_more : Standing → Bool
+takes_more now = may_follow (may_send now)
 
 -- ---- turns
 
@@ -54,11 +58,11 @@ pub record SaysFirst (bytes : List ℕ) (used : ℕ) (before after : Moment) : T
   pub answered : Answered Holds before.dialogue (take used bytes) before.place after.place said how after.dialogue
   pub wrote : after.text ≡ before.text ++ said
 
--- The bytes were taken, to their end or to the line that ended the session.
+-- The bytes were taken, to their end or to the line that ended the session or submitted a message.
 pub record Says (bytes : List ℕ) (before after : Moment) : Type 0 where
   pub used : ℕ
   pub first : SaysFirst bytes used before after
-  pub all : (used ≡ length bytes) ⊎ (after.dialogue.standing.ended ≡ true)
+  pub all : (used ≡ length bytes) ⊎ (takes_more after.dialogue.standing ≡ false)
 
 -- Turns were had until enough was shown, the session idled no more, or its turns were spent.
 pub record Awaits (turns count : ℕ) (before after : Moment) : Type 0 where
@@ -67,14 +71,14 @@ pub record Awaits (turns count : ℕ) (before after : Moment) : Type 0 where
   pub turned : Turns count before had after
   pub enough : (had ≡ turns) ⊎ IsOver count after
 
--- what a step of a session that hasn't ended does
+-- what a step of a session does whose client may send more
 abbrev pub Does : ℕ → Step → Moment → Moment → Type 0
 Does turns (Say bytes) before after = Says bytes.items before after
 Does turns (Await count) before after = Awaits turns count before after
 
--- One step: a session that has ended does nothing.
+-- One step: a session that has ended, or awaits a verdict, does nothing.
 abbrev pub Steps : ℕ → Step → Moment → Moment → Type 0
-Steps turns step before after = ((before.dialogue.standing.ended ≡ true) × (after ≡ before)) ⊎ ((before.dialogue.standing.ended ≡ false) × Does turns step before after)
+Steps turns step before after = ((takes_more before.dialogue.standing ≡ false) × (after ≡ before)) ⊎ ((takes_more before.dialogue.standing ≡ true) × Does turns step before after)
 
 -- These steps were made.
 pub data Lives (turns : ℕ) (first : Moment) : List Step → Moment → Type 0 where
@@ -86,7 +90,7 @@ pub data Lives (turns : ℕ) (first : Moment) : List Step → Moment → Type 0 
 -- Memory was refused to a session where it stands: what it writes to has no room for the next line's last words and their like, out of `room` bytes,
 -- or a mailbox refused it a turn.
 abbrev pub IsShort : ℕ → Moment → Type 0
-IsShort room now = (room < length now.text + (8272 + tag_len now.dialogue.standing.idling)) ⊎ Holds now.place (Feed most_changes) (Refused NoMemory) now.place
+IsShort room now = (room < length now.text + (8272 + tag_len (kept_tag now.dialogue.standing))) ⊎ Holds now.place (Feed most_changes) (Refused NoMemory) now.place
 
 -- A step was begun: of its bytes some were taken, or some of its turns were had, and there was still something to wait for.
 abbrev pub Begins : ℕ → Step → Moment → Moment → Type 0
@@ -101,7 +105,7 @@ pub record LivesInPart (turns room : ℕ) (first : Moment) (steps : List Step) (
   pub are : steps ≡ made ++ step ∷ others
   pub now : Moment
   pub lives : Lives turns first made now
-  pub goes : now.dialogue.standing.ended ≡ false
+  pub goes : takes_more now.dialogue.standing ≡ true
   pub begun : Begins turns step now last
   pub short : IsShort room last
 

@@ -12,4 +12,4 @@ mod tests;
 
 pub use desk::LockedDesk;
 pub use laws::pieces_abut;
-pub use life::{Step, live};
+pub use life::{Step, live, takes_more};

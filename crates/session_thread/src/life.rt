@@ -1,16 +1,16 @@
 //! The life of a session's thread: the greeting, its steps, and the leaving of its mailbox. Who starts
 //! the thread, and what its steps are, stands above.
 
-ghost use Rattle.std.specs.Prelude.{◌≡◌, ◌++◌, ◌<◌, ◌⊎◌, ℕ, false, true, OnErr, OnOk};
+ghost use Rattle.std.specs.Prelude.{◌≡◌, ◌++◌, ◌<◌, ◌⊎◌, ℕ, None, false, true, OnErr, OnOk};
 ghost use Rattle.std.specs.Vec.{vec_capacity};
 ghost use Rattle.imap_session.specs.Commands.{greeting};
 ghost use Rattle.imap_session.specs.Exchange.{is_idling};
 ghost use Rattle.imap_connection.specs.Dialogue.{Dialogue, StandsFor};
-ghost use Rattle.session_thread.specs.Life.{Awaits, Begins, Departs, HasTurn, IsOver, IsShort, Lives, LivesInPart, Moment, Says, SaysFirst, Steps, Turns, greeted_at, moment};
+ghost use Rattle.session_thread.specs.Life.{Awaits, Begins, Departs, HasTurn, IsOver, IsShort, Lives, LivesInPart, Moment, Says, SaysFirst, Steps, Turns, greeted_at, moment, takes_more};
 
 use crate::desk::LockedDesk;
 use imap_connection::ImapConnection;
-use imap_session::{Folder, Store};
+use imap_session::{After, Folder, Store};
 use pace::Gate;
 use std::alloc::{AllocError, Global};
 use std::sync::Wait;
@@ -29,7 +29,17 @@ pub enum Step {
     Await(u64),
 }
 
-// The client sends bytes: each line that ends in them is answered, unless the session ends before.
+/// Whether the client may send more: its session goes on, and awaits no verdict on a message.
+pub fn takes_more(connection: &ImapConnection) -> bool
+    ensures is { result ≡ takes_more connection.now.session }
+    ensures goes { result ≡ true → connection.now.session.ended ≡ false }
+    ensures unsent { result ≡ true → connection.now.session.mailing.sent ≡ None }
+{
+    !matches!(connection.may_send(), After::Bye | After::Submit)
+}
+
+// The client sends bytes: each line that ends in them is answered, unless the session ends before, or
+// submits a message.
 fn say<R: Wait, G: Gate>(
     alloc: Global,
     connection: &mut ImapConnection,
@@ -37,7 +47,8 @@ fn say<R: Wait, G: Gate>(
     bytes: &[u8],
     out: &mut Vec<u8>,
 ) -> Result<(), AllocError>
-    requires { connection.old.session.ended ≡ false }
+    requires going { connection.old.session.ended ≡ false }
+    requires unsent { connection.old.session.mailing.sent ≡ None }
     ensures ok { OnOk result ((d : Dialogue) → StandsFor connection.old d → (next : Dialogue) × StandsFor connection.new next
         × Says bytes.now (moment d desk.old out.old.items) (moment next desk.new out.new.items)) }
     ensures err { OnErr result ((d : Dialogue) → StandsFor connection.old d → (next : Dialogue) × StandsFor connection.new next
@@ -102,7 +113,7 @@ fn wait_for<R: Wait, G: Gate>(
     Ok(())
 }
 
-// One step. A session that has ended does nothing.
+// One step. A session that has ended, or awaits a verdict, does nothing.
 fn make<R: Wait, G: Gate>(
     alloc: Global,
     connection: &mut ImapConnection,
@@ -114,10 +125,10 @@ fn make<R: Wait, G: Gate>(
     ensures ok { OnOk result ((d : Dialogue) → StandsFor connection.old d → (next : Dialogue) × StandsFor connection.new next
         × Steps turns step.now (moment d desk.old out.old.items) (moment next desk.new out.new.items)) }
     ensures err { OnErr result ((d : Dialogue) → StandsFor connection.old d → (next : Dialogue) × StandsFor connection.new next
-        × (d.standing.ended ≡ false) × Begins turns step.now (moment d desk.old out.old.items) (moment next desk.new out.new.items)
+        × (takes_more d.standing ≡ true) × Begins turns step.now (moment d desk.old out.old.items) (moment next desk.new out.new.items)
         × IsShort (vec_capacity out.new) (moment next desk.new out.new.items)) }
 {
-    if connection.has_ended() {
+    if !takes_more(connection) {
         return Ok(());
     }
     match step {
@@ -151,7 +162,8 @@ fn make_all<R: Wait, G: Gate>(
 /// A session lives: its client is greeted, makes its steps, and leaves the mailbox that it is in, if
 /// any, without removal. What was said stands behind `out`. A step that awaits changes has at most
 /// `turns` turns, and waits on no bell; where a turn showed nothing, other threads may go on. A step of
-/// a session that has ended does nothing, nor does one that awaits changes while it doesn't idle.
+/// a session that has ended, or awaits a verdict, does nothing, nor does one that awaits changes while it
+/// doesn't idle. The session takes no message that its client appends.
 ///
 /// Errors: `AllocError` where memory was refused to the session itself. Before the greeting nothing was
 /// done then. After it the session stops, and leaves its mailbox all the same: what was said by then
@@ -172,7 +184,7 @@ pub fn live<R: Wait, G: Gate>(
         ⊎ (last : Moment) × LivesInPart turns (vec_capacity out.new) (greeted_at folders.items desk.old (out.old.items ++ greeting)) steps.now last
         × (out.new.items ≡ last.text) × Departs last.place desk.new) }
 {
-    let mut connection = ImapConnection::new(alloc, folders)?;
+    let mut connection = ImapConnection::new(alloc, folders, None)?;
     connection.greet(out)?;
     let lived = make_all(alloc, &mut connection, desk, steps, turns, out);
     let _ = desk.leave(false);

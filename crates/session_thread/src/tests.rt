@@ -489,7 +489,7 @@ fn told_by_another<R: Wait>(
     let tally = Tally::new();
     let mut said = Vec::new(alloc);
     let mut desk = LockedDesk::new(rt, &tally, 0, mailboxes, &[]);
-    let mut connection = ImapConnection::new(alloc, folders(alloc)?)?;
+    let mut connection = ImapConnection::new(alloc, folders(alloc)?, None)?;
     let _ = connection.take(alloc, b"a1 SELECT INBOX\r\n", &mut desk, &mut said);
     if connection.has_ended() {
         return Err(AllocError);
