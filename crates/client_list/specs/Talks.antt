@@ -1,5 +1,5 @@
 -- A whole talk of a session with its client, in one mailbox: what happens one after the other, and all that is written.
-use Rattle.std.specs.Prelude.{◌≡◌, ℕ, ◌<◌, ◌^◌, Bool, List, [], ◌∷◌, ◌++◌, Option, Some, None}
+use Rattle.std.specs.Prelude.{◌≡◌, ℕ, Bool, List, [], ◌∷◌, ◌++◌, Option, Some, None}
 use Rattle.imap_grammar.specs.Reading.{read}
 use Rattle.delivery_token.specs.declared.Verdict.{Verdict}
 use Rattle.imap_session.specs.Exchange.{Answer, Standing, Turn, kept_tag, may_send, nothing_more}

@@ -1,5 +1,5 @@
 -- What a visitor's connection took, and what was printed of it, as what the visitor does.
-use Rattle.std.proofs.Common.{◌≡◌, ℕ, ◌+◌, ◌-◌, ◌<◌, ◌⊎◌, inl, inr, arith, if◌then◌else◌, Bool, true, false, List, [], ◌++◌, flat_map, length, take, drop, refl, sym, ap, ◌∙◌, subst, append-nil, append_assoc, take-append-drop, Option, Some, None, Result, Ok, Err, OnErr}
+use Rattle.std.proofs.Common.{◌≡◌, ℕ, ◌<◌, ◌⊎◌, inl, inr, if◌then◌else◌, Bool, true, false, List, [], ◌++◌, flat_map, length, take, drop, refl, sym, ap, ◌∙◌, subst, append-nil, append_assoc, take-append-drop, Option, Some, None}
 use Rattle.std.proofs.Math.Seq.{drop-length}
 use Rattle.std.specs.Prelude.{◌&&◌, not, IfSome}
 use Rattle.std.specs.Option.{is_some}
@@ -13,7 +13,7 @@ use Rattle.imap_session.specs.Store.{IdleTurns}
 use Rattle.imap_connection.specs.declared.connection.Progress.{Progress}
 use Rattle.imap_connection.specs.Dialogue as dialogue
 use Rattle.imap_connection.specs.Dialogue.{Dialogue, Link, Took, Turns, may_follow, spelled}
-use Rattle.house_session.specs.HouseSession.{HouseSession, Answers}
+use Rattle.house_session.specs.HouseSession.{HouseSession}
 use Rattle.house_session.specs.Place.{HadTurn, Answered, Place, StandsFor, Turned}
 
 -- where all of it was taken, nothing waits

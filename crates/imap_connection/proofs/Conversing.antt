@@ -3,12 +3,11 @@ use Rattle.std.proofs.Common.{◌≡◌, ℕ, ◌+◌, ◌-◌, List, [], ◌∷
 use Rattle.std.proofs.lemmas.List.{take_all}
 use Rattle.std.proofs.lemmas.List.Concat.{flat_map-append}
 use Rattle.line_io.proofs.Appended.{take_two_of}
-use Rattle.line_io.specs.Wire.{crlf}
 use Rattle.imap_session.specs.declared.standing.After.{After}
-use Rattle.imap_session.specs.declared.standing.After.TheVariants.{Go, Idle, Literal, Submit, Bye}
+use Rattle.imap_session.specs.declared.standing.After.TheVariants.{Bye}
 use Rattle.imap_connection.specs.declared.connection.Fed.{Fed}
 use Rattle.imap_session.specs.Exchange.{Appending, Call, Answer, Sent, Standing, may_send, waits_begun, waits_for, waits_idling, waits_sent}
-use Rattle.imap_connection.specs.Dialogue.{Answered, AnswersLine, AnswersOne, Bytes, Converses, Dialogue, Line, Link, Sends, StandsFor, Takes, TakesLiteral, begins, ends, goes_on, has_ended, may_follow, parts, reads, silent, spelled, takes, too_long}
+use Rattle.imap_connection.specs.Dialogue.{Answered, AnswersLine, AnswersOne, Bytes, Converses, Dialogue, Line, Link, Sends, StandsFor, Takes, begins, ends, goes_on, has_ended, may_follow, parts, reads, silent, spelled, takes, too_long}
 
 -- what was written for a line is what is said of it alone
 said_alone : {S : Type 0} (step : S → Call → Answer → S → Type 0) (now : Standing) (line : List ℕ) (old new : S) (before after : List ℕ) (how : After) (next : Standing)

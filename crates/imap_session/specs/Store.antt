@@ -11,7 +11,7 @@ use Rattle.delivery_token.specs.declared.Verdict.{Verdict}
 use Rattle.change_ring.specs.Log.{replay}
 use Rattle.cursor_set.specs.Lines.{lines}
 use Rattle.imap_session.specs.declared.standing.After.{After}
-use Rattle.imap_session.specs.Exchange.{Appending, Call, Answer, Entered, Looked, Expunged, Fed, Left, Refused, Event, Feed, Sent, Standing, played, refused}
+use Rattle.imap_session.specs.Exchange.{Appending, Call, Answer, Entered, Looked, Expunged, Fed, Left, Refused, Event, Feed, Sent, Standing}
 use Rattle.imap_session.specs.Commands.{count_shown, idle_turn, most_changes, turn_of, turn_of_verdict, with_bytes}
 
 -- ---- answers of the code

@@ -1,6 +1,5 @@
-use Rattle.std.proofs.Common.{◌≡◌, ◌∙◌, List, ℕ, Bool, true, false, Some, None, Option, refl, ap, drop, subst, sym}
+use Rattle.std.proofs.Common.{◌∙◌, List, ℕ, true, false, ap, drop, subst, sym}
 use Rattle.std.specs.Option.{is_some}
-use Rattle.imap_session.specs.declared.standing.After.{After}
 use Rattle.house_session.specs.Place.{Answered, Place, StandsFor}
 use Rattle.house_session.proofs.Going.{answered, awaiting_rests, ended_rests, rests}
 use Rattle.house_session.proofs.session.HouseSession.go_on.Goals as goal

@@ -1,4 +1,4 @@
-use Rattle.std.proofs.Common.{◌∙◌, ap, drop, subst, sym}
+use Rattle.std.proofs.Common.{◌∙◌, ap, subst, sym}
 use Rattle.house_session.specs.Place.{HadTurn, Place, StandsFor}
 use Rattle.house_session.proofs.Going.{had_none, had_turn, turned, turned_ended}
 use Rattle.house_session.proofs.session.HouseSession.idle_turn.Goals as goal
