@@ -2,7 +2,6 @@
 //! the world. No connection, no session and no output stands here.
 
 ghost use Rattle.std.specs.Prelude.{max, replicate, None, ◌≡◌, ℕ, ◌⊎◌, ◌%◌, ◌+◌, ◌++◌, ◌<◌, ◌≤◌, ◌↔◌, [], ◌∷◌, length, OnOk, OnErr, Err, IfOk, IfSome, IsSome, IsTrue, option_map, slice_index_or, slice_set};
-ghost use Rattle.change_ring.specs.Log.{no_flags};
 ghost use Rattle.world.specs.World.{Answer, Box, Config, Deliver, Hear, Put, PutEnd, Take, empty_world, in_hand};
 ghost use Rattle.shard_queue.specs.Plain.{MayPutMore, taken_entry};
 ghost use Rattle.delivery_core.specs.Changes.{CannotEnd, Ends, Hears, SameCounts};
@@ -24,7 +23,7 @@ ghost use Rattle.mailbox.specs.Mail.{Mail, SameMailbox};
 
 use crate::client::Client;
 use crate::make::{empty_hands, first_keys, new_boxes, new_lanes, new_logs, no_clients};
-use change_ring::{Change, NO_FLAGS};
+use change_ring::{Change, Flags};
 use delivery_token::{CopyKey, Job, Noted, Refusal, Text, Verdict, WorkerLog, precedes};
 use mailbox::{Limits, Mailbox, Receipt};
 use shard_queue::{PlainLane, Taken};
@@ -110,9 +109,15 @@ fn hand_of(taken: Taken<Job>) -> Option<Hand>
 }
 
 // Puts a copy of its own into a lane. No copy is made for a lane that is full.
-fn put_in(lane: &mut PlainLane<Job>, key: CopyKey, mailbox: u8, text: &Text) -> Option<Refusal>
+fn put_in(
+    lane: &mut PlainLane<Job>,
+    key: CopyKey,
+    mailbox: u8,
+    text: &Text,
+    flags: Flags,
+) -> Option<Refusal>
     requires { MayPutMore lane.old.live key.seat }
-    ensures { LanePuts lane.old key.seat (record { key = key; mailbox = mailbox; text = text.now; flags = no_flags }) lane.new result }
+    ensures { LanePuts lane.old key.seat (record { key = key; mailbox = mailbox; text = text.now; flags = flags }) lane.new result }
 {
     if lane.is_full() {
         return Some(Refusal::Full);
@@ -124,7 +129,7 @@ fn put_in(lane: &mut PlainLane<Job>, key: CopyKey, mailbox: u8, text: &Text) -> 
         key,
         mailbox,
         text,
-        flags: NO_FLAGS,
+        flags,
     };
     match lane.put(key.seat, job) {
         Ok(()) => None,
@@ -200,23 +205,29 @@ impl DeliveryCore {
         key.recipient < 255 && (self.next[seat] == key || precedes(&self.next[seat], &key))
     }
 
-    /// A seat puts a copy, with a text of its own, into the lane of its mailbox's shard: None where
+    /// A seat puts a copy with these flags, and with a text of its own, into the lane of its mailbox's shard: None where
     /// it joined. Where it was refused, as Full or for want of memory, the seat has heard so, and it
     /// is told why. Either way the key is used up.
     ///
     /// Nothing where the seat has put its end into that lane, and NoMemory where its log has no room
     /// for the note of a refusal and gets none.
-    pub fn put(&mut self, key: CopyKey, mailbox: u8, text: &Text) -> Result<Option<Refusal>, Fault>
+    pub fn put(
+        &mut self,
+        key: CopyKey,
+        mailbox: u8,
+        text: &Text,
+        flags: Flags,
+    ) -> Result<Option<Refusal>, Fault>
         requires seat { key.seat < length self.old.replies }
         requires next { AtLeast (slice_index_or self.old.next key.seat key) key }
         requires last { key.recipient < 255 }
         requires mailbox { mailbox < length self.old.boxes }
         requires shards { 0 < length self.old.lanes }
-        ensures follows { OnOk result ((k : Config) → Follows k self.old (Put key.seat (mailbox % length self.old.lanes) (record { key = key; mailbox = mailbox; text = text.now; flags = no_flags }) ∷ []) self.new) }
+        ensures follows { OnOk result ((k : Config) → Follows k self.old (Put key.seat (mailbox % length self.old.lanes) (record { key = key; mailbox = mailbox; text = text.now; flags = flags }) ∷ []) self.new) }
         ensures next { OnOk result (self.new.next ≡ slice_set self.old.next key.seat (past key)) }
         ensures somebody { result ≡ Err Fault.Nobody → ⊥ }
         ensures memory { result ≡ Err Fault.NoMemory → (d : Book) → (slice_index_or self.old.heard key.seat d).spare ≡ 0 }
-        ensures idle { result ≡ Err Fault.Nothing → (k : Config) → Idle k self.old (Put key.seat (mailbox % length self.old.lanes) (record { key = key; mailbox = mailbox; text = text.now; flags = no_flags })) }
+        ensures idle { result ≡ Err Fault.Nothing → (k : Config) → Idle k self.old (Put key.seat (mailbox % length self.old.lanes) (record { key = key; mailbox = mailbox; text = text.now; flags = flags })) }
         ensures heard { IfOk result (λ why. Hears self.old self.new key.seat (heard_at_once key mailbox why)) }
         ensures boxes { self.new.boxes ≡ self.old.boxes }
         ensures clients { self.new.clients ≡ self.old.clients }
@@ -239,7 +250,7 @@ impl DeliveryCore {
             recipient: key.recipient + 1,
         };
         let lane = &mut self.lanes[shard];
-        let Some(why) = put_in(lane, key, mailbox, text) else {
+        let Some(why) = put_in(lane, key, mailbox, text, flags) else {
             return Ok(None);
         };
         let book = &mut self.heard[seat];

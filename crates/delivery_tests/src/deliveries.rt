@@ -100,7 +100,7 @@ fn puts(
 ) -> Result<bool, AllocError> {
     let text = Text::new(Vec::from_slice(alloc, b"hi\r\n")?)?;
     let key = CopyKey { recipient, ..KEY };
-    Ok(core.may_put(key, mailbox) && core.put(key, mailbox, &text) == wanted)
+    Ok(core.may_put(key, mailbox) && core.put(key, mailbox, &text, NO_FLAGS) == wanted)
 }
 
 // Whether a copy goes the whole way to a mailbox.

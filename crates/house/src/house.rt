@@ -158,13 +158,13 @@ fn put_next(
     let Some(caller) = place else {
         return Err(HouseFault::Nobody);
     };
-    let Some((key, mailbox, text)) = caller.next_copy() else {
+    let Some(copy) = caller.next_copy() else {
         return Err(HouseFault::Nothing);
     };
-    if !core.may_put(key, mailbox) {
+    if !core.may_put(copy.key, copy.mailbox) {
         return Err(HouseFault::Nothing);
     }
-    match core.put(key, mailbox, text) {
+    match core.put(copy.key, copy.mailbox, copy.text, copy.flags) {
         Ok(why) => Ok(why),
         Err(Fault::NoMemory) => Err(HouseFault::NoMemory),
         Err(Fault::Nothing) => Err(HouseFault::Nothing),

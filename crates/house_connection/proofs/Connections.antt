@@ -1,4 +1,5 @@
 -- What a connection's steps come to, from the machine's own promises.
+use Rattle.change_ring.specs.Log.{no_flags}
 use Rattle.std.proofs.Common.{◌≡◌, ℕ, zero, suc, ◌+◌, ◌<◌, ◌≤◌, Bool, true, false, List, [], ◌∷◌, ◌++◌, length, drop, refl, ap, sym, ◌∙◌, subst, arith, Option, Some, None}
 use Rattle.std.proofs.lemmas.List.{append-nil}
 use Rattle.delivery_token.specs.declared.CopyKey.{CopyKey}
@@ -142,7 +143,7 @@ module _ (k : Terms) (seat : ℕ) (next : CopyKey) (heard : List Noted) where
       let one : length (x ∷ xs) ≡ 1 = let l = ap (λ (ss : List Submission). length ss) a.0 in omega (arith, l) in
       let o = the_one setting k.directory message submitted phase (x ∷ xs) one m a in
       let c = ap (drop n) (copies-one (x ∷ xs) o.0 o.1) in
-      let p = all_put n o.0.keys o.0.mailboxes o.0.text o.2.as_many (sym c ∙ e) in
+      let p = all_put n o.0.keys o.0.mailboxes o.0.text no_flags o.2.as_many (sym c ∙ e) in
       let q = ap (λ (ks : List CopyKey). length ks) (keys-one (x ∷ xs) o.0 o.1) in
       omega (arith, p, q)
 
@@ -176,7 +177,7 @@ module _ (k : Terms) (seat : ℕ) (next : CopyKey) (heard : List Noted) where
       let c = ap (drop (length h.verdicts)) (copies-one b.talk.pending o.0 o.1) in
       let q = ap (λ (ks : List CopyKey). length ks) (ap keys_of s.pending ∙ keys-one b.talk.pending o.0 o.1) in
       let a = known.all in
-      let put : b.to_put ≡ [] = s.to_put ∙ c ∙ no-key (length h.verdicts) o.0.keys o.0.mailboxes o.0.text (omega (arith, a, q)) in
+      let put : b.to_put ≡ [] = s.to_put ∙ c ∙ no-key (length h.verdicts) o.0.keys o.0.mailboxes o.0.text no_flags (omega (arith, a, q)) in
       let long : length (keys_of b.talk.pending) ≤ length h.verdicts = let r = ap (λ (ss : List Submission). length (keys_of ss)) s.pending in omega (arith, a, r) in
       let h1 = happens k.directory b.talk.at s.machine in
       let h2 = subst (λ (n : List ℕ). Happens (StandsFor m) (setting_of k seat b.serial) n k.directory b.talk.at (dialogue.Answered vs) h.unsaid said) s.host (subst (λ (x : Setting). Happens (StandsFor m) x h.machine.host k.directory b.talk.at (dialogue.Answered vs) h.unsaid said) s.setting h1) in

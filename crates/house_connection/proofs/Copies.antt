@@ -1,5 +1,6 @@
 -- The copies of the one message at hand.
 use Rattle.std.proofs.Common.{◌≡◌, ℕ, zero, suc, ◌<◌, ◌≤◌, ◌⊎◌, inl, inr, List, [], ◌∷◌, length, drop, ap, ◌∙◌, arith, length-append, length-drop}
+use Rattle.change_ring.specs.Log.{no_flags}
 use Rattle.std.specs.Prelude.{All}
 use Rattle.std.proofs.lemmas.List.Elements.{All-head}
 use Rattle.std.proofs.lemmas.List.{append-nil}
@@ -12,8 +13,8 @@ use Rattle.submission.proofs.Copies.{length-copies}
 use Rattle.house_connection.specs.HouseConnection.{copies_of, keys_of}
 
 -- one submission alone
-pub copies-one : (ss : List Submission) (s : Submission) → ss ≡ s ∷ [] → copies_of ss ≡ copies s.keys s.mailboxes s.text
-copies-one ss s e = ap copies_of e ∙ append-nil (copies s.keys s.mailboxes s.text)
+pub copies-one : (ss : List Submission) (s : Submission) → ss ≡ s ∷ [] → copies_of ss ≡ copies s.keys s.mailboxes s.text no_flags
+copies-one ss s e = ap copies_of e ∙ append-nil (copies s.keys s.mailboxes s.text no_flags)
 
 pub keys-one : (ss : List Submission) (s : Submission) → ss ≡ s ∷ [] → keys_of ss ≡ s.keys
 keys-one ss s e = ap keys_of e ∙ append-nil s.keys
@@ -23,8 +24,8 @@ few-copies : (ss : List Submission) → length (copies_of ss) ≤ length (keys_o
 few-copies [] = omega arith
 few-copies (s ∷ ss) =
     let h = few-copies ss in
-    let l = length-copies s.keys s.mailboxes s.text in
-    let a = length-append (copies s.keys s.mailboxes s.text) (copies_of ss) in
+    let l = length-copies s.keys s.mailboxes s.text no_flags in
+    let a = length-append (copies s.keys s.mailboxes s.text no_flags) (copies_of ss) in
     let b = length-append s.keys (keys_of ss) in
     omega (arith, h, l, a, b)
 
@@ -41,8 +42,8 @@ none-due n ss h = let f = few-copies ss in none-left n (copies_of ss) (omega (ar
 pub few-due : (n : ℕ) (ss : List Submission) → (length ss ≡ 1) ⊎ (ss ≡ []) → All (λ (s : Submission). length s.keys ≤ 100) ss → 0 < length (drop n (copies_of ss)) → n < 100
 few-due n [] h few more = absurd (let e : drop n (copies_of []) ≡ [] = drop-nil {A = Job} n in omega (arith, ap length e, more))
 few-due n (s ∷ []) h few more =
-    let l = length-copies s.keys s.mailboxes s.text in
-    let e = ap length (append-nil (copies s.keys s.mailboxes s.text)) in
+    let l = length-copies s.keys s.mailboxes s.text no_flags in
+    let e = ap length (append-nil (copies s.keys s.mailboxes s.text no_flags)) in
     let d = length-drop n (copies_of (s ∷ [])) in
     let k = All-head (λ (s : Submission). length s.keys ≤ 100) s [] few in
     omega (arith, l, e, d, k, more)

@@ -1,5 +1,6 @@
 -- How the work that is left becomes less.
 use Rattle.std.proofs.Common.{◌≡◌, Bool, true, false, nat_eq, sym, ℕ, suc, ◌+◌, ◌*◌, ◌<◌, ◌≤◌, List, [], ◌∷◌, ◌++◌, length, drop, refl, ap, ◌∙◌, arith, Option, Some, None, length-drop, length-append, append-nil}
+use Rattle.change_ring.specs.Log.{no_flags}
 use Rattle.std.proofs.lemmas.Bool.{eqb-true}
 use Rattle.std.proofs.Math.Seq.{drop-length, drop-nil}
 use Rattle.std.proofs.lemmas.List.Elements.{All-head}
@@ -22,8 +23,8 @@ few_copies : (n : ℕ) (ss : List Submission) → length ss ≤ 1 → AreFew ss 
 few_copies n [] l f = let e = ap length (drop-nil {A = Job} n) in omega (arith, e)
 few_copies n (s ∷ []) l f =
     let d = length-drop n (copies_of (s ∷ [])) in
-    let e = ap length (append-nil (copies s.keys s.mailboxes s.text)) in
-    let c = length-copies s.keys s.mailboxes s.text in
+    let e = ap length (append-nil (copies s.keys s.mailboxes s.text no_flags)) in
+    let c = length-copies s.keys s.mailboxes s.text no_flags in
     let h = All-head (λ (s : Submission). length s.keys ≤ 100) s [] f in
     omega (arith, d, e, c, h)
 few_copies n (s ∷ t ∷ ss) l f = absurd (omega (arith, l))

@@ -1,5 +1,6 @@
 -- A copy was put, or a verdict was heard: the connection stands for its caller as before.
 use Rattle.std.proofs.Common.{◌≡◌, ◌≢◌, ℕ, zero, suc, ◌+◌, ◌<◌, ◌≤◌, ◌⊎◌, inl, inr, true, false, eqb, List, [], ◌∷◌, ◌++◌, length, drop, refl, ap, sym, ◌∙◌, subst, arith, Option, Some, None, get_or, set, length-set, length-append, append-nil, get_or-set_other, get_or-set_same}
+use Rattle.change_ring.specs.Log.{no_flags}
 use Rattle.std.specs.Prelude.{Contains, All}
 use Rattle.std.proofs.lemmas.Bool.Decides.{eqb_tells}
 use Rattle.std.proofs.lemmas.List.Elements.{Contains-append_left, Contains-push, Contains-push_cases, All-contains, All-head, All-tail}
@@ -75,9 +76,9 @@ module _ (k : Terms) (seat : ℕ) (next : CopyKey) (heard : List Noted) where
       let n = length h.verdicts in
       let f : drop n (copies_of b.talk.pending) ≡ c ∷ others = ap (λ (ss : List Submission). drop n (copies_of ss)) (sym s.pending) ∙ e in
       let o = one_at_hand (setting_of k seat b.serial) k.directory s.message b.talk.at.standing.submitted b.talk.pending n c others (few_pending b.talk.pending b.talk.at.standing.phase s.awaited) s.numbered f in
-      let g : drop n (copies o.0.keys o.0.mailboxes o.0.text) ≡ c ∷ others = sym (ap (drop n) (copies-one b.talk.pending o.0 o.1)) ∙ f in
-      let w = front_within n (copies o.0.keys o.0.mailboxes o.0.text) c others g in
-      let l = length-copies o.0.keys o.0.mailboxes o.0.text in
+      let g : drop n (copies o.0.keys o.0.mailboxes o.0.text no_flags) ≡ c ∷ others = sym (ap (drop n) (copies-one b.talk.pending o.0 o.1)) ∙ f in
+      let w = front_within n (copies o.0.keys o.0.mailboxes o.0.text no_flags) c others g in
+      let l = length-copies o.0.keys o.0.mailboxes o.0.text no_flags in
       let ks = keys-one b.talk.pending o.0 o.1 in
       let kl = ap (λ (x : List CopyKey). length x) ks in
       let room : n < length (keys_of b.talk.pending) = omega (arith, w, l, kl) in
@@ -85,7 +86,7 @@ module _ (k : Terms) (seat : ℕ) (next : CopyKey) (heard : List Noted) where
       = λ i d h. let q = o.2.keys in let ql = ap (λ (x : List CopyKey). length x) q in let z : zero + i ≡ i = omega arith in
       ap (λ (x : List CopyKey). get_or x i d) (ks ∙ q) ∙ key_at (setting_of k seat b.serial) s.message 0 i o.0.mailboxes d (omega (arith, h, kl, ql))
       ∙ ap (λ (m : ℕ). record { seat = seat; serial = b.serial; message = s.message; recipient = m }) z in
-      let here : (d : CopyKey) → get_or (keys_of b.talk.pending) n d ≡ c.key = λ d. ap (λ (x : List CopyKey). get_or x n d) ks ∙ front_key n o.0.keys o.0.mailboxes o.0.text c others d g in
+      let here : (d : CopyKey) → get_or (keys_of b.talk.pending) n d ≡ c.key = λ d. ap (λ (x : List CopyKey). get_or x n d) ks ∙ front_key n o.0.keys o.0.mailboxes o.0.text no_flags c others d g in
       record {
         key = sym (here c.key) ∙ each n c.key room;
         room = room;
@@ -94,7 +95,7 @@ module _ (k : Terms) (seat : ℕ) (next : CopyKey) (heard : List Noted) where
         each = each;
         front = s.to_put ∙ f;
         rest = behind_front n (copies_of b.talk.pending) c others f;
-        mailbox = front_mailbox n o.0.keys o.0.mailboxes o.0.text c others (length k.directory.homes) o.2.each g;
+        mailbox = front_mailbox n o.0.keys o.0.mailboxes o.0.text no_flags c others (length k.directory.homes) o.2.each g;
       }
 
   pub put_stands : (h : Line) (b : HouseConnection) (c : Job) (others : List Job) (why : Option Refusal) (after : CopyKey) (now : List Noted) → (s : StandsForConnection k seat next heard h b) → IsNextCopy k seat h b s.message c others

@@ -1,5 +1,6 @@
 -- A connection of the house at its seat, and what it does by itself with the bytes that came and the verdicts that were heard.
 use Rattle.std.specs.Prelude.{◌≡◌, ℕ, ◌+◌, ◌<◌, Bool, true, false, List, [], ◌∷◌, ◌++◌, length}
+use Rattle.change_ring.specs.Log.{no_flags}
 use Rattle.delivery_token.specs.declared.CopyKey.{CopyKey}
 use Rattle.delivery_token.specs.declared.Job.{Job}
 use Rattle.delivery_token.specs.declared.Verdict.{Verdict}
@@ -32,10 +33,10 @@ pub record HouseConnection : Type 0 where
 abbrev pub setting_of : Terms → ℕ → ℕ → Setting
 setting_of k seat serial = record { seat = seat; serial = serial; max_message = k.max_message }
 
--- the copies of the messages at hand, of which there is one at most, and their keys
+-- the copies of the messages at hand, of which there is one at most, and their keys. What LMTP brings has no flags
 abbrev pub copies_of : List Submission → List Job
 copies_of [] = []
-copies_of (s ∷ ss) = copies s.keys s.mailboxes s.text ++ copies_of ss
+copies_of (s ∷ ss) = copies s.keys s.mailboxes s.text no_flags ++ copies_of ss
 
 abbrev pub keys_of : List Submission → List CopyKey
 keys_of [] = []

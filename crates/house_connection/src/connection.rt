@@ -23,13 +23,14 @@ ghost use Rattle.house_connection.specs.inner.Few.{AreFew};
 ghost use Rattle.house_connection.specs.Taking.{AreKnown, HasWork, HearsVerdict, IsCalm, IsPatient, awaited_keys, due, line_effort, noted_put, with_all_said, with_more, with_nobody_there};
 ghost use Rattle.house_connection.specs.inner.Taking.{AwaitsIn, TakenBy};
 
+use change_ring::NO_FLAGS;
 use delivery_token::{CopyKey, Noted, Text, Verdict};
 use envelope::Directory;
 use incoming::Incoming;
 use lmtp_machine::{Limits, LmtpMachine, Submission, What};
 use std::alloc::{AllocError, Global};
 use std::marker::Model;
-use submission::{Submitted, Verdicts};
+use submission::{NextCopy, Submitted, Verdicts};
 
 /// The most recipients of a message.
 const MOST_RECIPIENTS: usize = 100;
@@ -127,11 +128,13 @@ fn submitted(message: &Submission) -> Submitted<'_>
     ensures keys { result.keys.now ≡ (submission_of message.now).keys }
     ensures mailboxes { result.mailboxes.now ≡ (submission_of message.now).mailboxes }
     ensures text { result.text.now ≡ (submission_of message.now).text }
+    ensures flags { result.flags ≡ no_flags }
 {
     Submitted {
         keys: message.keys.as_slice(),
         mailboxes: message.mailboxes.as_slice(),
         text: &message.text,
+        flags: NO_FLAGS,
     }
 }
 
@@ -352,11 +355,10 @@ impl HouseConnection {
         self.unsaid.clear();
     }
 
-    /// The next copy of the message at hand that is to be put: its key, its mailbox and its text. None where all are put, or no
-    /// message waits.
-    pub fn next_copy(&self) -> Option<(CopyKey, u8, &Text)>
+    /// The next copy of the message at hand that is to be put. None where all are put, or no message waits.
+    pub fn next_copy(&self) -> Option<NextCopy<'_>>
         ensures none { result ≡ None → due self.now ≡ [] }
-        ensures some { IfSome result (λ c. (others : List Job) × (due self.now ≡ record { key = c.0; mailbox = c.1; text = c.2.now; flags = no_flags } ∷ others)) }
+        ensures some { IfSome result (λ c. (others : List Job) × (due self.now ≡ record { key = c.key; mailbox = c.mailbox; text = c.text.now; flags = c.flags } ∷ others)) }
     {
         if !self.is_waiting {
             return None;

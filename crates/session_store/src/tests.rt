@@ -46,7 +46,7 @@ fn deliver(core: &mut DeliveryCore, alloc: Global, mailbox: u8) -> Result<(), Al
     if !core.may_put(key, mailbox) {
         return Err(AllocError);
     }
-    let Ok(None) = core.put(key, mailbox, &text) else {
+    let Ok(None) = core.put(key, mailbox, &text, NO_FLAGS) else {
         return Err(AllocError);
     };
     let Ok(()) = core.take(0) else {

@@ -6,4 +6,4 @@ mod laws;
 mod verdicts;
 
 pub use laws::what_was_heard_is_kept;
-pub use verdicts::{Submitted, Verdicts};
+pub use verdicts::{NextCopy, Submitted, Verdicts};

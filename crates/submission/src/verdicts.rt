@@ -3,23 +3,33 @@
 ghost use Rattle.std.specs.Prelude.{◌≡◌, ◌<◌, ◌∷◌, [], ◌++◌, ℕ, List, length, true, false, None, Some, Ok, OnErr, IfOk, IfSome};
 ghost use Rattle.std.specs.List.{list_all};
 ghost use Rattle.std.specs.Option.{is_some};
-ghost use Rattle.change_ring.specs.Log.{no_flags};
 ghost use Rattle.delivery_token.specs.declared.Job.{Job};
 ghost use Rattle.delivery_token.specs.declared.Verdict.{Verdict};
 ghost use Rattle.submission.specs.Copies.{copies, due};
 ghost use Rattle.submission.specs.Verdicts.{AreKnown, Hears, no_verdicts, noted_put, with_slots};
 
+use change_ring::Flags;
 use delivery_token::{CopyKey, Noted, Text, Verdict};
 use std::alloc::{AllocError, Global};
 use std::marker::Model;
 
 /// A message that was submitted for its recipients, where it lies: the i-th key and the i-th mailbox are those of its i-th copy, and all
-/// have this text.
+/// have this text and these flags.
 #[derive(Clone, Copy)]
 pub struct Submitted<'a> {
     pub keys: &'a [CopyKey],
     pub mailboxes: &'a [u8],
     pub text: &'a Text,
+    pub flags: Flags,
+}
+
+/// The next copy of a message, whose text lies where the message does.
+#[derive(Clone, Copy)]
+pub struct NextCopy<'a> {
+    pub key: CopyKey,
+    pub mailbox: u8,
+    pub text: &'a Text,
+    pub flags: Flags,
 }
 
 /// Of the copies of one message that were put, in their order, the verdict on each, or None while it is awaited.
@@ -61,17 +71,22 @@ impl Verdicts {
         Ok(Verdicts { slots, most })
     }
 
-    /// The next copy of the message that is to be put: its key, its mailbox and its text. None where each was put.
-    pub fn next_copy<'a>(&self, message: Submitted<'a>) -> Option<(CopyKey, u8, &'a Text)>
-        ensures none { result ≡ None → due (copies message.entry.keys.now message.entry.mailboxes.now message.entry.text.now) self.now.slots ≡ [] }
-        ensures some { IfSome result (λ c. (others : List Job) × (due (copies message.entry.keys.now message.entry.mailboxes.now message.entry.text.now) self.now.slots
-            ≡ record { key = c.0; mailbox = c.1; text = c.2.now; flags = no_flags } ∷ others)) }
+    /// The next copy of the message that is to be put. None where each was put.
+    pub fn next_copy<'a>(&self, message: Submitted<'a>) -> Option<NextCopy<'a>>
+        ensures none { result ≡ None → due (copies message.entry.keys.now message.entry.mailboxes.now message.entry.text.now message.entry.flags) self.now.slots ≡ [] }
+        ensures some { IfSome result (λ c. (others : List Job) × (due (copies message.entry.keys.now message.entry.mailboxes.now message.entry.text.now message.entry.flags) self.now.slots
+            ≡ record { key = c.key; mailbox = c.mailbox; text = c.text.now; flags = c.flags } ∷ others)) }
     {
         let place = self.slots.len();
         if place >= message.keys.len() || place >= message.mailboxes.len() {
             return None;
         }
-        Some((message.keys[place], message.mailboxes[place], message.text))
+        Some(NextCopy {
+            key: message.keys[place],
+            mailbox: message.mailboxes[place],
+            text: message.text,
+            flags: message.flags,
+        })
     }
 
     /// Notes that the next copy was put: with its verdict, where that was heard at once. It takes no memory.

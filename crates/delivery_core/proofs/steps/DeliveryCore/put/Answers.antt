@@ -1,5 +1,4 @@
 use Rattle.std.proofs.Common.{◌≡◌, ◌∙◌, sym, refl, ap, subst, arith, get_or, set, true, false, ◌<◌, ◌%◌, ℕ, length}
-use Rattle.change_ring.specs.Log.{no_flags}
 use Rattle.shard_queue.specs.Waits.{Waits}
 use Rattle.delivery_token.specs.declared.Job.{Job}
 use Rattle.delivery_core.specs.Held.{Held}
@@ -18,7 +17,7 @@ returns-clause-follows c k w S =
     let sh : c.from.result % c.len.result ≡ c.args.mailbox % length i.lanes.items = ap (λ (m : ℕ). m % c.len.result) c.from.ensures ∙ ap (λ (n : ℕ). c.args.mailbox % n) (omega (arith, c.len.ensures)) in
     let ins : c.args.mailbox % length i.lanes.items < length i.lanes.items = omega arith in
     let same : c.index.result.now ≡ l = (rw sh at c.index.ensures) ∙ (get_or-any i.lanes.items _ _ _ ins ∙ sym (rw sh at c.index_mut-lane.ensures.value)) in
-    rw (← c.self.view_is) (refused_follows k w _ _ (c.args.mailbox % length i.lanes.items) (record { key = c.args.key; mailbox = c.args.mailbox; text = c.args.text.now; flags = no_flags }) c.in-Some.why l c.put_in.new.lane
+    rw (← c.self.view_is) (refused_follows k w _ _ (c.args.mailbox % length i.lanes.items) (record { key = c.args.key; mailbox = c.args.mailbox; text = c.args.text.now; flags = c.args.flags }) c.in-Some.why l c.put_in.new.lane
     c.index_mut.result.now c.reserve.new.self c.index_mut-book.result.now c.note.new.self
     (subst (λ (h : Held). StandsFor k h w) (sym c.self.view_is) S) ins (rw sh at c.index_mut-lane.ensures.value)
     (subst (λ (x : Waits Job). get_or x.live c.args.key.seat false ≡ true) same (c.is_live.ensures.0 c.if-not-is_live.false))
@@ -35,7 +34,7 @@ returns-in_default-clause-follows c k w S =
     let sh : c.from.result % c.len.result ≡ c.args.mailbox % length i.lanes.items = ap (λ (m : ℕ). m % c.len.result) c.from.ensures ∙ ap (λ (n : ℕ). c.args.mailbox % n) (omega (arith, c.len.ensures)) in
     let ins : c.args.mailbox % length i.lanes.items < length i.lanes.items = omega arith in
     let same : c.index.result.now ≡ l = (rw sh at c.index.ensures) ∙ (get_or-any i.lanes.items _ _ _ ins ∙ sym (rw sh at c.index_mut-lane.ensures.value)) in
-    rw (← c.self.view_is) (put_follows k w _ _ (c.args.mailbox % length i.lanes.items) (record { key = c.args.key; mailbox = c.args.mailbox; text = c.args.text.now; flags = no_flags }) l c.put_in.new.lane
+    rw (← c.self.view_is) (put_follows k w _ _ (c.args.mailbox % length i.lanes.items) (record { key = c.args.key; mailbox = c.args.mailbox; text = c.args.text.now; flags = c.args.flags }) l c.put_in.new.lane
     c.index_mut.result.now c.reserve.new.self
     (subst (λ (h : Held). StandsFor k h w) (sym c.self.view_is) S) ins (rw sh at c.index_mut-lane.ensures.value)
     (subst (λ (x : Waits Job). get_or x.live c.args.key.seat false ≡ true) same (c.is_live.ensures.0 c.if-not-is_live.false))
@@ -55,7 +54,7 @@ pub returns-in_default-clause-load : goal.returns-in_default-clause-load
 returns-in_default-clause-load c =
     let i = c.self.inside in
     let shards : 0 < length i.lanes.items = rw (← c.self.view_is) at c.requires.shards in
-    let more = put_load i.lanes.items (c.from.result % c.len.result) c.args.key.seat (record { key = c.args.key; mailbox = c.args.mailbox; text = c.args.text.now; flags = no_flags }) c.index_mut-lane.result.now c.put_in.new.lane
+    let more = put_load i.lanes.items (c.from.result % c.len.result) c.args.key.seat (record { key = c.args.key; mailbox = c.args.mailbox; text = c.args.text.now; flags = c.args.flags }) c.index_mut-lane.result.now c.put_in.new.lane
     (omega (arith, shards, c.len.ensures)) c.index_mut-lane.ensures.value (rw c.in_default.is at c.put_in.ensures) in
     rw (← c.self.view_is) (omega (arith, more))
 

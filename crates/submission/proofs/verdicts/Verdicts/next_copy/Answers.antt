@@ -1,6 +1,5 @@
 use Rattle.std.proofs.Common.{◌≡◌, ◌∙◌, ℕ, suc, sym, subst, drop, [], ◌∷◌, arith, length}
 use Rattle.std.specs.Prelude.{slice_index_or}
-use Rattle.change_ring.specs.Log.{no_flags}
 use Rattle.delivery_token.specs.declared.CopyKey.{CopyKey}
 use Rattle.submission.specs.Copies.{copies, due}
 use Rattle.submission.specs.Verdicts.{Verdicts}
@@ -12,10 +11,10 @@ pub returns-then-place-message-clause-none : goal.returns-then-place-message-cla
 returns-then-place-message-clause-none c e =
     let m = c.args.message in
     let n = c.self.inside.slots.items in
-    subst (λ (v : Verdicts). due (copies m.keys.now m.mailboxes.now m.text.now) v.slots ≡ []) c.self.view_is
+    subst (λ (v : Verdicts). due (copies m.keys.now m.mailboxes.now m.text.now m.flags) v.slots ≡ []) c.self.view_is
     (elim c.then-place-message.branch [
-      | then-place-message-via-then-place-message w ↦ no-key (length n) m.keys.now m.mailboxes.now m.text.now (omega arith)
-      | then-place-message-via-else-place-message+then-place-message-2 w ↦ no-mailbox (length n) m.keys.now m.mailboxes.now m.text.now (omega arith)
+      | then-place-message-via-then-place-message w ↦ no-key (length n) m.keys.now m.mailboxes.now m.text.now m.flags (omega arith)
+      | then-place-message-via-else-place-message+then-place-message-2 w ↦ no-mailbox (length n) m.keys.now m.mailboxes.now m.text.now m.flags (omega arith)
     ])
 
 pub returns-clause-some : goal.returns-clause-some
@@ -24,8 +23,8 @@ returns-clause-some c =
     let n = length c.self.inside.slots.items in
     let k : CopyKey = record { seat = 0; serial = 0; message = 0; recipient = 0 } in
     let placed = c.len-place.ensures ∙ c.self.inside.slots.ok.0 in (
-      drop (suc n) (copies m.keys.now m.mailboxes.now m.text.now),
-      subst (λ (v : Verdicts). due (copies m.keys.now m.mailboxes.now m.text.now) v.slots ≡ record { key = slice_index_or m.keys.now c.len-place.result k; mailbox = slice_index_or m.mailboxes.now c.len-place.result 0; text = m.text.now; flags = no_flags } ∷ drop (suc n) (copies m.keys.now m.mailboxes.now m.text.now)) c.self.view_is
-          (subst (λ (i : ℕ). drop n (copies m.keys.now m.mailboxes.now m.text.now) ≡ record { key = slice_index_or m.keys.now i k; mailbox = slice_index_or m.mailboxes.now i 0; text = m.text.now; flags = no_flags } ∷ drop (suc n) (copies m.keys.now m.mailboxes.now m.text.now)) (sym placed)
-          (drop-copies n m.keys.now m.mailboxes.now m.text.now k 0 (omega (arith, placed)) (omega (arith, placed)))),
+      drop (suc n) (copies m.keys.now m.mailboxes.now m.text.now m.flags),
+      subst (λ (v : Verdicts). due (copies m.keys.now m.mailboxes.now m.text.now m.flags) v.slots ≡ record { key = slice_index_or m.keys.now c.len-place.result k; mailbox = slice_index_or m.mailboxes.now c.len-place.result 0; text = m.text.now; flags = m.flags } ∷ drop (suc n) (copies m.keys.now m.mailboxes.now m.text.now m.flags)) c.self.view_is
+          (subst (λ (i : ℕ). drop n (copies m.keys.now m.mailboxes.now m.text.now m.flags) ≡ record { key = slice_index_or m.keys.now i k; mailbox = slice_index_or m.mailboxes.now i 0; text = m.text.now; flags = m.flags } ∷ drop (suc n) (copies m.keys.now m.mailboxes.now m.text.now m.flags)) (sym placed)
+          (drop-copies n m.keys.now m.mailboxes.now m.text.now m.flags k 0 (omega (arith, placed)) (omega (arith, placed)))),
     )
