@@ -2,7 +2,7 @@
 //! written in RFC 9051, 6.3.2, 6.4.5 and 7.4.
 
 use crate::desk::LockedDesk;
-use crate::life::{Step, live};
+use crate::life::{Step, live, takes_more};
 use change_ring::{FlagOp, Flags, NO_FLAGS};
 use delivery_token::{CopyKey, Job, Text};
 use imap_connection::ImapConnection;
@@ -491,7 +491,7 @@ fn told_by_another<R: Wait>(
     let mut desk = LockedDesk::new(rt, &tally, 0, mailboxes, &[]);
     let mut connection = ImapConnection::new(alloc, folders(alloc)?, None)?;
     let _ = connection.take(alloc, b"a1 SELECT INBOX\r\n", &mut desk, &mut said);
-    if connection.has_ended() {
+    if !takes_more(&connection) {
         return Err(AllocError);
     }
     said.clear();
