@@ -124,7 +124,7 @@ fn take_all(
 }
 
 // A message that was submitted, where it lies.
-fn submitted(message: &Submission) -> Submitted<'_>
+fn submitted(message: &Submission) -> Submitted<'_, '_>
     ensures keys { result.keys.now ≡ (submission_of message.now).keys }
     ensures mailboxes { result.mailboxes.now ≡ (submission_of message.now).mailboxes }
     ensures text { result.text.now ≡ (submission_of message.now).text }

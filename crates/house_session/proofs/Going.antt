@@ -12,9 +12,10 @@ use Rattle.imap_session.proofs.Turns.{turns_awake}
 use Rattle.imap_session.specs.Store.{IdleTurns}
 use Rattle.imap_connection.specs.declared.connection.Progress.{Progress}
 use Rattle.imap_connection.specs.Dialogue as dialogue
-use Rattle.imap_connection.specs.Dialogue.{Dialogue, Link, Took, Turns, may_follow, spelled}
+use Rattle.imap_connection.specs.Dialogue.{Dialogue, Hears, Link, Took, Turns, may_follow, spelled}
+use Rattle.delivery_token.specs.declared.Verdict.{Verdict}
 use Rattle.house_session.specs.HouseSession.{HouseSession}
-use Rattle.house_session.specs.Place.{HadTurn, Answered, Place, StandsFor, Turned}
+use Rattle.house_session.specs.Place.{HadTurn, Answered, AnsweredVerdict, Place, StandsFor, Turned}
 
 -- where all of it was taken, nothing waits
 none_left : (waits : List ℕ) (used : ℕ) → used ≡ length waits → drop used waits ≡ []
@@ -127,3 +128,23 @@ had_none step old p over = ([], turns_awake step p.link.session old [] (ended_id
 pub had_turn : {S : Type 0} (step : S → Call → Answer → S → Type 0) (p q : Place) (old new : S) (before after : List ℕ) (count : ℕ) → IdleTurns step p.link.session old new before after count q.link.session → HadTurn step p old new count q
 had_turn step p q old new before after count a =
     (a.bytes, record { answers = a.answers; events = a.events; bytes = a.bytes; how = a.how; played = a.played; met = a.met; wrote = refl; shown = a.shown })
+
+-- ---- verdicts
+
+-- what was said to a verdict, at its place
+pub verdict_answered : {S : Type 0} (step : S → Call → Answer → S → Type 0) (verdict : Verdict) (v : HouseSession) (old new : S) (link new_link : Link) (came unsaid new_unsaid : List ℕ) (how : After)
+    → StandsFor (record { link = link; came = came; unsaid = unsaid }) v
+    → ((d : Dialogue) → dialogue.StandsFor link d → Hears step d verdict old new unsaid new_unsaid how new_link)
+    → AnsweredVerdict step verdict v old new (record { link = new_link; came = came; unsaid = new_unsaid })
+verdict_answered step verdict v old new link new_link came unsaid new_unsaid how s hears =
+    let t = hears (record { standing = v.standing; begun = s.begun }) s.connection in
+    let a = t.answered in
+    record {
+      after = record { standing = t.next; waits = v.waits; unsaid = v.unsaid ++ a.bytes };
+      said = a.bytes;
+      how = how;
+      answered = record { answers = a.answers; events = a.events; bytes = a.bytes; played = a.played; met = a.met; wrote = refl };
+      kept = refl;
+      waits = refl;
+      stands = record { begun = s.begun; connection = t.stands; waits = s.waits; unsaid = a.wrote ∙ ap (λ (x : List ℕ). x ++ a.bytes) s.unsaid };
+    }

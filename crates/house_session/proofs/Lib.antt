@@ -1,2 +1,5 @@
 pub mod Going
 pub mod FolderLaws
+pub mod Seating
+pub mod Rising
+pub mod Putting

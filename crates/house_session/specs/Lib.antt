@@ -1,3 +1,5 @@
 pub mod HouseSession
 pub mod Place
 pub mod Folders
+pub mod Seated
+pub mod Seat

@@ -4,7 +4,9 @@ use Rattle.imap_session.specs.Exchange.{Call, Answer}
 use Rattle.imap_connection.specs.Dialogue as dialogue
 use Rattle.imap_connection.specs.Dialogue.{Link}
 use Rattle.house_session.specs.HouseSession.{HouseSession, Answers, HasAnswered}
-use Rattle.imap_session.specs.Store.{IdleTurns}
+use Rattle.imap_session.specs.Store.{AnswersVerdict, IdleTurns}
+use Rattle.imap_session.specs.declared.standing.After.{After}
+use Rattle.delivery_token.specs.declared.Verdict.{Verdict}
 
 -- its connection, the bytes that came and were not taken by it, and what was said and isn't printed yet
 pub record Place : Type 0 where
@@ -22,6 +24,10 @@ pub record StandsFor (p : Place) (v : HouseSession) : Type 0 where
 -- these bytes came and wait
 abbrev pub with_more : List ℕ → Place → Place
 with_more piece p = record { link = p.link; came = p.came ++ piece; unsaid = p.unsaid }
+
+-- what came and wasn't taken, and what was still to be printed, is dropped
+abbrev pub with_nothing_left : Place → Place
+with_nothing_left p = record { link = p.link; came = []; unsaid = [] }
 
 -- all that was said is printed
 abbrev pub with_all_said : Place → Place
@@ -45,6 +51,16 @@ pub record Turned {S : Type 0} (step : S → Call → Answer → S → Type 0) (
   pub after : HouseSession
   pub said : List ℕ
   pub turned : IdleTurns step before.standing old new [] said count after.standing
+  pub kept : after.unsaid ≡ before.unsaid ++ said
+  pub waits : after.waits ≡ before.waits
+  pub stands : StandsFor p after
+
+-- From this visitor the verdict on its message was answered over a store, and nothing of that is printed yet.
+pub record AnsweredVerdict {S : Type 0} (step : S → Call → Answer → S → Type 0) (verdict : Verdict) (before : HouseSession) (old new : S) (p : Place) : Type 0 where
+  pub after : HouseSession
+  pub said : List ℕ
+  pub how : After
+  pub answered : AnswersVerdict step before.standing verdict old new [] said how after.standing
   pub kept : after.unsaid ≡ before.unsaid ++ said
   pub waits : after.waits ≡ before.waits
   pub stands : StandsFor p after

@@ -3,7 +3,9 @@
 #![tactic(auto)]
 
 mod folders;
+mod seated;
 mod session;
 
 pub use folders::{folders_of, has_user};
+pub use seated::SeatedSession;
 pub use session::HouseSession;

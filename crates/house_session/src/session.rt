@@ -1,15 +1,17 @@
 //! A session at its place: an IMAP connection, the bytes that came for it, and what it said and has not printed yet. It knows no mailbox: its
 //! store does. Nor does it print: the house does, and tells it so.
 
-ghost use Rattle.std.specs.Prelude.{◌≡◌, ◌≤◌, true, false, [], OnOk, OnErr, IfOk};
-ghost use Rattle.imap_session.specs.Exchange.{is_idling};
+ghost use Rattle.std.specs.Prelude.{◌≡◌, ◌≤◌, true, false, [], None, OnOk, OnErr, IfOk};
+ghost use Rattle.std.specs.Option.{is_some, option_map};
+ghost use Rattle.imap_session.specs.Exchange.{Sent, is_idling};
 ghost use Rattle.imap_session.specs.Store.{Starves};
 ghost use Rattle.house_session.specs.HouseSession as spec;
 ghost use Rattle.house_session.specs.HouseSession.{greeted};
-ghost use Rattle.house_session.specs.Place.{Answered, HadTurn, StandsFor, Turned, with_all_said, with_more};
+ghost use Rattle.house_session.specs.Place.{Answered, AnsweredVerdict, HadTurn, StandsFor, Turned, with_all_said, with_more, with_nothing_left};
 
+use delivery_token::Verdict;
 use imap_connection::ImapConnection;
-use imap_session::{Folder, Selected, Store};
+use imap_session::{Append, Folder, Selected, Store};
 use incoming::Incoming;
 use std::alloc::{AllocError, Global};
 use std::marker::Model;
@@ -84,6 +86,37 @@ impl HouseSession {
         self.connection.is_idling()
     }
 
+    /// The message that was submitted and waits for the verdict on it: till then nothing more is answered.
+    pub fn submission(&self) -> Option<&Append>
+        ensures { option_map (λ a. a.now) result ≡ option_map (λ (s : Sent). s.append) self.now.link.session.mailing.sent }
+    {
+        self.connection.submission()
+    }
+
+    /// Whether a message was submitted, and the verdict on it isn't answered.
+    pub fn awaits_verdict(&self) -> bool
+        ensures is { result ≡ is_some self.now.link.session.mailing.sent }
+        ensures none { result ≡ false → self.now.link.session.mailing.sent ≡ None }
+    {
+        self.connection.awaits_verdict()
+    }
+
+    /// Answers the verdict on the message that was submitted, over its store. What it says is still to be printed.
+    ///
+    /// Errors: `AllocError` where memory was refused. Nothing happened then, and the same verdict is waited for.
+    pub fn answer<S: Store>(&mut self, verdict: Verdict, store: &mut S) -> Result<(), AllocError>
+        requires going { self.old.link.session.ended ≡ false }
+        requires waits { is_some self.old.link.session.mailing.sent ≡ true }
+        ensures ok { OnOk result ((v : spec.HouseSession) → StandsFor self.old v → AnsweredVerdict S.step verdict v store.old store.new self.new) }
+        ensures done { OnOk result (self.new.link.session.mailing.sent ≡ None) }
+        ensures err { OnErr result ((self.new ≡ self.old) × (store.new ≡ store.old)) }
+    {
+        let Ok(_) = self.connection.appended(verdict, store, &mut self.unsaid) else {
+            return Err(AllocError);
+        };
+        Ok(())
+    }
+
     /// Answers what waits, over its store, as far as it goes: to its end, to that of the session, or to a message that was submitted, behind which
     /// nothing is answered before the verdict. What it says is still to be printed.
     ///
@@ -133,6 +166,14 @@ impl HouseSession {
         ensures { result.now ≡ self.now.unsaid }
     {
         self.unsaid.as_slice()
+    }
+
+    /// What came and wasn't taken, and what was still to be printed, is dropped.
+    pub fn drop_all(&mut self)
+        ensures { self.new ≡ with_nothing_left self.old }
+    {
+        self.incoming.clear();
+        self.unsaid.clear();
     }
 
     /// All that it said is printed.

@@ -14,6 +14,8 @@ mod lines;
 #[cfg(test)]
 mod nowhere;
 #[cfg(test)]
+mod seats;
+#[cfg(test)]
 mod sets;
 #[cfg(test)]
 mod shelf;

@@ -13,12 +13,12 @@ use delivery_token::{CopyKey, Noted, Text, Verdict};
 use std::alloc::{AllocError, Global};
 use std::marker::Model;
 
-/// A message that was submitted for its recipients, where it lies: the i-th key and the i-th mailbox are those of its i-th copy, and all
+/// A message that was submitted for its recipients. Its text lies where the message does; its keys and mailboxes may be lent for one call: the i-th key and the i-th mailbox are those of its i-th copy, and all
 /// have this text and these flags.
 #[derive(Clone, Copy)]
-pub struct Submitted<'a> {
-    pub keys: &'a [CopyKey],
-    pub mailboxes: &'a [u8],
+pub struct Submitted<'k, 'a> {
+    pub keys: &'k [CopyKey],
+    pub mailboxes: &'k [u8],
     pub text: &'a Text,
     pub flags: Flags,
 }
@@ -72,7 +72,7 @@ impl Verdicts {
     }
 
     /// The next copy of the message that is to be put. None where each was put.
-    pub fn next_copy<'a>(&self, message: Submitted<'a>) -> Option<NextCopy<'a>>
+    pub fn next_copy<'k, 'a>(&self, message: Submitted<'k, 'a>) -> Option<NextCopy<'a>>
         ensures none { result ≡ None → due (copies message.entry.keys.now message.entry.mailboxes.now message.entry.text.now message.entry.flags) self.now.slots ≡ [] }
         ensures some { IfSome result (λ c. (others : List Job) × (due (copies message.entry.keys.now message.entry.mailboxes.now message.entry.text.now message.entry.flags) self.now.slots
             ≡ record { key = c.key; mailbox = c.mailbox; text = c.text.now; flags = c.flags } ∷ others)) }
@@ -138,6 +138,17 @@ impl Verdicts {
             }
         }
         Ok(Some(known))
+    }
+
+    /// The verdict on the only copy, where it was put and the verdict is known. It takes no memory.
+    pub fn only(&self) -> Option<Verdict>
+        ensures known { IfSome result (λ v. AreKnown 1 self.now.slots (v ∷ [])) }
+        ensures unknown { result ≡ None → (vs : List Verdict) → AreKnown 1 self.now.slots vs → ⊥ }
+    {
+        if self.slots.len() != 1 {
+            return None;
+        }
+        self.slots[0]
     }
 
     /// The message is done with: none of its copies is known any more. The room is kept.
