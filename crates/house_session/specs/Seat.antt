@@ -1,11 +1,12 @@
 -- What a session at its seat holds, as contracts see it, and when that stands for one.
-use Rattle.std.specs.Prelude.{◌≡◌, ◌<◌, ℕ, Bool, true, false, List, [], ◌++◌, length, Option, Some, None}
+use Rattle.std.specs.Prelude.{◌≡◌, ◌<◌, ℕ, ◌+◌, ◌*◌, Bool, true, false, List, [], ◌++◌, length, Option, Some, None}
 use Rattle.delivery_token.specs.declared.CopyKey.{CopyKey}
 use Rattle.delivery_token.specs.Keys.{AtLeast}
 use Rattle.delivery_token.specs.declared.Job.{Job}
 use Rattle.delivery_token.specs.declared.Verdict.{Verdict}
 use Rattle.delivery_token.specs.declared.log.Noted.{Noted}
 use Rattle.submission.specs.Copies as submission
+use Rattle.submission.specs.Copies.{put_effort}
 use Rattle.submission.specs.Heard.{SlotsFor}
 use Rattle.submission.specs.Verdicts as verdicts
 use Rattle.submission.specs.Verdicts.{Hears}
@@ -30,6 +31,11 @@ submitted_at p = p.place.link.session.mailing.sent
 -- the copy of the message at hand, where that is still to be put
 abbrev pub due : Seat → List Job
 due p = submission.due (copies_of p.number p.serial (submitted_at p)) p.slots
+
+-- How much is left to do for a session. A byte that waits may end a message, of which one copy is put, and that counts 5 (`put_effort`): so a byte counts 6,
+-- and it becomes less by each that is taken.
+abbrev pub seat_effort : Seat → ℕ
+seat_effort p = 6 * length p.place.came + put_effort (due p)
 
 -- the key of the next copy: of the message that was submitted, or of the next one
 abbrev pub key_with : (seat serial number : ℕ) → Option Sent → List (Option Verdict) → CopyKey

@@ -9,10 +9,11 @@ ghost use Rattle.delivery_token.specs.declared.Job.{Job};
 ghost use Rattle.delivery_token.specs.declared.log.Noted.{Noted as NotedSpec};
 ghost use Rattle.imap_session.specs.Exchange.{is_idling};
 ghost use Rattle.imap_session.specs.Store.{Starves};
+ghost use Rattle.imap_connection.specs.Dialogue.{Asks};
 ghost use Rattle.house_session.specs.Place.{HadTurn, with_all_said, with_more};
 ghost use Rattle.house_session.specs.Seated as spec;
 ghost use Rattle.house_session.specs.Seated.{Awaits, IsSettled, keys_of, seated_greeted};
-ghost use Rattle.house_session.specs.Seat.{HearsVerdict, Proceeded, SeatedTurned, StandsForSeated, due, noted_put, submitted_at, with_nobody_there, with_place};
+ghost use Rattle.house_session.specs.Seat.{HearsVerdict, Proceeded, SeatedTurned, StandsForSeated, due, noted_put, seat_effort, submitted_at, with_nobody_there, with_place};
 
 use crate::session::HouseSession;
 use delivery_token::{CopyKey, Noted, Verdict};
@@ -164,6 +165,9 @@ impl SeatedSession {
         requires waits { is_some (submitted_at self.old) ≡ true }
         ensures ok { OnOk result ((seat : ℕ) (next : Key) (heard : List NotedSpec) (v : spec.SeatedSession) → StandsForSeated seat next heard self.old v → Proceeded S.step true seat next heard v store.old store.new self.new) }
         ensures err { OnErr result ((seat : ℕ) (next : Key) (heard : List NotedSpec) (v : spec.SeatedSession) → StandsForSeated seat next heard self.old v → Proceeded S.step false seat next heard v store.old store.new self.new) }
+        ensures less { seat_effort self.new ≤ seat_effort self.old }
+        ensures asked { Asks S.step store.old store.new }
+        ensures gone { self.new.gone ≡ self.old.gone }
     {
         let Some(verdict) = self.verdicts.only() else {
             return Ok(());
@@ -202,12 +206,17 @@ impl SeatedSession {
     }
 
     /// Does what it can now, over its store: where the verdict on the message at hand is known it answers that, and then what waits; where a
-    /// verdict is awaited, or its client is gone, nothing. What it says is still to be printed.
+    /// verdict is awaited, or its client is gone, nothing. What it says is still to be printed. Whatever it stands for, no more is left to do than
+    /// was: what a message adds that was submitted, the bytes that were taken for it more than outweigh. The store was asked some calls, one after
+    /// the other, or none; and whether its client is gone is as it was.
     ///
     /// Errors: `AllocError` where memory was refused. What was done stands, and the next call goes on from there.
     pub fn proceed<S: Store>(&mut self, alloc: Global, store: &mut S) -> Result<(), AllocError>
         ensures ok { OnOk result ((seat : ℕ) (next : Key) (heard : List NotedSpec) (v : spec.SeatedSession) → StandsForSeated seat next heard self.old v → Proceeded S.step true seat next heard v store.old store.new self.new) }
         ensures err { OnErr result ((seat : ℕ) (next : Key) (heard : List NotedSpec) (v : spec.SeatedSession) → StandsForSeated seat next heard self.old v → Proceeded S.step false seat next heard v store.old store.new self.new) }
+        ensures less { seat_effort self.new ≤ seat_effort self.old }
+        ensures asked { Asks S.step store.old store.new }
+        ensures gone { self.new.gone ≡ self.old.gone }
     {
         if self.is_gone {
             return Ok(());
@@ -232,6 +241,7 @@ impl SeatedSession {
         ensures ok { IfOk result (λ count. (seat : ℕ) (next : Key) (heard : List NotedSpec) (v : spec.SeatedSession) → StandsForSeated seat next heard self.old v → SeatedTurned S.step count seat next heard v store.old store.new self.new) }
         ensures session { IfOk result (λ count. HadTurn S.step self.old.place store.old store.new count self.new.place) }
         ensures few { IfOk result (λ count. count ≤ 64) }
+        ensures gone { self.new.gone ≡ self.old.gone }
         ensures quiet { IfOk result (λ count. count ≡ 0 → self.new.place.link.session.ended ≡ false → self.new ≡ self.old) }
         ensures err { OnErr result ((self.new ≡ self.old) × Starves S.step store.old store.new) }
     {

@@ -1,10 +1,11 @@
 //! A session at its place: an IMAP connection, the bytes that came for it, and what it said and has not printed yet. It knows no mailbox: its
 //! store does. Nor does it print: the house does, and tells it so.
 
-ghost use Rattle.std.specs.Prelude.{◌≡◌, ◌≤◌, true, false, [], None, OnOk, OnErr, IfOk};
+ghost use Rattle.std.specs.Prelude.{◌≡◌, ◌<◌, ◌≤◌, true, false, [], length, None, OnOk, OnErr, IfOk};
 ghost use Rattle.std.specs.Option.{is_some, option_map};
 ghost use Rattle.imap_session.specs.Exchange.{Sent, is_idling};
 ghost use Rattle.imap_session.specs.Store.{Starves};
+ghost use Rattle.imap_connection.specs.Dialogue.{Asks};
 ghost use Rattle.house_session.specs.HouseSession as spec;
 ghost use Rattle.house_session.specs.HouseSession.{greeted};
 ghost use Rattle.house_session.specs.Place.{Answered, AnsweredVerdict, HadTurn, StandsFor, Turned, with_all_said, with_more, with_nothing_left};
@@ -101,7 +102,8 @@ impl HouseSession {
         self.connection.awaits_verdict()
     }
 
-    /// Answers the verdict on the message that was submitted, over its store. What it says is still to be printed.
+    /// Answers the verdict on the message that was submitted, over its store. What it says is still to be printed. Whatever it stands for, what
+    /// waits stays, and the store was asked some calls, one after the other, or none.
     ///
     /// Errors: `AllocError` where memory was refused. Nothing happened then, and the same verdict is waited for.
     pub fn answer<S: Store>(&mut self, verdict: Verdict, store: &mut S) -> Result<(), AllocError>
@@ -109,6 +111,8 @@ impl HouseSession {
         requires waits { is_some self.old.link.session.mailing.sent ≡ true }
         ensures ok { OnOk result ((v : spec.HouseSession) → StandsFor self.old v → AnsweredVerdict S.step verdict v store.old store.new self.new) }
         ensures done { OnOk result (self.new.link.session.mailing.sent ≡ None) }
+        ensures came { self.new.came ≡ self.old.came }
+        ensures asked { Asks S.step store.old store.new }
         ensures err { OnErr result ((self.new ≡ self.old) × (store.new ≡ store.old)) }
     {
         let Ok(_) = self.connection.appended(verdict, store, &mut self.unsaid) else {
@@ -118,12 +122,16 @@ impl HouseSession {
     }
 
     /// Answers what waits, over its store, as far as it goes: to its end, to that of the session, or to a message that was submitted, behind which
-    /// nothing is answered before the verdict. What it says is still to be printed.
+    /// nothing is answered before the verdict. What it says is still to be printed. Whatever it stands for, the store was asked some calls, one
+    /// after the other, or none; no more waits than did; and where a message was submitted, a byte at least was taken for it.
     ///
     /// Errors: `AllocError` where memory was refused. What was done stands, and the next call goes on from there.
     pub fn go_on<S: Store>(&mut self, alloc: Global, store: &mut S) -> Result<(), AllocError>
         ensures ok { OnOk result ((v : spec.HouseSession) → StandsFor self.old v → Answered S.step true v store.old store.new self.new) }
         ensures err { OnErr result ((v : spec.HouseSession) → StandsFor self.old v → Answered S.step false v store.old store.new self.new) }
+        ensures asked { Asks S.step store.old store.new }
+        ensures fewer { length self.new.came ≤ length self.old.came }
+        ensures moves { self.old.link.session.mailing.sent ≡ None → is_some self.new.link.session.mailing.sent ≡ true → length self.new.came < length self.old.came }
     {
         if self.connection.has_ended() {
             return Ok(());

@@ -1,5 +1,5 @@
 -- How what a client sends is answered, one call after another.
-use Rattle.std.proofs.Common.{◌≡◌, ℕ, ◌+◌, ◌-◌, List, [], ◌∷◌, ◌++◌, length, take, drop, flat_map, arith, refl, sym, ap, ◌∙◌, subst, append-nil, append_assoc, Bool, true, false, if◌then◌else◌, Option, Some, None}
+use Rattle.std.proofs.Common.{◌≡◌, ℕ, ◌+◌, ◌-◌, List, [], ◌∷◌, ◌++◌, length, take, drop, flat_map, inr, nat_eq, ◌<◌, arith, refl, sym, ap, ◌∙◌, subst, append-nil, append_assoc, Bool, true, false, if◌then◌else◌, Option, Some, None}
 use Rattle.std.proofs.lemmas.List.{take_all}
 use Rattle.std.proofs.lemmas.List.Concat.{flat_map-append}
 use Rattle.line_io.proofs.Appended.{take_two_of}
@@ -7,7 +7,7 @@ use Rattle.imap_session.specs.declared.standing.After.{After}
 use Rattle.imap_session.specs.declared.standing.After.TheVariants.{Bye}
 use Rattle.imap_connection.specs.declared.connection.Fed.{Fed}
 use Rattle.imap_session.specs.Exchange.{Appending, Call, Answer, Sent, Standing, may_send, waits_begun, waits_for, waits_idling, waits_sent}
-use Rattle.imap_connection.specs.Dialogue.{Answered, AnswersLine, AnswersOne, Bytes, Converses, Dialogue, Line, Link, Sends, StandsFor, Takes, begins, ends, goes_on, has_ended, may_follow, parts, reads, silent, spelled, takes, too_long}
+use Rattle.imap_connection.specs.Dialogue.{Answered, AnswersLine, AnswersOne, Bytes, Converses, Dialogue, Line, Link, Sends, StandsFor, Takes, Took, begins, ends, goes_on, has_ended, may_follow, parts, reads, silent, spelled, takes, too_long}
 
 -- what was written for a line is what is said of it alone
 said_alone : {S : Type 0} (step : S → Call → Answer → S → Type 0) (now : Standing) (line : List ℕ) (old new : S) (before after : List ℕ) (how : After) (next : Standing)
@@ -139,3 +139,22 @@ nothing_taken step d old = record { sent = []; whole = append-nil d.begun; conve
 pub goes_to : (how : After) (link : Link) (next : Dialogue) → how ≡ may_send link.session → link.session.ended ≡ false → StandsFor link next → how ≡ waits_for next.standing
 goes_to how link next sends live stands =
     sends ∙ ap (λ (b : Bool). if b then Bye else waits_for link.session) live ∙ ap waits_for stands.session
+
+-- ---- a piece of no bytes
+
+pub some_of : (piece : List ℕ) (empty : Bool) → empty ≡ nat_eq (length piece) 0 → empty ≡ false → 0 < length piece
+some_of [] empty is e = absurd (let f : true ≡ false = sym is ∙ e in cc)
+some_of (x ∷ xs) empty is e = omega arith
+
+-- nothing was taken, and the connection says what it waits for
+pub took_nothing : {S : Type 0} (step : S → Call → Answer → S → Type 0) (d : Dialogue) (piece text : List ℕ) (store : S) (link : Link) (sends : After) → StandsFor link d → link.session.ended ≡ false → sends ≡ may_send link.session
+    → Took step d piece store store text text (record { used = 0; after = Some sends }) link
+took_nothing step d piece text store link sends s live is = record {
+  said = [];
+  how = waits_for d.standing;
+  next = d;
+  answered = nothing_taken step d store;
+  stands = s;
+  wrote = sym (append-nil text);
+  is = inr (ap (λ (a : After). Some a) (goes_to sends link d is live s));
+}

@@ -1,3 +1,4 @@
 pub mod Feeding
 pub mod Conversing
 pub mod Carried
+pub mod Asking

@@ -7,9 +7,9 @@ use Rattle.imap_session.specs.declared.standing.After.{After}
 use Rattle.imap_session.specs.declared.standing.After.TheVariants.{Bye, Submit}
 use Rattle.imap_connection.specs.declared.connection.Fed.{Fed}
 use Rattle.imap_connection.specs.declared.connection.Progress.{Progress}
-use Rattle.imap_session.specs.Exchange.{Call, Answer, Standing, waits_for}
+use Rattle.imap_session.specs.Exchange.{Call, Answer, Event, Standing, waits_for}
 use Rattle.imap_session.specs.Commands.{due_of, turn_of_long_line}
-use Rattle.imap_session.specs.Store.{Answers, AnswersVerdict, IdleTurns, TakesBytes}
+use Rattle.imap_session.specs.Store.{Answers, AnswersVerdict, IdleTurns, Met, TakesBytes}
 
 -- the most bytes of a line, with its CRLF
 abbrev pub most_bytes : ℕ
@@ -126,3 +126,9 @@ pub record Hears {S : Type 0} (step : S → Call → Answer → S → Type 0) (d
   pub next : Standing
   pub answered : AnswersVerdict step d.standing verdict old new before after how next
   pub stands : StandsFor link (record { standing = next; begun = d.begun })
+
+-- ---- the store
+
+-- the store was asked some calls, one after the other
+abbrev pub Asks : {S : Type 0} → (S → Call → Answer → S → Type 0) → S → S → Type 0
+Asks step old new = (events : List Event) × Met step old events new

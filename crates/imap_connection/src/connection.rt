@@ -8,7 +8,7 @@ ghost use Rattle.imap_session.specs.Exchange.{Feed, Refused, Sent, is_idling, ke
 ghost use Rattle.imap_session.specs.Commands.{due_of, greeting, most_changes};
 ghost use Rattle.imap_session.specs.Store.{AnswersVerdict, IdleTurns, Starves, TakesBytes, room_for_verdict};
 ghost use Rattle.mailbox.specs.declared.clients.MailFault.{MailFault};
-ghost use Rattle.imap_connection.specs.Dialogue.{Dialogue, Hears, StandsFor, Takes, Took, Turns, may_follow, tag_len};
+ghost use Rattle.imap_connection.specs.Dialogue.{Asks, Dialogue, Hears, StandsFor, Takes, Took, Turns, may_follow, tag_len};
 
 use delivery_token::Verdict;
 use imap_session::{After, Append, Folder, Selected, Session, SessionFault, Store};
@@ -207,8 +207,8 @@ impl ImapConnection {
     }
 
     // Takes bytes from the front of the piece, up to the end of one line, which is answered, or of the literal that is due; a line of more
-    // than `MAX_LINE` bytes is answered as too long. On a session that has ended it uses nothing. Where the room for the longest line's last
-    // words is refused, no byte was used and nothing was done.
+    // than `MAX_LINE` bytes is answered as too long. On a session that has ended it uses nothing; on another, one byte at least of a piece that
+    // has some. Where the room for the longest line's last words is refused, no byte was used and nothing was done.
     fn feed<S: Store>(
         &mut self,
         alloc: Global,
@@ -218,7 +218,8 @@ impl ImapConnection {
     ) -> Result<Fed, AllocError>
         requires unsent { self.old.session.mailing.sent ≡ None }
         ensures used { IfOk result (λ fed. fed.used ≤ length piece.now) }
-        ensures moves { IfOk result (λ fed. fed.after ≢ After.Bye → 0 < length piece.now → 0 < fed.used) }
+        ensures moves { IfOk result (λ fed. self.old.session.ended ≡ false → 0 < length piece.now → 0 < fed.used) }
+        ensures asked { Asks S.step store.old store.new }
         ensures ok { IfOk result (λ fed. (d : Dialogue) → StandsFor self.old d → Takes S.step d piece.now store.old store.new out.old.items out.new.items fed self.new) }
         ensures err { OnErr result ((self.new ≡ self.old) × (store.new ≡ store.old) × (out.new.items ≡ out.old.items)) }
         ensures full { OnErr result (vec_capacity out.new < vec_len out.new + (8272 + tag_len (kept_tag self.new.session))) }
@@ -269,7 +270,8 @@ impl ImapConnection {
     /// (RFC 9051, 2.2), one of more than 8,192 bytes with its CRLF as too long, and the bytes of a literal are kept for the line that announced
     /// it (4.3), wherever they are cut. Where memory is refused before a line is answered, what was taken till then stands, and the rest is for
     /// the next call. It is refused only where `out` has no room, behind what it has by then, for 8,272 bytes and the tag of the IDLE or the
-    /// APPEND that isn't done.
+    /// APPEND that isn't done. A message is submitted only by a byte that was taken; and whatever the connection stands for, the store was asked
+    /// some calls, one after the other, or none.
     pub fn take<S: Store>(
         &mut self,
         alloc: Global,
@@ -283,9 +285,17 @@ impl ImapConnection {
         ensures all { IfSome result.after (λ after. may_follow after ≡ true → result.used ≡ length piece.now) }
         ensures full { result.after ≡ None → vec_capacity out.new < vec_len out.new + (8272 + tag_len (kept_tag self.new.session)) }
         ensures unsent { result.after ≡ None → self.new.session.mailing.sent ≡ None }
+        ensures moves { is_some self.new.session.mailing.sent ≡ true → 0 < result.used }
+        ensures asked { Asks S.step store.old store.new }
         ensures sends { IfSome result.after (λ after. after ≡ may_send self.new.session) }
         ensures took { (d : Dialogue) → StandsFor self.old d → Took S.step d piece.now store.old store.new out.old.items out.new.items result self.new }
     {
+        if piece.is_empty() {
+            return Progress {
+                used: 0,
+                after: Some(self.may_send()),
+            };
+        }
         let mut used = 0;
         loop {
             let Ok(fed) = self.feed(alloc, &piece[used..], store, out) else {

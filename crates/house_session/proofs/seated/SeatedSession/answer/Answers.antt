@@ -1,7 +1,8 @@
-use Rattle.std.proofs.Common.{◌≡◌, ◌∙◌, ap, subst, sym, refl, false, true, Bool, List, Option}
+use Rattle.std.proofs.Common.{◌∙◌, ap, subst, sym, refl, false, true, List, Option}
 use Rattle.std.specs.Option.{is_some}
 use Rattle.delivery_token.specs.declared.Verdict.{Verdict}
 use Rattle.submission.specs.Verdicts.{AreKnown, Verdicts}
+use Rattle.imap_connection.proofs.Asking.{asks_then}
 use Rattle.house_session.specs.Place.{Place}
 use Rattle.house_session.specs.Seat.{Proceeded, Seat, StandsForSeated}
 use Rattle.house_session.proofs.Seating.{stalled, told_and_worked, waited}
@@ -39,3 +40,9 @@ returns-clause-ok g c seat next heard v s =
     (told_and_worked g.S.Store.step true seat next heard v c.args.store.now c.answer.new.store c.go_on.new.store here c.answer.new.self c.go_on.new.self c.in-Some.verdict
     (subst (λ (p : Seat). StandsForSeated seat next heard p v) (sym c.self.view_is) s) (ap (λ (p : Seat). p.gone) c.self.view_is ∙ c.requires.there)
     (ap (λ (p : Seat). is_some p.place.link.session.mailing.sent) c.self.view_is ∙ c.requires.waits) c.in-Some.ensures.known c.in-Ok.ensures.ok c.in-Ok.ensures.done c.in-Ok-go_on.ensures.ok)
+
+pub returns-in_default-go_on-clause-asked : goal.returns-in_default-go_on-clause-asked
+returns-in_default-go_on-clause-asked g c = asks_then g.S.Store.step c.args.store.now c.answer.new.store c.go_on.new.store c.in-Ok.ensures.asked c.in_default-go_on.ensures.asked
+
+pub returns-clause-asked : goal.returns-clause-asked
+returns-clause-asked g c = asks_then g.S.Store.step c.args.store.now c.answer.new.store c.go_on.new.store c.in-Ok.ensures.asked c.in-Ok-go_on.ensures.asked
