@@ -55,7 +55,7 @@ pub received : (k : Setup) (h : State) (s : Scene) (number seat : ℕ) (piece : 
     → StandsFor k h s → number ≡ seat + 1 → directory ≡ h.directory → seat < length h.callers → IsSome (get_or h.callers seat None) → is_unread (get_or h.callers seat None) ≡ false → place ≡ option_map (with_more piece) (get_or h.callers seat None)
     → ((x : Setup) (p : ℕ) (next : CopyKey) (heard : List Noted) (b : HouseConnection) → IsOf x number p directory → StandsForMaybe x p next heard place (Some b) → PlaceWentOn x whole p next heard b l old new)
     → (t : Scene) × (printed : List ℕ) × BytesPlay k whole s seat piece t printed
-    × StandsFor k (record { core = h.core; callers = set h.callers seat l; serials = h.serials; visitors = h.visitors; directory = h.directory; host = h.host; max_message = h.max_message }) t
+    × StandsFor k (record { core = h.core; callers = set h.callers seat l; serials = h.serials; visitors = h.visitors; entered = h.entered; directory = h.directory; host = h.host; max_message = h.max_message }) t
     × (new ≡ old ++ printed)
 received k h s number seat piece directory l place whole old new st e dir lt some read is f =
     let g = some_line (get_or h.callers seat None) some in
@@ -78,7 +78,7 @@ pub vanished : (k : Setup) (h : State) (s : Scene) (number seat : ℕ) (director
     → StandsFor k h s → number ≡ seat + 1 → directory ≡ h.directory → seat < length h.callers → IsSome (get_or h.callers seat None) → is_unread (get_or h.callers seat None) ≡ false → place ≡ option_map with_nobody_there (get_or h.callers seat None)
     → ((x : Setup) (p : ℕ) (next : CopyKey) (heard : List Noted) (b : HouseConnection) → IsOf x number p directory → StandsForMaybe x p next heard place (Some b) → PlaceWentOn x whole p next heard b l old new)
     → (t : Scene) × (printed : List ℕ) × VanishPlay k whole s seat t printed
-    × StandsFor k (record { core = h.core; callers = set h.callers seat l; serials = h.serials; visitors = h.visitors; directory = h.directory; host = h.host; max_message = h.max_message }) t
+    × StandsFor k (record { core = h.core; callers = set h.callers seat l; serials = h.serials; visitors = h.visitors; entered = h.entered; directory = h.directory; host = h.host; max_message = h.max_message }) t
     × (new ≡ old ++ printed)
 vanished k h s number seat directory l place whole old new st e dir lt some read is f =
     let g = some_line (get_or h.callers seat None) some in
@@ -115,7 +115,7 @@ pub welcomed : (k : Setup) (h : State) (s : Scene) (number seat : ℕ) (piece : 
     → ((x : Terms) (next : CopyKey) (heard : List Noted) → x.host ≡ h.host → x.max_message ≡ h.max_message → AtLeast next (record { seat = seat; serial = get_or h.serials seat 0; message = 0; recipient = 0 }) → StandsForConnection x seat next heard g (more_waits (greeted x seat (get_or h.serials seat 0)) piece))
     → ((x : Setup) (p : ℕ) (next : CopyKey) (heard : List Noted) (b : HouseConnection) → IsOf x number p directory → StandsForMaybe x p next heard (Some g) (Some b) → PlaceWentOn x whole p next heard b l old new)
     → (t : Scene) × (printed : List ℕ) × BytesPlay k whole s seat piece t printed
-    × StandsFor k (record { core = h.core; callers = set h.callers seat l; serials = set h.serials seat (get_or h.serials seat 0 + 1); visitors = h.visitors; directory = h.directory; host = h.host; max_message = h.max_message }) t
+    × StandsFor k (record { core = h.core; callers = set h.callers seat l; serials = set h.serials seat (get_or h.serials seat 0 + 1); visitors = h.visitors; entered = h.entered; directory = h.directory; host = h.host; max_message = h.max_message }) t
     × (new ≡ old ++ printed)
 welcomed k h s number seat piece directory l g whole old new st e dir lt none less live opened f =
     let y = first_key seat in
@@ -130,9 +130,9 @@ welcomed k h s number seat piece directory l g whole old new st e dir lt none le
     let w = f k seat (get_or h.core.next seat y) (s.world.heard seat) b (record { numbered = e; looks_up = dir ∙ st.directory }) m in
     let ls : seat < length h.serials = let p = st.seats in let q = st.numbers in omega (arith, p, q, lt) in
     let here : set_at s.next seat (s.next seat + 1) seat ≡ s.next seat + 1 = set_at-same s.next seat (s.next seat + 1) in (
-      record { world = s.world; caller = set_at s.caller seat w.left; next = set_at s.next seat (s.next seat + 1); visitor = s.visitor },
+      record { world = s.world; caller = set_at s.caller seat w.left; next = set_at s.next seat (s.next seat + 1); visitor = s.visitor; entered = s.entered },
       w.printed,
-      opens (let p = st.seats in omega (arith, p, lt)) o.0 (omega (arith, less, same)) (ended_nowhere k.config h.core s.world seat st.core (let p = st.seats in omega (arith, p, lt)) live) w.left w.goes refl,
+      opens (let p = st.connections in omega (arith, p, lt)) o.0 (omega (arith, less, same)) (ended_nowhere k.config h.core s.world seat st.core (let p = st.seats in omega (arith, p, lt)) live) w.left w.goes refl,
       after_going k h h.core (set h.serials seat (n + 1)) s s.world (set_at s.next seat (s.next seat + 1)) seat y l g b whole old new st st.core lt (λ q ne. refl) (λ q z ne. refl)
           (length-set h.serials seat (n + 1)) (λ i. get_or-set_same h.serials seat (n + 1) i ls ∙ ap (λ (z : ℕ). z + 1) same ∙ sym here)
           (λ q i ne. get_or-set_other h.serials seat q (n + 1) i ne) (λ q ne. at_there s.next seat (s.next seat + 1) q ne) m (omega (arith, here)) w,

@@ -20,22 +20,28 @@ use Rattle.session_store.specs.Desk.{CatchesUp, Serves}
 use Rattle.session_store.specs.Meets.{Meets}
 use Rattle.session_store.proofs.Served.{IsServing, carries, met_delivery}
 use Rattle.session_store.proofs.Serving.{same_delivery}
-use Rattle.house_session.specs.Place.{Place}
+use Rattle.delivery_token.specs.declared.CopyKey.{CopyKey}
+use Rattle.delivery_token.specs.declared.log.Noted.{Noted}
+use Rattle.delivery_core.specs.New.{first_key}
 use Rattle.house.specs.inner.Printing.{Idled, IdledInPart, Missed}
-use Rattle.house_session.specs.Place as visit
 use Rattle.house_session.specs.HouseSession.{HouseSession}
-use Rattle.house.specs.Printing.{Idles}
+use Rattle.house_session.specs.Seated.{SeatedSession}
+use Rattle.house_session.specs.Seat.{Seat, StandsForSeated}
+use Rattle.house.specs.Setup.{session_seat}
+use Rattle.shard_queue.specs.At.{set_at}
+use Rattle.shard_queue.proofs.AtLaws.{at_cases}
+use Rattle.house.proofs.Seats.{place_kept}
+use Rattle.house.specs.Printing.{Idles, with_session}
 use Rattle.house.proofs.Carried.{idles_carried}
 use Rattle.world.specs.World.{Config, Selected, Session, World, pending}
 use Rattle.house.specs.State.{State}
 use Rattle.house.specs.Effort.{turns_left}
 use Rattle.house.specs.Scene.{IdlePlay, Scene, SessionIdles, with_visitor, with_world}
 use Rattle.house.specs.Scene as scene
-use Rattle.house.specs.Stands.{StandsFor, StandsForVisit}
+use Rattle.house.specs.Stands.{StandsFor}
 use Rattle.house.specs.Steps.{MayIdle}
-use Rattle.house.specs.inner.Steps.{HasNoTurn, PlaceIdled, PlaceIdledInPart, PlaceKept}
-use Rattle.house.proofs.Seats.{moved}
-use Rattle.house.proofs.Visiting.{delivery_then, visit_stands, who_visits, with_visits}
+use Rattle.house.specs.inner.Steps.{HasNoTurn, PlaceIdled, PlaceIdledInPart, PlaceKept, StandsForSomebody}
+use Rattle.house.proofs.Visiting.{IsAtPlace, at_place, delivery_then, parts_serial, visit_stands, who_stays, with_visits}
 
 -- ---- which turns there are
 
@@ -140,18 +146,18 @@ not_lapped k n w v m c =
 not_unknown : (k : Config) (n : ℕ) (w v : World) → Meets k n w (Feed most_changes) (Refused Stranger) v → IsCurrent w n → ⊥
 not_unknown k n w v m c = let f : Some c.0 ≡ None = sym c.1 ∙ m.1 in cc
 
-up_to_date : (k : Setup) (place : ℕ) (w v : World) (b : HouseSession) (o : Option HouseSession) (printed : List ℕ) → IsSome b.standing.selected → IsCurrent w place → SessionIdles k true place w b v o printed → ⊥
+up_to_date : (k : Setup) (place : ℕ) (w v : World) (b : SeatedSession) (o : Option SeatedSession) (printed : List ℕ) → IsSome b.session.standing.selected → IsCurrent w place → SessionIdles k true place w b v o printed → ⊥
 up_to_date k place w v b o printed some c i =
-    go (case_of b.standing i.idles.turned.answers (record { events = i.idles.turned.events; bytes = i.idles.turned.bytes; after = i.idles.turned.how; standing = i.after.standing }) i.idles.turned.played i.idling some)
+    go (case_of b.session.standing i.idles.turned.answers (record { events = i.idles.turned.events; bytes = i.idles.turned.bytes; after = i.idles.turned.how; standing = i.after.standing }) i.idles.turned.played i.idling some)
   where
     met_as : (es : List Event) → i.idles.turned.events ≡ es → Met (λ (x : World) call answer y. Meets k.config place x call answer y) w es i.mid
     met_as es e = subst (λ (xs : List Event). Met (λ (x : World) call answer y. Meets k.config place x call answer y) w xs i.mid) e i.idles.turned.met
 
-    go : IdleCase b.standing i.idles.turned.answers (record { events = i.idles.turned.events; bytes = i.idles.turned.bytes; after = i.idles.turned.how; standing = i.after.standing }) → ⊥
+    go : IdleCase b.session.standing i.idles.turned.answers (record { events = i.idles.turned.events; bytes = i.idles.turned.bytes; after = i.idles.turned.how; standing = i.after.standing }) → ⊥
     go (is_shown view changes a e) =
         let met = met_as (record { call = Feed most_changes; answer = Fed view changes } ∷ []) (ap (λ (x : Turn). x.events) e) in
         let none = fed_nothing k.config place w met.0 view changes met.1 c in
-        quiet i.shown i.after.standing.ended i.something (i.idles.turned.shown ∙ ap count_shown a ∙ ap (λ (cs : List Change). length cs + 0) none) (ap (λ (x : Turn). x.standing.ended) e ∙ lives b.standing i.idling)
+        quiet i.shown i.after.standing.ended i.something (i.idles.turned.shown ∙ ap count_shown a ∙ ap (λ (cs : List Change). length cs + 0) none) (ap (λ (x : Turn). x.standing.ended) e ∙ lives b.session.standing i.idling)
     go (is_lapped a e) =
         let met = met_as (record { call = Feed most_changes; answer = Refused Lapped } ∷ []) (ap (λ (x : Turn). x.events) e) in
         not_lapped k.config place w met.0 met.1 c
@@ -159,45 +165,56 @@ up_to_date k place w v b o printed some c i =
         let met = met_as (record { call = Feed most_changes; answer = Refused Stranger } ∷ []) (ap (λ (x : Turn). x.events) e) in
         not_unknown k.config place w met.0 met.1 c
 
-pub none_awake : (p : Place) (place : ℕ) (h : Held) → is_idling p.link.session ≡ false → HasNoTurn place (Some p) h
-none_awake p place h awake k w v b o printed stands there i =
-    let f : false ≡ true = sym awake ∙ ap is_idling there.connection.session ∙ i.idling in cc
+-- where its client is there, its standing is what the seat says
+standing_is : (seat : ℕ) (next : CopyKey) (heard : List Noted) (p : Seat) (b : SeatedSession) → StandsForSeated seat next heard p b → b.gone ≡ false → p.place.link.session ≡ b.session.standing
+standing_is seat next heard p b s live = (s.place (s.gone ∙ live)).connection.session
 
-pub none_unselected : (p : Place) (place : ℕ) (h : Held) → p.link.session.selected ≡ None → HasNoTurn place (Some p) h
-none_unselected p place h unselected k w v b o printed stands there i =
+pub none_gone : (p : Seat) (place : ℕ) (h : Held) → p.gone ≡ true → HasNoTurn place (Some p) h
+none_gone p place h gone k next heard w v b o printed stands there i = let f : true ≡ false = sym gone ∙ there.gone ∙ i.is_read in cc
+
+pub none_awake : (p : Seat) (place : ℕ) (h : Held) → is_idling p.place.link.session ≡ false → HasNoTurn place (Some p) h
+none_awake p place h awake k next heard w v b o printed stands there i =
+    let f : false ≡ true = sym awake ∙ ap is_idling (standing_is (session_seat k place) next heard p b there i.is_read) ∙ i.idling in cc
+
+pub none_unselected : (p : Seat) (place : ℕ) (h : Held) → p.place.link.session.selected ≡ None → HasNoTurn place (Some p) h
+none_unselected p place h unselected k next heard w v b o printed stands there i =
     let t = i.idles.turned in
-    let e : b.standing.selected ≡ None = sym (ap (λ (x : Standing). x.selected) there.connection.session) ∙ unselected in
-    let c = in_none (is_idling b.standing) b.standing t.answers (record { events = t.events; bytes = t.bytes; after = t.how; standing = i.after.standing })
-    (sym (ap (λ (x : Option Chosen). idle_turn_in x (is_idling b.standing) b.standing t.answers) e) ∙ t.played) in
-    quiet i.shown i.after.standing.ended i.something (t.shown ∙ ap count_shown c.0) (ap (λ (x : Turn). x.standing.ended) c.1 ∙ lives b.standing i.idling)
+    let e : b.session.standing.selected ≡ None = sym (ap (λ (x : Standing). x.selected) (standing_is (session_seat k place) next heard p b there i.is_read)) ∙ unselected in
+    let c = in_none (is_idling b.session.standing) b.session.standing t.answers (record { events = t.events; bytes = t.bytes; after = t.how; standing = i.after.standing })
+    (sym (ap (λ (x : Option Chosen). idle_turn_in x (is_idling b.session.standing) b.session.standing t.answers) e) ∙ t.played) in
+    quiet i.shown i.after.standing.ended i.something (t.shown ∙ ap count_shown c.0) (ap (λ (x : Turn). x.standing.ended) c.1 ∙ lives b.session.standing i.idling)
 
-pub none_new : (p : Place) (place : ℕ) (h : Held) → IsSome p.link.session.selected → ((k : Config) (w : World) → core.StandsFor k h w → IsCurrent w place) → HasNoTurn place (Some p) h
-none_new p place h some current k w v b o printed stands there i =
-    up_to_date k place w v b o printed (subst (λ (x : Standing). IsSome x.selected) there.connection.session some) (current k.config w stands) i
+pub none_new : (p : Seat) (place : ℕ) (h : Held) → IsSome p.place.link.session.selected → ((k : Config) (w : World) → core.StandsFor k h w → IsCurrent w place) → HasNoTurn place (Some p) h
+none_new p place h some current k next heard w v b o printed stands there i =
+    up_to_date k place w v b o printed (subst (λ (x : Standing). IsSome x.selected) (standing_is (session_seat k place) next heard p b there i.is_read) some) (current k.config w stands) i
 
 -- ---- one turn
 
 -- what it does over the desk is what it does in the world
-record Turned (k : Setup) (place number : ℕ) (b after : HouseSession) (count : ℕ) (w : World) (old desk : Desk) (printed : List ℕ) : Type 0 where
+record Turned (k : Setup) (place number : ℕ) (b : SeatedSession) (after : HouseSession) (count : ℕ) (w : World) (old desk : Desk) (printed : List ℕ) : Type 0 where
   pub mid : World
-  pub idles : Idles (λ (x : World) call answer y. Meets k.config place x call answer y) number b w mid after count printed
+  pub idles : Idles (λ (x : World) call answer y. Meets k.config place x call answer y) number b.session w mid after count printed
   pub serving : IsServing k.config place desk mid
   pub rest : SameDelivery old.core desk.core
-  pub idling : is_idling b.standing ≡ true
+  pub is_read : b.gone ≡ false
+  pub idling : is_idling b.session.standing ≡ true
   pub something : (0 < count) ⊎ (after.standing.ended ≡ true)
 
-turned : (k : Setup) (number count : ℕ) (b after : HouseSession) (old new : Desk) (printed : List ℕ) (w : World) (p : Place) → Idles Serves number b old new after count printed → old.session ≡ number - 1 → core.StandsFor k.config old.core w
-    → visit.StandsFor p b → MayIdle p (number - 1) old.core → Turned k (number - 1) number b after count w old new printed
-turned k number count b after old new printed w p i at stands there may =
-    let idling : is_idling b.standing ≡ true = sym (ap is_idling there.connection.session) ∙ may.idling in
-    let c = idles_carried Serves (λ (x : World) call answer y. Meets k.config (number - 1) x call answer y) (IsServing k.config (number - 1)) (carries k.config (number - 1)) number b old new after count printed w i (record { session = at; stands = stands }) in
+turned : (k : Setup) (number count : ℕ) (next : CopyKey) (heard : List Noted) (b : SeatedSession) (after : HouseSession) (old new : Desk) (printed : List ℕ) (w : World) (p : Seat) → Idles Serves number b.session old new after count printed → old.session ≡ number - 1
+    → core.StandsFor k.config old.core w → StandsForSeated (session_seat k (number - 1)) next heard p b → MayIdle p (number - 1) old.core → Turned k (number - 1) number b after count w old new printed
+turned k number count next heard b after old new printed w p i at stands there may =
+    let c = idles_carried Serves (λ x call answer v. Meets k.config (number - 1) x call answer v) (IsServing k.config (number - 1)) (carries k.config (number - 1)) number b.session old new after count printed w i (record { session = at; stands = stands }) in
+    let read : b.gone ≡ false = sym there.gone ∙ may.is_read in
+    let is = standing_is (session_seat k (number - 1)) next heard p b there read in
+    let idling : is_idling b.session.standing ≡ true = ap is_idling (sym is) ∙ may.idling in
     record {
       mid = c.0;
       idles = c.1;
       serving = c.2;
       rest = met_delivery old new i.turned.events i.turned.met;
+      is_read = read;
       idling = idling;
-      something = elim (gains b.standing old new [] i.said count after.standing i.turned idling (subst (λ (x : Standing). IsSome x.selected) there.connection.session may.selected)
+      something = elim (gains b.session.standing old new [] i.said count after.standing i.turned idling (subst (λ (x : Standing). IsSome x.selected) is may.selected)
           (subst (λ (n : ℕ). IsSome (client_of old.core n) → behind old.core n ≡ 0 → ⊥) (sym at) may.news)) [
             | inl some ↦ inl some.0
             | inr over ↦ inr over
@@ -205,25 +222,26 @@ turned k number count b after old new printed w p i at stands there may =
     }
 
 -- it remains at its place
-pub idled : (k : Setup) (whole : Bool) (number count : ℕ) (b : HouseSession) (old new : Desk) (w : World) (p q : Place) (before after : List ℕ) → 0 < number → old.session ≡ number - 1 → core.StandsFor k.config old.core w
-    → visit.StandsFor p b → MayIdle p (number - 1) old.core → Idled Serves whole number count b old new before after q → (whole ≡ true → q.link.session.ended ≡ false)
-    → PlaceIdled k whole (number - 1) w b old.core (Some q) new.core before after
-idled k whole number count b old new w p q before after some at stands there may o live =
-    let g = turned k number count b o.after old new o.printed w p o.idles at stands there may in
+pub idled : (k : Setup) (whole : Bool) (number count : ℕ) (next : CopyKey) (heard : List Noted) (b : SeatedSession) (old new : Desk) (w : World) (p q : Seat) (before after : List ℕ) → 0 < number → old.session ≡ number - 1 → core.StandsFor k.config old.core w
+    → StandsForSeated (session_seat k (number - 1)) next heard p b → MayIdle p (number - 1) old.core → Idled Serves whole (session_seat k (number - 1)) number count next heard b old new before after q → q.gone ≡ false → (whole ≡ true → q.place.link.session.ended ≡ false)
+    → PlaceIdled k whole (number - 1) next heard w b old.core (Some q) new.core before after
+idled k whole number count next heard b old new w p q before after some at stands there may o live going =
+    let g = turned k number count next heard b o.after old new o.printed w p o.idles at stands there may in
     let counted : number ≡ (number - 1) + 1 = omega (arith, some) in
     record {
-      left = Some o.after;
+      left = Some (with_session o.after b);
       moved = g.mid;
       printed = o.printed;
       goes = record {
+        is_read = g.is_read;
         idling = g.idling;
         after = o.after;
         mid = g.mid;
         shown = count;
-        idles = subst (λ (n : ℕ). Idles (Meets k.config (number - 1)) n b w g.mid o.after count o.printed) counted g.idles;
+        idles = subst (λ (n : ℕ). Idles (Meets k.config (number - 1)) n b.session w g.mid o.after count o.printed) counted g.idles;
         something = g.something;
         all = o.all;
-        left = scene.remains (λ h e. absurd (let f = live h in let r = ap (λ (x : Standing). x.ended) o.stands.connection.session in let u = e in cc)) refl refl;
+        left = scene.remains (λ h e. absurd (let f = going h in let r = ap (λ (x : Standing). x.ended) (o.stands.place live).connection.session in let u = e in cc)) refl refl;
       };
       there = o.stands;
       core = g.serving.stands;
@@ -232,11 +250,11 @@ idled k whole number count b old new w p q before after some at stands there may
     }
 
 -- it has parted, and left its mailbox
-pub idled_out : (k : Setup) (number count : ℕ) (b : HouseSession) (old mid new : Desk) (answer : Answer) (w : World) (p q : Place) (before after : List ℕ) → 0 < number → old.session ≡ number - 1 → core.StandsFor k.config old.core w
-    → visit.StandsFor p b → MayIdle p (number - 1) old.core → Idled Serves true number count b old mid before after q → q.link.session.ended ≡ true → Serves mid (calls.Leave false) answer new
-    → PlaceIdled k true (number - 1) w b old.core None new.core before after
-idled_out k number count b old mid new answer w p q before after some at stands there may o over leaves =
-    let g = turned k number count b o.after old mid o.printed w p o.idles at stands there may in
+pub idled_out : (k : Setup) (number count : ℕ) (next : CopyKey) (heard : List Noted) (b : SeatedSession) (old mid new : Desk) (answer : Answer) (w : World) (p q : Seat) (before after : List ℕ) → 0 < number → old.session ≡ number - 1 → core.StandsFor k.config old.core w
+    → StandsForSeated (session_seat k (number - 1)) next heard p b → MayIdle p (number - 1) old.core → Idled Serves true (session_seat k (number - 1)) number count next heard b old mid before after q → q.gone ≡ false → q.place.link.session.ended ≡ true
+    → Serves mid (calls.Leave false) answer new → PlaceIdled k true (number - 1) next heard w b old.core None new.core before after
+idled_out k number count next heard b old mid new answer w p q before after some at stands there may o live over leaves =
+    let g = turned k number count next heard b o.after old mid o.printed w p o.idles at stands there may in
     let counted : number ≡ (number - 1) + 1 = omega (arith, some) in
     let gone = carries k.config (number - 1) mid new (calls.Leave false) answer g.mid leaves g.serving in
     record {
@@ -244,14 +262,15 @@ idled_out k number count b old mid new answer w p q before after some at stands 
       moved = gone.0;
       printed = o.printed;
       goes = record {
+        is_read = g.is_read;
         idling = g.idling;
         after = o.after;
         mid = g.mid;
         shown = count;
-        idles = subst (λ (n : ℕ). Idles (Meets k.config (number - 1)) n b w g.mid o.after count o.printed) counted g.idles;
+        idles = subst (λ (n : ℕ). Idles (Meets k.config (number - 1)) n b.session w g.mid o.after count o.printed) counted g.idles;
         something = g.something;
         all = o.all;
-        left = scene.parts (sym (ap (λ (x : Standing). x.ended) o.stands.connection.session) ∙ over) (o.all refl) (answer, gone.1) refl;
+        left = scene.parts (sym (ap (λ (x : Standing). x.ended) (o.stands.place live).connection.session) ∙ over) (o.all refl) (answer, gone.1) refl;
       };
       there = tt;
       core = gone.2.stands;
@@ -260,11 +279,11 @@ idled_out k number count b old mid new answer w p q before after some at stands 
     }
 
 -- memory was refused before anything was done
-missed : (k : Setup) (number : ℕ) (b : HouseSession) (old new : Desk) (w : World) (q : Place) (before after : List ℕ) → old.session ≡ number - 1 → core.StandsFor k.config old.core w → Missed Serves b old new before after q
-    → PlaceKept k w b old.core (Some q) new.core before after
-missed k number b old new w q before after at stands m = go m.starves
+missed : (k : Setup) (number : ℕ) (next : CopyKey) (heard : List Noted) (b : SeatedSession) (old new : Desk) (w : World) (q : Seat) (before after : List ℕ) → old.session ≡ number - 1 → core.StandsFor k.config old.core w
+    → Missed Serves (session_seat k (number - 1)) next heard b old new before after q → PlaceKept k (number - 1) next heard w b old.core (Some q) new.core before after
+missed k number next heard b old new w q before after at stands m = go m.starves
   where
-    go : Starves Serves old new → PlaceKept k w b old.core (Some q) new.core before after
+    go : Starves Serves old new → PlaceKept k (number - 1) next heard w b old.core (Some q) new.core before after
     go (inl same) = record {
       there = m.stands;
       core = subst (λ (d : Desk). core.StandsFor k.config d.core w) (sym same) stands;
@@ -280,87 +299,103 @@ missed k number b old new w q before after at stands m = go m.starves
           out = m.out;
         }
 
-pub idled_in_part : (k : Setup) (number : ℕ) (b : HouseSession) (old new : Desk) (w : World) (p q : Place) (before after : List ℕ) → 0 < number → old.session ≡ number - 1 → core.StandsFor k.config old.core w
-    → visit.StandsFor p b → MayIdle p (number - 1) old.core → IdledInPart Serves number b old new before after q
-    → PlaceIdledInPart k (number - 1) w b old.core (Some q) new.core before after
-idled_in_part k number b old new w p q before after some at stands there may (inl m) = inr (missed k number b old new w q before after at stands m)
-idled_in_part k number b old new w p q before after some at stands there may (inr (count, o)) = inl (idled k false number count b old new w p q before after some at stands there may o (λ e. absurd (let f : false ≡ true = e in cc)))
+pub idled_in_part : (k : Setup) (number : ℕ) (next : CopyKey) (heard : List Noted) (b : SeatedSession) (old new : Desk) (w : World) (p q : Seat) (before after : List ℕ) → 0 < number → old.session ≡ number - 1 → core.StandsFor k.config old.core w
+    → StandsForSeated (session_seat k (number - 1)) next heard p b → MayIdle p (number - 1) old.core → IdledInPart Serves (session_seat k (number - 1)) number next heard b old new before after q → q.gone ≡ false
+    → PlaceIdledInPart k (number - 1) next heard w b old.core (Some q) new.core before after
+idled_in_part k number next heard b old new w p q before after some at stands there may (inl m) live = inr (missed k number next heard b old new w q before after at stands m)
+idled_in_part k number next heard b old new w p q before after some at stands there may (inr (count, o)) live =
+    inl (idled k false number count next heard b old new w p q before after some at stands there may o live (λ e. absurd (let f : false ≡ true = e in cc)))
 
 -- one that remains is less behind
-pub turns_fewer : (p q : Place) (number count : ℕ) (said : List ℕ) (old new : Desk) → old.session ≡ number - 1 → MayIdle p (number - 1) old.core → IdleTurns Serves p.link.session old new [] said count q.link.session → q.link.session.ended ≡ false
+pub turns_fewer : (p q : Seat) (number count : ℕ) (said : List ℕ) (old new : Desk) → old.session ≡ number - 1 → MayIdle p (number - 1) old.core → IdleTurns Serves p.place.link.session old new [] said count q.place.link.session → q.place.link.session.ended ≡ false
     → turns_left (Some q) (behind new.core (number - 1)) < turns_left (Some p) (behind old.core (number - 1))
 turns_fewer p q number count said old new at may t live =
-    elim (gains p.link.session old new [] said count q.link.session t may.idling may.selected (subst (λ (n : ℕ). IsSome (client_of old.core n) → behind old.core n ≡ 0 → ⊥) (sym at) may.news)) [
+    elim (gains p.place.link.session old new [] said count q.place.link.session t may.idling may.selected (subst (λ (n : ℕ). IsSome (client_of old.core n) → behind old.core n ≡ 0 → ⊥) (sym at) may.news)) [
       | inl some ↦ (let l = subst (λ (n : ℕ). behind new.core n < behind old.core n) at some.1 in omega (arith, l))
       | inr over ↦ absurd (let f : true ≡ false = sym over ∙ live in cc)
     ]
 
 -- ---- the house
 
-pub idle_led : (k : Setup) (whole : Bool) (h : State) (s : Scene) (place : ℕ) (p : Place) (q : Option Place) (c : Held) (old new : List ℕ) → StandsFor k h s → place < length h.visitors
+idle_serial : (k : Setup) (whole : Bool) (place : ℕ) (w : World) (a : SeatedSession) (v : World) (o : Option SeatedSession) (printed : List ℕ) (b : SeatedSession) → SessionIdles k whole place w a v o printed → o ≡ Some b → b.serial ≡ a.serial
+idle_serial k whole place w a v o printed b i e = parts_serial k whole place (with_session i.after a) i.mid v o b i.left e
+
+-- the serials stay
+counted_still : (k : Setup) (h : State) (s : Scene) (place : ℕ) → StandsFor k h s → place < length h.visitors → (n : ℕ) → get_or h.entered place n ≡ s.entered place
+counted_still k h s place st lt n = (st.visitors place (first_key 0) n None lt).counted
+
+idled_at : (k : Setup) (whole : Bool) (h : State) (s : Scene) (place : ℕ) (p : Seat) (q : Option Seat) (c : Held) (old new : List ℕ) → StandsFor k h s → place < length h.visitors → (a : IsAtPlace k s place (get_or h.core.next (session_seat k place) (first_key 0)) p)
+    → PlaceIdled k whole place (get_or h.core.next (session_seat k place) (first_key 0)) (s.world.heard (session_seat k place)) s.world a.visitor h.core q c old new
+    → (t : Scene) × (printed : List ℕ) × IdlePlay k whole s place t printed × StandsFor k (with_visits h c place q h.entered) t × (new ≡ old ++ printed)
+idled_at k whole h s place p q c old new st within a m = (
+  with_visitor (with_world s m.moved) place m.left,
+  m.printed,
+  record { visitor = a.visitor; there = a.here; moved = m.moved; left = m.left; goes = m.goes; after = refl },
+  visit_stands k h c h.entered s m.moved s.entered place (first_key 0) q m.left st m.core m.rest within refl (λ n. counted_still k h s place st within n) (λ i n ne. refl) (λ i ne. refl)
+      (who_stays (session_seat k place) (get_or h.core.next (session_seat k place) (first_key 0)) (s.world.heard (session_seat k place)) (s.entered place) q m.left p a.visitor m.there a.stands a.serial
+      (λ x e. idle_serial k whole place s.world a.visitor m.moved m.left m.printed x m.goes e)),
+  m.out,
+)
+
+pub idle_led : (k : Setup) (whole : Bool) (h : State) (s : Scene) (place : ℕ) (p : Seat) (q : Option Seat) (c : Held) (old new : List ℕ) → StandsFor k h s → place < length h.visitors
     → get_or h.visitors place None ≡ Some p
-    → ((w : World) (b : HouseSession) → core.StandsFor k.config h.core w → StandsForVisit (Some p) (Some b) → PlaceIdled k whole place w b h.core q c old new)
-    → (t : Scene) × (printed : List ℕ) × IdlePlay k whole s place t printed × StandsFor k (with_visits h c place q) t × (new ≡ old ++ printed)
+    → ((next : CopyKey) (heard : List Noted) (w : World) (b : SeatedSession) → core.StandsFor k.config h.core w → StandsForSomebody (session_seat k place) next heard (Some p) (Some b) → PlaceIdled k whole place next heard w b h.core q c old new)
+    → (t : Scene) × (printed : List ℕ) × IdlePlay k whole s place t printed × StandsFor k (with_visits h c place q h.entered) t × (new ≡ old ++ printed)
 idle_led k whole h s place p q c old new st within some goes =
-    let v = who_visits (get_or h.visitors place None) (s.visitor place) p (st.visitors place None within) some in
-    led v.0 v.1 (goes s.world v.0 st.core v.2)
-  where
-    led : (b : HouseSession) → s.visitor place ≡ Some b → PlaceIdled k whole place s.world b h.core q c old new
-        → (t : Scene) × (printed : List ℕ) × IdlePlay k whole s place t printed × StandsFor k (with_visits h c place q) t × (new ≡ old ++ printed)
-    led b there m = (
-      with_visitor (with_world s m.moved) place m.left,
-      m.printed,
-      record { visitor = b; there = there; moved = m.moved; left = m.left; goes = m.goes; after = refl },
-      visit_stands k h s c m.moved place q m.left st m.core m.rest within m.there,
-      m.out,
-    )
+    let a = at_place k h s place (first_key 0) p st within some in
+    idled_at k whole h s place p q c old new st within a (goes (get_or h.core.next (session_seat k place) (first_key 0)) (s.world.heard (session_seat k place)) s.world a.visitor st.core a.stands)
 
 -- nothing was done there, and the house stands as it did
-kept_stands : (k : Setup) (h : State) (s : Scene) (c : Held) (n : ℕ) (q : Option Place) → StandsFor k h s → core.StandsFor k.config c s.world → SameDelivery h.core c → n < length h.visitors → StandsForVisit q (s.visitor n)
-    → StandsFor k (with_visits h c n q) s
-kept_stands k h s c n q st cs rest within there =
-    let m = moved k h c s s.world st cs rest.heard rest.next in
-    record {
-      core = cs;
-      directory = st.directory;
-      host = st.host;
-      max_message = st.max_message;
-      homes = st.homes;
-      shards = st.shards;
-      some_shard = st.some_shard;
-      seats = st.seats;
-      numbers = st.numbers;
-      each = λ seat y i d l. let e = m.each seat y i d l in record { counted = e.counted; who = e.who };
-      places = length-set h.visitors n q ∙ st.places;
-      visitors = λ i d l. elim (cases_eq i n) [
-        | inl e ↦ subst (λ (j : ℕ). StandsForVisit (get_or (set h.visitors n q) j d) (s.visitor j)) (sym e) (subst (λ (x : Option Place). StandsForVisit x (s.visitor n)) (sym (get_or-set_same h.visitors n q d within)) there)
-        | inr other ↦ subst (λ (x : Option Place). StandsForVisit x (s.visitor i)) (sym (get_or-set_other h.visitors n i q d other)) (st.visitors i d (let e = length-set h.visitors n q in omega (arith, l, e)))
-      ];
+kept_stands : (k : Setup) (h : State) (s : Scene) (c : Held) (place : ℕ) (p : Seat) (q : Option Seat) (old new : List ℕ) → StandsFor k h s → place < length h.visitors → (a : IsAtPlace k s place (get_or h.core.next (session_seat k place) (first_key 0)) p)
+    → PlaceKept k place (get_or h.core.next (session_seat k place) (first_key 0)) (s.world.heard (session_seat k place)) s.world a.visitor h.core q c old new
+    → StandsFor k (with_visits h c place q h.entered) s
+kept_stands k h s c place p q old new st within a m =
+    again (visit_stands k h c h.entered s s.world s.entered place (first_key 0) q (Some a.visitor) st m.core m.rest within refl (λ n. counted_still k h s place st within n) (λ i n ne. refl) (λ i ne. refl)
+    (who_stays (session_seat k place) (get_or h.core.next (session_seat k place) (first_key 0)) (s.world.heard (session_seat k place)) (s.entered place) q (Some a.visitor) p a.visitor m.there a.stands a.serial (λ x e. same_there x e)))
+  where
+    same_there : (x : SeatedSession) → Some a.visitor ≡ Some x → x.serial ≡ a.visitor.serial
+    same_there x e = let f : a.visitor ≡ x = cc in ap (λ (v : SeatedSession). v.serial) (sym f)
+
+    -- at the place is who was there
+    as_before : (i : ℕ) → set_at s.visitor place (Some a.visitor) i ≡ s.visitor i
+    as_before i = at_cases (λ (v : Option SeatedSession). v ≡ s.visitor i) s.visitor place (Some a.visitor) i (λ e. sym a.here ∙ ap s.visitor (sym e)) (λ e. refl)
+
+    again : StandsFor k (with_visits h c place q h.entered) (with_visitor s place (Some a.visitor)) → StandsFor k (with_visits h c place q h.entered) s
+    again g = record {
+      core = g.core;
+      directory = g.directory;
+      host = g.host;
+      max_message = g.max_message;
+      homes = g.homes;
+      shards = g.shards;
+      some_shard = g.some_shard;
+      seats = g.seats;
+      connections = g.connections;
+      numbers = g.numbers;
+      each = λ seat y i d l. let e = g.each seat y i d l in record { counted = e.counted; who = e.who };
+      places = g.places;
+      entries = g.entries;
+      visitors = λ i y n d l. let e = g.visitors i y n d l in place_kept k (with_visitor s place (Some a.visitor)) s i _ _ _ _ _ _ e refl refl refl refl (sym (as_before i)) refl;
     }
 
-pub idle_led_in_part : (k : Setup) (h : State) (s : Scene) (place : ℕ) (p : Place) (q : Option Place) (c : Held) (old new : List ℕ) → StandsFor k h s → place < length h.visitors
+pub idle_led_in_part : (k : Setup) (h : State) (s : Scene) (place : ℕ) (p : Seat) (q : Option Seat) (c : Held) (old new : List ℕ) → StandsFor k h s → place < length h.visitors
     → get_or h.visitors place None ≡ Some p
-    → ((w : World) (b : HouseSession) → core.StandsFor k.config h.core w → StandsForVisit (Some p) (Some b) → PlaceIdledInPart k place w b h.core q c old new)
-    → ((t : Scene) × (printed : List ℕ) × IdlePlay k false s place t printed × StandsFor k (with_visits h c place q) t × (new ≡ old ++ printed)) ⊎ (StandsFor k (with_visits h c place q) s × (new ≡ old))
+    → ((next : CopyKey) (heard : List Noted) (w : World) (b : SeatedSession) → core.StandsFor k.config h.core w → StandsForSomebody (session_seat k place) next heard (Some p) (Some b) → PlaceIdledInPart k place next heard w b h.core q c old new)
+    → ((t : Scene) × (printed : List ℕ) × IdlePlay k false s place t printed × StandsFor k (with_visits h c place q h.entered) t × (new ≡ old ++ printed)) ⊎ (StandsFor k (with_visits h c place q h.entered) s × (new ≡ old))
 idle_led_in_part k h s place p q c old new st within some goes =
-    let v = who_visits (get_or h.visitors place None) (s.visitor place) p (st.visitors place None within) some in
-    part v.0 v.1 (goes s.world v.0 st.core v.2)
+    let a = at_place k h s place (first_key 0) p st within some in
+    part a (goes (get_or h.core.next (session_seat k place) (first_key 0)) (s.world.heard (session_seat k place)) s.world a.visitor st.core a.stands)
   where
-    part : (b : HouseSession) → s.visitor place ≡ Some b → PlaceIdledInPart k place s.world b h.core q c old new
-        → ((t : Scene) × (printed : List ℕ) × IdlePlay k false s place t printed × StandsFor k (with_visits h c place q) t × (new ≡ old ++ printed)) ⊎ (StandsFor k (with_visits h c place q) s × (new ≡ old))
-    part b there (inl m) = inl (
-      with_visitor (with_world s m.moved) place m.left,
-      m.printed,
-      record { visitor = b; there = there; moved = m.moved; left = m.left; goes = m.goes; after = refl },
-      visit_stands k h s c m.moved place q m.left st m.core m.rest within m.there,
-      m.out,
-    )
-    part b there (inr m) = inr (kept_stands k h s c place q st m.core m.rest within (subst (λ (o : Option HouseSession). StandsForVisit q o) (sym there) m.there), m.out)
+    part : (a : IsAtPlace k s place (get_or h.core.next (session_seat k place) (first_key 0)) p) → PlaceIdledInPart k place (get_or h.core.next (session_seat k place) (first_key 0)) (s.world.heard (session_seat k place)) s.world a.visitor h.core q c old new
+        → ((t : Scene) × (printed : List ℕ) × IdlePlay k false s place t printed × StandsFor k (with_visits h c place q h.entered) t × (new ≡ old ++ printed)) ⊎ (StandsFor k (with_visits h c place q h.entered) s × (new ≡ old))
+    part a (inl m) = inl (idled_at k false h s place p q c old new st within a m)
+    part a (inr m) = inr (kept_stands k h s c place p q old new st within a m, m.out)
 
--- where its visitor has no turn, nobody is shown anything
-pub idle_none : (k : Setup) (h : State) (s : Scene) (place : ℕ) (p : Place) (t : Scene) (printed : List ℕ) → StandsFor k h s → place < length h.visitors → get_or h.visitors place None ≡ Some p → HasNoTurn place (Some p) h.core
+-- where the session there has no turn, nobody is shown anything
+pub idle_none : (k : Setup) (h : State) (s : Scene) (place : ℕ) (p : Seat) (t : Scene) (printed : List ℕ) → StandsFor k h s → place < length h.visitors → get_or h.visitors place None ≡ Some p → HasNoTurn place (Some p) h.core
     → IdlePlay k true s place t printed → ⊥
 idle_none k h s place p t printed st within some none play =
-    let v = who_visits (get_or h.visitors place None) (s.visitor place) p (st.visitors place None within) some in
-    let same : v.0 ≡ play.visitor = some_is v.0 play.visitor (sym v.1 ∙ play.there) in
-    none k s.world play.moved play.visitor play.left printed st.core (subst (λ (b : HouseSession). visit.StandsFor p b) same v.2) play.goes
+    let a = at_place k h s place (first_key 0) p st within some in
+    let same : a.visitor ≡ play.visitor = some_is a.visitor play.visitor (sym a.here ∙ play.there) in
+    none k (get_or h.core.next (session_seat k place) (first_key 0)) (s.world.heard (session_seat k place)) s.world play.moved play.visitor play.left printed st.core
+    (subst (λ (b : SeatedSession). StandsForSeated (session_seat k place) (get_or h.core.next (session_seat k place) (first_key 0)) (s.world.heard (session_seat k place)) p b) same a.stands) play.goes

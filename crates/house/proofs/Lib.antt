@@ -8,6 +8,7 @@ pub mod TailLaws
 pub mod NewHouse
 pub mod Settlement
 pub mod Visiting
+pub mod SessionEvents
 pub mod IdleTurn
 pub mod IdleSettling
 pub mod Carried

@@ -1,5 +1,5 @@
 -- A new house stands for the empty scene.
-use Rattle.std.proofs.Common.{refl, ◌≡◌, ℕ, ◌<◌, Bool, true, false, List, [], ◌∷◌, length, map, sym, ap, ◌∙◌, arith, inl, subst, Option, Some, None, Ok, Err, get_or, replicate}
+use Rattle.std.proofs.Common.{refl, ◌≡◌, ℕ, ◌+◌, ◌<◌, Bool, true, false, List, [], ◌∷◌, length, map, sym, ap, ◌∙◌, arith, inl, subst, Option, Some, None, Ok, Err, get_or, replicate}
 use Rattle.std.specs.Prelude.{nat_lt, not, if◌then◌else◌}
 use Rattle.std.specs.List.{list_all}
 use Rattle.std.proofs.lemmas.List.{length-map, get_or-replicate}
@@ -14,9 +14,10 @@ use Rattle.house.specs.declared.config.Config.{Config}
 use Rattle.house_connection.specs.Line.{Line}
 use Rattle.house.specs.State.{State}
 use Rattle.house.specs.Scene.{empty_scene}
-use Rattle.house.specs.Settings.{seats, sessions, setup_of, words_of}
+use Rattle.house.specs.Settings.{connections, sessions, setup_of, words_of}
+use Rattle.house.specs.Setup.{session_seat}
 use Rattle.house.specs.Stands.{StandsFor, StandsForOne, StandsForVisit}
-use Rattle.house_session.specs.Place.{Place}
+use Rattle.house_session.specs.Seat.{Seat}
 
 -- words that are read are the mailboxes that they name
 homes_are : (many right : Bool) (fault : Option DirectoryFault) (homes read : List Home)
@@ -30,11 +31,11 @@ pub read_homes : (domains words : List (List ℕ)) (read : List Home) → words_
 read_homes domains words read e = homes_are (nat_lt 64 (length words)) (list_all is_name domains) (first_fault [] (map home_of words)) (map home_of words) read e
 
 pub new_house : (c : Config) (h : State) → core.StandsFor (setup_of c).config h.core (empty_scene).world
-    → ((p : ℕ) (d : CopyKey) → p < seats → get_or h.core.next p d ≡ first_key p)
-    → h.callers ≡ replicate seats None → h.serials ≡ replicate seats 0 → h.visitors ≡ replicate sessions None → h.directory ≡ (setup_of c).directory → h.host ≡ c.host.items → h.max_message ≡ c.max_message
+    → ((p : ℕ) (d : CopyKey) → p < connections + sessions → get_or h.core.next p d ≡ first_key p)
+    → h.callers ≡ replicate connections None → h.serials ≡ replicate connections 0 → h.visitors ≡ replicate sessions None → h.entered ≡ replicate sessions 0 → h.directory ≡ (setup_of c).directory → h.host ≡ c.host.items → h.max_message ≡ c.max_message
     → 0 < c.shards
     → StandsFor (setup_of c) h empty_scene
-new_house c h stands keys callers serials places directory host most some = record {
+new_house c h stands keys callers serials places entered directory host most some = record {
   core = stands;
   directory = directory;
   host = host;
@@ -42,20 +43,25 @@ new_house c h stands keys callers serials places directory host most some = reco
   shards = refl;
   some_shard = some;
   homes = length-map (words_of c) home_of;
-  seats = ap length callers;
+  seats = let a : length h.callers ≡ connections = ap length callers in let b : length h.visitors ≡ sessions = ap length places in omega (arith, a, b);
+  connections = ap length callers;
   numbers = ap length serials;
   each = λ seat y n d below.
-      let lt : seat < seats = let e : length h.callers ≡ seats = ap length callers in omega (arith, below, e) in
-      let nobody : get_or h.callers seat d ≡ None = ap (λ (xs : List (Option Line)). get_or xs seat d) callers ∙ get_or-replicate seats seat None d lt in
+      let lt : seat < connections = let e : length h.callers ≡ connections = ap length callers in omega (arith, below, e) in
+      let nobody : get_or h.callers seat d ≡ None = ap (λ (xs : List (Option Line)). get_or xs seat d) callers ∙ get_or-replicate connections seat None d lt in
       record {
-        counted = ap (λ (xs : List ℕ). get_or xs seat n) serials ∙ get_or-replicate seats seat 0 n lt;
-        who = subst (λ (o : Option Line). StandsForOne (setup_of c) seat (get_or h.core.next seat y) [] 0 o None) (sym nobody) (inl (keys seat y lt));
+        counted = ap (λ (xs : List ℕ). get_or xs seat n) serials ∙ get_or-replicate connections seat 0 n lt;
+        who = subst (λ (o : Option Line). StandsForOne (setup_of c) seat (get_or h.core.next seat y) [] 0 o None) (sym nobody) (inl (keys seat y (omega (arith, lt))));
       };
   places = ap length places;
-  visitors = λ place d below.
+  entries = ap length entered;
+  visitors = λ place y n d below.
       let lt : place < sessions = let e : length h.visitors ≡ sessions = ap length places in omega (arith, below, e) in
-      let free : get_or h.visitors place d ≡ None = ap (λ (xs : List (Option Place)). get_or xs place d) places ∙ get_or-replicate sessions place None d lt in
-      subst (λ (o : Option Place). StandsForVisit o None) (sym free) tt;
+      let free : get_or h.visitors place d ≡ None = ap (λ (xs : List (Option Seat)). get_or xs place d) places ∙ get_or-replicate sessions place None d lt in
+      record {
+        counted = ap (λ (xs : List ℕ). get_or xs place n) entered ∙ get_or-replicate sessions place 0 n lt;
+        who = subst (λ (o : Option Seat). StandsForVisit (session_seat (setup_of c) place) (get_or h.core.next (session_seat (setup_of c) place) y) [] 0 o None) (sym free) (inl (keys (session_seat (setup_of c) place) y (omega (arith, lt))));
+      };
 }
 
 pub directory_is : (c : Config) (d : Directory) → d.domains ≡ c.domain.items ∷ [] → d.homes ≡ map home_of (words_of c) → d.shards ≡ c.shards → d ≡ (setup_of c).directory

@@ -7,15 +7,16 @@ use Rattle.line_io.specs.Marks.{marked}
 use Rattle.lmtp_machine.specs.declared.connection.What.{What}
 use Rattle.lmtp_machine.specs.declared.connection.What.TheVariants.{More, Submit, Quit}
 use Rattle.imap_session.specs.Exchange.{Call, Answer}
-use Rattle.imap_session.specs.Store.{IdleTurns, Starves}
 use Rattle.house_connection.specs.Line.{Line}
 use Rattle.house_connection.specs.HouseConnection.{HouseConnection, GoesOn, Proceeds, Terms, Works, answers, fades, lingers, stalls, talks, waits, with_unsaid, works}
 use Rattle.house_connection.specs.ConnectionStands.{Proceeded}
 use Rattle.house_connection.specs.Taking.{with_all_said}
 use Rattle.house_connection.proofs.Connections.{printed_stands}
-use Rattle.house_session.specs.Place.{Answered, Place, StandsFor, Turned, with_all_said as with_all_said_at}
-use Rattle.house_session.specs.HouseSession.{Answers, HouseSession}
-use Rattle.house.specs.Printing.{Idles, goes, of_connection, of_session, prints_all, prints_none, stays}
+use Rattle.house_session.specs.Place.{with_all_said as with_all_said_at}
+use Rattle.house_session.specs.Seat.{Proceeded as SessionProceeded, Seat, SeatedTurned, StandsForSeated, with_place}
+use Rattle.house_session.specs.Seated as seated
+use Rattle.house_session.specs.Seated.{SeatedSession}
+use Rattle.house.specs.Printing.{goes, of_connection, of_session, prints_all, prints_none, stays, still_unsaid, with_session}
 use Rattle.house.specs.inner.Printing.{Idled, WentOn}
 use Rattle.house.specs.Setup.{Setup, terms_of}
 use Rattle.house.specs.inner.Steps.{ConnectionWent}
@@ -132,56 +133,118 @@ module _ (k : Setup) (seat : ℕ) (next : CopyKey) (heard : List Noted) where
 
 -- ---- sessions
 
-speaks_with : {S : Type 0} (step : S → Call → Answer → S → Type 0) (before after : HouseSession) (old new : S) (said unsaid : List ℕ) → Answers step before old new after said
-    → Answers step before old new (record { standing = after.standing; waits = after.waits; unsaid = unsaid }) said
-speaks_with step before after old new said unsaid a = record { sent = a.sent; how = a.how; waited = a.waited; converses = a.converses }
+-- memory may have been wanting
+pub said_in_part : {S : Type 0} (step : S → Call → Answer → S → Type 0) (seat : ℕ) (heard : List Noted) (v : SeatedSession) (old new : S) (after : SeatedSession) (said : List ℕ) → seated.GoesOn step true seat heard v old new after said
+    → seated.GoesOn step false seat heard v old new after said
+said_in_part step seat heard v old new after said (seated.works n w) = seated.works n w
+said_in_part step seat heard v old new after said (seated.answers verdict mid first second how next known a w e) = seated.answers verdict mid first second how next known a w e
+said_in_part step seat heard v old new after said (seated.waits a n e f) = seated.waits a n e f
+said_in_part step seat heard v old new after said (seated.rests a n e f) = seated.rests a n e f
+said_in_part step seat heard v old new after said (seated.stalls w n e f) = seated.stalls refl n e f
 
-pub went_on : {S : Type 0} (step : S → Call → Answer → S → Type 0) (whole : Bool) (n : ℕ) (v : HouseSession) (old new : S) (text text_after : List ℕ) (p : Place) → Answered step whole v old new p
-    → text_after ≡ text ++ marked of_session n p.unsaid → WentOn step whole n v old new text text_after (record { link = p.link; came = p.came; unsaid = [] })
-went_on step whole n v old new text text_after p a printed = record {
-  after = record { standing = a.after.standing; waits = a.after.waits; unsaid = [] };
-  printed = marked of_session n p.unsaid;
-  speaks = record { said = a.said; answers = speaks_with step v a.after old new a.said [] a.answers; prints = prints_all refl (ap (marked of_session n) (a.stands.unsaid ∙ a.kept)) };
-  all = λ w. record { said = refl; answered = a.all w };
-  stands = record { begun = a.stands.begun; connection = a.stands.connection; waits = a.stands.waits; unsaid = refl };
-  out = printed;
+in_part_too : {S : Type 0} (step : S → Call → Answer → S → Type 0) (whole : Bool) (seat : ℕ) (heard : List Noted) (v : SeatedSession) (old new : S) (after : SeatedSession) (said : List ℕ) → seated.GoesOn step whole seat heard v old new after said
+    → seated.GoesOn step false seat heard v old new after said
+in_part_too step true seat heard v old new after said g = said_in_part step seat heard v old new after said g
+in_part_too step false seat heard v old new after said g = g
+
+-- a client that is there is spoken to
+talking : {S : Type 0} (step : S → Call → Answer → S → Type 0) (whole : Bool) (seat : ℕ) (heard : List Noted) (v : SeatedSession) (old new : S) (after : SeatedSession) (said : List ℕ) → v.gone ≡ false → seated.Proceeds step whole seat heard v old new after said
+    → seated.GoesOn step whole seat heard v old new after said
+talking step whole seat heard v old new after said there (seated.talks l g) = g
+talking step whole seat heard v old new after said there (seated.lingers l n e f) = absurd (let x : true ≡ false = sym l ∙ there in cc)
+
+-- it stands for the session with its words, whatever of them is still to be printed
+unsaid_stands : (seat : ℕ) (next : CopyKey) (heard : List Noted) (p : Seat) (v : SeatedSession) → StandsForSeated seat next heard p v → StandsForSeated seat next heard p (still_unsaid v.session.unsaid v)
+unsaid_stands seat next heard p v s = record {
+  place = λ live. let x = s.place live in record { begun = x.begun; connection = x.connection; waits = x.waits; unsaid = x.unsaid };
+  submitted = s.submitted;
+  number = s.number;
+  serial = s.serial;
+  gone = s.gone;
+  to_put = s.to_put;
+  verdicts = s.verdicts;
+  numbered = s.numbered;
+  ahead = s.ahead;
 }
 
-pub unprinted : {S : Type 0} (step : S → Call → Answer → S → Type 0) (whole : Bool) (n : ℕ) (v : HouseSession) (old new : S) (text : List ℕ) (p : Place) → Answered step whole v old new p
-    → WentOn step false n v old new text text p
-unprinted step whole n v old new text p a = record {
-  after = a.after;
-  printed = [];
-  speaks = record { said = a.said; answers = a.answers; prints = prints_none a.kept refl };
-  all = λ e. absurd (let f : false ≡ true = e in cc);
-  stands = a.stands;
-  out = sym (append-nil text);
+all_said_stands : (seat : ℕ) (next : CopyKey) (heard : List Noted) (p : Seat) (v : SeatedSession) → StandsForSeated seat next heard p v → StandsForSeated seat next heard (with_place (with_all_said_at p.place) p) (still_unsaid [] v)
+all_said_stands seat next heard p v s = record {
+  place = λ live. let x = s.place live in record { begun = x.begun; connection = x.connection; waits = x.waits; unsaid = refl };
+  submitted = s.submitted;
+  number = s.number;
+  serial = s.serial;
+  gone = s.gone;
+  to_put = s.to_put;
+  verdicts = s.verdicts;
+  numbered = s.numbered;
+  ahead = s.ahead;
 }
 
--- memory was refused before, whatever came of printing
-pub session_part : {S : Type 0} (step : S → Call → Answer → S → Type 0) (n : ℕ) (v : HouseSession) (old new : S) (text text_after : List ℕ) (p q : Place) → Answered step false v old new p
-    → (r : Result Unit AllocError) → OnOk r ((q ≡ with_all_said_at p) × (text_after ≡ text ++ marked of_session n p.unsaid)) → OnErr r ((q ≡ p) × (text_after ≡ text)) → WentOn step false n v old new text text_after q
-session_part step n v old new text text_after p q a (Ok tt) ok err = subst (λ (x : Place). WentOn step false n v old new text text_after x) (sym ok.0) (went_on step false n v old new text text_after p a ok.1)
-session_part step n v old new text text_after p q a (Err fault) ok err =
-    subst (λ (x : Place). WentOn step false n v old new text text_after x) (sym err.0) (subst (λ (t : List ℕ). WentOn step false n v old new text t p) (sym err.1) (unprinted step false n v old new text p a))
-
--- all that was said in a turn is printed
-pub idled : {S : Type 0} (step : S → Call → Answer → S → Type 0) (n count : ℕ) (v : HouseSession) (old new : S) (text text_after : List ℕ) (p : Place) → Turned step count v old new p
-    → text_after ≡ text ++ marked of_session n p.unsaid → Idled step true n count v old new text text_after (record { link = p.link; came = p.came; unsaid = [] })
-idled step n count v old new text text_after p t printed = record {
-  after = record { standing = t.after.standing; waits = t.after.waits; unsaid = [] };
-  printed = marked of_session n p.unsaid;
-  idles = record { said = t.said; turned = t.turned; waits = t.waits; prints = prints_all refl (ap (marked of_session n) (t.stands.unsaid ∙ t.kept)) };
-  all = λ w. refl;
-  stands = record { begun = t.stands.begun; connection = t.stands.connection; waits = t.stands.waits; unsaid = refl };
+-- all that was said is printed
+pub went_on : {S : Type 0} (step : S → Call → Answer → S → Type 0) (whole : Bool) (seat n : ℕ) (next : CopyKey) (heard : List Noted) (v : SeatedSession) (old new : S) (text text_after : List ℕ) (p : Seat) → v.gone ≡ false → p.gone ≡ false
+    → SessionProceeded step whole seat next heard v old new p → text_after ≡ text ++ marked of_session n p.place.unsaid → WentOn step whole seat n next heard v old new text text_after (with_place (with_all_said_at p.place) p)
+went_on step whole seat n next heard v old new text text_after p there live a printed = record {
+  after = still_unsaid [] a.after;
+  printed = marked of_session n p.place.unsaid;
+  speaks = record {
+    spoken = a.after;
+    said = a.said;
+    goes = talking step whole seat heard v old new a.after a.said there a.proceeds;
+    still = [];
+    prints = prints_all refl (ap (marked of_session n) ((a.stands.place live).unsaid ∙ a.kept));
+    is = refl;
+  };
+  all = λ w. record { said = refl; answered = a.all w there };
+  stands = all_said_stands seat next heard p a.after a.stands;
   out = printed;
 }
 
 -- a growth was refused
-pub idled_unprinted : {S : Type 0} (step : S → Call → Answer → S → Type 0) (n count : ℕ) (v : HouseSession) (old new : S) (text : List ℕ) (p : Place) → Turned step count v old new p
-    → Idled step false n count v old new text text p
-idled_unprinted step n count v old new text p t = record {
-  after = t.after;
+pub unprinted : {S : Type 0} (step : S → Call → Answer → S → Type 0) (whole : Bool) (seat n : ℕ) (next : CopyKey) (heard : List Noted) (v : SeatedSession) (old new : S) (text : List ℕ) (p : Seat) → v.gone ≡ false
+    → SessionProceeded step whole seat next heard v old new p → WentOn step false seat n next heard v old new text text p
+unprinted step whole seat n next heard v old new text p there a = record {
+  after = still_unsaid a.after.session.unsaid a.after;
+  printed = [];
+  speaks = record {
+    spoken = a.after;
+    said = a.said;
+    goes = in_part_too step whole seat heard v old new a.after a.said (talking step whole seat heard v old new a.after a.said there a.proceeds);
+    still = a.after.session.unsaid;
+    prints = prints_none a.kept refl;
+    is = refl;
+  };
+  all = λ e. absurd (let f : false ≡ true = e in cc);
+  stands = unsaid_stands seat next heard p a.after a.stands;
+  out = sym (append-nil text);
+}
+
+-- memory was refused before, whatever came of printing
+pub session_part : {S : Type 0} (step : S → Call → Answer → S → Type 0) (seat n : ℕ) (next : CopyKey) (heard : List Noted) (v : SeatedSession) (old new : S) (text text_after : List ℕ) (p q : Seat) → v.gone ≡ false → p.gone ≡ false
+    → SessionProceeded step false seat next heard v old new p → (r : Result Unit AllocError) → OnOk r ((q ≡ with_place (with_all_said_at p.place) p) × (text_after ≡ text ++ marked of_session n p.place.unsaid)) → OnErr r ((q ≡ p) × (text_after ≡ text))
+    → WentOn step false seat n next heard v old new text text_after q
+session_part step seat n next heard v old new text text_after p q there live a (Ok tt) ok err =
+    subst (λ (x : Seat). WentOn step false seat n next heard v old new text text_after x) (sym ok.0) (went_on step false seat n next heard v old new text text_after p there live a ok.1)
+session_part step seat n next heard v old new text text_after p q there live a (Err fault) ok err =
+    subst (λ (x : Seat). WentOn step false seat n next heard v old new text text_after x) (sym err.0)
+    (subst (λ (t : List ℕ). WentOn step false seat n next heard v old new text t p) (sym err.1) (unprinted step false seat n next heard v old new text p there a))
+
+-- all that was said in a turn is printed
+pub idled : {S : Type 0} (step : S → Call → Answer → S → Type 0) (seat n count : ℕ) (next : CopyKey) (heard : List Noted) (v : SeatedSession) (old new : S) (text text_after : List ℕ) (p : Seat) → p.gone ≡ false
+    → SeatedTurned step count seat next heard v old new p → text_after ≡ text ++ marked of_session n p.place.unsaid
+    → Idled step true seat n count next heard v old new text text_after (with_place (with_all_said_at p.place) p)
+idled step seat n count next heard v old new text text_after p live t printed = record {
+  after = record { standing = t.session.standing; waits = t.session.waits; unsaid = [] };
+  printed = marked of_session n p.place.unsaid;
+  idles = record { said = t.said; turned = t.turned; waits = t.waits; prints = prints_all refl (ap (marked of_session n) ((t.stands.place live).unsaid ∙ t.kept)) };
+  all = λ w. refl;
+  stands = all_said_stands seat next heard p (with_session t.session v) t.stands;
+  out = printed;
+}
+
+pub idled_unprinted : {S : Type 0} (step : S → Call → Answer → S → Type 0) (seat n count : ℕ) (next : CopyKey) (heard : List Noted) (v : SeatedSession) (old new : S) (text : List ℕ) (p : Seat) → SeatedTurned step count seat next heard v old new p
+    → Idled step false seat n count next heard v old new text text p
+idled_unprinted step seat n count next heard v old new text p t = record {
+  after = t.session;
   printed = [];
   idles = record { said = t.said; turned = t.turned; waits = t.waits; prints = prints_none t.kept refl };
   all = λ w. absurd (let f : false ≡ true = w in cc);

@@ -1,5 +1,5 @@
 -- A house after a change: the seats that were not touched stand as they stood.
-use Rattle.std.proofs.Common.{◌≡◌, ℕ, ◌<◌, List, [], ◌∷◌, length, map, refl, ap, sym, ◌∙◌, subst, arith, Option, get_or}
+use Rattle.std.proofs.Common.{◌≡◌, ℕ, ◌+◌, ◌<◌, List, [], ◌∷◌, length, map, refl, ap, sym, ◌∙◌, subst, arith, Option, get_or}
 use Rattle.std.proofs.lemmas.List.{get_or-map}
 use Rattle.delivery_token.specs.declared.CopyKey.{CopyKey}
 use Rattle.delivery_token.specs.declared.log.Noted.{Noted}
@@ -11,9 +11,11 @@ use Rattle.delivery_core.specs.Stands as core
 use Rattle.house_connection.specs.Line.{Line}
 use Rattle.house.specs.State.{State}
 use Rattle.house_connection.specs.HouseConnection.{HouseConnection}
-use Rattle.house.specs.Setup.{Setup}
+use Rattle.house_session.specs.Seated.{SeatedSession}
+use Rattle.house_session.specs.Seat.{Seat}
+use Rattle.house.specs.Setup.{Setup, session_seat}
 use Rattle.house.specs.Scene.{Scene, with_world}
-use Rattle.house.specs.Stands.{StandsFor, StandsForOne, StandsForSeat}
+use Rattle.house.specs.Stands.{StandsFor, StandsForOne, StandsForPlace, StandsForSeat, StandsForVisit}
 
 -- what the world says that a seat has heard is what it noted
 pub heard_is : (k : Config) (h : Held) (w : World) → core.StandsFor k h w → (p : ℕ) → p < k.seats → notes_of h p ≡ w.heard p
@@ -34,13 +36,32 @@ seat_kept k s t q y z n m l o h ey en el eh ec ex = record {
       (subst (λ (v : Option HouseConnection). StandsForOne k q y (s.world.heard q) (s.next q) l v) (sym ec) h.who))));
 }
 
+-- so does a session's place
+pub place_kept : (k : Setup) (s t : Scene) (q : ℕ) (y z : CopyKey) (n m : ℕ) (l o : Option Seat) → StandsForPlace k s q y n l
+    → z ≡ y → m ≡ n → o ≡ l → t.world.heard (session_seat k q) ≡ s.world.heard (session_seat k q) → t.visitor q ≡ s.visitor q → t.entered q ≡ s.entered q → StandsForPlace k t q z m o
+place_kept k s t q y z n m l o h ey en el eh ec ex = record {
+  counted = en ∙ h.counted ∙ sym ex;
+  who = subst (λ (v : CopyKey). StandsForVisit (session_seat k q) v (t.world.heard (session_seat k q)) (t.entered q) o (t.visitor q)) (sym ey)
+      (subst (λ (v : List Noted). StandsForVisit (session_seat k q) y v (t.entered q) o (t.visitor q)) (sym eh)
+      (subst (λ (v : ℕ). StandsForVisit (session_seat k q) y (s.world.heard (session_seat k q)) v o (t.visitor q)) (sym ex)
+      (subst (λ (v : Option Seat). StandsForVisit (session_seat k q) y (s.world.heard (session_seat k q)) (s.entered q) v (t.visitor q)) (sym el)
+      (subst (λ (v : Option SeatedSession). StandsForVisit (session_seat k q) y (s.world.heard (session_seat k q)) (s.entered q) l v) (sym ec) h.who))));
+}
+
+-- a session's seat is among the seats, behind those of connections
+pub seat_within : (k : Setup) (h : State) (s : Scene) (q : ℕ) → StandsFor k h s → q < length h.visitors → session_seat k q < k.config.seats
+seat_within k h s q st l = let a = st.seats in let b = st.connections in omega (arith, l, a, b)
+
+pub seat_behind : (k : Setup) (h : State) (s : Scene) (seat q : ℕ) → StandsFor k h s → seat < length h.callers → session_seat k q ≡ seat → ⊥
+seat_behind k h s seat q st l e = let b = st.connections in omega (arith, l, e, b)
+
 -- one step of the world
 pub one_step : (k : Config) (w v : World) (e : world.Event) → Steps k w (e ∷ []) v → Step k w e v
 one_step k w v e s = subst (λ (x : World). Step k w e x) (sym s.2) s.1
 
 -- the delivery side made an event of which no seat hears
 pub moved : (k : Setup) (h : State) (c : Held) (s : Scene) (v : World) → StandsFor k h s → core.StandsFor k.config c v → c.heard ≡ h.core.heard → c.next ≡ h.core.next
-    → StandsFor k (record { core = c; callers = h.callers; serials = h.serials; visitors = h.visitors; directory = h.directory; host = h.host; max_message = h.max_message }) (with_world s v)
+    → StandsFor k (record { core = c; callers = h.callers; serials = h.serials; visitors = h.visitors; entered = h.entered; directory = h.directory; host = h.host; max_message = h.max_message }) (with_world s v)
 moved k h c s v st cs eh en = record {
   core = cs;
   directory = st.directory;
@@ -50,6 +71,7 @@ moved k h c s v st cs eh en = record {
   shards = st.shards;
   some_shard = st.some_shard;
   seats = st.seats;
+  connections = st.connections;
   numbers = st.numbers;
   each = λ q y n d l.
       let lt : q < k.config.seats = let e = st.seats in omega (arith, l, e) in
@@ -57,5 +79,10 @@ moved k h c s v st cs eh en = record {
       (ap (λ (ks : List CopyKey). get_or ks q y) en) refl refl
       (sym (heard_is k.config c v cs q lt) ∙ ap (λ (bs : List Book). get_or (map (λ (b : Book). b.notes) bs) q []) eh ∙ heard_is k.config h.core s.world st.core q lt) refl refl;
   places = st.places;
-  visitors = st.visitors;
+  entries = st.entries;
+  visitors = λ q y n d l.
+      let lt : session_seat k q < k.config.seats = seat_within k h s q st l in
+      place_kept k s (with_world s v) q (get_or h.core.next (session_seat k q) y) (get_or c.next (session_seat k q) y) (get_or h.entered q n) (get_or h.entered q n) (get_or h.visitors q d) (get_or h.visitors q d) (st.visitors q y n d l)
+      (ap (λ (ks : List CopyKey). get_or ks (session_seat k q) y) en) refl refl
+      (sym (heard_is k.config c v cs (session_seat k q) lt) ∙ ap (λ (bs : List Book). get_or (map (λ (b : Book). b.notes) bs) (session_seat k q) []) eh ∙ heard_is k.config h.core s.world st.core (session_seat k q) lt) refl refl;
 }

@@ -10,22 +10,25 @@ use Rattle.delivery_token.specs.declared.log.Noted.{Noted}
 use Rattle.house.specs.declared.event.Event.{Event}
 use Rattle.house.specs.declared.event.Event.TheVariants.{Bytes, Vanish, Put, Take, Deliver, Answer, Hear, End, Enter, Say, Idle, Leave}
 use Rattle.house_connection.specs.HouseConnection.{HouseConnection, unread, with_unsaid}
-use Rattle.house.specs.Printing.{ConnectionGoes, Leaves, goes, stays}
-use Rattle.house.proofs.Printed.{proceeds_part}
-use Rattle.house.specs.Setup.{Setup, terms_of}
-use Rattle.house.specs.Scene.{BytesPlay, HasNothing, HearPlay, Parts, Plays, PutPlay, Scene, VanishPlay, SessionGoes, SessionIdles, seat_of, place_of, opens, goes_on, parts, remains}
+use Rattle.house.specs.Printing.{ConnectionGoes, Leaves, Speaks, goes, stays, with_session}
+use Rattle.house.proofs.Printed.{proceeds_part, said_in_part}
+use Rattle.house.specs.Setup.{Setup, session_seat, terms_of}
+use Rattle.house.specs.Scene as scene
+use Rattle.house.specs.Scene.{BytesPlay, ConnectionHears, ConnectionPuts, HasNothing, HearPlay, IsFree, Parts, Plays, PutPlay, Scene, SessionGoes, SessionHears, SessionIdles, SessionPuts, SessionTalks, VanishPlay, connection_hears, connection_puts, goes_on, opens, parts, place_of, remains, seat_of, session_hears, session_puts}
+use Rattle.imap_session.specs.Exchange.{Call, Answer as Told}
+use Rattle.session_store.specs.Meets.{Meets}
 use Rattle.house_session.specs.Folders.{folders_of}
 use Rattle.world.specs.World.{World}
-use Rattle.house_session.specs.HouseSession.{HouseSession}
-use Rattle.house_session.specs.HouseSession.{greeted as greeted_visitor, more_waits as visitor_more_waits}
+use Rattle.house_session.specs.HouseSession.{more_waits as visitor_more_waits}
+use Rattle.house_session.specs.Seated.{SeatedSession, seated_greeted}
+use Rattle.house_session.specs.Seat.{Seat}
 use Rattle.house.specs.Settling.{GoesRounds, Happened, InTurn, Tries, Visit, Visits, happens, in_a_row, passes, round}
 use Rattle.house.specs.Settled.{HappenedFrom}
-use Rattle.house.specs.Stands.{StandsFor, StandsForOne}
-use Rattle.house.specs.Steps.{Follows, FollowsInPart, IsBusy, IsEmptySeat, IsFreePlace, IsNoPlace, IsNoSeat, IsNobody, Led}
-use Rattle.house.proofs.Visiting.{nobody_visits}
-use Rattle.house_connection.specs.Line.{Line}
+use Rattle.house.specs.Stands.{StandsFor}
+use Rattle.house.specs.Steps.{Follows, FollowsInPart, IsBusy, IsFreePlace, IsLeft, IsNoNumber, IsNoPlace, IsNobody, IsVacant, Led, is_left}
+use Rattle.house.proofs.Ended.{nobody_at_place, vacant_free}
+use Rattle.house.proofs.Visiting.{at_place}
 use Rattle.envelope.specs.Directory.{Directory}
-use Rattle.delivery_token.specs.declared.CopyKey.{CopyKey}
 use Rattle.delivery_core.specs.New.{first_key}
 use Rattle.std.proofs.lemmas.List.Elements.{All-append, All-cons, All-get_or, All-head, All-nil, All-tail, filter-append}
 use Rattle.std.proofs.Math.Seq.{take-suc}
@@ -64,8 +67,8 @@ vanish_part k s seat t printed p = record {
   after = p.after;
 }
 
-put_part : (k : Setup) (s : Scene) (seat : ℕ) (t : Scene) (printed : List ℕ) → PutPlay k true s seat t printed → PutPlay k false s seat t printed
-put_part k s seat t printed p = record {
+connection_put_part : (k : Setup) (s : Scene) (seat : ℕ) (t : Scene) (printed : List ℕ) → ConnectionPuts k true s seat t printed → ConnectionPuts k false s seat t printed
+connection_put_part k s seat t printed p = record {
   caller = p.caller;
   there = p.there;
   copy = p.copy;
@@ -78,8 +81,8 @@ put_part k s seat t printed p = record {
   after = p.after;
 }
 
-hear_part : (k : Setup) (s : Scene) (seat : ℕ) (t : Scene) (printed : List ℕ) → HearPlay k true s seat t printed → HearPlay k false s seat t printed
-hear_part k s seat t printed p = record {
+connection_hear_part : (k : Setup) (s : Scene) (seat : ℕ) (t : Scene) (printed : List ℕ) → ConnectionHears k true s seat t printed → ConnectionHears k false s seat t printed
+connection_hear_part k s seat t printed p = record {
   caller = p.caller;
   there = p.there;
   moved = p.moved;
@@ -89,15 +92,65 @@ hear_part k s seat t printed p = record {
   after = p.after;
 }
 
-parts_part : (k : Setup) (place : ℕ) (after : HouseSession) (w v : World) (o : Option HouseSession) → Parts k true place after w v o → Parts k false place after w v o
+parts_part : (k : Setup) (place : ℕ) (after : SeatedSession) (w v : World) (o : Option SeatedSession) → Parts k true place after w v o → Parts k false place after w v o
 parts_part k place after w v o (parts e u l n) = parts e u l n
 parts_part k place after w v o (remains r e n) = remains (λ f. absurd (let x : false ≡ true = f in cc)) e n
 
-visits_part : (k : Setup) (place : ℕ) (w : World) (b : HouseSession) (v : World) (o : Option HouseSession) (printed : List ℕ) → SessionGoes k true place w b v o printed → SessionGoes k false place w b v o printed
-visits_part k place w b v o printed p = record { after = p.after; mid = p.mid; speaks = p.speaks; all = λ f. absurd (let x : false ≡ true = f in cc); left = parts_part k place p.after p.mid v o p.left }
+speaks_part : {S : Type 0} (step : S → Call → Told → S → Type 0) (seat n : ℕ) (heard : List Noted) (b : SeatedSession) (old new : S) (after : SeatedSession) (printed : List ℕ) → Speaks step true seat n heard b old new after printed → Speaks step false seat n heard b old new after printed
+speaks_part step seat n heard b old new after printed s =
+    record { spoken = s.spoken; said = s.said; goes = said_in_part step seat heard b old new s.spoken s.said s.goes; still = s.still; prints = s.prints; is = s.is }
 
-idles_part : (k : Setup) (place : ℕ) (w : World) (b : HouseSession) (v : World) (o : Option HouseSession) (printed : List ℕ) → SessionIdles k true place w b v o printed → SessionIdles k false place w b v o printed
+talks_part : (k : Setup) (place : ℕ) (heard : List Noted) (w : World) (b : SeatedSession) (v : World) (o : Option SeatedSession) (printed : List ℕ) → SessionTalks k true place heard w b v o printed → SessionTalks k false place heard w b v o printed
+talks_part k place heard w b v o printed p = record {
+  after = p.after;
+  mid = p.mid;
+  speaks = speaks_part (Meets k.config place) (session_seat k place) (place + 1) heard b w p.mid p.after printed p.speaks;
+  all = λ f. absurd (let x : false ≡ true = f in cc);
+  left = parts_part k place p.after p.mid v o p.left;
+}
+
+session_part : (k : Setup) (place : ℕ) (heard : List Noted) (w : World) (b : SeatedSession) (v : World) (o : Option SeatedSession) (printed : List ℕ) → SessionGoes k true place heard w b v o printed → SessionGoes k false place heard w b v o printed
+session_part k place heard w b v o printed (scene.talks l p) = scene.talks l (talks_part k place heard w b v o printed p)
+session_part k place heard w b v o printed (scene.lingers l p n e) = scene.lingers l p n e
+
+session_put_part : (k : Setup) (s : Scene) (place : ℕ) (t : Scene) (printed : List ℕ) → SessionPuts k true s place t printed → SessionPuts k false s place t printed
+session_put_part k s place t printed p = record {
+  visitor = p.visitor;
+  there = p.there;
+  copy = p.copy;
+  others = p.others;
+  front = p.front;
+  moved = p.moved;
+  step = p.step;
+  later = p.later;
+  left = p.left;
+  goes = session_part k place (p.moved.heard (session_seat k place)) p.moved (record { session = p.visitor.session; serial = p.visitor.serial; gone = p.visitor.gone; to_put = p.others }) p.later p.left printed p.goes;
+  after = p.after;
+}
+
+session_hear_part : (k : Setup) (s : Scene) (place : ℕ) (t : Scene) (printed : List ℕ) → SessionHears k true s place t printed → SessionHears k false s place t printed
+session_hear_part k s place t printed p = record {
+  visitor = p.visitor;
+  there = p.there;
+  moved = p.moved;
+  step = p.step;
+  later = p.later;
+  left = p.left;
+  goes = session_part k place (p.moved.heard (session_seat k place)) p.moved p.visitor p.later p.left printed p.goes;
+  after = p.after;
+}
+
+put_part : (k : Setup) (s : Scene) (seat : ℕ) (t : Scene) (printed : List ℕ) → PutPlay k true s seat t printed → PutPlay k false s seat t printed
+put_part k s seat t printed (connection_puts l p) = connection_puts l (connection_put_part k s seat t printed p)
+put_part k s seat t printed (session_puts place e p) = session_puts place e (session_put_part k s place t printed p)
+
+hear_part : (k : Setup) (s : Scene) (seat : ℕ) (t : Scene) (printed : List ℕ) → HearPlay k true s seat t printed → HearPlay k false s seat t printed
+hear_part k s seat t printed (connection_hears l p) = connection_hears l (connection_hear_part k s seat t printed p)
+hear_part k s seat t printed (session_hears place e p) = session_hears place e (session_hear_part k s place t printed p)
+
+idles_part : (k : Setup) (place : ℕ) (w : World) (b : SeatedSession) (v : World) (o : Option SeatedSession) (printed : List ℕ) → SessionIdles k true place w b v o printed → SessionIdles k false place w b v o printed
 idles_part k place w b v o printed p = record {
+  is_read = p.is_read;
   idling = p.idling;
   after = p.after;
   mid = p.mid;
@@ -105,7 +158,7 @@ idles_part k place w b v o printed p = record {
   idles = p.idles;
   something = p.something;
   all = λ f. absurd (let x : false ≡ true = f in cc);
-  left = parts_part k place p.after p.mid v o p.left;
+  left = parts_part k place (with_session p.after b) p.mid v o p.left;
 }
 
 pub plays_part : (k : Setup) (s : Scene) (e : Event) (t : Scene) (printed : List ℕ) → Plays k true s e t printed → Plays k false s e t printed
@@ -117,8 +170,26 @@ plays_part k s (Deliver shard) t printed p = p
 plays_part k s (Answer shard) t printed p = p
 plays_part k s (Hear connection) t printed p = hear_part k s _ t printed p
 plays_part k s (End connection shard) t printed p = p
-plays_part k s (Enter session user) t printed p = record { there = p.there; free = p.free; known = p.known; moved = p.moved; left = p.left; goes = visits_part k (place_of session) s.world (greeted_visitor None (folders_of k.directory user.now)) p.moved p.left printed p.goes; after = p.after }
-plays_part k s (Say session piece) t printed p = record { visitor = p.visitor; there = p.there; moved = p.moved; left = p.left; goes = visits_part k (place_of session) s.world (visitor_more_waits p.visitor piece.now) p.moved p.left printed p.goes; after = p.after }
+plays_part k s (Enter session user) t printed p = record {
+  there = p.there;
+  free = p.free;
+  known = p.known;
+  more = p.more;
+  goes_on = p.goes_on;
+  moved = p.moved;
+  left = p.left;
+  goes = talks_part k (place_of session) (s.world.heard (session_seat k (place_of session))) s.world (seated_greeted (s.entered (place_of session)) (Some k.max_message) (folders_of k.directory user.now)) p.moved p.left printed p.goes;
+  after = p.after;
+}
+plays_part k s (Say session piece) t printed p = record {
+  visitor = p.visitor;
+  there = p.there;
+  is_read = p.is_read;
+  moved = p.moved;
+  left = p.left;
+  goes = talks_part k (place_of session) (s.world.heard (session_seat k (place_of session))) s.world (with_session (visitor_more_waits p.visitor.session piece.now) p.visitor) p.moved p.left printed p.goes;
+  after = p.after;
+}
 plays_part k s (Idle session) t printed p = record { visitor = p.visitor; there = p.there; moved = p.moved; left = p.left; goes = idles_part k (place_of session) s.world p.visitor p.moved p.left printed p.goes; after = p.after }
 plays_part k s (Leave session) t printed p = p
 
@@ -273,24 +344,24 @@ wants_as Q Q' h o h1 o1 f c = record { happened = λ k s q st. c.happened k s (f
 
 -- ---- an event where nobody is
 
-no_caller : (k : Setup) (s : Scene) (seat : ℕ) (next : CopyKey) (o : Option HouseConnection) → s.caller seat ≡ o → StandsForOne k seat next (s.world.heard seat) (s.next seat) None o → s.caller seat ≡ None
-no_caller k s seat next None e w = e
-no_caller k s seat next (Some b) e w = absurd w
-
-nobody_there : (k : Setup) (h : State) (s : Scene) (n : ℕ) → 0 < n → n ≤ k.config.seats → StandsFor k h s → IsNoSeat h n ⊎ IsEmptySeat h n → s.caller (seat_of n) ≡ None
+nobody_there : (k : Setup) (h : State) (s : Scene) (n : ℕ) → 0 < n → n ≤ k.config.seats → StandsFor k h s → IsNoNumber h n ⊎ IsVacant h n → IsFree k s (seat_of n)
 nobody_there k h s n pos le st (inl (inl e)) = absurd (omega (arith, pos, e))
 nobody_there k h s n pos le st (inl (inr l)) = absurd (let e = st.seats in omega (arith, le, l, e))
-nobody_there k h s n pos le st (inr e) =
-    let y = first_key 0 in
-    let lt : n - 1 < length h.callers = let f = st.seats in omega (arith, pos, le, f) in
-    no_caller k s (n - 1) (get_or h.core.next (n - 1) y) (s.caller (n - 1)) refl
-    (subst (λ (x : Option Line). StandsForOne k (n - 1) (get_or h.core.next (n - 1) y) (s.world.heard (n - 1)) (s.next (n - 1)) x (s.caller (n - 1))) e (st.each (n - 1) y 0 None lt).who)
+nobody_there k h s n pos le st (inr e) = vacant_free k h s (n - 1) st (let f = st.seats in omega (arith, pos, le, f)) e
+
+none_puts : (k : Setup) (s : Scene) (seat : ℕ) (t : Scene) (printed : List ℕ) → IsFree k s seat → PutPlay k true s seat t printed → ⊥
+none_puts k s seat t printed f (connection_puts l p) = let z : None ≡ Some p.caller = sym (f.connection l) ∙ p.there in cc
+none_puts k s seat t printed f (session_puts place e p) = let z : None ≡ Some p.visitor = sym (f.session place e) ∙ p.there in cc
+
+none_hears : (k : Setup) (s : Scene) (seat : ℕ) (t : Scene) (printed : List ℕ) → IsFree k s seat → HearPlay k true s seat t printed → ⊥
+none_hears k s seat t printed f (connection_hears l p) = let z : None ≡ Some p.caller = sym (f.connection l) ∙ p.there in cc
+none_hears k s seat t printed f (session_hears place e p) = let z : None ≡ Some p.visitor = sym (f.session place e) ∙ p.there in cc
 
 nobody_visits_there : (k : Setup) (h : State) (s : Scene) (n : ℕ) → 0 < n → n ≤ k.config.sessions → StandsFor k h s → IsNoPlace h n ⊎ IsFreePlace h n → s.visitor (place_of n) ≡ None
 nobody_visits_there k h s n pos le st (inl (inl e)) = absurd (omega (arith, pos, e))
 nobody_visits_there k h s n pos le st (inl (inr l)) = absurd (let e = st.places in omega (arith, le, l, e))
 nobody_visits_there k h s n pos le st (inr e) =
-    nobody_visits (get_or h.visitors (n - 1) None) (s.visitor (n - 1)) (st.visitors (n - 1) None (let f = st.places in omega (arith, pos, le, f))) e
+    nobody_at_place k h s (n - 1) st (let f = st.places in omega (arith, pos, le, f)) e
 
 pub nobody_nothing : (k : Setup) (h : State) (s : Scene) (e : Event) → IsAmong k e → StandsFor k h s → IsNobody h e → HasNothing k s e
 nobody_nothing k h s (Bytes connection piece) q st n = absurd q
@@ -300,11 +371,24 @@ nobody_nothing k h s (Enter session user) q st n = absurd q
 nobody_nothing k h s (Say session piece) q st n = absurd q
 nobody_nothing k h s (Leave session) q st n = absurd q
 nobody_nothing k h s (Idle session) q st n = λ t printed p. absurd (let x = nobody_visits_there k h s session q.0 q.1 st n in let y = p.there in let z : None ≡ Some p.visitor = sym x ∙ y in cc)
-nobody_nothing k h s (Put connection) q st n = λ t printed p. absurd (let x = nobody_there k h s connection q.0 q.1 st n in let y = p.there in let z : None ≡ Some p.caller = sym x ∙ y in cc)
-nobody_nothing k h s (Hear connection) q st n = λ t printed p. absurd (let x = nobody_there k h s connection q.0 q.1 st n in let y = p.there in let z : None ≡ Some p.caller = sym x ∙ y in cc)
+nobody_nothing k h s (Put number) q st n = λ t printed p. absurd (none_puts k s (seat_of number) t printed (nobody_there k h s number q.0 q.1 st n) p)
+nobody_nothing k h s (Hear number) q st n = λ t printed p. absurd (none_hears k s (seat_of number) t printed (nobody_there k h s number q.0 q.1 st n) p)
 nobody_nothing k h s (Take shard) q st n = absurd (let e = st.core.shards in omega (arith, e, q, n))
 nobody_nothing k h s (Deliver shard) q st n = absurd (let e = st.core.shards in omega (arith, e, q, n))
 nobody_nothing k h s (Answer shard) q st n = absurd (let e = st.core.shards in omega (arith, e, q, n))
+
+-- nor is a session shown anything while its client is gone
+pub left_nothing : (k : Setup) (h : State) (s : Scene) (session : ℕ) → StandsFor k h s → IsLeft h session → HasNothing k s (Idle session)
+left_nothing k h s session st l t printed p =
+    let within : place_of session < length h.visitors = let a = l.number in let b = l.place in omega (arith, a, b) in
+    let g = left_at (get_or h.visitors (place_of session) None) l.gone in
+    let a = at_place k h s (place_of session) (first_key 0) g.0 st within g.1 in
+    let same : a.visitor ≡ p.visitor = let x : Some a.visitor ≡ Some p.visitor = sym a.here ∙ p.there in cc in
+    absurd (let x : true ≡ false = sym g.2 ∙ a.stands.gone ∙ ap (λ (v : SeatedSession). v.gone) same ∙ p.goes.is_read in cc)
+  where
+    left_at : (o : Option Seat) → is_left o ≡ true → (g : Seat) × (o ≡ Some g) × (g.gone ≡ true)
+    left_at None e = absurd (let x : false ≡ true = e in cc)
+    left_at (Some g) e = (g, refl, e)
 
 -- an own event makes less
 pub own_less : (e : Event) (old new : State) → IsOwn e → MakesLess e old new → effort new < effort old
@@ -504,7 +588,7 @@ seats_step make seats seat h o h1 o1 h2 o2 a b f c d =
     (one_visit (λ k. k.config.seats ≡ seats) (make (seat + 1)) h1 o1 h2 o2 b f d))
 
 pub seats_wants : (make : ℕ → List Event) (seats seat : ℕ) (h : State) (o : List ℕ) (h1 : State) (o1 : List ℕ) (h2 : State) (o2 : List ℕ) (a : Bool) → ((k : Setup) → k.config.seats ≡ seats → All (IsAmong k) (make (seat + 1)))
-    → seats ≡ length h.callers → DidVisits (λ k. k.config.seats ≡ seats) (λ k. map make (range_with_len 1 seat)) h o h1 o1 a → Wants (λ k. All (IsAmong k) (make (seat + 1))) h1 o1 h2 o2 → Wants (λ k. Unit {0}) h o h2 o2
+    → seats ≡ length h.callers + length h.visitors → DidVisits (λ k. k.config.seats ≡ seats) (λ k. map make (range_with_len 1 seat)) h o h1 o1 a → Wants (λ k. All (IsAmong k) (make (seat + 1))) h1 o1 h2 o2 → Wants (λ k. Unit {0}) h o h2 o2
 seats_wants make seats seat h o h1 o1 h2 o2 a f e c d =
     wants_as (λ k. k.config.seats ≡ seats) (λ k. Unit {0}) h o h2 o2 (λ k s q st. sym (e ∙ st.seats))
     (visits_wants (λ k. k.config.seats ≡ seats) (λ k. map make (range_with_len 1 seat)) h o h1 o1 h2 o2 a c

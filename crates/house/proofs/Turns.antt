@@ -22,7 +22,7 @@ use Rattle.house.specs.State.{State}
 use Rattle.lmtp_machine.specs.Dialogue.{Submission}
 use Rattle.house_connection.specs.HouseConnection.{HouseConnection, copies_of}
 use Rattle.house.specs.Setup.{Setup, terms_of}
-use Rattle.house.specs.Scene.{HearPlay, PutPlay, Scene, with_caller, with_world}
+use Rattle.house.specs.Scene.{ConnectionHears, ConnectionPuts, HearPlay, PutPlay, Scene, connection_hears, connection_puts, session_hears, session_puts, with_caller, with_world}
 use Rattle.house_connection.specs.Taking.{HearsVerdict, due, noted_put}
 use Rattle.submission.specs.inner.Verdicts.{heard_verdict}
 use Rattle.house_connection.specs.ConnectionStands.{StandsForConnection}
@@ -33,10 +33,10 @@ use Rattle.house.specs.inner.Steps.{MayNotPut, PlaceWentOn, StandsForMaybe}
 use Rattle.house.proofs.Events.{IsAt, at_seat}
 use Rattle.house.proofs.Places.{after_going}
 use Rattle.house_connection.proofs.Putting.{heard_stands, next_copy, put_stands}
-use Rattle.house.proofs.Seats.{heard_is, one_step}
+use Rattle.house.proofs.Seats.{heard_is, one_step, seat_behind}
 
 -- what may be put
-may_of : (k : Config) (w : World) (p s : ℕ) (c : Job) (v : World) → PutStep k w p s c v → MayPut k w p s c
+pub may_of : (k : Config) (w : World) (p s : ℕ) (c : Job) (v : World) → PutStep k w p s c v → MayPut k w p s c
 may_of k w p s c v (put_joins m l e) = m
 may_of k w p s c v (put_full m l e) = m
 may_of k w p s c v (put_no_memory m room e) = m
@@ -45,23 +45,23 @@ longer : {A : Type 0} (xs : List A) (x : A) → xs ++ x ∷ [] ≡ xs → ⊥
 longer xs x e = let l = ap length e in let m = length-append xs (x ∷ []) in omega (arith, l, m)
 
 -- a put changes the world, and so does a hearing
-put_moves : (k : Config) (w : World) (p s : ℕ) (c : Job) (v : World) → PutStep k w p s c v → v ≡ w → ⊥
+pub put_moves : (k : Config) (w : World) (p s : ℕ) (c : Job) (v : World) → PutStep k w p s c v → v ≡ w → ⊥
 put_moves k w p s c v (put_joins m l e) f = longer (w.lane s).waiting _ (sym (ap (λ (x : Lane Job). x.waiting) (set_at-same w.lane s _)) ∙ ap (λ (x : World). (x.lane s).waiting) (sym e ∙ f))
 put_moves k w p s c v (put_full m l e) f = longer (w.heard p) _ (sym (set_at-same w.heard p _) ∙ ap (λ (x : World). x.heard p) (sym e ∙ f))
 put_moves k w p s c v (put_no_memory m room e) f = longer (w.heard p) _ (sym (set_at-same w.heard p _) ∙ ap (λ (x : World). x.heard p) (sym e ∙ f))
 
-hear_moves : (w : World) (p : ℕ) (v : World) → HearStep w p v → v ≡ w → ⊥
+pub hear_moves : (w : World) (p : ℕ) (v : World) → HearStep w p v → v ≡ w → ⊥
 hear_moves w p v (hears_one s r others h e) f = longer (w.heard p) _ (sym (set_at-same w.heard p _) ∙ ap (λ (x : World). x.heard p) (sym e ∙ f))
 
 -- the world's put, by the names that the scene has
-step_of : (k : Config) (w v : World) (c : Job) (p q lanes : ℕ) → p ≡ q → lanes ≡ k.shards → Step k w (world.Put p (c.mailbox % lanes) c) v → Step k w (world.Put q (shard_of k c.mailbox) c) v
+pub step_of : (k : Config) (w v : World) (c : Job) (p q lanes : ℕ) → p ≡ q → lanes ≡ k.shards → Step k w (world.Put p (c.mailbox % lanes) c) v → Step k w (world.Put q (shard_of k c.mailbox) c) v
 step_of k w v c p q lanes e f h = subst (λ (n : ℕ). PutStep k w q (c.mailbox % n) c v) f (subst (λ (n : ℕ). PutStep k w n (c.mailbox % lanes) c v) e h)
 
 pub put_led : (k : Setup) (h : State) (s : Scene) (number seat : ℕ) (directory : Directory) (g : Line) (c : Held) (why : Option Refusal) (place l : Option Line) (whole : Bool) (old new : List ℕ)
-    → StandsFor k h s → number ≡ seat + 1 → directory ≡ h.directory → seat < length h.callers → get_or h.callers seat None ≡ Some g → PutsNext h.core g c why → place ≡ Some (noted_put (heard_verdict why) g)
+    → StandsFor k h s → number ≡ seat + 1 → directory ≡ h.directory → seat < length h.callers → get_or h.callers seat None ≡ Some g → PutsNext h.core (due g) c why → place ≡ Some (noted_put (heard_verdict why) g)
     → ((x : Setup) (p : ℕ) (next : CopyKey) (heard : List Noted) (b : HouseConnection) → IsOf x number p directory → StandsForMaybe x p next heard place (Some b) → PlaceWentOn x whole p next heard b l old new)
-    → (t : Scene) × (printed : List ℕ) × PutPlay k whole s seat t printed
-    × StandsFor k (record { core = c; callers = set h.callers seat l; serials = h.serials; visitors = h.visitors; directory = h.directory; host = h.host; max_message = h.max_message }) t
+    → (t : Scene) × (printed : List ℕ) × ConnectionPuts k whole s seat t printed
+    × StandsFor k (record { core = c; callers = set h.callers seat l; serials = h.serials; visitors = h.visitors; entered = h.entered; directory = h.directory; host = h.host; max_message = h.max_message }) t
     × (new ≡ old ++ printed)
 put_led k h s number seat directory g c why place l whole old new st e dir lt some puts is f =
     let y = first_key seat in
@@ -117,7 +117,7 @@ front_is : (a b : Job) (xs ys : List Job) → a ∷ xs ≡ b ∷ ys → a ≡ b
 front_is a b xs ys e = cc
 
 -- where no copy may be put, none is
-pub put_idles : (k : Setup) (h : State) (s : Scene) (seat : ℕ) (g : Line) (t : Scene) (printed : List ℕ) → StandsFor k h s → seat < length h.callers → get_or h.callers seat None ≡ Some g → MayNotPut h.core g → PutPlay k true s seat t printed → ⊥
+pub put_idles : (k : Setup) (h : State) (s : Scene) (seat : ℕ) (g : Line) (t : Scene) (printed : List ℕ) → StandsFor k h s → seat < length h.callers → get_or h.callers seat None ≡ Some g → MayNotPut h.core (due g) → ConnectionPuts k true s seat t printed → ⊥
 put_idles k h s seat g t printed st lt some (inl none) p =
     let a = at_seat k h s seat (first_key seat) g st lt some in
     let same : a.caller ≡ p.caller = let x : Some a.caller ≡ Some p.caller = sym a.here ∙ p.there in cc in
@@ -140,8 +140,8 @@ pub heard_led : (k : Setup) (h : State) (s : Scene) (number seat : ℕ) (directo
     → StandsFor k h s → number ≡ seat + 1 → directory ≡ h.directory → seat < length h.callers → get_or h.callers seat None ≡ Some g
     → ((x : Config) → core.Follows x h.core (world.Hear seat ∷ []) c) → Hears h.core c seat (r ∷ []) → c.next ≡ h.core.next → HearsVerdict g r q
     → ((x : Setup) (p : ℕ) (next : CopyKey) (heard : List Noted) (b : HouseConnection) → IsOf x number p directory → StandsForMaybe x p next heard (Some q) (Some b) → PlaceWentOn x whole p next heard b l old new)
-    → (t : Scene) × (printed : List ℕ) × HearPlay k whole s seat t printed
-    × StandsFor k (record { core = c; callers = set h.callers seat l; serials = h.serials; visitors = h.visitors; directory = h.directory; host = h.host; max_message = h.max_message }) t
+    → (t : Scene) × (printed : List ℕ) × ConnectionHears k whole s seat t printed
+    × StandsFor k (record { core = c; callers = set h.callers seat l; serials = h.serials; visitors = h.visitors; entered = h.entered; directory = h.directory; host = h.host; max_message = h.max_message }) t
     × (new ≡ old ++ printed)
 heard_led k h s number seat directory g c r q l whole old new st e dir lt some follows hears nexts slot f =
     let y = first_key seat in
@@ -162,7 +162,7 @@ heard_led k h s number seat directory g c r q l whole old new st e dir lt some f
       w.out,
     )
 
-pub hear_idles : (k : Setup) (h : State) (s : Scene) (seat : ℕ) (t : Scene) (printed : List ℕ) → StandsFor k h s → ((x : Config) → core.Idle x h.core (world.Hear seat)) → HearPlay k true s seat t printed → ⊥
+pub hear_idles : (k : Setup) (h : State) (s : Scene) (seat : ℕ) (t : Scene) (printed : List ℕ) → StandsFor k h s → ((x : Config) → core.Idle x h.core (world.Hear seat)) → ConnectionHears k true s seat t printed → ⊥
 hear_idles k h s seat t printed st idle p = hear_moves s.world seat p.moved p.step (idle k.config s.world p.moved st.core p.step)
 
 -- who stands at a place heard it
@@ -170,3 +170,13 @@ pub heard_at : (o p : Option Line) (r : Noted) (g : Line) → o ≡ Some g → M
 heard_at None p r g e m = absurd (let x : None ≡ Some g = e in cc)
 heard_at (Some h) None r g e m = absurd m
 heard_at (Some h) (Some q) r g e m = let x : h ≡ g = cc in (q, refl, subst (λ (z : Line). HearsVerdict z r q) x m)
+
+-- ---- at a connection's seat nobody else puts or hears
+
+pub puts_none : (k : Setup) (h : State) (s : Scene) (seat : ℕ) (g : Line) (t : Scene) (printed : List ℕ) → StandsFor k h s → seat < length h.callers → get_or h.callers seat None ≡ Some g → MayNotPut h.core (due g) → PutPlay k true s seat t printed → ⊥
+puts_none k h s seat g t printed st lt some why (connection_puts l p) = put_idles k h s seat g t printed st lt some why p
+puts_none k h s seat g t printed st lt some why (session_puts place e p) = seat_behind k h s seat place st lt (sym e)
+
+pub hears_none : (k : Setup) (h : State) (s : Scene) (seat : ℕ) (t : Scene) (printed : List ℕ) → StandsFor k h s → seat < length h.callers → ((x : Config) → core.Idle x h.core (world.Hear seat)) → HearPlay k true s seat t printed → ⊥
+hears_none k h s seat t printed st lt idle (connection_hears l p) = hear_idles k h s seat t printed st idle p
+hears_none k h s seat t printed st lt idle (session_hears place e p) = seat_behind k h s seat place st lt (sym e)

@@ -1,79 +1,67 @@
--- What a session does over the delivery core, as what its visitor does in the scene.
-use Rattle.std.proofs.Common.{◌≡◌, ℕ, ◌+◌, ◌-◌, ◌<◌, ◌≤◌, inl, inr, Bool, true, false, List, [], ◌++◌, length, get_or, set, zero, suc, append_assoc, length-set, get_or-set_same, get_or-set_other, refl, sym, ap, ◌∙◌, subst, arith, Option, Some, None}
+-- What a session does over the delivery core, as what it does in the scene; and a house whose session at one place went on.
+use Rattle.std.proofs.Common.{◌≡◌, ◌≢◌, ℕ, ◌+◌, ◌-◌, ◌<◌, ◌≤◌, ◌⊎◌, inl, inr, Bool, true, false, eqb, List, [], ◌++◌, length, get_or, set, zero, suc, append_assoc, append-nil, length-set, get_or-set_same, get_or-set_other, refl, sym, ap, ◌∙◌, subst, arith, Option, Some, None}
 use Rattle.std.specs.Prelude.{◌↔◌, IsTrue}
 use Rattle.std.specs.Option.{is_some}
 use Rattle.std.proofs.lemmas.Bool.{cases_lt}
+use Rattle.std.proofs.lemmas.Bool.Decides.{eqb_tells}
+use Rattle.delivery_token.specs.Keys.{AtLeast}
+use Rattle.delivery_token.specs.declared.CopyKey.{CopyKey}
+use Rattle.delivery_token.specs.declared.log.Noted.{Noted}
 use Rattle.delivery_core.specs.Changes.{SameDelivery}
-use Rattle.delivery_core.specs.Held.{Held}
+use Rattle.delivery_core.specs.Held.{Held, notes_of}
 use Rattle.delivery_core.specs.Stands as core
-use Rattle.house.specs.Setup.{Setup}
-use Rattle.imap_session.specs.Exchange.{Answer, Call, Standing}
+use Rattle.delivery_core.proofs.Follow.{get_or-any}
+use Rattle.house.specs.Setup.{Setup, session_seat}
+use Rattle.imap_session.specs.Exchange.{Answer, Sent, Standing}
 use Rattle.imap_session.specs.Exchange as calls
-use Rattle.imap_session.specs.declared.standing.After.{After}
-use Rattle.imap_connection.specs.Dialogue as dialogue
-use Rattle.imap_connection.specs.Dialogue.{AnswersLine, Converses, goes_on, parts, reads, silent, too_long, AnswersOne, Sends}
 use Rattle.session_store.specs.declared.desk.Desk.{Desk}
 use Rattle.session_store.specs.Desk.{Serves}
 use Rattle.session_store.specs.Meets.{Meets}
-use Rattle.session_store.proofs.Served.{IsServing, carries, met_delivery}
-use Rattle.session_store.proofs.Serving.{same_delivery}
-use Rattle.shard_queue.proofs.AtLaws.{at_cases}
-use Rattle.house_session.specs.Place.{Place}
+use Rattle.session_store.proofs.Served.{IsServing, carries}
+use Rattle.shard_queue.specs.At.{set_at}
+use Rattle.shard_queue.proofs.AtLaws.{at_cases, set_at-same}
+use Rattle.house_session.specs.Seated as seated
+use Rattle.house_session.specs.Seated.{GoesOn, SeatedSession, Works, sent_by}
+use Rattle.house_session.specs.Seat.{Seat, StandsForSeated, key_with}
 use Rattle.house.specs.inner.Printing.{WentOn}
-use Rattle.house_session.specs.Place as visit
-use Rattle.envelope.specs.Directory.{Directory}
-use Rattle.house_session.specs.Folders.{folders_of, has_user}
-use Rattle.house_session.specs.HouseSession.{HouseSession, greeted, more_waits}
-use Rattle.house.specs.Printing.{Speaks}
+use Rattle.house.specs.Printing.{Speaks, still_unsaid, with_session}
 use Rattle.house.proofs.Carried.{speaks_carried}
 use Rattle.world.specs.World.{World}
 use Rattle.house.specs.State.{State}
-use Rattle.house.specs.Scene.{EnterPlay, LeavePlay, LeavesMailbox, Parts, SayPlay, Scene, SessionGoes, with_visitor, with_world}
-use Rattle.house.specs.Scene as scene
-use Rattle.house.specs.Stands.{StandsFor, StandsForVisit}
+use Rattle.house.specs.Scene.{Lingers, Parts, Scene, SessionGoes, SessionTalks, fades, lingers, parts, remains, talks, waits}
+use Rattle.house.specs.Stands.{StandsFor, StandsForPlace, StandsForSeat, StandsForVisit, first_of}
 use Rattle.house.specs.Steps.{IsNoPlace}
-use Rattle.house.specs.inner.Steps.{PlaceVisited}
-use Rattle.house.proofs.Seats.{moved}
-
--- ---- what lies between seats and mailboxes stays
+use Rattle.house.specs.inner.Steps.{HasLingered, PlaceTalked, PlaceVisited, StandsForSomebody}
+use Rattle.house.proofs.Places.{at_there, later_connection}
+use Rattle.house.proofs.Seats.{heard_is, place_kept, seat_kept, seat_within}
 
 pub delivery_then : (a b c : Held) → SameDelivery a b → SameDelivery b c → SameDelivery a c
 delivery_then a b c p q = record { lanes = q.lanes ∙ p.lanes; hands = q.hands ∙ p.hands; replies = q.replies ∙ p.replies; heard = q.heard ∙ p.heard; next = q.next ∙ p.next }
 
-line_delivery : (now : Standing) (line : List ℕ) (old new : Desk) (before after : List ℕ) (how : After) (next : Standing) → AnswersLine Serves now line old new before after how next → SameDelivery old.core new.core
-line_delivery now line old new before after how next (reads short a) = met_delivery old new a.events a.met
-line_delivery now line old new before after how next (too_long long same wrote go stays) = subst (λ (d : Desk). SameDelivery old.core d.core) (sym same) (same_delivery old.core)
-
-one_delivery : (now : Standing) (one : Sends) (old new : Desk) (before after : List ℕ) (how : After) (next : Standing) → AnswersOne Serves now one old new before after how next → SameDelivery old.core new.core
-one_delivery now (dialogue.Line line) old new before after how next answered = line_delivery now line old new before after how next answered.1
-one_delivery now (dialogue.Bytes bytes) old new before after how next taken = subst (λ (d : Desk). SameDelivery old.core d.core) (sym taken.unasked) (same_delivery old.core)
-
-converses_delivery : (now : Standing) (sent : List Sends) (old new : Desk) (said : List ℕ) (how : After) (next : Standing) → Converses Serves now sent old new said how next → SameDelivery old.core new.core
-converses_delivery now sent old new said how next (silent a b) = same_delivery old.core
-converses_delivery now sent old new said how next (parts a b one c d x e stops answered) = one_delivery now one old new [] said how next answered
-converses_delivery now sent old new said how next (goes_on a between b one others c mid d first second e follows answered more) =
-    delivery_then old.core mid.core new.core (one_delivery now one old mid [] first _ between answered) (converses_delivery between others mid new second how next more)
-
--- ---- one visit
+-- ---- one that talks
 
 -- the session went on over the desk, and so it did in the world
-pub record Went (k : Setup) (place : ℕ) (number : ℕ) (b after : HouseSession) (w : World) (desk : Desk) (printed : List ℕ) : Type 0 where
+record Went (k : Setup) (whole : Bool) (place number : ℕ) (heard : List Noted) (b after : SeatedSession) (w : World) (desk : Desk) (printed : List ℕ) : Type 0 where
   pub mid : World
-  pub speaks : Speaks (Meets k.config place) number b w mid after printed
+  pub speaks : Speaks (Meets k.config place) whole (session_seat k place) number heard b w mid after printed
   pub serving : IsServing k.config place desk mid
 
-pub went : (k : Setup) (place number : ℕ) (b after : HouseSession) (old new : Desk) (printed : List ℕ) (w : World) → Speaks Serves number b old new after printed → old.session ≡ place → core.StandsFor k.config old.core w
-    → Went k place number b after w new printed
-went k place number b after old new printed w s at stands =
-    let c = speaks_carried Serves (λ w call answer v. Meets k.config place w call answer v) (IsServing k.config place) (carries k.config place) number b old new after printed w s (record { session = at; stands = stands }) in
+went : (k : Setup) (whole : Bool) (place number : ℕ) (heard : List Noted) (b after : SeatedSession) (old new : Desk) (printed : List ℕ) (w : World) → Speaks Serves whole (session_seat k place) number heard b old new after printed → old.session ≡ place
+    → core.StandsFor k.config old.core w → Went k whole place number heard b after w new printed
+went k whole place number heard b after old new printed w s at stands =
+    let c = speaks_carried Serves (λ w call answer v. Meets k.config place w call answer v) (IsServing k.config place) (carries k.config place) whole (session_seat k place) number heard b old new after printed w s (record { session = at; stands = stands }) in
     record { mid = c.0; speaks = c.1; serving = c.2 }
 
+-- whether it has ended is what its seat says
+ended_is : (seat : ℕ) (next : CopyKey) (heard : List Noted) (p : Seat) (v : SeatedSession) → StandsForSeated seat next heard p v → p.gone ≡ false → p.place.link.session.ended ≡ v.session.standing.ended
+ended_is seat next heard p v s live = ap (λ (x : Standing). x.ended) (s.place live).connection.session
+
 -- it remains at its place
-pub visited : (k : Setup) (whole : Bool) (number : ℕ) (b : HouseSession) (old new : Desk) (w : World) (p : Place) (before after : List ℕ) → 0 < number → old.session ≡ number - 1 → core.StandsFor k.config old.core w
-    → WentOn Serves whole number b old new before after p → (whole ≡ true → p.link.session.ended ≡ false)
-    → PlaceVisited k whole (number - 1) w b old.core (Some p) new.core before after
-visited k whole number b old new w p before after some at stands o live =
-    let g = went k (number - 1) number b o.after old new o.printed w o.speaks at stands in
+pub talked : (k : Setup) (whole : Bool) (number : ℕ) (next : CopyKey) (heard : List Noted) (b : SeatedSession) (old new : Desk) (w : World) (p : Seat) (before after : List ℕ) → 0 < number → old.session ≡ number - 1 → core.StandsFor k.config old.core w
+    → WentOn Serves whole (session_seat k (number - 1)) number next heard b old new before after p → p.gone ≡ false → (whole ≡ true → p.place.link.session.ended ≡ false)
+    → PlaceTalked k whole (number - 1) next heard w b (Some p) new.core before after
+talked k whole number next heard b old new w p before after some at stands o there live =
+    let g = went k whole (number - 1) number heard b o.after old new o.printed w o.speaks at stands in
     let counted : number ≡ (number - 1) + 1 = omega (arith, some) in
     record {
       left = Some o.after;
@@ -82,22 +70,21 @@ visited k whole number b old new w p before after some at stands o live =
       goes = record {
         after = o.after;
         mid = g.mid;
-        speaks = subst (λ (n : ℕ). Speaks (Meets k.config (number - 1)) n b w g.mid o.after o.printed) counted g.speaks;
+        speaks = subst (λ (n : ℕ). Speaks (Meets k.config (number - 1)) whole (session_seat k (number - 1)) n heard b w g.mid o.after o.printed) counted g.speaks;
         all = o.all;
-        left = scene.remains (λ h e. absurd (let f = live h in let q = ap (λ (x : Standing). x.ended) o.stands.connection.session in let r = e in cc)) refl refl;
+        left = remains (λ h e. absurd (let f = live h in let q = ended_is (session_seat k (number - 1)) next heard p o.after o.stands there in let r = e in cc)) refl refl;
       };
       there = o.stands;
       core = g.serving.stands;
-      rest = converses_delivery b.standing o.speaks.answers.sent old new o.speaks.said o.speaks.answers.how o.after.standing o.speaks.answers.converses;
       out = o.out;
     }
 
 -- it has parted, and left its mailbox
-pub parted : (k : Setup) (number : ℕ) (b : HouseSession) (old mid new : Desk) (answer : Answer) (w : World) (p : Place) (before after : List ℕ) → 0 < number → old.session ≡ number - 1 → core.StandsFor k.config old.core w
-    → WentOn Serves true number b old mid before after p → p.link.session.ended ≡ true → Serves mid (calls.Leave false) answer new
-    → PlaceVisited k true (number - 1) w b old.core None new.core before after
-parted k number b old mid new answer w p before after some at stands o over leaves =
-    let g = went k (number - 1) number b o.after old mid o.printed w o.speaks at stands in
+pub parted : (k : Setup) (number : ℕ) (next : CopyKey) (heard : List Noted) (b : SeatedSession) (old mid new : Desk) (answer : Answer) (w : World) (p : Seat) (before after : List ℕ) → 0 < number → old.session ≡ number - 1 → core.StandsFor k.config old.core w
+    → WentOn Serves true (session_seat k (number - 1)) number next heard b old mid before after p → p.gone ≡ false → p.place.link.session.ended ≡ true → Serves mid (calls.Leave false) answer new
+    → PlaceTalked k true (number - 1) next heard w b None new.core before after
+parted k number next heard b old mid new answer w p before after some at stands o there over leaves =
+    let g = went k true (number - 1) number heard b o.after old mid o.printed w o.speaks at stands in
     let counted : number ≡ (number - 1) + 1 = omega (arith, some) in
     let gone = carries k.config (number - 1) mid new (calls.Leave false) answer g.mid leaves g.serving in
     record {
@@ -107,72 +94,177 @@ parted k number b old mid new answer w p before after some at stands o over leav
       goes = record {
         after = o.after;
         mid = g.mid;
-        speaks = subst (λ (n : ℕ). Speaks (Meets k.config (number - 1)) n b w g.mid o.after o.printed) counted g.speaks;
+        speaks = subst (λ (n : ℕ). Speaks (Meets k.config (number - 1)) true (session_seat k (number - 1)) n heard b w g.mid o.after o.printed) counted g.speaks;
         all = o.all;
-        left = scene.parts (sym (ap (λ (x : Standing). x.ended) o.stands.connection.session) ∙ over) (o.all refl).said (answer, gone.1) refl;
+        left = parts (sym (ended_is (session_seat k (number - 1)) next heard p o.after o.stands there) ∙ over) (o.all refl).said (answer, gone.1) refl;
       };
       there = tt;
       core = gone.2.stands;
-      rest = delivery_then old.core mid.core new.core (converses_delivery b.standing o.speaks.answers.sent old mid o.speaks.said o.speaks.answers.how o.after.standing o.speaks.answers.converses) leaves.rest;
       out = o.out;
     }
 
--- ---- the house
+-- ---- one that may be gone
 
--- another visitor, or nobody, is at a place
-pub placed : (k : Setup) (h : State) (s : Scene) (n : ℕ) (p : Option Place) (o : Option HouseSession) → StandsFor k h s → n < length h.visitors → StandsForVisit p o
-    → StandsFor k (record { core = h.core; callers = h.callers; serials = h.serials; visitors = set h.visitors n p; directory = h.directory; host = h.host; max_message = h.max_message }) (with_visitor s n o)
-placed k h s n p o st within there = record {
-  core = st.core;
+gone_is : (seat : ℕ) (next : CopyKey) (heard : List Noted) (o : Option Seat) (p : Seat) (b : SeatedSession) → o ≡ Some p → StandsForSomebody seat next heard o (Some b) → b.gone ≡ p.gone
+gone_is seat next heard None p b e s = absurd s
+gone_is seat next heard (Some q) p b e s = sym s.gone ∙ (let f : q ≡ p = cc in ap (λ (x : Seat). x.gone) f)
+
+-- one that talks went on
+pub visited_there : (k : Setup) (whole : Bool) (place : ℕ) (next : CopyKey) (heard : List Noted) (w : World) (b : SeatedSession) (p : Option Seat) (new : Held) (before after : List ℕ) → b.gone ≡ false → PlaceTalked k whole place next heard w b p new before after
+    → PlaceVisited k whole place next heard w b p new before after
+visited_there k whole place next heard w b p new before after there m = record { left = m.left; moved = m.moved; printed = m.printed; goes = talks there m.goes; there = m.there; core = m.core; out = m.out }
+
+-- one whose client is gone lingered
+pub visited_gone : (k : Setup) (place : ℕ) (next : CopyKey) (heard : List Noted) (w : World) (b : SeatedSession) (p : Option Seat) (c : Held) (text : List ℕ) → b.gone ≡ true → core.StandsFor k.config c w → HasLingered (session_seat k place) next heard b p
+    → PlaceVisited k true place next heard w b p c text text
+visited_gone k place next heard w b p c text gone stands l = record { left = l.left; moved = w; printed = []; goes = lingers gone l.lingers refl refl; there = l.there; core = stands; out = sym (append-nil text) }
+
+-- ---- serials
+
+same_serial : (a b : SeatedSession) → Some a ≡ Some b → a.serial ≡ b.serial
+same_serial a b e = let x : a ≡ b = cc in ap (λ (v : SeatedSession). v.serial) x
+
+spoken_serial : {S : Type 0} (step : S → calls.Call → Answer → S → Type 0) (whole : Bool) (seat : ℕ) (heard : List Noted) (a : SeatedSession) (old new : S) (after : SeatedSession) (said : List ℕ) → GoesOn step whole seat heard a old new after said → after.serial ≡ a.serial
+spoken_serial step whole seat heard a old new after said (seated.works n w) = ap (λ (v : SeatedSession). v.serial) w.is
+spoken_serial step whole seat heard a old new after said (seated.answers verdict mid first second how next known b w e) = ap (λ (v : SeatedSession). v.serial) w.is
+spoken_serial step whole seat heard a old new after said (seated.waits x n e f) = ap (λ (v : SeatedSession). v.serial) e
+spoken_serial step whole seat heard a old new after said (seated.rests x n e f) = ap (λ (v : SeatedSession). v.serial) e
+spoken_serial step whole seat heard a old new after said (seated.stalls x n e f) = ap (λ (v : SeatedSession). v.serial) e
+
+pub parts_serial : (k : Setup) (whole : Bool) (place : ℕ) (after : SeatedSession) (w v : World) (o : Option SeatedSession) (b : SeatedSession) → Parts k whole place after w v o → o ≡ Some b → b.serial ≡ after.serial
+parts_serial k whole place after w v o b (parts e u l n) f = absurd (let x : None ≡ Some b = sym n ∙ f in cc)
+parts_serial k whole place after w v o b (remains r e n) f = same_serial b after (sym f ∙ n)
+
+pub talks_serial : (k : Setup) (whole : Bool) (place : ℕ) (heard : List Noted) (w : World) (a : SeatedSession) (v : World) (o : Option SeatedSession) (printed : List ℕ) (b : SeatedSession) → SessionTalks k whole place heard w a v o printed → o ≡ Some b → b.serial ≡ a.serial
+talks_serial k whole place heard w a v o printed b t e =
+    parts_serial k whole place t.after t.mid v o b t.left e ∙ ap (λ (x : SeatedSession). x.serial) t.speaks.is ∙ spoken_serial (Meets k.config place) whole (session_seat k place) heard a w t.mid t.speaks.spoken t.speaks.said t.speaks.goes
+
+pub lingers_serial : (seat : ℕ) (heard : List Noted) (a : SeatedSession) (o : Option SeatedSession) (b : SeatedSession) → Lingers seat heard a o → o ≡ Some b → b.serial ≡ a.serial
+lingers_serial seat heard a o b (waits x e) f = same_serial b a (sym f ∙ e)
+lingers_serial seat heard a o b (fades x e) f = absurd (let y : None ≡ Some b = sym e ∙ f in cc)
+
+pub goes_serial : (k : Setup) (whole : Bool) (place : ℕ) (heard : List Noted) (w : World) (a : SeatedSession) (v : World) (o : Option SeatedSession) (printed : List ℕ) (b : SeatedSession) → SessionGoes k whole place heard w a v o printed → o ≡ Some b → b.serial ≡ a.serial
+goes_serial k whole place heard w a v o printed b (talks l t) e = talks_serial k whole place heard w a v o printed b t e
+goes_serial k whole place heard w a v o printed b (lingers l t n p) e = lingers_serial (session_seat k place) heard a o b t e
+
+-- ---- who is left at a place
+
+later_session : (next : CopyKey) (seat serial number : ℕ) (sent : Option Sent) (slots : List _) (serials : ℕ) → AtLeast next (key_with seat serial number sent slots) → serial < serials → AtLeast next (first_of seat serials)
+later_session next seat serial number None slots serials a l = later_connection next seat serial number 0 serials a l
+later_session next seat serial number (Some sent) slots serials a l = later_connection next seat serial sent.append.message (length slots) serials a l
+
+pub who_stays : (seat : ℕ) (next : CopyKey) (heard : List Noted) (serials : ℕ) (l : Option Seat) (o : Option SeatedSession) (p : Seat) (a : SeatedSession) → StandsForSomebody seat next heard l o → StandsForSeated seat next heard p a → a.serial < serials
+    → ((b : SeatedSession) → o ≡ Some b → b.serial ≡ a.serial) → StandsForVisit seat next heard serials l o
+who_stays seat next heard serials None None p a m s lt same = later_session next seat a.serial a.session.standing.mailing.number (sent_by a) p.slots serials s.ahead lt
+who_stays seat next heard serials None (Some b) p a m s lt same = m
+who_stays seat next heard serials (Some g) None p a m s lt same = m
+who_stays seat next heard serials (Some g) (Some b) p a m s lt same = (m, let e = same b refl in omega (arith, e, lt))
+
+-- ---- the whole house
+
+-- the house after one of its sessions went on, with the delivery side and the serials that it has then
+abbrev pub with_visits : State → Held → ℕ → Option Seat → List ℕ → State
+with_visits h c place q entered = record { core = c; callers = h.callers; serials = h.serials; visitors = set h.visitors place q; entered = entered; directory = h.directory; host = h.host; max_message = h.max_message }
+
+-- the scene then
+abbrev pub visited_scene : Scene → World → ℕ → Option SeatedSession → (ℕ → ℕ) → Scene
+visited_scene s v place o numbers = record { world = v; caller = s.caller; next = s.next; visitor = set_at s.visitor place o; entered = numbers }
+
+pub after_visiting : (k : Setup) (h : State) (c : Held) (entered : List ℕ) (s : Scene) (v : World) (numbers : ℕ → ℕ) (place : ℕ) (y : CopyKey) (l : Option Seat) (o : Option SeatedSession)
+    → StandsFor k h s → core.StandsFor k.config c v → place < length h.visitors
+    → ((q : ℕ) → q ≢ session_seat k place → notes_of c q ≡ notes_of h.core q) → ((q : ℕ) (z : CopyKey) → q ≢ session_seat k place → get_or c.next q z ≡ get_or h.core.next q z)
+    → length entered ≡ length h.entered → ((n : ℕ) → get_or entered place n ≡ numbers place) → ((q n : ℕ) → q ≢ place → get_or entered q n ≡ get_or h.entered q n) → ((q : ℕ) → q ≢ place → numbers q ≡ s.entered q)
+    → StandsForVisit (session_seat k place) (get_or c.next (session_seat k place) y) (v.heard (session_seat k place)) (numbers place) l o
+    → StandsFor k (with_visits h c place l entered) (visited_scene s v place o numbers)
+after_visiting k h c entered s v numbers place y l o st cs lt notes nexts len here there other one = record {
+  core = cs;
   directory = st.directory;
   host = st.host;
   max_message = st.max_message;
   homes = st.homes;
   shards = st.shards;
   some_shard = st.some_shard;
-  seats = st.seats;
+  seats = let e = length-set h.visitors place l in let f = st.seats in omega (arith, e, f);
+  connections = st.connections;
   numbers = st.numbers;
-  each = λ seat y m d l. let q = st.each seat y m d l in record { counted = q.counted; who = q.who };
-  places = length-set h.visitors n p ∙ st.places;
-  visitors = λ q d l. at_cases (λ (v : Option HouseSession). StandsForVisit (get_or (set h.visitors n p) q d) v) s.visitor n o q
-      (λ e. subst (λ (i : ℕ). StandsForVisit (get_or (set h.visitors n p) i d) o) (sym e) (subst (λ (x : Option Place). StandsForVisit x o) (sym (get_or-set_same h.visitors n p d within)) there))
-      (λ e. subst (λ (x : Option Place). StandsForVisit x (s.visitor q)) (sym (get_or-set_other h.visitors n q p d e)) (st.visitors q d (let m = length-set h.visitors n p in omega (arith, l, m))));
+  each = λ q z n d m.
+      let away : q ≢ session_seat k place = λ e. let b = st.connections in absurd (omega (arith, m, e, b)) in
+      let lk : q < k.config.seats = let f = st.seats in omega (arith, m, f) in
+      seat_kept k s (visited_scene s v place o numbers) q (get_or h.core.next q z) (get_or c.next q z) (get_or h.serials q n) (get_or h.serials q n) (get_or h.callers q d) (get_or h.callers q d) (st.each q z n d m)
+      (nexts q z away) refl refl (sym (heard_is k.config c v cs q lk) ∙ notes q away ∙ heard_is k.config h.core s.world st.core q lk) refl refl;
+  places = length-set h.visitors place l ∙ st.places;
+  entries = len ∙ st.entries;
+  visitors = λ q z n d m. at q z n d m (eqb_tells q place);
 }
+  where
+    in_next : session_seat k place < length c.next
+    in_next = let e = cs.nexts in let f = seat_within k h s place st lt in omega (arith, e, f)
 
--- the same after the delivery side did what its session asked
-pub visit_stands : (k : Setup) (h : State) (s : Scene) (c : Held) (v : World) (n : ℕ) (p : Option Place) (o : Option HouseSession) → StandsFor k h s → core.StandsFor k.config c v → SameDelivery h.core c
-    → n < length h.visitors → StandsForVisit p o
-    → StandsFor k (record { core = c; callers = h.callers; serials = h.serials; visitors = set h.visitors n p; directory = h.directory; host = h.host; max_message = h.max_message }) (with_visitor (with_world s v) n o)
-visit_stands k h s c v n p o st cs rest within there =
-    placed k (record { core = c; callers = h.callers; serials = h.serials; visitors = h.visitors; directory = h.directory; host = h.host; max_message = h.max_message }) (with_world s v) n p o
-    (moved k h c s v st cs rest.heard rest.next) within there
+    at_place : (z : CopyKey) (n : ℕ) (d : Option Seat) → StandsForPlace k (visited_scene s v place o numbers) place (get_or c.next (session_seat k place) z) (get_or entered place n) (get_or (set h.visitors place l) place d)
+    at_place z n d = record {
+      counted = here n;
+      who = subst (λ (x : CopyKey). StandsForVisit (session_seat k place) x (v.heard (session_seat k place)) (numbers place) (get_or (set h.visitors place l) place d) (set_at s.visitor place o place)) (get_or-any c.next (session_seat k place) y z in_next)
+          (subst (λ (x : Option Seat). StandsForVisit (session_seat k place) (get_or c.next (session_seat k place) y) (v.heard (session_seat k place)) (numbers place) x (set_at s.visitor place o place)) (sym (get_or-set_same h.visitors place l d lt))
+          (subst (λ (x : Option SeatedSession). StandsForVisit (session_seat k place) (get_or c.next (session_seat k place) y) (v.heard (session_seat k place)) (numbers place) l x) (sym (set_at-same s.visitor place o)) one));
+    }
+
+    elsewhere : (q : ℕ) (z : CopyKey) (n : ℕ) (d : Option Seat) → q < length h.visitors → q ≢ place
+        → StandsForPlace k (visited_scene s v place o numbers) q (get_or c.next (session_seat k q) z) (get_or entered q n) (get_or (set h.visitors place l) q d)
+    elsewhere q z n d m ne =
+        let away : session_seat k q ≢ session_seat k place = λ e. ne (omega (arith, e)) in
+        let lk : session_seat k q < k.config.seats = seat_within k h s q st m in
+        place_kept k s (visited_scene s v place o numbers) q (get_or h.core.next (session_seat k q) z) (get_or c.next (session_seat k q) z) (get_or h.entered q n) (get_or entered q n) (get_or h.visitors q d) (get_or (set h.visitors place l) q d) (st.visitors q z n d m)
+        (nexts (session_seat k q) z away) (there q n ne) (get_or-set_other h.visitors place q l d ne)
+        (sym (heard_is k.config c v cs (session_seat k q) lk) ∙ notes (session_seat k q) away ∙ heard_is k.config h.core s.world st.core (session_seat k q) lk) (at_there s.visitor place o q ne) (other q ne)
+
+    at : (q : ℕ) (z : CopyKey) (n : ℕ) (d : Option Seat) → q < length (set h.visitors place l) → ((eqb q place ≡ true) × (q ≡ place)) ⊎ ((eqb q place ≡ false) × (q ≢ place))
+        → StandsForPlace k (visited_scene s v place o numbers) q (get_or c.next (session_seat k q) z) (get_or entered q n) (get_or (set h.visitors place l) q d)
+    at q z n d m (inl (b, e)) =
+        subst (λ (x : ℕ). StandsForPlace k (visited_scene s v place o numbers) x (get_or c.next (session_seat k x) z) (get_or entered x n) (get_or (set h.visitors place l) x d)) (sym e) (at_place z n d)
+    at q z n d m (inr (b, ne)) = elsewhere q z n d (let e = length-set h.visitors place l in omega (arith, e, m)) ne
+
+-- the same where nothing was put and nothing was heard
+pub visit_stands : (k : Setup) (h : State) (c : Held) (entered : List ℕ) (s : Scene) (v : World) (numbers : ℕ → ℕ) (place : ℕ) (y : CopyKey) (l : Option Seat) (o : Option SeatedSession)
+    → StandsFor k h s → core.StandsFor k.config c v → SameDelivery h.core c → place < length h.visitors
+    → length entered ≡ length h.entered → ((n : ℕ) → get_or entered place n ≡ numbers place) → ((q n : ℕ) → q ≢ place → get_or entered q n ≡ get_or h.entered q n) → ((q : ℕ) → q ≢ place → numbers q ≡ s.entered q)
+    → StandsForVisit (session_seat k place) (get_or h.core.next (session_seat k place) y) (s.world.heard (session_seat k place)) (numbers place) l o
+    → StandsFor k (with_visits h c place l entered) (visited_scene s v place o numbers)
+visit_stands k h c entered s v numbers place y l o st cs rest lt len here there other one =
+    let seat : ℕ = session_seat k place in
+    let lk : seat < k.config.seats = seat_within k h s place st lt in
+    after_visiting k h c entered s v numbers place y l o st cs lt (λ q ne. noted rest q) (λ q z ne. ap (λ (ks : List CopyKey). get_or ks q z) rest.next) len here there other
+    (subst (λ (z : CopyKey). StandsForVisit seat z (v.heard seat) (numbers place) l o) (sym (ap (λ (ks : List CopyKey). get_or ks seat y) rest.next))
+    (subst (λ (x : List Noted). StandsForVisit seat (get_or h.core.next seat y) x (numbers place) l o) (sym (sym (heard_is k.config c v cs seat lk) ∙ noted rest seat ∙ heard_is k.config h.core s.world st.core seat lk)) one))
+  where
+    noted : SameDelivery h.core c → (q : ℕ) → notes_of c q ≡ notes_of h.core q
+    noted rest q = ap (λ (bs : List _). notes_of (record h.core { heard = bs }) q) rest.heard
 
 -- ---- who is there
 
--- somebody at a place of the house visits in the scene
-pub who_visits : (o : Option Place) (v : Option HouseSession) (p : Place) → StandsForVisit o v → o ≡ Some p → (b : HouseSession) × (v ≡ Some b) × visit.StandsFor p b
-who_visits None None p s e = absurd (let f : None ≡ Some p = e in cc)
-who_visits None (Some b) p s e = absurd s
-who_visits (Some q) None p s e = absurd s
-who_visits (Some q) (Some b) p s e = (b, refl, let f : q ≡ p = cc in subst (λ (x : Place). visit.StandsFor x b) f s)
+-- a session of the scene, where a seat stands at a place
+pub record IsAtPlace (k : Setup) (s : Scene) (place : ℕ) (next : CopyKey) (p : Seat) : Type 0 where
+  pub visitor : SeatedSession
+  pub here : s.visitor place ≡ Some visitor
+  pub stands : StandsForSeated (session_seat k place) next (s.world.heard (session_seat k place)) p visitor
+  pub serial : visitor.serial < s.entered place
 
--- nobody at a place of the house, and nobody visits
-pub nobody_visits : (o : Option Place) (v : Option HouseSession) → StandsForVisit o v → o ≡ None → v ≡ None
-nobody_visits None None s e = refl
-nobody_visits None (Some b) s e = absurd s
-nobody_visits (Some q) v s e = absurd (let f : Some q ≡ None = e in cc)
+is_at : (k : Setup) (s : Scene) (place : ℕ) (next : CopyKey) (p : Seat) (o : Option SeatedSession) → s.visitor place ≡ o → StandsForVisit (session_seat k place) next (s.world.heard (session_seat k place)) (s.entered place) (Some p) o → IsAtPlace k s place next p
+is_at k s place next p None e w = absurd w
+is_at k s place next p (Some b) e w = record { visitor = b; here = e; stands = w.0; serial = w.1 }
 
-pub some_place : (o : Option Place) → is_some o ≡ true → (p : Place) × (o ≡ Some p)
-some_place None e = absurd (let f : false ≡ true = e in cc)
-some_place (Some p) e = (p, refl)
+pub at_place : (k : Setup) (h : State) (s : Scene) (place : ℕ) (y : CopyKey) (p : Seat) → StandsFor k h s → place < length h.visitors → get_or h.visitors place None ≡ Some p → IsAtPlace k s place (get_or h.core.next (session_seat k place) y) p
+at_place k h s place y p st lt e =
+    let w = (st.visitors place y 0 None lt).who in
+    is_at k s place (get_or h.core.next (session_seat k place) y) p (s.visitor place) refl
+    (subst (λ (x : Option Seat). StandsForVisit (session_seat k place) (get_or h.core.next (session_seat k place) y) (s.world.heard (session_seat k place)) (s.entered place) x (s.visitor place)) e w)
 
-pub no_place : (o : Option Place) → is_some o ≡ false → o ≡ None
-no_place None e = refl
-no_place (Some p) e = absurd (let f : true ≡ false = e in cc)
+pub some_seat : (o : Option Seat) → is_some o ≡ true → (p : Seat) × (o ≡ Some p)
+some_seat None e = absurd (let f : false ≡ true = e in cc)
+some_seat (Some p) e = (p, refl)
 
--- bytes more wait
-more_stands : (p : Place) (b : HouseSession) (piece : List ℕ) → visit.StandsFor p b → visit.StandsFor (visit.with_more piece p) (more_waits b piece)
-more_stands p b piece s = record { begun = s.begun; connection = s.connection; waits = ap (λ (t : List ℕ). t ++ piece) s.waits ∙ append_assoc s.begun p.came piece; unsaid = s.unsaid }
+pub no_seat : (o : Option Seat) → is_some o ≡ false → o ≡ None
+no_seat None e = refl
+no_seat (Some p) e = absurd (let f : true ≡ false = e in cc)
 
 -- there is such a session, where the test says so
 pub has_place : (h : State) (session : ℕ) (b : Bool) → (IsTrue b) ↔ IsNoPlace h session → b ≡ false → (0 < session) × (session ≤ length h.visitors)
@@ -181,56 +273,3 @@ has_place h (suc n) b iff e = elim (cases_lt (length h.visitors) (suc n)) [
   | inl l ↦ absurd (let t : b ≡ true = iff.1 (inr l) in cc)
   | inr l ↦ (omega arith, l)
 ]
-
--- ---- events
-
--- the house after one of its sessions went on
-abbrev pub with_visits : State → Held → ℕ → Option Place → State
-with_visits h c place q = record { core = c; callers = h.callers; serials = h.serials; visitors = set h.visitors place q; directory = h.directory; host = h.host; max_message = h.max_message }
-
-pub said : (k : Setup) (whole : Bool) (h : State) (s : Scene) (place : ℕ) (piece : List ℕ) (p : Place) (q : Option Place) (c : Held) (old new : List ℕ) → StandsFor k h s → place < length h.visitors
-    → get_or h.visitors place None ≡ Some p
-    → ((w : World) (b : HouseSession) → core.StandsFor k.config h.core w → StandsForVisit (Some (visit.with_more piece p)) (Some b) → PlaceVisited k whole place w b h.core q c old new)
-    → (t : Scene) × (printed : List ℕ) × SayPlay k whole s place piece t printed × StandsFor k (with_visits h c place q) t × (new ≡ old ++ printed)
-said k whole h s place piece p q c old new st within some goes =
-    let v = who_visits (get_or h.visitors place None) (s.visitor place) p (st.visitors place None within) some in
-    let m = goes s.world (more_waits v.0 piece) st.core (more_stands p v.0 piece v.2) in (
-      with_visitor (with_world s m.moved) place m.left,
-      m.printed,
-      record { visitor = v.0; there = v.1; moved = m.moved; left = m.left; goes = m.goes; after = refl },
-      visit_stands k h s c m.moved place q m.left st m.core m.rest within m.there,
-      m.out,
-    )
-
-pub entered : (k : Setup) (whole : Bool) (h : State) (s : Scene) (place : ℕ) (user : List ℕ) (p : Place) (q : Option Place) (c : Held) (old new : List ℕ) → StandsFor k h s → place < length h.visitors
-    → get_or h.visitors place None ≡ None → has_user h.directory user ≡ true → visit.StandsFor p (greeted None (folders_of h.directory user))
-    → ((w : World) (b : HouseSession) → core.StandsFor k.config h.core w → StandsForVisit (Some p) (Some b) → PlaceVisited k whole place w b h.core q c old new)
-    → (t : Scene) × (printed : List ℕ) × EnterPlay k whole s place user t printed × StandsFor k (with_visits h c place q) t × (new ≡ old ++ printed)
-entered k whole h s place user p q c old new st within free known is goes =
-    let here : visit.StandsFor p (greeted None (folders_of k.directory user)) = subst (λ (d : Directory). visit.StandsFor p (greeted None (folders_of d user))) st.directory is in
-    let m = goes s.world (greeted None (folders_of k.directory user)) st.core here in (
-      with_visitor (with_world s m.moved) place m.left,
-      m.printed,
-      record {
-        there = (let e = st.places in omega (arith, within, e));
-        free = nobody_visits (get_or h.visitors place None) (s.visitor place) (st.visitors place None within) free;
-        known = sym (ap (λ (d : Directory). has_user d user) st.directory) ∙ known;
-        moved = m.moved;
-        left = m.left;
-        goes = m.goes;
-        after = refl;
-      },
-      visit_stands k h s c m.moved place q m.left st m.core m.rest within m.there,
-      m.out,
-    )
-
-pub left_place : (k : Setup) (h : State) (s : Scene) (place : ℕ) (p : Place) (new : Desk) (answer : Answer) → StandsFor k h s → place < length h.visitors → get_or h.visitors place None ≡ Some p
-    → Serves (record { core = h.core; session = place }) (calls.Leave false) answer new
-    → (t : Scene) × LeavePlay k s place t [] × StandsFor k (with_visits h new.core place None) t
-left_place k h s place p new answer st within some served =
-    let v = who_visits (get_or h.visitors place None) (s.visitor place) p (st.visitors place None within) some in
-    let gone = carries k.config place (record { core = h.core; session = place }) new (calls.Leave false) answer s.world served (record { session = refl; stands = st.core }) in (
-      with_visitor (with_world s gone.0) place None,
-      record { visitor = v.0; there = v.1; moved = gone.0; leaves = (answer, gone.1); after = refl; silent = refl },
-      visit_stands k h s new.core gone.0 place None None st gone.2.stands served.rest within tt,
-    )

@@ -9,17 +9,21 @@ use Rattle.house_connection.specs.Line.{Line}
 use Rattle.house.specs.State.{State}
 use Rattle.house_connection.specs.Taking.{line_effort}
 use Rattle.house.specs.Scene.{place_of}
-use Rattle.house_session.specs.Place.{Place}
+use Rattle.house_session.specs.Seat.{Seat, seat_effort}
 
 abbrev pub place_effort : Option Line → ℕ
 place_effort None = 0
 place_effort (Some h) = line_effort h
 
+abbrev pub visit_effort : Option Seat → ℕ
+visit_effort None = 0
+visit_effort (Some p) = seat_effort p
+
 abbrev pub effort : State → ℕ
-effort h = sum_by place_effort h.callers + load h.core
+effort h = sum_by place_effort h.callers + (sum_by visit_effort h.visitors + load h.core)
 
 -- the same of a session's turns while it idles: it may end, and so many changes it is behind its mailbox's log
-abbrev pub turns_left : Option Place → ℕ → ℕ
+abbrev pub turns_left : Option Seat → ℕ → ℕ
 turns_left None behind = 0
 turns_left (Some p) behind = 1 + behind
 
@@ -30,13 +34,13 @@ idle_effort place h = turns_left (slice_index_or h.visitors place None) (behind 
 abbrev pub MakesLess : Event → State → State → Type 0
 MakesLess (Bytes connection piece) old new = Unit {0}
 MakesLess (Vanish connection) old new = Unit {0}
-MakesLess (End connection shard) old new = Ends old.core new.core (connection - 1) shard
+MakesLess (End number shard) old new = Ends old.core new.core (number - 1) shard
 MakesLess (Enter session user) old new = Unit {0}
 MakesLess (Say session piece) old new = Unit {0}
 MakesLess (Idle session) old new = idle_effort (place_of session) new < idle_effort (place_of session) old
 MakesLess (Leave session) old new = Unit {0}
-MakesLess (Put connection) old new = effort new < effort old
+MakesLess (Put number) old new = effort new < effort old
 MakesLess (Take shard) old new = effort new < effort old
 MakesLess (Deliver shard) old new = effort new < effort old
 MakesLess (Answer shard) old new = effort new < effort old
-MakesLess (Hear connection) old new = effort new < effort old
+MakesLess (Hear number) old new = effort new < effort old

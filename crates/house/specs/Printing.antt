@@ -7,7 +7,8 @@ use Rattle.lmtp_machine.specs.declared.connection.What.TheVariants.{Quit}
 use Rattle.imap_session.specs.Exchange.{Call, Answer}
 use Rattle.imap_session.specs.Store.{IdleTurns}
 use Rattle.house_connection.specs.HouseConnection.{HouseConnection, Proceeds, with_unsaid}
-use Rattle.house_session.specs.HouseSession.{Answers, HasAnswered, HouseSession}
+use Rattle.house_session.specs.HouseSession.{HasAnswered, HouseSession}
+use Rattle.house_session.specs.Seated.{GoesOn, SeatedSession}
 use Rattle.house.specs.Setup.{Setup, terms_of}
 
 -- an L marks what connections say, an I what sessions say
@@ -50,11 +51,22 @@ pub record ConnectionGoes (k : Setup) (whole : Bool) (seat : ℕ) (heard : List 
 
 -- ---- sessions
 
--- some of what waited was answered, and this was printed
-pub record Speaks {S : Type 0} (step : S → Call → Answer → S → Type 0) (n : ℕ) (before : HouseSession) (old new : S) (after : HouseSession) (printed : List ℕ) : Type 0 where
+-- its session stands so
+abbrev pub with_session : HouseSession → SeatedSession → SeatedSession
+with_session session v = record { session = session; serial = v.serial; gone = v.gone; to_put = v.to_put }
+
+-- so much of what it said is still to be printed
+abbrev pub still_unsaid : List ℕ → SeatedSession → SeatedSession
+still_unsaid unsaid v = with_session (record { standing = v.session.standing; waits = v.session.waits; unsaid = unsaid }) v
+
+-- The session at a seat, whose client is there, went on over a store as far as it could, by what its seat has heard, and this was printed.
+pub record Speaks {S : Type 0} (step : S → Call → Answer → S → Type 0) (whole : Bool) (seat n : ℕ) (heard : List Noted) (before : SeatedSession) (old new : S) (after : SeatedSession) (printed : List ℕ) : Type 0 where
+  pub spoken : SeatedSession
   pub said : List ℕ
-  pub answers : Answers step before old new after said
-  pub prints : Prints of_session n (before.unsaid ++ said) after.unsaid printed
+  pub goes : GoesOn step whole seat heard before old new spoken said
+  pub still : List ℕ
+  pub prints : Prints of_session n (before.session.unsaid ++ said) still printed
+  pub is : after ≡ still_unsaid still spoken
 
 -- its session had a turn while it idles, which showed so many changes, and this was printed
 pub record Idles {S : Type 0} (step : S → Call → Answer → S → Type 0) (n : ℕ) (before : HouseSession) (old new : S) (after : HouseSession) (count : ℕ) (printed : List ℕ) : Type 0 where

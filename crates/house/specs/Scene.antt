@@ -1,6 +1,7 @@
 -- The house and those who talk to it, and what each event of the house does to them and prints.
-use Rattle.std.specs.Prelude.{◌≡◌, ℕ, ◌+◌, ◌-◌, ◌^◌, ◌<◌, ◌⊎◌, Bool, true, false, List, [], ◌∷◌, Option, Some, None}
+use Rattle.std.specs.Prelude.{◌≡◌, ℕ, ◌+◌, ◌-◌, ◌^◌, ◌<◌, ◌⊎◌, Bool, true, false, List, [], ◌∷◌, ◌++◌, Option, Some, None}
 use Rattle.delivery_token.specs.declared.Job.{Job}
+use Rattle.delivery_token.specs.declared.log.Noted.{Noted}
 use Rattle.shard_queue.specs.At.{set_at}
 use Rattle.shard_queue.specs.Lane.{has_end}
 use Rattle.world.specs.World as world
@@ -11,31 +12,35 @@ use Rattle.session_store.specs.Meets.{Meets}
 use Rattle.house_connection.specs.HouseConnection.{HouseConnection, greeted, more_waits, unread}
 use Rattle.house_session.specs.Folders.{folders_of, has_user}
 use Rattle.house_session.specs.HouseSession.{HouseSession}
-use Rattle.house_session.specs.HouseSession.{greeted as greeted_visitor, more_waits as visitor_more_waits}
-use Rattle.house.specs.Printing.{ConnectionGoes, Idles, IsWhole, Speaks}
-use Rattle.house.specs.Setup.{Setup, terms_of}
+use Rattle.house_session.specs.Seated.{Awaits, IsSettled, SeatedSession, seated_greeted}
+use Rattle.house_session.specs.Seated.{unread as unread_session}
+use Rattle.house_session.specs.HouseSession.{more_waits as session_more_waits}
+use Rattle.house.specs.Printing.{ConnectionGoes, Idles, IsWhole, Speaks, with_session}
+use Rattle.house.specs.Setup.{Setup, session_seat, terms_of}
 use Rattle.house.specs.declared.event.Event.{Event}
 use Rattle.house.specs.declared.event.Event.TheVariants.{Bytes, Vanish, Put, Take, Deliver, Answer, Hear, End, Enter, Say, Idle, Leave}
 
--- the world; who stands at each seat, and of each seat the serial of its next connection; and who visits at each session's place
+-- The world; which connection stands at each seat of connections, and the serial of the next one there; and which session is at each place, and the serial of
+-- the next one there.
 pub record Scene : Type 0 where
   pub world : World
   pub caller : ℕ → Option HouseConnection
   pub next : ℕ → ℕ
-  pub visitor : ℕ → Option HouseSession
+  pub visitor : ℕ → Option SeatedSession
+  pub entered : ℕ → ℕ
 
 abbrev pub empty_scene : Scene
-empty_scene = record { world = world.empty_world; caller = λ _. None; next = λ _. 0; visitor = λ _. None }
+empty_scene = record { world = world.empty_world; caller = λ _. None; next = λ _. 0; visitor = λ _. None; entered = λ _. 0 }
 
--- connections are numbered from 1, seats from 0
+-- connections, and behind them sessions, are numbered from 1, seats from 0
 abbrev pub seat_of : ℕ → ℕ
-seat_of connection = connection - 1
+seat_of number = number - 1
 
--- sessions are numbered from 1, their places from 0
+-- sessions by themselves are numbered from 1, their places from 0
 abbrev pub place_of : ℕ → ℕ
 place_of session = session - 1
 
--- the serials of a seat's connections are below this
+-- the serials of a seat's connections or sessions are below this
 abbrev pub most_serials : ℕ
 most_serials = 2 ^ 64 - 1
 
@@ -45,26 +50,33 @@ HasEnded k w p = (s : ℕ) × (s < k.shards) × (has_end ((w.lane s).sent p) ≡
 
 -- at this seat now stands this caller, or nobody
 abbrev pub with_caller : Scene → ℕ → Option HouseConnection → Scene
-with_caller s seat o = record { world = s.world; caller = set_at s.caller seat o; next = s.next; visitor = s.visitor }
+with_caller s seat o = record { world = s.world; caller = set_at s.caller seat o; next = s.next; visitor = s.visitor; entered = s.entered }
 
 abbrev pub with_world : Scene → World → Scene
-with_world s w = record { world = w; caller = s.caller; next = s.next; visitor = s.visitor }
+with_world s w = record { world = w; caller = s.caller; next = s.next; visitor = s.visitor; entered = s.entered }
 
--- at this place now stands this visitor, or nobody
-abbrev pub with_visitor : Scene → ℕ → Option HouseSession → Scene
-with_visitor s place o = record { world = s.world; caller = s.caller; next = s.next; visitor = set_at s.visitor place o }
+-- at this place now stands this session, or nobody
+abbrev pub with_visitor : Scene → ℕ → Option SeatedSession → Scene
+with_visitor s place o = record { world = s.world; caller = s.caller; next = s.next; visitor = set_at s.visitor place o; entered = s.entered }
+
+-- nobody stands at this seat, neither a connection nor a session
+pub record IsFree (k : Setup) (s : Scene) (seat : ℕ) : Type 0 where
+  pub connection : seat < k.connections → s.caller seat ≡ None
+  pub session : (place : ℕ) → seat ≡ session_seat k place → s.visitor place ≡ None
+
+-- ---- connections
 
 -- bytes came from the peer of a connection
 pub data BytesPlay (k : Setup) (whole : Bool) (s : Scene) (seat : ℕ) (piece : List ℕ) (t : Scene) (printed : List ℕ) : Type 0 where
   -- nobody stands there, and the seat has ended nowhere: a connection is opened first, with the seat's next serial
-  opens : seat < k.config.seats → s.caller seat ≡ None → s.next seat < most_serials → (HasEnded k.config s.world seat → ⊥) → (o : Option HouseConnection)
+  opens : seat < k.connections → s.caller seat ≡ None → s.next seat < most_serials → (HasEnded k.config s.world seat → ⊥) → (o : Option HouseConnection)
       → ConnectionGoes k whole seat (s.world.heard seat) (more_waits (greeted (terms_of k) seat (s.next seat)) piece) o printed
-      → t ≡ record { world = s.world; caller = set_at s.caller seat o; next = set_at s.next seat (s.next seat + 1); visitor = s.visitor } → BytesPlay k whole s seat piece t printed
+      → t ≡ record { world = s.world; caller = set_at s.caller seat o; next = set_at s.next seat (s.next seat + 1); visitor = s.visitor; entered = s.entered } → BytesPlay k whole s seat piece t printed
   goes_on : (b : HouseConnection) → s.caller seat ≡ Some b → b.gone ≡ false → (o : Option HouseConnection)
       → ConnectionGoes k whole seat (s.world.heard seat) (more_waits b piece) o printed → t ≡ with_caller s seat o → BytesPlay k whole s seat piece t printed
 
 -- the next copy of the message at hand is put
-pub record PutPlay (k : Setup) (whole : Bool) (s : Scene) (seat : ℕ) (t : Scene) (printed : List ℕ) : Type 0 where
+pub record ConnectionPuts (k : Setup) (whole : Bool) (s : Scene) (seat : ℕ) (t : Scene) (printed : List ℕ) : Type 0 where
   pub caller : HouseConnection
   pub there : s.caller seat ≡ Some caller
   pub copy : Job
@@ -76,8 +88,8 @@ pub record PutPlay (k : Setup) (whole : Bool) (s : Scene) (seat : ℕ) (t : Scen
   pub goes : ConnectionGoes k whole seat (moved.heard seat) (record { serial = caller.serial; gone = caller.gone; talk = caller.talk; to_put = others }) left printed
   pub after : t ≡ with_caller (with_world s moved) seat left
 
--- the seat hears a verdict
-pub record HearPlay (k : Setup) (whole : Bool) (s : Scene) (seat : ℕ) (t : Scene) (printed : List ℕ) : Type 0 where
+-- its seat hears a verdict
+pub record ConnectionHears (k : Setup) (whole : Bool) (s : Scene) (seat : ℕ) (t : Scene) (printed : List ℕ) : Type 0 where
   pub caller : HouseConnection
   pub there : s.caller seat ≡ Some caller
   pub moved : World
@@ -101,66 +113,122 @@ pub record VanishPlay (k : Setup) (whole : Bool) (s : Scene) (seat : ℕ) (t : S
 abbrev pub LeavesMailbox : Setup → (place : ℕ) → World → World → Type 0
 LeavesMailbox k place w v = (answer : calls.Answer) × Meets k.config place w (calls.Leave false) answer v
 
--- who visits after a turn: one whose session has ended and who has said all is gone, and what waited is dropped
-pub data Parts (k : Setup) (whole : Bool) (place : ℕ) (after : HouseSession) (w v : World) (o : Option HouseSession) : Type 0 where
-  parts : after.standing.ended ≡ true → after.unsaid ≡ [] → LeavesMailbox k place w v → o ≡ None → Parts k whole place after w v o
-  remains : (whole ≡ true → after.standing.ended ≡ true → ⊥) → v ≡ w → o ≡ Some after → Parts k whole place after w v o
+-- who is at the place after a turn: one whose session has ended and who has said all is gone, and what waited is dropped
+pub data Parts (k : Setup) (whole : Bool) (place : ℕ) (after : SeatedSession) (w v : World) (o : Option SeatedSession) : Type 0 where
+  parts : after.session.standing.ended ≡ true → after.session.unsaid ≡ [] → LeavesMailbox k place w v → o ≡ None → Parts k whole place after w v o
+  remains : (whole ≡ true → after.session.standing.ended ≡ true → ⊥) → v ≡ w → o ≡ Some after → Parts k whole place after w v o
 
--- The visitor answers what waits, by the mailboxes of the world, and this is printed. `whole` says that memory wasn't wanting.
-pub record SessionGoes (k : Setup) (whole : Bool) (place : ℕ) (w : World) (before : HouseSession) (v : World) (o : Option HouseSession) (printed : List ℕ) : Type 0 where
-  pub after : HouseSession
+-- The session at a place, whose client is there, does what it can now, by the mailboxes of the world and by what its seat has heard, and this is printed.
+-- `whole` says that memory wasn't wanting.
+pub record SessionTalks (k : Setup) (whole : Bool) (place : ℕ) (heard : List Noted) (w : World) (before : SeatedSession) (v : World) (o : Option SeatedSession) (printed : List ℕ) : Type 0 where
+  pub after : SeatedSession
   pub mid : World
-  pub speaks : Speaks (Meets k.config place) (place + 1) before w mid after printed
-  pub all : whole ≡ true → IsWhole after
+  pub speaks : Speaks (Meets k.config place) whole (session_seat k place) (place + 1) heard before w mid after printed
+  pub all : whole ≡ true → IsWhole after.session
   pub left : Parts k whole place after mid v o
 
--- The visitor's session idles and has a turn, by the mailboxes of the world: it is shown one change at least, or it ends. This is printed.
-pub record SessionIdles (k : Setup) (whole : Bool) (place : ℕ) (w : World) (before : HouseSession) (v : World) (o : Option HouseSession) (printed : List ℕ) : Type 0 where
-  pub idling : is_idling before.standing ≡ true
+-- One whose client is gone says nothing: it stays for the verdict that it awaits, and is gone as soon as its seat has heard that.
+pub data Lingers (seat : ℕ) (heard : List Noted) (v : SeatedSession) (o : Option SeatedSession) : Type 0 where
+  waits : Awaits seat heard v → o ≡ Some v → Lingers seat heard v o
+  fades : IsSettled seat heard v → o ≡ None → Lingers seat heard v o
+
+-- the session at a place does what it can now, whether its client is there or not
+pub data SessionGoes (k : Setup) (whole : Bool) (place : ℕ) (heard : List Noted) (w : World) (before : SeatedSession) (v : World) (o : Option SeatedSession) (printed : List ℕ) : Type 0 where
+  talks : before.gone ≡ false → SessionTalks k whole place heard w before v o printed → SessionGoes k whole place heard w before v o printed
+  lingers : before.gone ≡ true → Lingers (session_seat k place) heard before o → v ≡ w → printed ≡ [] → SessionGoes k whole place heard w before v o printed
+
+-- The session at a place idles and has a turn, by the mailboxes of the world: it is shown one change at least, or it ends. This is printed.
+pub record SessionIdles (k : Setup) (whole : Bool) (place : ℕ) (w : World) (before : SeatedSession) (v : World) (o : Option SeatedSession) (printed : List ℕ) : Type 0 where
+  pub is_read : before.gone ≡ false
+  pub idling : is_idling before.session.standing ≡ true
   pub after : HouseSession
   pub mid : World
   pub shown : ℕ
-  pub idles : Idles (Meets k.config place) (place + 1) before w mid after shown printed
+  pub idles : Idles (Meets k.config place) (place + 1) before.session w mid after shown printed
   pub something : (0 < shown) ⊎ (after.standing.ended ≡ true)
   pub all : whole ≡ true → after.unsaid ≡ []
-  pub left : Parts k whole place after mid v o
+  pub left : Parts k whole place (with_session after before) mid v o
 
--- a user opens a session, which is greeted
+-- A user opens a session, which is greeted, at a place whose seat has ended nowhere. Its copies have the serial that is next there.
 pub record EnterPlay (k : Setup) (whole : Bool) (s : Scene) (place : ℕ) (user : List ℕ) (t : Scene) (printed : List ℕ) : Type 0 where
   pub there : place < k.config.sessions
   pub free : s.visitor place ≡ None
   pub known : has_user k.directory user ≡ true
+  pub more : s.entered place < most_serials
+  pub goes_on : HasEnded k.config s.world (session_seat k place) → ⊥
   pub moved : World
-  pub left : Option HouseSession
-  pub goes : SessionGoes k whole place s.world (greeted_visitor None (folders_of k.directory user)) moved left printed
-  pub after : t ≡ with_visitor (with_world s moved) place left
+  pub left : Option SeatedSession
+  pub goes : SessionTalks k whole place (s.world.heard (session_seat k place)) s.world (seated_greeted (s.entered place) (Some k.max_message) (folders_of k.directory user)) moved left printed
+  pub after : t ≡ record { world = moved; caller = s.caller; next = s.next; visitor = set_at s.visitor place left; entered = set_at s.entered place (s.entered place + 1) }
 
--- bytes came from a session's client
+-- bytes came from a session's client: where it awaits a verdict they only wait
 pub record SayPlay (k : Setup) (whole : Bool) (s : Scene) (place : ℕ) (piece : List ℕ) (t : Scene) (printed : List ℕ) : Type 0 where
-  pub visitor : HouseSession
+  pub visitor : SeatedSession
   pub there : s.visitor place ≡ Some visitor
+  pub is_read : visitor.gone ≡ false
   pub moved : World
-  pub left : Option HouseSession
-  pub goes : SessionGoes k whole place s.world (visitor_more_waits visitor piece) moved left printed
+  pub left : Option SeatedSession
+  pub goes : SessionTalks k whole place (s.world.heard (session_seat k place)) s.world (with_session (session_more_waits visitor.session piece) visitor) moved left printed
   pub after : t ≡ with_visitor (with_world s moved) place left
 
 -- A session that idles is shown what is pending. Where nothing is, there is no such play.
 pub record IdlePlay (k : Setup) (whole : Bool) (s : Scene) (place : ℕ) (t : Scene) (printed : List ℕ) : Type 0 where
-  pub visitor : HouseSession
+  pub visitor : SeatedSession
   pub there : s.visitor place ≡ Some visitor
   pub moved : World
-  pub left : Option HouseSession
+  pub left : Option SeatedSession
   pub goes : SessionIdles k whole place s.world visitor moved left printed
   pub after : t ≡ with_visitor (with_world s moved) place left
 
--- a session's client is gone: what waited and what was still to be printed is dropped
+-- A session's client is gone: what waited and what was still to be printed is dropped, and the session leaves its mailbox at once. Where it awaits a verdict,
+-- its seat stays taken till that is heard.
 pub record LeavePlay (k : Setup) (s : Scene) (place : ℕ) (t : Scene) (printed : List ℕ) : Type 0 where
-  pub visitor : HouseSession
+  pub visitor : SeatedSession
   pub there : s.visitor place ≡ Some visitor
+  pub was_read : visitor.gone ≡ false
   pub moved : World
   pub leaves : LeavesMailbox k place s.world moved
-  pub after : t ≡ with_visitor (with_world s moved) place None
+  pub left : Option SeatedSession
+  pub stays : Lingers (session_seat k place) (s.world.heard (session_seat k place)) (unread_session visitor) left
+  pub after : t ≡ with_visitor (with_world s moved) place left
   pub silent : printed ≡ []
+
+-- the copy of the message that it submitted is put
+pub record SessionPuts (k : Setup) (whole : Bool) (s : Scene) (place : ℕ) (t : Scene) (printed : List ℕ) : Type 0 where
+  pub visitor : SeatedSession
+  pub there : s.visitor place ≡ Some visitor
+  pub copy : Job
+  pub others : List Job
+  pub front : visitor.to_put ≡ copy ∷ others
+  pub moved : World
+  pub step : Step k.config s.world (world.Put (session_seat k place) (world.shard_of k.config copy.mailbox) copy) moved
+  pub later : World
+  pub left : Option SeatedSession
+  pub goes : SessionGoes k whole place (moved.heard (session_seat k place)) moved (record { session = visitor.session; serial = visitor.serial; gone = visitor.gone; to_put = others }) later left printed
+  pub after : t ≡ with_visitor (with_world s later) place left
+
+-- its seat hears a verdict
+pub record SessionHears (k : Setup) (whole : Bool) (s : Scene) (place : ℕ) (t : Scene) (printed : List ℕ) : Type 0 where
+  pub visitor : SeatedSession
+  pub there : s.visitor place ≡ Some visitor
+  pub moved : World
+  pub step : Step k.config s.world (world.Hear (session_seat k place)) moved
+  pub later : World
+  pub left : Option SeatedSession
+  pub goes : SessionGoes k whole place (moved.heard (session_seat k place)) moved visitor later left printed
+  pub after : t ≡ with_visitor (with_world s later) place left
+
+-- ---- who puts and hears
+
+-- at a seat the next copy of a message is put, by its connection or by its session
+pub data PutPlay (k : Setup) (whole : Bool) (s : Scene) (seat : ℕ) (t : Scene) (printed : List ℕ) : Type 0 where
+  connection_puts : seat < k.connections → ConnectionPuts k whole s seat t printed → PutPlay k whole s seat t printed
+  session_puts : (place : ℕ) → seat ≡ session_seat k place → SessionPuts k whole s place t printed → PutPlay k whole s seat t printed
+
+-- at a seat a verdict is heard
+pub data HearPlay (k : Setup) (whole : Bool) (s : Scene) (seat : ℕ) (t : Scene) (printed : List ℕ) : Type 0 where
+  connection_hears : seat < k.connections → ConnectionHears k whole s seat t printed → HearPlay k whole s seat t printed
+  session_hears : (place : ℕ) → seat ≡ session_seat k place → SessionHears k whole s place t printed → HearPlay k whole s seat t printed
 
 -- ---- events
 
@@ -176,16 +244,16 @@ pub record Moves (k : Setup) (s : Scene) (event : world.Event) (t : Scene) (prin
 abbrev pub Plays : Setup → Bool → Scene → Event → Scene → List ℕ → Type 0
 Plays k whole s (Bytes connection piece) t printed = BytesPlay k whole s (seat_of connection) piece.now t printed
 Plays k whole s (Vanish connection) t printed = VanishPlay k whole s (seat_of connection) t printed
-Plays k whole s (Put connection) t printed = PutPlay k whole s (seat_of connection) t printed
+Plays k whole s (Put number) t printed = PutPlay k whole s (seat_of number) t printed
 Plays k whole s (Take shard) t printed = Moves k s (world.Take shard) t printed
 Plays k whole s (Deliver shard) t printed = Moves k s (world.Deliver shard) t printed
 Plays k whole s (Answer shard) t printed = Moves k s (world.Answer shard) t printed
-Plays k whole s (Hear connection) t printed = HearPlay k whole s (seat_of connection) t printed
+Plays k whole s (Hear number) t printed = HearPlay k whole s (seat_of number) t printed
 Plays k whole s (Enter session user) t printed = EnterPlay k whole s (place_of session) user.now t printed
 Plays k whole s (Say session piece) t printed = SayPlay k whole s (place_of session) piece.now t printed
 Plays k whole s (Idle session) t printed = IdlePlay k whole s (place_of session) t printed
 Plays k whole s (Leave session) t printed = LeavePlay k s (place_of session) t printed
-Plays k whole s (End connection shard) t printed = (s.caller (seat_of connection) ≡ None) × Moves k s (world.PutEnd (seat_of connection) shard) t printed
+Plays k whole s (End number shard) t printed = IsFree k s (seat_of number) × Moves k s (world.PutEnd (seat_of number) shard) t printed
 
 -- In no way does the event change anything, or print a word.
 abbrev pub HasNothing : Setup → Scene → Event → Type 0

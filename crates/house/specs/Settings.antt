@@ -11,8 +11,8 @@ use Rattle.house.specs.declared.config.ConfigFault.TheVariants.{TooMany, BadName
 use Rattle.house.specs.Setup.{Setup}
 
 -- so many connections may stand at a time
-abbrev pub seats : ℕ
-seats = 8
+abbrev pub connections : ℕ
+connections = 8
 
 -- and so many sessions
 abbrev pub sessions : ℕ
@@ -102,7 +102,7 @@ config_fault c = names_first (words_read (c.host.items ∷ c.domain.items ∷ []
 abbrev pub setup_of : Config → Setup
 setup_of c = record {
   config = record {
-    seats = seats;
+    seats = connections + sessions;
     shards = c.shards;
     mailboxes = length (words_of c);
     sessions = sessions;
@@ -113,6 +113,7 @@ setup_of c = record {
     first_uid = c.first_uid;
     uidvalidity = c.uidvalidity;
   };
+  connections = connections;
   directory = record { domains = c.domain.items ∷ []; homes = map home_of (words_of c); shards = c.shards };
   host = c.host.items;
   max_message = c.max_message;

@@ -32,8 +32,8 @@ abbrev pub Visits : Setup → List (List Event) → Scene → Scene → List ℕ
 Visits k [] s t printed = (t ≡ s) × (printed ≡ [])
 Visits k (group ∷ groups) s t printed = (m : Scene) × (one : List ℕ) × (two : List ℕ) × Visit k group s m one × Visits k groups m t two × (printed ≡ one ++ two)
 
--- A round: each connection from 1 puts its copies; each shard from 0 that isn't held takes, delivers and answers; each connection
--- from 1 hears its verdicts.
+-- A round: each connection from 1, and each session behind them, puts its copies; each shard from 0 that isn't held takes, delivers and answers; each connection
+-- and each session hears its verdicts.
 abbrev pub round : Setup → (ℕ → Bool) → List (List Event)
 round k held = map (λ n. Put n ∷ []) (range_with_len 1 k.config.seats)
     ++ map (λ s. Take s ∷ Deliver s ∷ Answer s ∷ []) (filter (λ s. not (held s)) (range_with_len 0 k.config.shards))

@@ -1,14 +1,20 @@
 -- What of a house is settled at the start.
-use Rattle.std.specs.Prelude.{ℕ, List}
+use Rattle.std.specs.Prelude.{ℕ, ◌+◌, List}
 use Rattle.envelope.specs.Directory.{Directory}
 use Rattle.world.specs.World.{Config}
 use Rattle.house_connection.specs.HouseConnection.{Terms}
 
+-- The seats of connections come first, and behind them those of sessions.
 pub record Setup : Type 0 where
   pub config : Config
+  pub connections : ℕ
   pub directory : Directory
   pub host : List ℕ
   pub max_message : ℕ
+
+-- the seat of the session at a place
+abbrev pub session_seat : Setup → (place : ℕ) → ℕ
+session_seat k place = k.connections + place
 
 -- the terms on which its connections are served
 abbrev pub terms_of : Setup → Terms

@@ -1,5 +1,5 @@
--- When the house stands for a scene: what it holds is what the scene says, place by place.
-use Rattle.std.specs.Prelude.{◌≡◌, ℕ, ◌<◌, slice_index_or, List, length, Option, Some, None}
+-- When the house stands for a scene: what it holds is what the scene says, seat by seat.
+use Rattle.std.specs.Prelude.{◌≡◌, ℕ, ◌+◌, ◌<◌, slice_index_or, List, length, Option, Some, None}
 use Rattle.delivery_token.specs.declared.CopyKey.{CopyKey}
 use Rattle.delivery_token.specs.declared.log.Noted.{Noted}
 use Rattle.delivery_token.specs.Keys.{AtLeast}
@@ -7,30 +7,37 @@ use Rattle.delivery_core.specs.Stands as core
 use Rattle.house_connection.specs.Line.{Line}
 use Rattle.house.specs.State.{State}
 use Rattle.house_connection.specs.HouseConnection.{HouseConnection}
-use Rattle.house.specs.Setup.{Setup, terms_of}
+use Rattle.house.specs.Setup.{Setup, session_seat, terms_of}
 use Rattle.house.specs.Scene.{Scene}
 use Rattle.house_connection.specs.ConnectionStands.{StandsForConnection}
-use Rattle.house_session.specs.HouseSession.{HouseSession}
-use Rattle.house_session.specs.Place.{Place}
-use Rattle.house_session.specs.Place as visit
+use Rattle.house_session.specs.Seated.{SeatedSession}
+use Rattle.house_session.specs.Seat.{Seat, StandsForSeated}
 
--- who stands at a seat
+-- the first key of the connection or session that comes to a seat with this serial
+abbrev pub first_of : (seat serial : ℕ) → CopyKey
+first_of seat serial = record { seat = seat; serial = serial; message = 0; recipient = 0 }
+
+-- which connection stands at a seat
 abbrev pub StandsForOne : Setup → ℕ → CopyKey → List Noted → ℕ → Option Line → Option HouseConnection → Type 0
-StandsForOne k seat next heard serials None None = AtLeast next (record { seat = seat; serial = serials; message = 0; recipient = 0 })
+StandsForOne k seat next heard serials None None = AtLeast next (first_of seat serials)
 StandsForOne k seat next heard serials None (Some b) = ⊥
 StandsForOne k seat next heard serials (Some h) None = ⊥
 StandsForOne k seat next heard serials (Some h) (Some b) = StandsForConnection (terms_of k) seat next heard h b × (b.serial < serials)
 
--- who visits at a place
-abbrev pub StandsForVisit : Option Place → Option HouseSession → Type 0
-StandsForVisit None None = Unit {0}
-StandsForVisit None (Some v) = ⊥
-StandsForVisit (Some p) None = ⊥
-StandsForVisit (Some p) (Some v) = visit.StandsFor p v
+-- which session is at a seat
+abbrev pub StandsForVisit : (seat : ℕ) → CopyKey → List Noted → ℕ → Option Seat → Option SeatedSession → Type 0
+StandsForVisit seat next heard serials None None = AtLeast next (first_of seat serials)
+StandsForVisit seat next heard serials None (Some v) = ⊥
+StandsForVisit seat next heard serials (Some p) None = ⊥
+StandsForVisit seat next heard serials (Some p) (Some v) = StandsForSeated seat next heard p v × (v.serial < serials)
 
 pub record StandsForSeat (k : Setup) (s : Scene) (seat : ℕ) (next : CopyKey) (serials : ℕ) (line : Option Line) : Type 0 where
   pub counted : serials ≡ s.next seat
   pub who : StandsForOne k seat next (s.world.heard seat) (s.next seat) line (s.caller seat)
+
+pub record StandsForPlace (k : Setup) (s : Scene) (place : ℕ) (next : CopyKey) (serials : ℕ) (visitor : Option Seat) : Type 0 where
+  pub counted : serials ≡ s.entered place
+  pub who : StandsForVisit (session_seat k place) next (s.world.heard (session_seat k place)) (s.entered place) visitor (s.visitor place)
 
 -- the house stands for a scene
 pub record StandsFor (k : Setup) (h : State) (s : Scene) : Type 0 where
@@ -41,10 +48,14 @@ pub record StandsFor (k : Setup) (h : State) (s : Scene) : Type 0 where
   pub homes : length k.directory.homes ≡ k.config.mailboxes
   pub shards : k.directory.shards ≡ k.config.shards
   pub some_shard : 0 < k.config.shards
-  pub seats : length h.callers ≡ k.config.seats
-  pub numbers : length h.serials ≡ k.config.seats
+  -- the seats are those of connections and, behind them, those of sessions
+  pub seats : length h.callers + length h.visitors ≡ k.config.seats
+  pub connections : length h.callers ≡ k.connections
+  pub numbers : length h.serials ≡ k.connections
   pub each : (seat : ℕ) (y : CopyKey) (n : ℕ) (d : Option Line) → seat < length h.callers
       → StandsForSeat k s seat (slice_index_or h.core.next seat y) (slice_index_or h.serials seat n) (slice_index_or h.callers seat d)
-  -- each visitor is at its place
+  -- each session is at its place
   pub places : length h.visitors ≡ k.config.sessions
-  pub visitors : (place : ℕ) (d : Option Place) → place < length h.visitors → StandsForVisit (slice_index_or h.visitors place d) (s.visitor place)
+  pub entries : length h.entered ≡ k.config.sessions
+  pub visitors : (place : ℕ) (y : CopyKey) (n : ℕ) (d : Option Seat) → place < length h.visitors
+      → StandsForPlace k s place (slice_index_or h.core.next (session_seat k place) y) (slice_index_or h.entered place n) (slice_index_or h.visitors place d)

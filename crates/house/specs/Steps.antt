@@ -1,5 +1,6 @@
 -- What a call of the house promises: for each scene for which it stood, a scene to which the event leads.
-use Rattle.std.specs.Prelude.{◌≡◌, ℕ, ◌<◌, ◌≤◌, ◌⊎◌, ◌++◌, ◌%◌, slice_index_or, slice_set, Bool, true, false, List, [], ◌∷◌, length, Option, Some, None, IsSome}
+use Rattle.std.specs.Option.{is_some}
+use Rattle.std.specs.Prelude.{◌≡◌, ℕ, ◌+◌, ◌-◌, ◌<◌, if◌then◌else◌, nat_lt, ◌≤◌, ◌⊎◌, ◌++◌, ◌%◌, slice_index_or, slice_set, Bool, true, false, List, [], ◌∷◌, length, Option, Some, None, IsSome}
 use Rattle.delivery_token.specs.Book.{Book}
 use Rattle.delivery_token.specs.declared.log.Noted.{Noted}
 use Rattle.house.specs.declared.event.Event.{Event}
@@ -9,7 +10,7 @@ use Rattle.delivery_token.specs.declared.Refusal.{Refusal}
 use Rattle.world.specs.World.{Config}
 use Rattle.world.specs.World as world
 use Rattle.delivery_core.specs.Held.{Held, behind, client_of, has_ended}
-use Rattle.delivery_core.specs.Changes.{Hears, SameCounts}
+use Rattle.delivery_core.specs.Changes.{Hears, SameCounts, SameDelivery}
 use Rattle.delivery_token.specs.Log.{heard_at_once}
 use Rattle.delivery_token.specs.Keys.{past}
 use Rattle.delivery_core.specs.Stands as core
@@ -21,7 +22,10 @@ use Rattle.house.specs.Scene.{Scene, HasNothing, Plays, most_serials, place_of, 
 use Rattle.imap_session.specs.Exchange.{is_idling}
 use Rattle.house_session.specs.Folders.{has_user}
 use Rattle.house.specs.Stands.{StandsFor}
-use Rattle.house_session.specs.Place.{Place}
+use Rattle.house_session.specs.Seat.{Seat}
+use Rattle.house_session.specs.Seat as seat
+
+-- ---- who is there
 
 -- there is no such connection: they are numbered from 1
 abbrev pub IsNoSeat : State → ℕ → Type 0
@@ -30,12 +34,6 @@ IsNoSeat h connection = (connection ≡ 0) ⊎ (length h.callers < connection)
 -- nobody stands at the connection's seat
 abbrev pub IsEmptySeat : State → ℕ → Type 0
 IsEmptySeat h connection = slice_index_or h.callers (seat_of connection) None ≡ None
-
--- somebody stands at the connection's seat
-pub record IsThere (h : State) (connection : ℕ) : Type 0 where
-  pub number : 0 < connection
-  pub seat : connection ≤ length h.callers
-  pub who : IsSome (slice_index_or h.callers (seat_of connection) None)
 
 -- somebody stands at this place, and the peer is gone
 abbrev pub is_unread : Option Line → Bool
@@ -56,32 +54,67 @@ IsSpent h connection = (most_serials ≤ slice_index_or h.serials (seat_of conne
 abbrev pub IsNoPlace : State → ℕ → Type 0
 IsNoPlace h session = (session ≡ 0) ⊎ (length h.visitors < session)
 
--- nobody visits at the session's place
+-- nobody is at the session's place
 abbrev pub IsFreePlace : State → ℕ → Type 0
 IsFreePlace h session = slice_index_or h.visitors (place_of session) None ≡ None
 
--- somebody visits at the session's place
+-- somebody is at the session's place
 pub record IsTakenPlace (h : State) (session : ℕ) : Type 0 where
   pub number : 0 < session
   pub place : session ≤ length h.visitors
   pub who : IsSome (slice_index_or h.visitors (place_of session) None)
 
+-- a session is at this place, and its client is gone
+abbrev pub is_left : Option Seat → Bool
+is_left None = false
+is_left (Some p) = p.gone
+
+-- a session is at its place whose client is gone
+pub record IsLeft (h : State) (session : ℕ) : Type 0 where
+  pub number : 0 < session
+  pub place : session ≤ length h.visitors
+  pub gone : is_left (slice_index_or h.visitors (place_of session) None) ≡ true
+
+-- the session's seat takes no new one: its serials are spent, or it has ended
+abbrev pub IsSpentPlace : State → ℕ → Type 0
+IsSpentPlace h session = (most_serials ≤ slice_index_or h.entered (place_of session) 0) ⊎ (has_ended h.core (length h.callers + place_of session) ≡ true)
+
+-- there is no connection and no session of this number: those of sessions are behind those of connections
+abbrev pub IsNoNumber : State → ℕ → Type 0
+IsNoNumber h number = (number ≡ 0) ⊎ (length h.callers + length h.visitors < number)
+
+-- whether the connection or the session of a seat is there
+abbrev pub is_taken : State → (seat : ℕ) → Bool
+is_taken h seat = if nat_lt seat (length h.callers) then is_some (slice_index_or h.callers seat None) else is_some (slice_index_or h.visitors (seat - length h.callers) None)
+
+-- it isn't
+abbrev pub IsVacant : State → ℕ → Type 0
+IsVacant h number = is_taken h (seat_of number) ≡ false
+
+-- it is
+pub record IsThere (h : State) (n : ℕ) : Type 0 where
+  pub some : 0 < n
+  pub number : n ≤ length h.callers + length h.visitors
+  pub who : is_taken h (seat_of n) ≡ true
+
+-- ---- which fault
+
 -- there is nobody to whom the event could happen
 abbrev pub IsNobody : State → Event → Type 0
 IsNobody h (Bytes connection piece) = IsNoSeat h connection ⊎ (IsEmptySeat h connection × IsSpent h connection)
 IsNobody h (Vanish connection) = IsNoSeat h connection ⊎ IsEmptySeat h connection
-IsNobody h (Put connection) = IsNoSeat h connection ⊎ IsEmptySeat h connection
+IsNobody h (Put number) = IsNoNumber h number ⊎ IsVacant h number
 IsNobody h (Take shard) = length h.core.lanes ≤ shard
 IsNobody h (Deliver shard) = length h.core.lanes ≤ shard
 IsNobody h (Answer shard) = length h.core.lanes ≤ shard
-IsNobody h (Hear connection) = IsNoSeat h connection ⊎ IsEmptySeat h connection
-IsNobody h (End connection shard) = IsNoSeat h connection ⊎ (length h.core.lanes ≤ shard)
-IsNobody h (Enter session user) = IsNoPlace h session ⊎ (has_user h.directory user.now ≡ false)
+IsNobody h (Hear number) = IsNoNumber h number ⊎ IsVacant h number
+IsNobody h (End number shard) = IsNoNumber h number ⊎ (length h.core.lanes ≤ shard)
+IsNobody h (Enter session user) = IsNoPlace h session ⊎ (has_user h.directory user.now ≡ false ⊎ (IsFreePlace h session × IsSpentPlace h session))
 IsNobody h (Say session piece) = IsNoPlace h session ⊎ IsFreePlace h session
 IsNobody h (Idle session) = IsNoPlace h session ⊎ IsFreePlace h session
 IsNobody h (Leave session) = IsNoPlace h session ⊎ IsFreePlace h session
 
--- the seat still owes verdicts to a peer that is gone; an end waits for whoever stands there
+-- The seat still awaits verdicts for a peer that is gone; an end waits for whoever stands there; and where a session is at a place no other enters.
 abbrev pub IsBusy : State → Event → Type 0
 IsBusy h (Bytes connection piece) = IsUnread h connection
 IsBusy h (Vanish connection) = IsUnread h connection
@@ -90,11 +123,13 @@ IsBusy h (Take shard) = ⊥
 IsBusy h (Deliver shard) = ⊥
 IsBusy h (Answer shard) = ⊥
 IsBusy h (Hear connection) = ⊥
-IsBusy h (End connection shard) = (shard < length h.core.lanes) × IsThere h connection
+IsBusy h (End number shard) = (shard < length h.core.lanes) × IsThere h number
 IsBusy h (Enter session user) = (has_user h.directory user.now ≡ true) × IsTakenPlace h session
-IsBusy h (Say session piece) = ⊥
-IsBusy h (Idle session) = ⊥
-IsBusy h (Leave session) = ⊥
+IsBusy h (Say session piece) = IsLeft h session
+IsBusy h (Idle session) = IsLeft h session
+IsBusy h (Leave session) = IsLeft h session
+
+-- ---- what is promised
 
 -- The event leads from the scene to one for which the house stands now, and what was appended is what it prints.
 pub record Led (k : Setup) (whole : Bool) (s : Scene) (event : Event) (h : State) (old new : List ℕ) : Type 0 where
@@ -116,6 +151,18 @@ FollowsInPart before event h old new = (k : Setup) (s : Scene) → StandsFor k b
 abbrev pub IsIdle : State → Event → Type 0
 IsIdle before event = (k : Setup) (s : Scene) → StandsFor k before s → HasNothing k s event
 
+-- the copies that are still to be put at a seat, by its connection or by its session
+abbrev pub due_by : Option Line → List Job
+due_by None = []
+due_by (Some h) = due h
+
+abbrev pub due_of : Option Seat → List Job
+due_of None = []
+due_of (Some p) = seat.due p
+
+abbrev pub due_at : State → (seat : ℕ) → List Job
+due_at h seat = if nat_lt seat (length h.callers) then due_by (slice_index_or h.callers seat None) else due_of (slice_index_or h.visitors (seat - length h.callers) None)
+
 -- the delivery side took this copy, and told at once what was heard of it
 pub record CorePuts (old : Held) (c : Job) (new : Held) (why : Option Refusal) : Type 0 where
   pub follows : (k : Config) → core.Follows k old (world.Put c.key.seat (c.mailbox % length old.lanes) c ∷ []) new
@@ -123,28 +170,33 @@ pub record CorePuts (old : Held) (c : Job) (new : Held) (why : Option Refusal) :
   pub heard : Hears old new c.key.seat (heard_at_once c.key c.mailbox why)
   pub counts : SameCounts old new
 
--- the copy that is next was put
-pub record PutsNext (old : Held) (h : Line) (new : Held) (why : Option Refusal) : Type 0 where
+-- of the copies that are still to be put the first was
+pub record PutsNext (old : Held) (due : List Job) (new : Held) (why : Option Refusal) : Type 0 where
   pub copy : Job
   pub others : List Job
-  pub front : due h ≡ copy ∷ others
+  pub front : due ≡ copy ∷ others
   pub puts : CorePuts old copy new why
 
 -- the log of a seat has no room for the note of a verdict
 abbrev pub HasNoRoom : Held → ℕ → Type 0
 HasNoRoom h seat = (d : Book) → (slice_index_or h.heard seat d).spare ≡ 0
 
--- the next copy is of a seat whose log has no room for the note of a refusal
-pub record CannotNote (old : Held) (h : Line) : Type 0 where
+-- the first of them is of a seat whose log has no room for the note of a refusal
+pub record CannotNote (old : Held) (due : List Job) : Type 0 where
   pub copy : Job
   pub others : List Job
-  pub front : due h ≡ copy ∷ others
+  pub front : due ≡ copy ∷ others
   pub room : HasNoRoom old copy.key.seat
 
--- The visitor at a place may have a turn: its session idles in a mailbox, and isn't known to have been shown all of its log.
-pub record MayIdle (p : Place) (place : ℕ) (core : Held) : Type 0 where
-  pub idling : is_idling p.link.session ≡ true
-  pub selected : IsSome p.link.session.selected
+-- of these copies the first can't be put, or it was, and nothing else happened between seats and mailboxes
+abbrev pub MayWantToPut : List Job → Held → Held → Type 0
+MayWantToPut due old new = CannotNote old due ⊎ ((put : Held) × (why : Option Refusal) × PutsNext old due put why × SameDelivery put new)
+
+-- The session at a place may have a turn: its client is there, it idles in a mailbox, and isn't known to have been shown all of its log.
+pub record MayIdle (p : Seat) (place : ℕ) (core : Held) : Type 0 where
+  pub is_read : p.gone ≡ false
+  pub idling : is_idling p.place.link.session ≡ true
+  pub selected : IsSome p.place.link.session.selected
   pub news : IsSome (client_of core place) → behind core place ≡ 0 → ⊥
 
 -- When an event may be refused for want of memory. A take, a delivery, an answer, an end, a leave and a peer that is gone ask for none. A put and a hearing ask before
@@ -156,9 +208,9 @@ MayWant (Answer shard) old new = ⊥
 MayWant (End connection shard) old new = ⊥
 MayWant (Leave session) old new = ⊥
 MayWant (Vanish connection) old new = ⊥
-MayWant (Put connection) old new = (h : Line) × (slice_index_or old.callers (seat_of connection) None ≡ Some h) × (CannotNote old.core h ⊎ ((why : Option Refusal) × PutsNext old.core h new.core why))
-MayWant (Hear connection) old new = HasNoRoom old.core (seat_of connection) ⊎ ((r : Noted) × Hears old.core new.core (seat_of connection) (r ∷ []))
-MayWant (Idle session) old new = (p : Place) × (slice_index_or old.visitors (place_of session) None ≡ Some p) × MayIdle p (place_of session) old.core
+MayWant (Put number) old new = MayWantToPut (due_at old (seat_of number)) old.core new.core
+MayWant (Hear number) old new = HasNoRoom old.core (seat_of number) ⊎ ((r : Noted) × Hears old.core new.core (seat_of number) (r ∷ []))
+MayWant (Idle session) old new = (p : Seat) × (slice_index_or old.visitors (place_of session) None ≡ Some p) × MayIdle p (place_of session) old.core
 MayWant (Bytes connection piece) old new = Unit {0}
 MayWant (Enter session user) old new = Unit {0}
 MayWant (Say session piece) old new = Unit {0}

@@ -2,7 +2,8 @@
 
 use thiserror::Error;
 
-/// One event. Connections and sessions are numbered from 1, shards from 0.
+/// One event. Connections and sessions are numbered from 1, shards from 0. Where an event is of both, the numbers of sessions are behind those of
+/// connections: session 1 has the number of connections and one more.
 #[derive(Clone, Copy, Debug, PartialEq, Eq)]
 pub enum Event<'a> {
     /// Bytes came from the peer of a connection. Where none stands at its seat, one is opened first, with its greeting.
@@ -10,7 +11,7 @@ pub enum Event<'a> {
     /// The peer of a connection is gone. One that awaits no verdict leaves its seat; else it still puts its copies, says nothing more,
     /// and keeps the seat until each verdict is heard.
     Vanish(u8),
-    /// A connection puts the next copy of its message into the lane of the mailbox's shard.
+    /// A connection, or a session behind them, puts the next copy of its message into the lane of the mailbox's shard.
     Put(u8),
     /// A shard's consumer takes what waits at the front of its lane.
     Take(u8),
@@ -18,17 +19,19 @@ pub enum Event<'a> {
     Deliver(u8),
     /// The verdict in a shard's hand goes into the reply lane of the copy's seat.
     Answer(u8),
-    /// A connection hears the verdict at the front of its reply lane.
+    /// A connection, or a session behind them, hears the verdict at the front of its reply lane.
     Hear(u8),
-    /// A connection's seat, at which nobody stands, puts its end into a shard's lane. After that it takes no new connection.
+    /// The seat of a connection, or of a session behind them, at which nobody stands, puts its end into a shard's lane. After that it takes no new one.
     End(u8, u8),
-    /// A user opens a session, which is greeted. The user is named as in the words of the settings, byte by byte.
+    /// A user opens a session, which is greeted, at a seat that has ended nowhere. The user is named as in the words of the settings, byte by byte.
     Enter(u8, &'a [u8]),
-    /// Bytes came from a session's client. Each line that ends in them is answered; the mailbox's events of a line happen one after another.
+    /// Bytes came from a session's client. Each line that ends in them is answered; the mailbox's events of a line happen one after another. Where the
+    /// verdict on a message that it appended is awaited, they only wait.
     Say(u8, &'a [u8]),
     /// A session that idles is shown what is pending in its mailbox, 64 changes at most; one that missed changes is told BYE and ends.
     Idle(u8),
-    /// A session's client is gone. The session leaves its mailbox and removes nothing, and says nothing more.
+    /// A session's client is gone. The session leaves its mailbox and removes nothing, and says nothing more. One that awaits the verdict on a message
+    /// keeps its seat until that is heard.
     Leave(u8),
 }
 
@@ -38,7 +41,7 @@ pub enum HouseFault {
     /// The connection, the session, the user or the shard isn't there, or the seat takes no new connection.
     #[error("nobody is there")]
     Nobody,
-    /// The place is taken, or the seat still waits for the verdicts of a connection whose peer is gone.
+    /// The place is taken, or the seat still waits for the verdicts of a connection or a session whose peer is gone.
     #[error("the place is taken")]
     Busy,
     /// There is nothing to do, or it may not happen now.

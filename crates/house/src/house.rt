@@ -1,7 +1,7 @@
 //! The house: who stands at each seat, over the delivery core. Each call is one event, and what it appends to `out` is what the event
 //! prints. No script and no socket is known here.
 
-ghost use Rattle.std.specs.Prelude.{true, false, ◌≡◌, ◌≢◌, ◌≤◌, ◌<◌, ◌+◌, ◌⊎◌, ◌↔◌, ℕ, List, [], length, None, Some, Err, OnOk, OnErr, IfOk, IfErr, IfNone, IfSome, IsSome, IsSomeAnd, MatchOption, option_map};
+ghost use Rattle.std.specs.Prelude.{true, false, IsTrue, ◌≡◌, ◌≢◌, ◌≤◌, ◌<◌, ◌+◌, ◌⊎◌, ◌↔◌, ℕ, List, [], length, None, Some, Err, OnOk, OnErr, IfOk, IfErr, IfNone, IfSome, IsSome, IsSomeAnd, MatchOption, option_map};
 ghost use Rattle.delivery_token.specs.Keys.{AtLeast};
 ghost use Rattle.house_connection.specs.Line.{Line};
 ghost use Rattle.house_connection.specs.Taking.{HearsVerdict, due, noted_put, with_more, with_nobody_there};
@@ -18,8 +18,8 @@ ghost use Rattle.house.specs.Stands.{StandsFor};
 ghost use Rattle.house.specs.Effort.{MakesLess, place_effort};
 ghost use Rattle.delivery_core.specs.Load.{load};
 ghost use Rattle.std.specs.Borrow.{Bor};
-ghost use Rattle.house.specs.Steps.{Follows, FollowsInPart, IsIdle, IsBusy, IsEmptySeat, IsNoSeat, IsNobody, Led, CannotNote, MayWant, PutsNext, is_unread};
-ghost use Rattle.house.specs.inner.Steps.{HasSeat, IsRead, IsVacant, MayNotPut, PlaceWentOn, StandsForMaybe, fault_of};
+ghost use Rattle.house.specs.Steps.{CannotNote, CorePuts, Follows, FollowsInPart, HasNoRoom, IsBusy, IsEmptySeat, IsIdle, IsNoNumber, IsNobody, IsVacant, Led, MayWant, PutsNext, is_taken, is_unread};
+ghost use Rattle.house.specs.inner.Steps.{HasSeat, IsNoNext, IsOpen, IsRead, MayNotPut, PlaceWentOn, StandsForMaybe, fault_of, job_of};
 ghost use Rattle.house.specs.declared.event.Event.TheVariants as events;
 
 use crate::event::{Event, HouseFault};
@@ -28,9 +28,10 @@ use delivery_core::{DeliveryCore, Fault};
 use delivery_token::{Noted, Refusal, Verdict};
 use envelope::Directory;
 use house_connection::HouseConnection;
-use house_session::HouseSession;
+use house_session::SeatedSession;
 use lmtp_machine::{Limits, What};
 use session_store::Desk;
+use submission::NextCopy;
 use std::alloc::{AllocError, Global};
 use std::marker::Model;
 
@@ -40,14 +41,15 @@ pub struct House {
     pub(crate) desk: Desk,
     pub(crate) callers: Vec<Option<HouseConnection>>,
     pub(crate) serials: Vec<u64>,
-    pub(crate) visitors: Vec<Option<HouseSession>>,
+    pub(crate) visitors: Vec<Option<SeatedSession>>,
+    pub(crate) entered: Vec<u64>,
     pub(crate) directory: Directory,
     pub(crate) host: Vec<u8>,
     pub(crate) max_message: usize,
 }
 
 impl Model for House {
-    ghost use Rattle.std.specs.Prelude.{◌≡◌, ◌<◌, ◌≤◌, length};
+    ghost use Rattle.std.specs.Prelude.{◌≡◌, ◌+◌, ◌<◌, ◌≤◌, length};
     ghost use Rattle.house.specs.State.{State};
 
     ghost Value = { State };
@@ -57,12 +59,14 @@ impl Model for House {
       callers = h.callers.items;
       serials = h.serials.items;
       visitors = h.visitors.items;
+      entered = h.entered.items;
       directory = h.directory;
       host = h.host.items;
       max_message = h.max_message;
     } };
 
-    ghost invariant = { λ h. (length h.serials.items ≡ length h.callers.items) × (length h.host.items < 256) × (length h.callers.items < 256) × (length h.visitors.items < 256) };
+    ghost invariant = { λ h. (length h.serials.items ≡ length h.callers.items) × (length h.host.items < 256) × (length h.callers.items + length h.visitors.items < 256)
+        × (length h.entered.items ≡ length h.visitors.items) × (h.max_message < 4294967296) };
 }
 
 // The caller at a place goes on, and leaves it where its connection has ended.
@@ -142,25 +146,19 @@ fn vanish_at(place: &mut Option<HouseConnection>)
     }
 }
 
-// Puts the next copy of the caller at a place.
-fn put_next(
+// Puts a copy, where it may be put.
+pub(crate) fn put_copy(
     core: &mut DeliveryCore,
-    place: &Option<HouseConnection>,
+    copy: NextCopy<'_>,
 ) -> Result<Option<Refusal>, HouseFault>
-    ensures nobody { (result ≡ Err HouseFault.Nobody) ↔ (place.now ≡ None) }
+    ensures nobody { result ≢ Err HouseFault.Nobody }
     ensures busy { result ≢ Err HouseFault.Busy }
-    ensures nothing { result ≡ Err HouseFault.Nothing → (h : Line) × (place.now ≡ Some h) × MayNotPut core.old h }
-    ensures memory { result ≡ Err HouseFault.NoMemory → (h : Line) × (place.now ≡ Some h) × CannotNote core.old h }
-    ensures puts { IfOk result (λ why. (h : Line) × (place.now ≡ Some h) × PutsNext core.old h core.new why) }
+    ensures nothing { result ≡ Err HouseFault.Nothing → IsNoNext core.old (job_of copy.entry) }
+    ensures memory { result ≡ Err HouseFault.NoMemory → HasNoRoom core.old copy.entry.key.seat }
+    ensures puts { IfOk result (λ why. CorePuts core.old (job_of copy.entry) core.new why) }
     ensures load { OnOk result (load core.new ≤ load core.old + 4) }
     ensures refused { OnErr result (core.new ≡ core.old) }
 {
-    let Some(caller) = place else {
-        return Err(HouseFault::Nobody);
-    };
-    let Some(copy) = caller.next_copy() else {
-        return Err(HouseFault::Nothing);
-    };
     if !core.may_put(copy.key, copy.mailbox) {
         return Err(HouseFault::Nothing);
     }
@@ -170,6 +168,28 @@ fn put_next(
         Err(Fault::Nothing) => Err(HouseFault::Nothing),
         Err(Fault::Nobody) => Err(HouseFault::Nothing),
     }
+}
+
+// Puts the next copy of the caller at a place.
+fn put_next(
+    core: &mut DeliveryCore,
+    place: &Option<HouseConnection>,
+) -> Result<Option<Refusal>, HouseFault>
+    ensures nobody { (result ≡ Err HouseFault.Nobody) ↔ (place.now ≡ None) }
+    ensures busy { result ≢ Err HouseFault.Busy }
+    ensures nothing { result ≡ Err HouseFault.Nothing → (h : Line) × (place.now ≡ Some h) × MayNotPut core.old (due h) }
+    ensures memory { result ≡ Err HouseFault.NoMemory → (h : Line) × (place.now ≡ Some h) × CannotNote core.old (due h) }
+    ensures puts { IfOk result (λ why. (h : Line) × (place.now ≡ Some h) × PutsNext core.old (due h) core.new why) }
+    ensures load { OnOk result (load core.new ≤ load core.old + 4) }
+    ensures refused { OnErr result (core.new ≡ core.old) }
+{
+    let Some(caller) = place else {
+        return Err(HouseFault::Nobody);
+    };
+    let Some(copy) = caller.next_copy() else {
+        return Err(HouseFault::Nothing);
+    };
+    put_copy(core, copy)
 }
 
 // The next copy of the caller at a place was put, and this was heard of it at once.
@@ -225,7 +245,7 @@ impl House {
 
     // Bytes came for a connection at whose place nobody stands: one is opened first, with the seat's next serial.
     fn welcome(&mut self, connection: u8, piece: &[u8], out: &mut Vec<u8>) -> Result<(), HouseFault>
-        requires vacant { IsVacant self.old connection }
+        requires vacant { IsOpen self.old connection }
         ensures follows { OnOk result (Follows self.old (events.Bytes connection piece.entry) self.new out.old.items out.new.items) }
         ensures only { IfErr result (λ e. e ≡ HouseFault.NoMemory) }
         ensures no_memory { OnErr result (FollowsInPart self.old (events.Bytes connection piece.entry) self.new out.old.items out.new.items) }
@@ -357,11 +377,11 @@ impl House {
     /// One event. What it appends to `out` is what it prints.
     ///
     /// Nobody, Busy and Nothing come in this order, and after them nothing changed: Nobody where the connection, the shard, the session or
-    /// the user isn't there; Busy where bytes, a vanishing or an end are for a seat that waits for the verdicts of a peer that is gone, an end
-    /// also where a connection stands, and where a user enters at a place that is taken; Nothing where the event would change nothing. After
-    /// NoMemory, which no take, delivery, answer, end, leave or vanishing answers, what was done by then stands, and the next event of the connection or
-    /// session goes on from there; bytes that came with it were
-    /// taken up or weren't there at all.
+    /// the user isn't there, and where a seat that is free takes nobody any more; Busy where bytes, a vanishing or a leave are for a seat that still
+    /// waits for the verdicts of a peer that is gone, where an end is for a seat at which somebody stands, and where a user enters at a place that is
+    /// taken; Nothing where the event would change nothing. After NoMemory, which no take, delivery, answer, end, leave or vanishing answers, what was
+    /// done by then stands, and the next event of the connection or session goes on from there; bytes that came with it were taken up or weren't
+    /// there at all.
     pub fn step(&mut self, event: Event<'_>, out: &mut Vec<u8>) -> Result<(), HouseFault>
         ensures follows { OnOk result (Follows self.old event.entry self.new out.old.items out.new.items) }
         ensures effort { OnOk result (MakesLess (event.entry) self.old self.new) }
@@ -376,12 +396,12 @@ impl House {
         match event {
             Event::Bytes(connection, piece) => self.bytes(connection, piece, out),
             Event::Vanish(connection) => self.vanish(connection, out),
-            Event::Put(connection) => self.put_at(connection, out),
+            Event::Put(number) => self.put_at(number, out),
             Event::Take(shard) => self.take(shard),
             Event::Deliver(shard) => self.deliver(shard),
             Event::Answer(shard) => self.answer(shard),
-            Event::Hear(connection) => self.hear_at(connection, out),
-            Event::End(connection, shard) => self.end(connection, shard),
+            Event::Hear(number) => self.hear_at(number, out),
+            Event::End(number, shard) => self.end(number, shard),
             Event::Enter(session, user) => self.enter(session, user, out),
             Event::Say(session, piece) => self.say(session, piece, out),
             Event::Idle(session) => self.idle(session, out),
@@ -444,26 +464,46 @@ impl House {
         Ok(())
     }
 
-    // A connection's seat puts its end into a shard's lane.
-    fn end(&mut self, connection: u8, shard: u8) -> Result<(), HouseFault>
-        ensures follows { OnOk result ((k : Setup) (s : scene.Scene) (old : List ℕ) → StandsFor k self.old s → Led k true s (events.End connection shard) self.new old old) }
-        ensures nobody { (result ≡ Err HouseFault.Nobody) ↔ IsNobody self.old (events.End connection shard) }
-        ensures busy { (result ≡ Err HouseFault.Busy) ↔ IsBusy self.old (events.End connection shard) }
-        ensures idle { result ≡ Err HouseFault.Nothing → IsIdle self.old (events.End connection shard) }
+    // Whether there is neither a connection nor a session of this number.
+    fn has_no_number(&self, number: u8) -> bool
+        ensures { IsTrue result ↔ IsNoNumber self.now number }
+    {
+        number == 0 || usize::from(number) > self.callers.len() + self.visitors.len()
+    }
+
+    // Whether the connection or the session of a seat is there.
+    fn is_taken(&self, seat: u8) -> bool
+        requires seat { seat < length self.now.callers + length self.now.visitors }
+        ensures { result ≡ is_taken self.now seat }
+    {
+        let seat = usize::from(seat);
+        let connections = self.callers.len();
+        if seat < connections {
+            return self.callers[seat].is_some();
+        }
+        self.visitors[seat - connections].is_some()
+    }
+
+    // A seat puts its end into a shard's lane.
+    fn end(&mut self, number: u8, shard: u8) -> Result<(), HouseFault>
+        ensures follows { OnOk result ((k : Setup) (s : scene.Scene) (old : List ℕ) → StandsFor k self.old s → Led k true s (events.End number shard) self.new old old) }
+        ensures nobody { (result ≡ Err HouseFault.Nobody) ↔ IsNobody self.old (events.End number shard) }
+        ensures busy { (result ≡ Err HouseFault.Busy) ↔ IsBusy self.old (events.End number shard) }
+        ensures idle { result ≡ Err HouseFault.Nothing → IsIdle self.old (events.End number shard) }
         ensures memory { result ≢ Err HouseFault.NoMemory }
-        ensures effort { OnOk result (MakesLess (events.End connection shard) self.old self.new) }
+        ensures effort { OnOk result (MakesLess (events.End number shard) self.old self.new) }
         ensures refused { OnErr result (self.new ≡ self.old) }
     {
-        if connection == 0 || usize::from(connection) > self.callers.len() {
+        if self.has_no_number(number) {
             return Err(HouseFault::Nobody);
         }
         if usize::from(shard) >= self.desk.core.shards() {
             return Err(HouseFault::Nobody);
         }
-        if self.callers[usize::from(connection - 1)].is_some() {
+        if self.is_taken(number - 1) {
             return Err(HouseFault::Busy);
         }
-        match self.desk.core.end(connection - 1, shard) {
+        match self.desk.core.end(number - 1, shard) {
             Ok(()) => {}
             Err(Fault::NoMemory) => return Err(HouseFault::Nothing),
             Err(Fault::Nothing) => return Err(HouseFault::Nothing),
@@ -472,38 +512,44 @@ impl House {
         Ok(())
     }
 
-    // A connection puts the next copy of its message.
-    fn put_at(&mut self, connection: u8, out: &mut Vec<u8>) -> Result<(), HouseFault>
-        ensures follows { OnOk result (Follows self.old (events.Put connection) self.new out.old.items out.new.items) }
-        ensures effort { OnOk result (MakesLess (events.Put connection) self.old self.new) }
-        ensures nobody { (result ≡ Err HouseFault.Nobody) ↔ IsNobody self.old (events.Put connection) }
+    // A connection or a session puts the next copy of its message.
+    fn put_at(&mut self, number: u8, out: &mut Vec<u8>) -> Result<(), HouseFault>
+        ensures follows { OnOk result (Follows self.old (events.Put number) self.new out.old.items out.new.items) }
+        ensures effort { OnOk result (MakesLess (events.Put number) self.old self.new) }
+        ensures nobody { (result ≡ Err HouseFault.Nobody) ↔ IsNobody self.old (events.Put number) }
         ensures busy { result ≢ Err HouseFault.Busy }
-        ensures idle { result ≡ Err HouseFault.Nothing → IsIdle self.old (events.Put connection) }
-        ensures no_memory { result ≡ Err HouseFault.NoMemory → FollowsInPart self.old (events.Put connection) self.new out.old.items out.new.items }
-        ensures asks { result ≡ Err HouseFault.NoMemory → MayWant (events.Put connection) self.old self.new }
+        ensures idle { result ≡ Err HouseFault.Nothing → IsIdle self.old (events.Put number) }
+        ensures no_memory { result ≡ Err HouseFault.NoMemory → FollowsInPart self.old (events.Put number) self.new out.old.items out.new.items }
+        ensures asks { result ≡ Err HouseFault.NoMemory → MayWant (events.Put number) self.old self.new }
         ensures refused { result ≢ Err HouseFault.NoMemory → OnErr result ((self.new ≡ self.old) × (out.new.items ≡ out.old.items)) }
     {
-        if connection == 0 || usize::from(connection) > self.callers.len() {
+        if self.has_no_number(number) {
             return Err(HouseFault::Nobody);
         }
-        self.put(connection, out)
+        if usize::from(number) > self.callers.len() {
+            return self.put_of_session(number, out);
+        }
+        self.put(number, out)
     }
 
-    // A connection hears the verdict at the front of its reply lane.
-    fn hear_at(&mut self, connection: u8, out: &mut Vec<u8>) -> Result<(), HouseFault>
-        ensures follows { OnOk result (Follows self.old (events.Hear connection) self.new out.old.items out.new.items) }
-        ensures effort { OnOk result (MakesLess (events.Hear connection) self.old self.new) }
-        ensures nobody { (result ≡ Err HouseFault.Nobody) ↔ IsNobody self.old (events.Hear connection) }
+    // A connection or a session hears the verdict at the front of its reply lane.
+    fn hear_at(&mut self, number: u8, out: &mut Vec<u8>) -> Result<(), HouseFault>
+        ensures follows { OnOk result (Follows self.old (events.Hear number) self.new out.old.items out.new.items) }
+        ensures effort { OnOk result (MakesLess (events.Hear number) self.old self.new) }
+        ensures nobody { (result ≡ Err HouseFault.Nobody) ↔ IsNobody self.old (events.Hear number) }
         ensures busy { result ≢ Err HouseFault.Busy }
-        ensures idle { result ≡ Err HouseFault.Nothing → IsIdle self.old (events.Hear connection) }
-        ensures no_memory { result ≡ Err HouseFault.NoMemory → FollowsInPart self.old (events.Hear connection) self.new out.old.items out.new.items }
-        ensures asks { result ≡ Err HouseFault.NoMemory → MayWant (events.Hear connection) self.old self.new }
+        ensures idle { result ≡ Err HouseFault.Nothing → IsIdle self.old (events.Hear number) }
+        ensures no_memory { result ≡ Err HouseFault.NoMemory → FollowsInPart self.old (events.Hear number) self.new out.old.items out.new.items }
+        ensures asks { result ≡ Err HouseFault.NoMemory → MayWant (events.Hear number) self.old self.new }
         ensures refused { result ≢ Err HouseFault.NoMemory → OnErr result ((self.new ≡ self.old) × (out.new.items ≡ out.old.items)) }
     {
-        if connection == 0 || usize::from(connection) > self.callers.len() {
+        if self.has_no_number(number) {
             return Err(HouseFault::Nobody);
         }
-        self.hear(connection, out)
+        if usize::from(number) > self.callers.len() {
+            return self.hear_of_session(number, out);
+        }
+        self.hear(number, out)
     }
 }
 

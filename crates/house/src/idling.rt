@@ -1,34 +1,39 @@
 //! Sessions that idle (RFC 2177): the event by which one is shown what is new, and the turns that all of them have when the house settles. What
 //! a turn shows is the session's matter, over the mailboxes of the delivery core.
 
-ghost use Rattle.std.specs.Prelude.{◌≡◌, ◌≢◌, ◌↔◌, ◌<◌, ◌≤◌, ◌-◌, [], ◌∷◌, true, false, Some, Err, IfSome, OnErr, OnOk};
-ghost use Rattle.house.specs.Setup.{Setup};
+ghost use Rattle.std.specs.Prelude.{◌≡◌, ◌≢◌, ◌↔◌, ◌<◌, ◌≤◌, ◌-◌, ℕ, List, [], ◌∷◌, true, false, Some, Err, IfSome, OnErr, OnOk};
+ghost use Rattle.house.specs.Setup.{Setup, session_seat};
 ghost use Rattle.delivery_core.specs.Held.{behind};
 ghost use Rattle.delivery_core.specs.Stands as core;
 ghost use Rattle.house.specs.Effort.{MakesLess, turns_left};
 ghost use Rattle.house.specs.Settling.{Visit, Visits, idle_turns};
-ghost use Rattle.house.specs.Stands.{StandsFor, StandsForVisit};
-ghost use Rattle.house.specs.Steps.{Follows, FollowsInPart, IsIdle, IsNobody, MayIdle, MayWant};
-ghost use Rattle.house.specs.inner.Steps.{HasNoTurn, PlaceIdled, PlaceIdledInPart};
+ghost use Rattle.house.specs.Stands.{StandsFor};
+ghost use Rattle.house.specs.Steps.{Follows, FollowsInPart, IsBusy, IsIdle, IsNobody, MayIdle, MayWant};
+ghost use Rattle.house.specs.inner.Steps.{HasNoTurn, PlaceIdled, PlaceIdledInPart, StandsForSomebody};
 ghost use Rattle.house.specs.inner.Trying.{Goes, IsAmong, Wants};
 ghost use Rattle.house.specs.declared.event.Event.TheVariants as events;
-ghost use Rattle.house_session.specs.HouseSession as spec;
+ghost use Rattle.house_session.specs.Seated as spec;
+ghost use Rattle.delivery_token.specs.declared.CopyKey.{CopyKey};
+ghost use Rattle.delivery_token.specs.declared.log.Noted.{Noted};
 ghost use Rattle.world.specs.World.{World};
 
 use crate::event::{Event, HouseFault};
 use crate::house::House;
 use crate::printing::take_turn;
 use delivery_core::DeliveryCore;
-use house_session::HouseSession;
+use house_session::SeatedSession;
 use imap_session::Store;
 use session_store::Desk;
 use std::alloc::AllocError;
 
-// Whether the visitor at a place, counted from 0, has something to do in a turn: its session idles in a mailbox and wasn't shown all of its log.
-fn has_turn(visitor: &HouseSession, place: u8, core: &DeliveryCore) -> bool
+// Whether the session at a place, counted from 0, has something to do in a turn: its client is there, it idles in a mailbox and wasn't shown all of its log.
+fn has_turn(visitor: &SeatedSession, place: u8, core: &DeliveryCore) -> bool
     ensures some { result ≡ true → MayIdle visitor.now place core.now }
     ensures none { result ≡ false → HasNoTurn place (Some visitor.now) core.now }
 {
+    if visitor.is_gone() {
+        return false;
+    }
     if !visitor.is_idling() {
         return false;
     }
@@ -38,20 +43,20 @@ fn has_turn(visitor: &HouseSession, place: u8, core: &DeliveryCore) -> bool
     !core.is_up_to_date(place)
 }
 
-// The visitor at a place has a turn, and leaves where its session has ended.
+// The session at a place has a turn, and leaves where it has ended.
 fn turn_at(
-    place: &mut Option<HouseSession>,
+    place: &mut Option<SeatedSession>,
     number: u8,
     desk: &mut Desk,
     out: &mut Vec<u8>,
 ) -> Result<(), AllocError>
     requires counted { 0 < number }
     requires idles { IfSome place.old (λ p. MayIdle p (number - 1) desk.old.core) }
-    ensures ok { OnOk result ((k : Setup) (w : World) (b : spec.HouseSession) → core.StandsFor k.config desk.old.core w → StandsForVisit place.old (Some b) →
-        PlaceIdled k true (number - 1) w b desk.old.core place.new desk.new.core out.old.items out.new.items) }
+    ensures ok { OnOk result ((k : Setup) (next : CopyKey) (heard : List Noted) (w : World) (b : spec.SeatedSession) → core.StandsFor k.config desk.old.core w → StandsForSomebody (session_seat k (number - 1)) next heard place.old (Some b) →
+        PlaceIdled k true (number - 1) next heard w b desk.old.core place.new desk.new.core out.old.items out.new.items) }
     ensures less { OnOk result (IfSome place.old (λ p. turns_left place.new (behind desk.new.core (number - 1)) < turns_left (Some p) (behind desk.old.core (number - 1)))) }
-    ensures err { OnErr result ((k : Setup) (w : World) (b : spec.HouseSession) → core.StandsFor k.config desk.old.core w → StandsForVisit place.old (Some b) →
-        PlaceIdledInPart k (number - 1) w b desk.old.core place.new desk.new.core out.old.items out.new.items) }
+    ensures err { OnErr result ((k : Setup) (next : CopyKey) (heard : List Noted) (w : World) (b : spec.SeatedSession) → core.StandsFor k.config desk.old.core w → StandsForSomebody (session_seat k (number - 1)) next heard place.old (Some b) →
+        PlaceIdledInPart k (number - 1) next heard w b desk.old.core place.new desk.new.core out.old.items out.new.items) }
 {
     let Some(visitor) = place else {
         return Ok(());
@@ -73,7 +78,7 @@ impl House {
         ensures follows { OnOk result (Follows self.old (events.Idle session) self.new out.old.items out.new.items) }
         ensures effort { OnOk result (MakesLess (events.Idle session) self.old self.new) }
         ensures nobody { (result ≡ Err HouseFault.Nobody) ↔ IsNobody self.old (events.Idle session) }
-        ensures busy { result ≢ Err HouseFault.Busy }
+        ensures busy { (result ≡ Err HouseFault.Busy) ↔ IsBusy self.old (events.Idle session) }
         ensures idle { result ≡ Err HouseFault.Nothing → IsIdle self.old (events.Idle session) }
         ensures no_memory { result ≡ Err HouseFault.NoMemory → FollowsInPart self.old (events.Idle session) self.new out.old.items out.new.items }
         ensures asks { result ≡ Err HouseFault.NoMemory → MayWant (events.Idle session) self.old self.new }
@@ -86,6 +91,9 @@ impl House {
         let Some(visitor) = place else {
             return Err(HouseFault::Nobody);
         };
+        if visitor.is_gone() {
+            return Err(HouseFault::Busy);
+        }
         if !has_turn(visitor, session - 1, &self.desk.core) {
             return Err(HouseFault::Nothing);
         }

@@ -6,7 +6,7 @@ ghost use Rattle.delivery_core.specs.New.{IsNewBox};
 ghost use Rattle.delivery_core.specs.Stands.{EachAt};
 ghost use Rattle.envelope.specs.Names.{texts, words_read};
 ghost use Rattle.house.specs.Scene.{empty_scene};
-ghost use Rattle.house.specs.Settings.{IsInRange, are_ports_wrong, config_fault, fault_named, fault_of_numbers, has_slash, is_ring_wrong, seats, setup_of, users_in, words_of};
+ghost use Rattle.house.specs.Settings.{IsInRange, are_ports_wrong, config_fault, connections, fault_named, fault_of_numbers, has_slash, is_ring_wrong, setup_of, users_in, words_of};
 ghost use Rattle.house.specs.Stands.{StandsFor};
 
 use crate::config::{Config, ConfigFault};
@@ -14,16 +14,16 @@ use crate::house::House;
 use delivery_core::{DeliveryCore, Settings};
 use envelope::{Directory, is_name};
 use house_connection::HouseConnection;
-use house_session::HouseSession;
+use house_session::SeatedSession;
 use mailbox::Limits;
 use session_store::Desk;
 use std::alloc::{AllocError, Global};
 
-/// So many connections may stand at a time.
-const SEATS: u8 = 8;
+/// So many connections may stand at a time. Their seats come first.
+const CONNECTIONS: u8 = 8;
 
-/// So many sessions may visit at a time.
-const SESSIONS: usize = 8;
+/// So many sessions may be there at a time. Their seats are behind those of connections.
+const SESSIONS: u8 = 8;
 
 /// The most mailboxes of a house.
 const MOST_MAILBOXES: usize = 64;
@@ -138,17 +138,17 @@ pub fn directory_of(alloc: Global, config: &Config) -> Result<Directory, ConfigF
 
 // At each seat nobody.
 fn empty_places(alloc: Global) -> Result<Vec<Option<HouseConnection>>, AllocError>
-    ensures { IfOk result (λ v. v.items ≡ replicate SEATS None) }
+    ensures { IfOk result (λ v. v.items ≡ replicate CONNECTIONS None) }
 {
     let mut places = Vec::new(alloc);
-    for _seat in 0..SEATS {
+    for _seat in 0..CONNECTIONS {
         places.push(None)?;
     }
     Ok(places)
 }
 
 // At each place nobody.
-fn free_places(alloc: Global) -> Result<Vec<Option<HouseSession>>, AllocError>
+fn free_places(alloc: Global) -> Result<Vec<Option<SeatedSession>>, AllocError>
     ensures { IfOk result (λ v. v.items ≡ replicate SESSIONS None) }
 {
     let mut places = Vec::new(alloc);
@@ -177,10 +177,10 @@ impl House {
     {
         let directory = directory_of(alloc, config)?;
         let settings = Settings {
-            seats: SEATS,
+            seats: CONNECTIONS + SESSIONS,
             shards: config.shards,
             mailboxes: directory.mailboxes() as u8,
-            sessions: SESSIONS,
+            sessions: usize::from(SESSIONS),
             depth: config.depth,
             uidvalidity: config.uidvalidity,
             first_uid: config.first_uid,
@@ -196,8 +196,9 @@ impl House {
                 session: 0,
             },
             callers: empty_places(alloc)?,
-            serials: vec![in alloc; 0; usize::from(SEATS)]?,
+            serials: vec![in alloc; 0; usize::from(CONNECTIONS)]?,
             visitors: free_places(alloc)?,
+            entered: vec![in alloc; 0; usize::from(SESSIONS)]?,
             directory,
             host: Vec::from_slice(alloc, &config.host)?,
             max_message: config.max_message,

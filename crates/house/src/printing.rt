@@ -10,9 +10,10 @@ ghost use Rattle.house_connection.specs.HouseConnection as connection;
 ghost use Rattle.house_connection.specs.ConnectionStands.{StandsForConnection};
 ghost use Rattle.house_connection.specs.Taking as taking;
 ghost use Rattle.house_connection.specs.Taking.{line_effort};
-ghost use Rattle.house_session.specs.Place as place;
-ghost use Rattle.house_session.specs.Place.{HadTurn, StandsFor};
-ghost use Rattle.house_session.specs.HouseSession as session;
+ghost use Rattle.house_session.specs.Place.{HadTurn, with_all_said};
+ghost use Rattle.house_session.specs.Seat.{StandsForSeated, seat_effort, with_place};
+ghost use Rattle.house_session.specs.Seated as session;
+ghost use Rattle.delivery_core.specs.Changes.{SameDelivery};
 ghost use Rattle.session_store.specs.Desk.{Serves};
 ghost use Rattle.house.specs.Printing.{of_connection, of_session};
 ghost use Rattle.house.specs.inner.Printing.{Idled, IdledInPart, WentOn};
@@ -21,7 +22,7 @@ ghost use Rattle.house.specs.inner.Steps.{ConnectionWent, IsOf};
 
 use envelope::Directory;
 use house_connection::HouseConnection;
-use house_session::HouseSession;
+use house_session::SeatedSession;
 use line_io::append_marked;
 use lmtp_machine::What;
 use session_store::Desk;
@@ -60,11 +61,11 @@ fn print_connection(
 
 // Prints what a session said, and tells it so.
 fn print_session(
-    visitor: &mut HouseSession,
+    visitor: &mut SeatedSession,
     number: u8,
     out: &mut Vec<u8>,
 ) -> Result<(), AllocError>
-    ensures ok { OnOk result ((visitor.new ≡ place.with_all_said visitor.old) × (out.new.items ≡ out.old.items ++ marked of_session number visitor.old.unsaid)) }
+    ensures ok { OnOk result ((visitor.new ≡ with_place (with_all_said visitor.old.place) visitor.old) × (out.new.items ≡ out.old.items ++ marked of_session number visitor.old.place.unsaid)) }
     ensures err { OnErr result ((visitor.new ≡ visitor.old) × (out.new.items ≡ out.old.items)) }
 {
     let Ok(()) = print_words(b'I', number, visitor.unsaid(), out) else {
@@ -99,18 +100,22 @@ pub(crate) fn proceed(
     Ok(what)
 }
 
-// A session answers what waits, over its store, and what it says is printed.
+// A session whose client is there does what it can now, over its store, and what it says is printed.
 pub(crate) fn go_on(
-    visitor: &mut HouseSession,
+    visitor: &mut SeatedSession,
     alloc: Global,
     number: u8,
     desk: &mut Desk,
     out: &mut Vec<u8>,
 ) -> Result<(), AllocError>
-    ensures ok { OnOk result ((v : session.HouseSession) → StandsFor visitor.old v → WentOn Serves true number v desk.old desk.new out.old.items out.new.items visitor.new) }
-    ensures err { OnErr result ((v : session.HouseSession) → StandsFor visitor.old v → WentOn Serves false number v desk.old desk.new out.old.items out.new.items visitor.new) }
+    requires there { visitor.old.gone ≡ false }
+    ensures less { seat_effort visitor.new ≤ seat_effort visitor.old }
+    ensures delivery { SameDelivery desk.old.core desk.new.core }
+    ensures gone { visitor.new.gone ≡ false }
+    ensures ok { OnOk result ((seat : ℕ) (next : CopyKey) (heard : List Noted) (v : session.SeatedSession) → StandsForSeated seat next heard visitor.old v → WentOn Serves true seat number next heard v desk.old desk.new out.old.items out.new.items visitor.new) }
+    ensures err { OnErr result ((seat : ℕ) (next : CopyKey) (heard : List Noted) (v : session.SeatedSession) → StandsForSeated seat next heard visitor.old v → WentOn Serves false seat number next heard v desk.old desk.new out.old.items out.new.items visitor.new) }
 {
-    let Ok(()) = visitor.go_on(alloc, desk) else {
+    let Ok(()) = visitor.proceed(alloc, desk) else {
         let _ = print_session(visitor, number, out);
         return Err(AllocError);
     };
@@ -122,14 +127,16 @@ pub(crate) fn go_on(
 
 // A session has a turn while it idles, over its store, and what it says is printed. Answers how many changes were shown.
 pub(crate) fn take_turn(
-    visitor: &mut HouseSession,
+    visitor: &mut SeatedSession,
     number: u8,
     desk: &mut Desk,
     out: &mut Vec<u8>,
 ) -> Result<usize, AllocError>
-    ensures ok { IfOk result (λ count. (v : session.HouseSession) → StandsFor visitor.old v → Idled Serves true number count v desk.old desk.new out.old.items out.new.items visitor.new) }
-    ensures session { IfOk result (λ count. HadTurn Serves visitor.old desk.old desk.new count visitor.new) }
-    ensures err { OnErr result ((v : session.HouseSession) → StandsFor visitor.old v → IdledInPart Serves number v desk.old desk.new out.old.items out.new.items visitor.new) }
+    requires there { visitor.old.gone ≡ false }
+    ensures gone { visitor.new.gone ≡ false }
+    ensures ok { IfOk result (λ count. (seat : ℕ) (next : CopyKey) (heard : List Noted) (v : session.SeatedSession) → StandsForSeated seat next heard visitor.old v → Idled Serves true seat number count next heard v desk.old desk.new out.old.items out.new.items visitor.new) }
+    ensures session { IfOk result (λ count. HadTurn Serves visitor.old.place desk.old desk.new count visitor.new.place) }
+    ensures err { OnErr result ((seat : ℕ) (next : CopyKey) (heard : List Noted) (v : session.SeatedSession) → StandsForSeated seat next heard visitor.old v → IdledInPart Serves seat number next heard v desk.old desk.new out.old.items out.new.items visitor.new) }
 {
     let Ok(count) = visitor.idle_turn(desk) else {
         return Err(AllocError);

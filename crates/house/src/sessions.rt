@@ -1,38 +1,61 @@
-//! What a house does with its sessions: they enter, say lines and leave. What a line is answered is the session's matter, over the mailboxes of
-//! the delivery core; connections are told in `house`.
+//! What happens to sessions: users enter, their clients say something and leave, and the messages that they append are put and heard of. What a session
+//! answers is its own matter, over the mailboxes of the delivery core.
 
-ghost use Rattle.std.specs.Prelude.{◌≡◌, ◌≢◌, ◌↔◌, ◌<◌, ◌-◌, ℕ, List, true, false, Some, Err, IfErr, IsTrue, OnErr, OnOk};
+ghost use Rattle.std.specs.Prelude.{◌≡◌, ◌≢◌, ◌↔◌, ◌⊎◌, ◌+◌, ◌-◌, ◌<◌, ◌≤◌, ℕ, List, length, true, false, None, Some, Err, OnOk, OnErr, IfErr, IfOk, IfSome, IsSomeAnd, IsTrue, MatchOption, option_map};
+ghost use Rattle.delivery_core.specs.Changes.{SameDelivery};
+ghost use Rattle.delivery_core.specs.Load.{load};
 ghost use Rattle.delivery_core.specs.Stands as core;
+ghost use Rattle.delivery_token.specs.Keys.{AtLeast};
+ghost use Rattle.delivery_token.specs.declared.CopyKey.{CopyKey};
+ghost use Rattle.delivery_token.specs.declared.log.Noted.{Noted as NotedSpec};
+ghost use Rattle.house.specs.Effort.{MakesLess, visit_effort};
 ghost use Rattle.house.specs.Scene as scene;
-ghost use Rattle.house.specs.Stands.{StandsFor, StandsForVisit};
-ghost use Rattle.house.specs.Steps.{Follows, FollowsInPart, IsBusy, IsNobody, IsNoPlace, Led};
-ghost use Rattle.house.specs.inner.Steps.{PlaceVisited};
+ghost use Rattle.house.specs.Setup.{Setup, session_seat};
+ghost use Rattle.house.specs.Stands.{StandsFor, first_of};
+ghost use Rattle.house.specs.Steps.{CannotNote, Follows, FollowsInPart, IsBusy, IsIdle, IsNobody, IsNoPlace, IsVacant, Led, MayWant, PutsNext, is_left};
+ghost use Rattle.house.specs.inner.Steps.{CanEnter, HasLingered, IsSession, IsTalking, MayNotPut, PlaceTalked, PlaceVisited, StandsForSomebody, with_more_came};
 ghost use Rattle.house.specs.declared.event.Event.TheVariants as events;
-ghost use Rattle.house.specs.Setup.{Setup};
-ghost use Rattle.house_session.specs.HouseSession as spec;
+ghost use Rattle.house_session.specs.Seated as spec;
+ghost use Rattle.house_session.specs.Seat.{HearsVerdict, Seat, StandsForSeated, due, noted_put, with_nobody_there};
+ghost use Rattle.submission.specs.inner.Verdicts.{heard_verdict};
 ghost use Rattle.world.specs.World.{World};
 
 use crate::event::HouseFault;
-use crate::house::House;
+use crate::house::{House, put_copy};
 use crate::printing::go_on;
-use house_session::{HouseSession, folders_of, has_user};
-use imap_session::Store;
+use delivery_core::{DeliveryCore, Fault};
+use delivery_token::{Noted, Refusal, Verdict};
+use house_session::{SeatedSession, folders_of, has_user};
+use imap_session::{Folder, Store};
 use session_store::Desk;
 use std::alloc::{AllocError, Global};
 
-// The visitor at a place goes on, and leaves it where its session has ended.
-fn go_on_at(
-    place: &mut Option<HouseSession>,
+// Whether a session is at a place whose client is gone.
+pub(crate) fn is_left(place: &Option<SeatedSession>) -> bool
+    ensures { result ≡ is_left place.now }
+{
+    match place {
+        Some(visitor) => visitor.is_gone(),
+        None => false,
+    }
+}
+
+// The session at a place, whose client is there, goes on, and leaves its mailbox and its place where it has ended.
+fn talk_at(
+    place: &mut Option<SeatedSession>,
     alloc: Global,
     number: u8,
     desk: &mut Desk,
     out: &mut Vec<u8>,
 ) -> Result<(), AllocError>
-    requires { 0 < number }
-    ensures ok { OnOk result ((k : Setup) (w : World) (b : spec.HouseSession) → core.StandsFor k.config desk.old.core w → StandsForVisit place.old (Some b) →
-        PlaceVisited k true (number - 1) w b desk.old.core place.new desk.new.core out.old.items out.new.items) }
-    ensures err { OnErr result ((k : Setup) (w : World) (b : spec.HouseSession) → core.StandsFor k.config desk.old.core w → StandsForVisit place.old (Some b) →
-        PlaceVisited k false (number - 1) w b desk.old.core place.new desk.new.core out.old.items out.new.items) }
+    requires counted { 0 < number }
+    requires there { is_left place.old ≡ false }
+    ensures less { visit_effort place.new ≤ visit_effort place.old }
+    ensures delivery { SameDelivery desk.old.core desk.new.core }
+    ensures ok { OnOk result ((k : Setup) (next : CopyKey) (heard : List NotedSpec) (w : World) (b : spec.SeatedSession) → core.StandsFor k.config desk.old.core w → StandsForSomebody (session_seat k (number - 1)) next heard place.old (Some b) →
+        PlaceTalked k true (number - 1) next heard w b place.new desk.new.core out.old.items out.new.items) }
+    ensures err { OnErr result ((k : Setup) (next : CopyKey) (heard : List NotedSpec) (w : World) (b : spec.SeatedSession) → core.StandsFor k.config desk.old.core w → StandsForSomebody (session_seat k (number - 1)) next heard place.old (Some b) →
+        PlaceTalked k false (number - 1) next heard w b place.new desk.new.core out.old.items out.new.items) }
 {
     let Some(visitor) = place else {
         return Ok(());
@@ -48,8 +71,119 @@ fn go_on_at(
     Ok(())
 }
 
-// No message is taken from a session: only connections are producers.
-const NO_MESSAGES: Option<u32> = None;
+// Where the client of the session at a place is gone, it leaves its place as soon as the verdict that it awaited was heard.
+fn linger_at(place: &mut Option<SeatedSession>)
+    ensures less { visit_effort place.new ≤ visit_effort place.old }
+    ensures who { (seat : ℕ) (next : CopyKey) (heard : List NotedSpec) (b : spec.SeatedSession) → StandsForSomebody seat next heard place.old (Some b) → HasLingered seat next heard b place.new }
+{
+    let Some(visitor) = place else {
+        return;
+    };
+    if !visitor.awaits_verdict() {
+        *place = None;
+    }
+}
+
+// The session at a place goes on, whether its client is there or not.
+fn go_on_at(
+    place: &mut Option<SeatedSession>,
+    alloc: Global,
+    number: u8,
+    desk: &mut Desk,
+    out: &mut Vec<u8>,
+) -> Result<(), AllocError>
+    requires counted { 0 < number }
+    ensures less { visit_effort place.new ≤ visit_effort place.old }
+    ensures delivery { SameDelivery desk.old.core desk.new.core }
+    ensures ok { OnOk result ((k : Setup) (next : CopyKey) (heard : List NotedSpec) (w : World) (b : spec.SeatedSession) → core.StandsFor k.config desk.old.core w → StandsForSomebody (session_seat k (number - 1)) next heard place.old (Some b) →
+        PlaceVisited k true (number - 1) next heard w b place.new desk.new.core out.old.items out.new.items) }
+    ensures err { OnErr result ((k : Setup) (next : CopyKey) (heard : List NotedSpec) (w : World) (b : spec.SeatedSession) → core.StandsFor k.config desk.old.core w → StandsForSomebody (session_seat k (number - 1)) next heard place.old (Some b) →
+        PlaceVisited k false (number - 1) next heard w b place.new desk.new.core out.old.items out.new.items) }
+{
+    if is_left(place) {
+        linger_at(place);
+        return Ok(());
+    }
+    talk_at(place, alloc, number, desk, out)
+}
+
+// A session that was just let in to a seat, with these of the user's mailboxes.
+fn admitted(
+    alloc: Global,
+    seat: u8,
+    serial: u64,
+    folders: Vec<Folder>,
+    max_message: u32,
+) -> Result<SeatedSession, AllocError>
+    ensures { IfOk result (λ p. (p.gone ≡ false) × ((next : CopyKey) (heard : List NotedSpec) → AtLeast next (first_of seat serial) → StandsForSeated seat next heard p (spec.seated_greeted serial (Some max_message) folders.items))) }
+{
+    SeatedSession::open(alloc, seat, serial, folders, Some(max_message))
+}
+
+// Bytes more wait for the session at a place.
+fn append_at(place: &mut Option<SeatedSession>, piece: &[u8]) -> Result<(), AllocError>
+    ensures ok { OnOk result (place.new ≡ option_map (with_more_came piece.now) place.old) }
+    ensures err { OnErr result (place.new ≡ place.old) }
+{
+    match place {
+        Some(visitor) => visitor.append(piece),
+        None => Ok(()),
+    }
+}
+
+// The client of the session at a place is gone.
+fn vanish_at(place: &mut Option<SeatedSession>)
+    ensures { place.new ≡ option_map with_nobody_there place.old }
+{
+    if let Some(visitor) = place {
+        visitor.vanish();
+    }
+}
+
+// Puts the copy of the message of the session at a place.
+fn put_next(
+    core: &mut DeliveryCore,
+    place: &Option<SeatedSession>,
+) -> Result<Option<Refusal>, HouseFault>
+    ensures nobody { (result ≡ Err HouseFault.Nobody) ↔ (place.now ≡ None) }
+    ensures busy { result ≢ Err HouseFault.Busy }
+    ensures nothing { result ≡ Err HouseFault.Nothing → (p : Seat) × (place.now ≡ Some p) × MayNotPut core.old (due p) }
+    ensures memory { result ≡ Err HouseFault.NoMemory → (p : Seat) × (place.now ≡ Some p) × CannotNote core.old (due p) }
+    ensures puts { IfOk result (λ why. (p : Seat) × (place.now ≡ Some p) × PutsNext core.old (due p) core.new why) }
+    ensures load { OnOk result (load core.new ≤ load core.old + 4) }
+    ensures refused { OnErr result (core.new ≡ core.old) }
+{
+    let Some(visitor) = place else {
+        return Err(HouseFault::Nobody);
+    };
+    let Some(copy) = visitor.next_copy() else {
+        return Err(HouseFault::Nothing);
+    };
+    put_copy(core, copy)
+}
+
+// The copy of the session at a place was put, and this was heard of it at once.
+fn note_put_at(place: &mut Option<SeatedSession>, why: Option<Refusal>)
+    requires { IfSome place.old (λ p. 0 < length (due p)) }
+    ensures { place.new ≡ option_map (noted_put (heard_verdict why)) place.old }
+{
+    let verdict = match why {
+        Some(why) => Some(Verdict::Refused(why)),
+        None => None,
+    };
+    if let Some(visitor) = place {
+        visitor.note_put(verdict);
+    }
+}
+
+// The session at a place hears a verdict.
+fn hear_at(place: &mut Option<SeatedSession>, noted: &Noted)
+    ensures { MatchOption place.old (place.new ≡ None) (λ p. IsSomeAnd place.new (HearsVerdict p noted.now)) }
+{
+    if let Some(visitor) = place {
+        visitor.hear(noted);
+    }
+}
 
 impl House {
     // Whether there is no such session.
@@ -57,6 +191,40 @@ impl House {
         ensures { IsTrue result ↔ IsNoPlace self.now session }
     {
         session == 0 || usize::from(session) > self.visitors.len()
+    }
+
+    // The seat of a session: behind those of connections.
+    fn session_seat(&self, session: u8) -> u8
+        requires there { (0 < session) × (session ≤ length self.now.visitors) }
+        ensures { result ≡ length self.now.callers + (session - 1) }
+    {
+        self.callers.len() as u8 + (session - 1)
+    }
+
+    // A user opens a session at a place where nobody is, with the serial that is next there.
+    fn admit(&mut self, session: u8, user: &[u8], out: &mut Vec<u8>) -> Result<(), HouseFault>
+        requires free { CanEnter self.old session user.now }
+        ensures follows { OnOk result (Follows self.old (events.Enter session user.entry) self.new out.old.items out.new.items) }
+        ensures only { IfErr result (λ e. e ≡ HouseFault.NoMemory) }
+        ensures no_memory { OnErr result (FollowsInPart self.old (events.Enter session user.entry) self.new out.old.items out.new.items) }
+    {
+        let place = usize::from(session - 1);
+        let seat = self.session_seat(session);
+        let serial = self.entered[place];
+        let alloc = *self.host.allocator();
+        let Ok(folders) = folders_of(alloc, &self.directory, user) else {
+            return Err(HouseFault::NoMemory);
+        };
+        let Ok(visitor) = admitted(alloc, seat, serial, folders, self.max_message as u32) else {
+            return Err(HouseFault::NoMemory);
+        };
+        self.entered[place] = serial + 1;
+        let here = &mut self.visitors[place];
+        *here = Some(visitor);
+        let Ok(()) = talk_at(here, alloc, session, &mut self.desk, out) else {
+            return Err(HouseFault::NoMemory);
+        };
+        Ok(())
     }
 
     // A user opens a session.
@@ -80,17 +248,26 @@ impl House {
         if self.visitors[place].is_some() {
             return Err(HouseFault::Busy);
         }
+        let seat = self.session_seat(session);
+        if self.entered[place] == u64::MAX || self.desk.core.has_ended(seat) {
+            return Err(HouseFault::Nobody);
+        }
+        self.admit(session, user, out)
+    }
+
+    // Bytes came from the client of a session at its place, which is there.
+    fn listen(&mut self, session: u8, piece: &[u8], out: &mut Vec<u8>) -> Result<(), HouseFault>
+        requires there { IsTalking self.old session }
+        ensures follows { OnOk result (Follows self.old (events.Say session piece.entry) self.new out.old.items out.new.items) }
+        ensures only { IfErr result (λ e. e ≡ HouseFault.NoMemory) }
+        ensures no_memory { OnErr result (FollowsInPart self.old (events.Say session piece.entry) self.new out.old.items out.new.items) }
+    {
+        let place = &mut self.visitors[usize::from(session - 1)];
+        let Ok(()) = append_at(place, piece) else {
+            return Err(HouseFault::NoMemory);
+        };
         let alloc = *self.host.allocator();
-        let Ok(folders) = folders_of(alloc, &self.directory, user) else {
-            return Err(HouseFault::NoMemory);
-        };
-        let Ok(visitor) = HouseSession::open(alloc, folders, NO_MESSAGES) else {
-            return Err(HouseFault::NoMemory);
-        };
-        let mut here = Some(visitor);
-        let gone = go_on_at(&mut here, alloc, session, &mut self.desk, out);
-        self.visitors[place] = here;
-        let Ok(()) = gone else {
+        let Ok(()) = talk_at(place, alloc, session, &mut self.desk, out) else {
             return Err(HouseFault::NoMemory);
         };
         Ok(())
@@ -105,7 +282,7 @@ impl House {
     ) -> Result<(), HouseFault>
         ensures follows { OnOk result (Follows self.old (events.Say session piece.entry) self.new out.old.items out.new.items) }
         ensures nobody { (result ≡ Err HouseFault.Nobody) ↔ IsNobody self.old (events.Say session piece.entry) }
-        ensures busy { result ≢ Err HouseFault.Busy }
+        ensures busy { (result ≡ Err HouseFault.Busy) ↔ IsBusy self.old (events.Say session piece.entry) }
         ensures nothing { result ≢ Err HouseFault.Nothing }
         ensures no_memory { result ≡ Err HouseFault.NoMemory → FollowsInPart self.old (events.Say session piece.entry) self.new out.old.items out.new.items }
         ensures refused { result ≢ Err HouseFault.NoMemory → OnErr result ((self.new ≡ self.old) × (out.new.items ≡ out.old.items)) }
@@ -113,25 +290,34 @@ impl House {
         if self.has_no_place(session) {
             return Err(HouseFault::Nobody);
         }
-        let place = &mut self.visitors[usize::from(session - 1)];
-        let Some(visitor) = place else {
+        let place = usize::from(session - 1);
+        if self.visitors[place].is_none() {
             return Err(HouseFault::Nobody);
-        };
-        let Ok(()) = visitor.append(piece) else {
-            return Err(HouseFault::NoMemory);
-        };
-        let alloc = *self.host.allocator();
-        let Ok(()) = go_on_at(place, alloc, session, &mut self.desk, out) else {
-            return Err(HouseFault::NoMemory);
-        };
-        Ok(())
+        }
+        if is_left(&self.visitors[place]) {
+            return Err(HouseFault::Busy);
+        }
+        self.listen(session, piece, out)
+    }
+
+    // The client of a session at its place, which was there, is gone.
+    fn part(&mut self, session: u8)
+        requires there { IsTalking self.old session }
+        ensures { (k : Setup) (s : scene.Scene) (old : List ℕ) → StandsFor k self.old s → Led k true s (events.Leave session) self.new old old }
+    {
+        self.desk.session = session - 1;
+        let _ = self.desk.leave(false);
+        let place = &mut self.visitors[usize::from(session - 1)];
+        vanish_at(place);
+        linger_at(place);
     }
 
     // A session's client is gone.
     pub(crate) fn leave(&mut self, session: u8) -> Result<(), HouseFault>
         ensures follows { OnOk result ((k : Setup) (s : scene.Scene) (old : List ℕ) → StandsFor k self.old s → Led k true s (events.Leave session) self.new old old) }
         ensures nobody { (result ≡ Err HouseFault.Nobody) ↔ IsNobody self.old (events.Leave session) }
-        ensures only { IfErr result (λ e. e ≡ HouseFault.Nobody) }
+        ensures busy { (result ≡ Err HouseFault.Busy) ↔ IsBusy self.old (events.Leave session) }
+        ensures only { IfErr result (λ e. (e ≡ HouseFault.Nobody) ⊎ (e ≡ HouseFault.Busy)) }
         ensures refused { OnErr result (self.new ≡ self.old) }
     {
         if self.has_no_place(session) {
@@ -141,9 +327,77 @@ impl House {
         if self.visitors[place].is_none() {
             return Err(HouseFault::Nobody);
         }
-        self.desk.session = session - 1;
-        let _ = self.desk.leave(false);
-        self.visitors[place] = None;
+        if is_left(&self.visitors[place]) {
+            return Err(HouseFault::Busy);
+        }
+        self.part(session);
+        Ok(())
+    }
+
+    // A session puts the copy of the message that it submitted.
+    pub(crate) fn put_of_session(
+        &mut self,
+        number: u8,
+        out: &mut Vec<u8>,
+    ) -> Result<(), HouseFault>
+        requires number { IsSession self.old number }
+        ensures follows { OnOk result (Follows self.old (events.Put number) self.new out.old.items out.new.items) }
+        ensures effort { OnOk result (MakesLess (events.Put number) self.old self.new) }
+        ensures nobody { (result ≡ Err HouseFault.Nobody) ↔ IsVacant self.old number }
+        ensures busy { result ≢ Err HouseFault.Busy }
+        ensures idle { result ≡ Err HouseFault.Nothing → IsIdle self.old (events.Put number) }
+        ensures no_memory { result ≡ Err HouseFault.NoMemory → FollowsInPart self.old (events.Put number) self.new out.old.items out.new.items }
+        ensures asks { result ≡ Err HouseFault.NoMemory → MayWant (events.Put number) self.old self.new }
+        ensures refused { result ≢ Err HouseFault.NoMemory → OnErr result ((self.new ≡ self.old) × (out.new.items ≡ out.old.items)) }
+    {
+        let session = number - self.callers.len() as u8;
+        let place = usize::from(session - 1);
+        let why = match put_next(&mut self.desk.core, &self.visitors[place]) {
+            Ok(why) => why,
+            Err(fault) => return Err(fault),
+        };
+        let here = &mut self.visitors[place];
+        note_put_at(here, why);
+        let alloc = *self.host.allocator();
+        let Ok(()) = go_on_at(here, alloc, session, &mut self.desk, out) else {
+            return Err(HouseFault::NoMemory);
+        };
+        Ok(())
+    }
+
+    // A session hears the verdict at the front of its reply lane.
+    pub(crate) fn hear_of_session(
+        &mut self,
+        number: u8,
+        out: &mut Vec<u8>,
+    ) -> Result<(), HouseFault>
+        requires number { IsSession self.old number }
+        ensures follows { OnOk result (Follows self.old (events.Hear number) self.new out.old.items out.new.items) }
+        ensures effort { OnOk result (MakesLess (events.Hear number) self.old self.new) }
+        ensures nobody { (result ≡ Err HouseFault.Nobody) ↔ IsVacant self.old number }
+        ensures busy { result ≢ Err HouseFault.Busy }
+        ensures idle { result ≡ Err HouseFault.Nothing → IsIdle self.old (events.Hear number) }
+        ensures no_memory { result ≡ Err HouseFault.NoMemory → FollowsInPart self.old (events.Hear number) self.new out.old.items out.new.items }
+        ensures asks { result ≡ Err HouseFault.NoMemory → MayWant (events.Hear number) self.old self.new }
+        ensures refused { result ≢ Err HouseFault.NoMemory → OnErr result ((self.new ≡ self.old) × (out.new.items ≡ out.old.items)) }
+    {
+        let session = number - self.callers.len() as u8;
+        let place = usize::from(session - 1);
+        if self.visitors[place].is_none() {
+            return Err(HouseFault::Nobody);
+        }
+        let noted = match self.desk.core.hear(number - 1) {
+            Ok(noted) => noted,
+            Err(Fault::NoMemory) => return Err(HouseFault::NoMemory),
+            Err(Fault::Nothing) => return Err(HouseFault::Nothing),
+            Err(Fault::Nobody) => return Err(HouseFault::Nothing),
+        };
+        let here = &mut self.visitors[place];
+        hear_at(here, &noted);
+        let alloc = *self.host.allocator();
+        let Ok(()) = go_on_at(here, alloc, session, &mut self.desk, out) else {
+            return Err(HouseFault::NoMemory);
+        };
         Ok(())
     }
 }

@@ -60,11 +60,11 @@ impl House {
         }
     }
 
-    // Each connection puts its copies.
+    // Each connection and each session puts its copies.
     fn put_all(&mut self, out: &mut Vec<u8>) -> Result<bool, AllocError>
         ensures { CameVisits (λ k. Unit {0}) (λ k. puts k.config.seats) self.old out.old.items self.new out.new.items result }
     {
-        let seats = self.callers.len() as u8;
+        let seats = (self.callers.len() + self.visitors.len()) as u8;
         let mut moved = false;
         for seat in 0..seats {
             let Ok(one) = self.visit(&[Event::Put(seat + 1)], out) else {
@@ -105,11 +105,11 @@ impl House {
         self.visit(&group, out)
     }
 
-    // Each connection hears its verdicts.
+    // Each connection and each session hears its verdicts.
     fn hear_all(&mut self, out: &mut Vec<u8>) -> Result<bool, AllocError>
         ensures { CameVisits (λ k. Unit {0}) (λ k. hears k.config.seats) self.old out.old.items self.new out.new.items result }
     {
-        let seats = self.callers.len() as u8;
+        let seats = (self.callers.len() + self.visitors.len()) as u8;
         let mut moved = false;
         for seat in 0..seats {
             let Ok(one) = self.visit(&[Event::Hear(seat + 1)], out) else {
@@ -151,8 +151,8 @@ impl House {
         }
     }
 
-    /// Settles: each connection from 1 puts its copies; each shard from 0 that isn't held takes, delivers and answers until its lane
-    /// is empty; each connection from 1 hears its verdicts; and so on in rounds until nothing moves. Then each session from 1 that idles is
+    /// Settles: each connection from 1, and each session behind them, puts its copies; each shard from 0 that isn't held takes, delivers and answers
+    /// until its lane is empty; each connection and each session hears its verdicts; and so on in rounds until nothing moves. Then each session from 1 that idles is
     /// shown what is pending, until nothing is.
     /// The one error is want of memory: what happened by then stands.
     pub fn settle(&mut self, held: &[bool], out: &mut Vec<u8>) -> Result<(), AllocError>

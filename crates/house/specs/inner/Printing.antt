@@ -1,38 +1,41 @@
 -- What bodies and proofs say besides: what connections and sessions say, as the house prints it: each line with a mark that tells who said it.
 use Rattle.std.specs.Prelude.{◌≡◌, ◌⊎◌, ℕ, Bool, true, false, List, [], ◌++◌}
+use Rattle.delivery_token.specs.declared.CopyKey.{CopyKey}
+use Rattle.delivery_token.specs.declared.log.Noted.{Noted}
 use Rattle.imap_session.specs.Exchange.{Call, Answer}
 use Rattle.imap_session.specs.Store.{Starves}
 use Rattle.house_session.specs.HouseSession.{HouseSession}
-use Rattle.house_session.specs.Place.{Place, StandsFor}
-use Rattle.house.specs.Printing.{Speaks, Idles, IsWhole}
+use Rattle.house_session.specs.Seated.{SeatedSession}
+use Rattle.house_session.specs.Seat.{Seat, StandsForSeated}
+use Rattle.house.specs.Printing.{Speaks, Idles, IsWhole, with_session}
 
 -- ---- sessions
 
--- From this visitor its place went on over a store and printed this, and stands for the visitor after it.
-pub record WentOn {S : Type 0} (step : S → Call → Answer → S → Type 0) (whole : Bool) (n : ℕ) (before : HouseSession) (old new : S) (text text_after : List ℕ) (p : Place) : Type 0 where
-  pub after : HouseSession
+-- From this session, whose client is there, its seat went on over a store and printed this, and stands for the session after it.
+pub record WentOn {S : Type 0} (step : S → Call → Answer → S → Type 0) (whole : Bool) (seat n : ℕ) (next : CopyKey) (heard : List Noted) (before : SeatedSession) (old new : S) (text text_after : List ℕ) (p : Seat) : Type 0 where
+  pub after : SeatedSession
   pub printed : List ℕ
-  pub speaks : Speaks step n before old new after printed
-  pub all : whole ≡ true → IsWhole after
-  pub stands : StandsFor p after
+  pub speaks : Speaks step whole seat n heard before old new after printed
+  pub all : whole ≡ true → IsWhole after.session
+  pub stands : StandsForSeated seat next heard p after
   pub out : text_after ≡ text ++ printed
 
--- From this visitor its place had a turn while it idles, which showed so many changes, and printed this; it stands for the visitor after it. Where
+-- From this session its seat had a turn while it idles, which showed so many changes, and printed this; it stands for the session after it. Where
 -- the turn was made whole, all that was said is printed.
-pub record Idled {S : Type 0} (step : S → Call → Answer → S → Type 0) (whole : Bool) (n : ℕ) (count : ℕ) (before : HouseSession) (old new : S) (text text_after : List ℕ) (p : Place) : Type 0 where
+pub record Idled {S : Type 0} (step : S → Call → Answer → S → Type 0) (whole : Bool) (seat n : ℕ) (count : ℕ) (next : CopyKey) (heard : List Noted) (before : SeatedSession) (old new : S) (text text_after : List ℕ) (p : Seat) : Type 0 where
   pub after : HouseSession
   pub printed : List ℕ
-  pub idles : Idles step n before old new after count printed
+  pub idles : Idles step n before.session old new after count printed
   pub all : whole ≡ true → after.unsaid ≡ []
-  pub stands : StandsFor p after
+  pub stands : StandsForSeated seat next heard p (with_session after before)
   pub out : text_after ≡ text ++ printed
 
--- Memory was refused for a turn: the place stands for the visitor as it was, and nothing was printed.
-pub record Missed {S : Type 0} (step : S → Call → Answer → S → Type 0) (before : HouseSession) (old new : S) (text text_after : List ℕ) (p : Place) : Type 0 where
+-- Memory was refused for a turn: the seat stands for the session as it was, and nothing was printed.
+pub record Missed {S : Type 0} (step : S → Call → Answer → S → Type 0) (seat : ℕ) (next : CopyKey) (heard : List Noted) (before : SeatedSession) (old new : S) (text text_after : List ℕ) (p : Seat) : Type 0 where
   pub starves : Starves step old new
-  pub stands : StandsFor p before
+  pub stands : StandsForSeated seat next heard p before
   pub out : text_after ≡ text
 
 -- The same, or the turn was made, and its words wait to be printed.
-abbrev pub IdledInPart : {S : Type 0} → (S → Call → Answer → S → Type 0) → ℕ → HouseSession → S → S → List ℕ → List ℕ → Place → Type 0
-IdledInPart step n before old new text text_after p = Missed step before old new text text_after p ⊎ ((count : ℕ) × Idled step false n count before old new text text_after p)
+abbrev pub IdledInPart : {S : Type 0} → (S → Call → Answer → S → Type 0) → (seat n : ℕ) → CopyKey → List Noted → SeatedSession → S → S → List ℕ → List ℕ → Seat → Type 0
+IdledInPart step seat n next heard before old new text text_after p = Missed step seat next heard before old new text text_after p ⊎ ((count : ℕ) × Idled step false seat n count next heard before old new text text_after p)

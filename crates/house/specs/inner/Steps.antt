@@ -1,9 +1,10 @@
 -- What bodies and proofs say besides: what a call of the house promises: for each scene for which it stood, a scene to which the event leads.
-use Rattle.std.specs.Prelude.{◌≡◌, ℕ, ◌+◌, ◌<◌, ◌≤◌, ◌⊎◌, ◌++◌, ◌%◌, slice_index_or, Bool, true, false, List, [], ◌∷◌, length, Option, Some, None, IsSome}
+use Rattle.std.specs.Prelude.{◌≡◌, ℕ, ◌+◌, ◌-◌, ◌<◌, ◌≤◌, ◌⊎◌, ◌++◌, ◌%◌, slice_index_or, Bool, true, false, List, [], ◌∷◌, length, Option, Some, None, IsSome}
 use Rattle.delivery_token.specs.declared.CopyKey.{CopyKey}
 use Rattle.delivery_token.specs.declared.log.Noted.{Noted}
 use Rattle.house.specs.declared.event.Event.TheVariants.{Put, Idle}
 use Rattle.delivery_token.specs.declared.Job.{Job}
+use Rattle.submission.specs.declared.verdicts.NextCopy.{NextCopy}
 use Rattle.world.specs.World.{Config, World}
 use Rattle.world.specs.World as world
 use Rattle.delivery_core.specs.Held.{Held, has_ended}
@@ -15,20 +16,21 @@ use Rattle.delivery_core.specs.declared.steps.Fault.TheVariants as faults
 use Rattle.house.specs.declared.event.HouseFault.{HouseFault}
 use Rattle.house.specs.declared.event.HouseFault.TheVariants as house_faults
 use Rattle.house_connection.specs.Line.{Line}
-use Rattle.house_connection.specs.Taking.{due}
 use Rattle.house.specs.State.{State}
 use Rattle.house_connection.specs.HouseConnection.{HouseConnection}
-use Rattle.house.specs.Setup.{Setup, terms_of}
+use Rattle.house.specs.Setup.{Setup, session_seat, terms_of}
 use Rattle.envelope.specs.Directory.{Directory}
 use Rattle.lmtp_machine.specs.declared.connection.What.{What}
 use Rattle.lmtp_machine.specs.declared.connection.What.TheVariants.{Quit}
 use Rattle.house.specs.Printing.{ConnectionGoes}
-use Rattle.house.specs.Scene.{SessionGoes, SessionIdles, most_serials, seat_of}
+use Rattle.house.specs.Scene.{Lingers, SessionGoes, SessionIdles, SessionTalks, most_serials, place_of, seat_of}
+use Rattle.house_session.specs.Folders.{has_user}
+use Rattle.house_session.specs.Place.{with_more}
 use Rattle.house_connection.specs.ConnectionStands.{StandsForConnection}
 use Rattle.house.specs.Stands.{StandsFor, StandsForVisit}
-use Rattle.house_session.specs.Place.{Place}
-use Rattle.house_session.specs.HouseSession.{HouseSession}
-use Rattle.house.specs.Steps.{IsEmptySeat, is_unread}
+use Rattle.house_session.specs.Seat.{Seat, StandsForSeated, with_place}
+use Rattle.house_session.specs.Seated.{SeatedSession}
+use Rattle.house.specs.Steps.{IsEmptySeat, is_left, is_unread}
 
 -- there is such a connection
 pub record HasSeat (h : State) (connection : ℕ) : Type 0 where
@@ -43,17 +45,33 @@ pub record IsRead (h : State) (connection : ℕ) : Type 0 where
   pub read : is_unread (slice_index_or h.callers (seat_of connection) None) ≡ false
 
 -- nobody stands at the connection's seat, which takes another
-pub record IsVacant (h : State) (connection : ℕ) : Type 0 where
+pub record IsOpen (h : State) (connection : ℕ) : Type 0 where
   pub number : 0 < connection
   pub seat : connection ≤ length h.callers
   pub empty : IsEmptySeat h connection
   pub more : slice_index_or h.serials (seat_of connection) 0 < most_serials
   pub goes_on : has_ended h.core (seat_of connection) ≡ false
 
--- there is such a session
-pub record HasPlace (h : State) (session : ℕ) : Type 0 where
+-- this is the number of a session, behind those of connections
+pub record IsSession (h : State) (number : ℕ) : Type 0 where
+  pub behind : length h.callers < number
+  pub within : number ≤ length h.callers + length h.visitors
+
+-- a session is at its place, and its client is there
+pub record IsTalking (h : State) (session : ℕ) : Type 0 where
   pub number : 0 < session
   pub place : session ≤ length h.visitors
+  pub who : IsSome (slice_index_or h.visitors (place_of session) None)
+  pub read : is_left (slice_index_or h.visitors (place_of session) None) ≡ false
+
+-- nobody is at the session's place, whose seat takes another, and there is such a user
+pub record CanEnter (h : State) (session : ℕ) (user : List ℕ) : Type 0 where
+  pub number : 0 < session
+  pub place : session ≤ length h.visitors
+  pub free : slice_index_or h.visitors (place_of session) None ≡ None
+  pub known : has_user h.directory user ≡ true
+  pub more : slice_index_or h.entered (place_of session) 0 < most_serials
+  pub goes_on : has_ended h.core (length h.callers + place_of session) ≡ false
 
 -- who may stand at a place, and for whom
 abbrev pub StandsForMaybe : Setup → ℕ → CopyKey → List Noted → Option Line → Option HouseConnection → Type 0
@@ -94,44 +112,84 @@ fault_of faults.Nobody = house_faults.Nobody
 fault_of faults.Nothing = house_faults.Nothing
 fault_of faults.NoMemory = house_faults.NoMemory
 
--- there is no copy to put, or it may not be put
-abbrev pub MayNotPut : Held → Line → Type 0
-MayNotPut old h = (due h ≡ []) ⊎ ((c : Job) × (others : List Job) × (due h ≡ c ∷ others)
-    × ((IsNextKey old c.key c.mailbox → ⊥) ⊎ ((k : Config) → core.Idle k old (world.Put c.key.seat (c.mailbox % length old.lanes) c))))
+-- the copy that is lent
+abbrev pub job_of : NextCopy → Job
+job_of copy = record { key = copy.key; mailbox = copy.mailbox; text = copy.text.now; flags = copy.flags }
 
--- The visitor at a place went on, and printed this; the delivery side stands for what its session did.
-pub record PlaceVisited (k : Setup) (whole : Bool) (place : ℕ) (w : World) (b : HouseSession) (old : Held) (p : Option Place) (new : Held) (before after : List ℕ) : Type 0 where
-  pub left : Option HouseSession
+-- the copy may not be put
+abbrev pub IsNoNext : Held → Job → Type 0
+IsNoNext old c = (IsNextKey old c.key c.mailbox → ⊥) ⊎ ((k : Config) → core.Idle k old (world.Put c.key.seat (c.mailbox % length old.lanes) c))
+
+-- there is no copy to put, or it may not be put
+abbrev pub MayNotPut : Held → List Job → Type 0
+MayNotPut old due = (due ≡ []) ⊎ ((c : Job) × (others : List Job) × (due ≡ c ∷ others) × IsNoNext old c)
+
+-- ---- sessions
+
+-- a session's seat is that of its place, whatever was settled of the house
+abbrev pub IsSeatOf : Setup → (seat place : ℕ) → Type 0
+IsSeatOf k seat place = seat ≡ session_seat k place
+
+-- who may be at a place, and for whom
+abbrev pub StandsForSomebody : (seat : ℕ) → CopyKey → List Noted → Option Seat → Option SeatedSession → Type 0
+StandsForSomebody seat next heard None None = Unit {0}
+StandsForSomebody seat next heard None (Some v) = ⊥
+StandsForSomebody seat next heard (Some p) None = ⊥
+StandsForSomebody seat next heard (Some p) (Some v) = StandsForSeated seat next heard p v
+
+-- bytes more came for a session
+abbrev pub with_more_came : List ℕ → Seat → Seat
+with_more_came piece p = with_place (with_more piece p.place) p
+
+-- One whose client is gone stays for its verdict, or is gone.
+pub record HasLingered (seat : ℕ) (next : CopyKey) (heard : List Noted) (b : SeatedSession) (p : Option Seat) : Type 0 where
+  pub left : Option SeatedSession
+  pub lingers : Lingers seat heard b left
+  pub there : StandsForSomebody seat next heard p left
+
+-- The session at a place went on, and printed this; the delivery side stands for what it did.
+pub record PlaceVisited (k : Setup) (whole : Bool) (place : ℕ) (next : CopyKey) (heard : List Noted) (w : World) (b : SeatedSession) (p : Option Seat) (new : Held) (before after : List ℕ) : Type 0 where
+  pub left : Option SeatedSession
   pub moved : World
   pub printed : List ℕ
-  pub goes : SessionGoes k whole place w b moved left printed
-  pub there : StandsForVisit p left
+  pub goes : SessionGoes k whole place heard w b moved left printed
+  pub there : StandsForSomebody (session_seat k place) next heard p left
   pub core : core.StandsFor k.config new moved
-  pub rest : SameDelivery old new
   pub out : after ≡ before ++ printed
 
--- The visitor at a place had a turn while its session idles, and printed this; the delivery side stands for what its session did.
-pub record PlaceIdled (k : Setup) (whole : Bool) (place : ℕ) (w : World) (b : HouseSession) (old : Held) (p : Option Place) (new : Held) (before after : List ℕ) : Type 0 where
-  pub left : Option HouseSession
+-- The same of one whose client is there.
+pub record PlaceTalked (k : Setup) (whole : Bool) (place : ℕ) (next : CopyKey) (heard : List Noted) (w : World) (b : SeatedSession) (p : Option Seat) (new : Held) (before after : List ℕ) : Type 0 where
+  pub left : Option SeatedSession
+  pub moved : World
+  pub printed : List ℕ
+  pub goes : SessionTalks k whole place heard w b moved left printed
+  pub there : StandsForSomebody (session_seat k place) next heard p left
+  pub core : core.StandsFor k.config new moved
+  pub out : after ≡ before ++ printed
+
+-- The session at a place had a turn while it idles, and printed this; the delivery side stands for what it did.
+pub record PlaceIdled (k : Setup) (whole : Bool) (place : ℕ) (next : CopyKey) (heard : List Noted) (w : World) (b : SeatedSession) (old : Held) (p : Option Seat) (new : Held) (before after : List ℕ) : Type 0 where
+  pub left : Option SeatedSession
   pub moved : World
   pub printed : List ℕ
   pub goes : SessionIdles k whole place w b moved left printed
-  pub there : StandsForVisit p left
+  pub there : StandsForSomebody (session_seat k place) next heard p left
   pub core : core.StandsFor k.config new moved
   pub rest : SameDelivery old new
   pub out : after ≡ before ++ printed
 
 -- It had none, and all is as it was.
-pub record PlaceKept (k : Setup) (w : World) (b : HouseSession) (old : Held) (p : Option Place) (new : Held) (before after : List ℕ) : Type 0 where
-  pub there : StandsForVisit p (Some b)
+pub record PlaceKept (k : Setup) (place : ℕ) (next : CopyKey) (heard : List Noted) (w : World) (b : SeatedSession) (old : Held) (p : Option Seat) (new : Held) (before after : List ℕ) : Type 0 where
+  pub there : StandsForSomebody (session_seat k place) next heard p (Some b)
   pub core : core.StandsFor k.config new w
   pub rest : SameDelivery old new
   pub out : after ≡ before
 
 -- where memory was wanting: no turn, or one whose words aren't printed yet
-abbrev pub PlaceIdledInPart : Setup → ℕ → World → HouseSession → Held → Option Place → Held → List ℕ → List ℕ → Type 0
-PlaceIdledInPart k place w b old p new before after = PlaceIdled k false place w b old p new before after ⊎ PlaceKept k w b old p new before after
+abbrev pub PlaceIdledInPart : Setup → ℕ → CopyKey → List Noted → World → SeatedSession → Held → Option Seat → Held → List ℕ → List ℕ → Type 0
+PlaceIdledInPart k place next heard w b old p new before after = PlaceIdled k false place next heard w b old p new before after ⊎ PlaceKept k place next heard w b old p new before after
 
--- In no world for which the delivery side stood does the visitor at a place have a turn.
-abbrev pub HasNoTurn : ℕ → Option Place → Held → Type 0
-HasNoTurn place p old = (k : Setup) (w v : World) (b : HouseSession) (o : Option HouseSession) (printed : List ℕ) → core.StandsFor k.config old w → StandsForVisit p (Some b) → SessionIdles k true place w b v o printed → ⊥
+-- In no world for which the delivery side stood does the session at a place have a turn.
+abbrev pub HasNoTurn : ℕ → Option Seat → Held → Type 0
+HasNoTurn place p old = (k : Setup) (next : CopyKey) (heard : List Noted) (w v : World) (b : SeatedSession) (o : Option SeatedSession) (printed : List ℕ) → core.StandsFor k.config old w → StandsForSomebody (session_seat k place) next heard p (Some b)
+    → SessionIdles k true place w b v o printed → ⊥

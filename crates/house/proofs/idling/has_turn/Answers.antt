@@ -9,6 +9,6 @@ not_false true e = refl
 not_false false e = cc
 
 pub returns-clause-none : goal.returns-clause-none
-returns-clause-none c e k w v b o printed stands there i =
+returns-clause-none c e k next heard w v b o printed stands there i =
     none_new c.args.visitor.now c.args.place c.args.core.now (subst (λ (x : Option Selected). IsSome x) c.selected.ensures (c.is_none.ensures ∙ ap not c.if-is_none.false))
-    (c.is_up_to_date.ensures.log (not_false c.is_up_to_date.result e)) k w v b o printed stands there i
+    (c.is_up_to_date.ensures.log (not_false c.is_up_to_date.result e)) k next heard w v b o printed stands there i

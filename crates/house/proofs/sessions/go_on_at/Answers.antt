@@ -1,26 +1,29 @@
-use Rattle.std.proofs.Common.{◌≡◌, ◌-◌, ◌∙◌, false, refl, Option, Some, subst, sym, true}
-use Rattle.imap_session.specs.Exchange.{Left}
-use Rattle.imap_session.specs.Store.{answer}
-use Rattle.session_store.specs.declared.desk.Desk.{Desk}
-use Rattle.house_session.specs.Place.{Place}
-use Rattle.house.specs.Stands.{StandsForVisit}
-use Rattle.house.proofs.Visiting.{parted, visited}
+use Rattle.std.proofs.Common.{◌≡◌, ◌-◌, ◌∙◌, false, true, sym, Result, Ok, Err, OnOk, OnErr}
+use Rattle.house.specs.Setup.{session_seat}
+use Rattle.house.proofs.SessionEvents.{gone_there, talks_there}
+use Rattle.house.proofs.Visiting.{visited_gone, visited_there}
 use Rattle.house.proofs.sessions.go_on_at.Goals as goal
 
-pub returns-in_default-go_on-clause-err : goal.returns-in_default-go_on-clause-err
-returns-in_default-go_on-clause-err c k w b stands there =
-    let before : Desk = record { core = c.args.desk.now.core; session = c.args.number - 1 } in
-    visited k false c.args.number b before c.go_on.new.desk w c.go_on.new.visitor c.args.out.now.items c.go_on.new.out.items c.requires refl stands
-    (c.in_default-go_on.ensures.err b (subst (λ (o : Option Place). StandsForVisit o (Some b)) c.in-Some.is there)) (λ e. absurd (let f : false ≡ true = e in cc))
+on_ok : {A E P Q : Type 0} (r : Result A E) → OnOk r P → (P → Q) → OnOk r Q
+on_ok (Ok x) p f = f p
+on_ok (Err e) p f = tt
 
-pub returns-then-has_ended-clause-ok : goal.returns-then-has_ended-clause-ok
-returns-then-has_ended-clause-ok c k w b stands there =
-    let before : Desk = record { core = c.args.desk.now.core; session = c.args.number - 1 } in
-    parted k c.args.number b before c.go_on.new.desk c.leave.new.self (answer Left c.leave.result) w c.go_on.new.visitor c.args.out.now.items c.go_on.new.out.items c.requires refl stands
-    (c.in-Ok.ensures.ok b (subst (λ (o : Option Place). StandsForVisit o (Some b)) c.in-Some.is there)) (sym c.has_ended.ensures ∙ c.if-has_ended.true) c.leave.ensures
+on_err : {A E P Q : Type 0} (r : Result A E) → OnErr r P → (P → Q) → OnErr r Q
+on_err (Ok x) p f = tt
+on_err (Err e) p f = f p
 
-pub returns-else-has_ended-clause-ok : goal.returns-else-has_ended-clause-ok
-returns-else-has_ended-clause-ok c k w b stands there =
-    let before : Desk = record { core = c.args.desk.now.core; session = c.args.number - 1 } in
-    visited k true c.args.number b before c.go_on.new.desk w c.go_on.new.visitor c.args.out.now.items c.go_on.new.out.items c.requires refl stands
-    (c.in-Ok.ensures.ok b (subst (λ (o : Option Place). StandsForVisit o (Some b)) c.in-Some.is there)) (λ _. sym c.has_ended.ensures ∙ c.if-has_ended.false)
+pub returns-then-is_left-clause-ok : goal.returns-then-is_left-clause-ok
+returns-then-is_left-clause-ok c k next heard w b stands there =
+    visited_gone k (c.args.number - 1) next heard w b c.linger_at.new.place c.args.desk.now.core c.args.out.now.items
+    (gone_there (session_seat k (c.args.number - 1)) next heard c.args.place.now b there (sym c.is_left.ensures ∙ c.if-is_left.true)) stands
+    (c.linger_at.ensures.who (session_seat k (c.args.number - 1)) next heard b there)
+
+pub returns-clause-ok : goal.returns-clause-ok
+returns-clause-ok c = on_ok c.talk_at.result c.talk_at.ensures.ok (λ goes k next heard w b stands there.
+    visited_there k true (c.args.number - 1) next heard w b c.talk_at.new.place c.talk_at.new.desk.core c.args.out.now.items c.talk_at.new.out.items
+    (talks_there (session_seat k (c.args.number - 1)) next heard c.args.place.now b there (sym c.is_left.ensures ∙ c.if-is_left.false)) (goes k next heard w b stands there))
+
+pub returns-clause-err : goal.returns-clause-err
+returns-clause-err c = on_err c.talk_at.result c.talk_at.ensures.err (λ goes k next heard w b stands there.
+    visited_there k false (c.args.number - 1) next heard w b c.talk_at.new.place c.talk_at.new.desk.core c.args.out.now.items c.talk_at.new.out.items
+    (talks_there (session_seat k (c.args.number - 1)) next heard c.args.place.now b there (sym c.is_left.ensures ∙ c.if-is_left.false)) (goes k next heard w b stands there))

@@ -5,11 +5,11 @@ use Rattle.delivery_core.specs.Stands as core
 use Rattle.delivery_core.proofs.Follow.{get_or-any}
 use Rattle.house_connection.specs.Line.{Line}
 use Rattle.house.specs.State.{State}
-use Rattle.house.specs.Scene.{HearPlay, seat_of}
+use Rattle.house.specs.Scene.{HearPlay, connection_hears, seat_of}
 use Rattle.house.specs.Stands.{StandsFor}
 use Rattle.house.specs.inner.Steps.{StandsForMaybe}
 use Rattle.delivery_core.specs.Changes.{Hears}
-use Rattle.house.proofs.Turns.{hear_idles, heard_at, heard_led}
+use Rattle.house.proofs.Turns.{heard_at, heard_led, hears_none}
 use Rattle.house.proofs.house.House.hear.Goals as goal
 
 there : (o : Option Line) → is_some o ≡ true → (g : Line) × (o ≡ Some g)
@@ -19,7 +19,7 @@ there (Some g) e = (g, refl)
 pub returns-in_default-clause-no_memory : goal.returns-in_default-clause-no_memory
 returns-in_default-clause-no_memory c e k s st =
     let i = c.self.inside in
-    let h : State = record { core = i.desk.core; callers = i.callers.items; serials = i.serials.items; visitors = i.visitors.items; directory = i.directory; host = i.host.items; max_message = i.max_message } in
+    let h : State = record { core = i.desk.core; callers = i.callers.items; serials = i.serials.items; visitors = i.visitors.items; entered = i.entered.items; directory = i.directory; host = i.host.items; max_message = i.max_message } in
     let st1 = subst (λ (x : State). StandsFor k x s) (sym c.self.view_is) st in
     let many = ap (λ (x : State). length x.callers) c.self.view_is in
     let e1 = c.from-seat.ensures in
@@ -32,12 +32,12 @@ returns-in_default-clause-no_memory c e k s st =
     let r = heard_led k h s c.args.connection c.from-seat.result i.directory g.0 c.hear.new.self c.in-Ok.noted q.0 c.go_on_at.new.place false c.args.out.now.items c.go_on_at.new.out.items
     st1 number refl lt some (subst (λ (n : ℕ). (x : world.Config) → core.Follows x i.desk.core (world.Hear n ∷ []) c.hear.new.self) (sym e1) f.follows) (subst (λ (n : ℕ). Hears i.desk.core c.hear.new.self n (c.in-Ok.noted ∷ [])) (sym e1) f.heard) f.next q.2
     (λ x p next heard b of m. c.in_default.ensures.err x p next heard b of (subst (λ (o : Option Line). StandsForMaybe x p next heard o (Some b)) (sym q.1) m)) in
-    inl (record { after = r.0; printed = r.1; plays = subst (λ (n : ℕ). HearPlay k false s n r.0 r.1) e1 r.2; stands = r.3; out = r.4 })
+    inl (record { after = r.0; printed = r.1; plays = subst (λ (n : ℕ). HearPlay k false s n r.0 r.1) e1 (connection_hears (let b = st1.connections in omega (arith, lt, b)) r.2); stands = r.3; out = r.4 })
 
 pub returns-clause-follows : goal.returns-clause-follows
 returns-clause-follows c k s st =
     let i = c.self.inside in
-    let h : State = record { core = i.desk.core; callers = i.callers.items; serials = i.serials.items; visitors = i.visitors.items; directory = i.directory; host = i.host.items; max_message = i.max_message } in
+    let h : State = record { core = i.desk.core; callers = i.callers.items; serials = i.serials.items; visitors = i.visitors.items; entered = i.entered.items; directory = i.directory; host = i.host.items; max_message = i.max_message } in
     let st1 = subst (λ (x : State). StandsFor k x s) (sym c.self.view_is) st in
     let many = ap (λ (x : State). length x.callers) c.self.view_is in
     let e1 = c.from-seat.ensures in
@@ -50,14 +50,16 @@ returns-clause-follows c k s st =
     let r = heard_led k h s c.args.connection c.from-seat.result i.directory g.0 c.hear.new.self c.in-Ok.noted q.0 c.go_on_at.new.place true c.args.out.now.items c.go_on_at.new.out.items
     st1 number refl lt some (subst (λ (n : ℕ). (x : world.Config) → core.Follows x i.desk.core (world.Hear n ∷ []) c.hear.new.self) (sym e1) f.follows) (subst (λ (n : ℕ). Hears i.desk.core c.hear.new.self n (c.in-Ok.noted ∷ [])) (sym e1) f.heard) f.next q.2
     (λ x p next heard b of m. c.in-Ok-go_on_at.ensures.ok x p next heard b of (subst (λ (o : Option Line). StandsForMaybe x p next heard o (Some b)) (sym q.1) m)) in
-    record { after = r.0; printed = r.1; plays = subst (λ (n : ℕ). HearPlay k true s n r.0 r.1) e1 r.2; stands = r.3; out = r.4 }
+    record { after = r.0; printed = r.1; plays = subst (λ (n : ℕ). HearPlay k true s n r.0 r.1) e1 (connection_hears (let b = st1.connections in omega (arith, lt, b)) r.2); stands = r.3; out = r.4 }
 
 pub returns-in-Err-Nothing-clause-idle : goal.returns-in-Err-Nothing-clause-idle
 returns-in-Err-Nothing-clause-idle c e k s st t printed p =
     let i = c.self.inside in
-    let h : State = record { core = i.desk.core; callers = i.callers.items; serials = i.serials.items; visitors = i.visitors.items; directory = i.directory; host = i.host.items; max_message = i.max_message } in
+    let h : State = record { core = i.desk.core; callers = i.callers.items; serials = i.serials.items; visitors = i.visitors.items; entered = i.entered.items; directory = i.directory; host = i.host.items; max_message = i.max_message } in
     let st1 = subst (λ (x : State). StandsFor k x s) (sym c.self.view_is) st in
-    absurd (hear_idles k h s (seat_of c.args.connection) t printed st1 (c.in-Err-Nothing.ensures.idle (ap (λ x. Err x) c.in-Err-Nothing.field-0-is)) p)
+    let many = ap (λ (x : State). length x.callers) c.self.view_is in
+    let lt : seat_of c.args.connection < length i.callers.items = let n = c.requires.seat.number in let m = c.requires.seat.seat in omega (arith, n, m, many) in
+    absurd (hears_none k h s (seat_of c.args.connection) t printed st1 lt (c.in-Err-Nothing.ensures.idle (ap (λ x. Err x) c.in-Err-Nothing.field-0-is)) p)
 
 pub returns-in_default-clause-asks : goal.returns-in_default-clause-asks
 returns-in_default-clause-asks c e = rw (← c.self.view_is) (inr (c.in-Ok.noted, c.in-Ok.ensures.heard))

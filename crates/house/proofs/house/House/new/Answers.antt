@@ -1,4 +1,4 @@
-use Rattle.std.proofs.Common.{◌≡◌, ℕ, length, map, replicate, ap, ◌∙◌, refl}
+use Rattle.std.proofs.Common.{◌≡◌, ℕ, length, map, replicate, ap, ◌∙◌, refl, sym}
 use Rattle.std.proofs.lemmas.List.{length-map}
 use Rattle.envelope.specs.Directory.{Directory}
 use Rattle.envelope.specs.Names.{home_of}
@@ -16,7 +16,8 @@ returns-clause-stands c =
     let many : length (words_of config) ≡ c.mailboxes.result = cc (c.mailboxes.ensures.value, counted) in
     new_house config _
     (c.in_ok-new.ensures.stands (setup_of config).config
-    (record { seats = refl; shards = refl; mailboxes = many; depth = refl; messages = refl; ring = refl; ring_max = refl; first_uid = refl; uidvalidity = refl; sessions = refl }))
-    c.in_ok-new.ensures.next c.in_ok-empty_places.ensures (c.in_ok-vec.ensures.items_if_clones_equal (λ y e. e) ∙ ap (λ (n : ℕ). replicate n 0) c.from.ensures) c.in_ok-free_places.ensures
+    (record { seats = refl; shards = refl; mailboxes = many; depth = refl; messages = refl; ring = refl; ring_max = refl; first_uid = refl; uidvalidity = refl; sessions = sym c.from.ensures }))
+    c.in_ok-new.ensures.next c.in_ok-empty_places.ensures (c.in_ok-vec.ensures.items_if_clones_equal (λ y e. e) ∙ ap (λ (n : ℕ). replicate n 0) c.from-2.ensures) c.in_ok-free_places.ensures
+    (c.in_ok-vec-2.ensures.items_if_clones_equal (λ y e. e) ∙ ap (λ (n : ℕ). replicate n 0) c.from-3.ensures)
     (c.directory.view_is ∙ made.directory)
     (c.in_ok-from_slice.ensures.items ∙ c.deref.ensures.value) refl c.requires.shards.0

@@ -3,17 +3,22 @@ use Rattle.std.specs.Option.{option_map}
 use Rattle.delivery_core.proofs.Follow.{get_or-any}
 use Rattle.house.specs.declared.event.HouseFault.TheVariants as house_faults
 use Rattle.house.specs.State.{State}
-use Rattle.house.specs.Scene.{PutPlay}
+use Rattle.house.specs.Scene.{PutPlay, connection_puts}
 use Rattle.house_connection.specs.Taking.{noted_put}
 use Rattle.submission.specs.inner.Verdicts.{heard_verdict}
 use Rattle.house.specs.Stands.{StandsFor}
-use Rattle.house.proofs.Turns.{put_idles, put_led}
+use Rattle.delivery_core.specs.Held.{Held}
+use Rattle.delivery_core.specs.Changes.{SameDelivery}
+use Rattle.session_store.proofs.Serving.{same_delivery}
+use Rattle.house.specs.Steps.{MayWantToPut}
+use Rattle.house.proofs.Ended.{due_first, same_as, vacant_first}
+use Rattle.house.proofs.Turns.{put_led, puts_none}
 use Rattle.house.proofs.house.House.put.Goals as goal
 
 pub returns-in_default-clause-no_memory : goal.returns-in_default-clause-no_memory
 returns-in_default-clause-no_memory c e k s st =
     let i = c.self.inside in
-    let h : State = record { core = i.desk.core; callers = i.callers.items; serials = i.serials.items; visitors = i.visitors.items; directory = i.directory; host = i.host.items; max_message = i.max_message } in
+    let h : State = record { core = i.desk.core; callers = i.callers.items; serials = i.serials.items; visitors = i.visitors.items; entered = i.entered.items; directory = i.directory; host = i.host.items; max_message = i.max_message } in
     let st1 = subst (λ (x : State). StandsFor k x s) (sym c.self.view_is) st in
     let many = ap (λ (x : State). length x.callers) c.self.view_is in
     let e1 = c.from-seat.ensures in
@@ -24,12 +29,12 @@ returns-in_default-clause-no_memory c e k s st =
     let at = c.note_put_at.ensures ∙ ap (option_map (noted_put (heard_verdict c.in-Ok.why))) (c.index_mut-place.ensures.value ∙ get_or-any i.callers.items c.from-seat.result _ None lt ∙ some) in
     let r = put_led k h s c.args.connection c.from-seat.result i.directory p.0 c.put_next.new.core c.in-Ok.why c.note_put_at.new.place c.go_on_at.new.place false c.args.out.now.items c.go_on_at.new.out.items
     st1 number refl lt some p.2 at c.in_default.ensures.err in
-    inl (record { after = r.0; printed = r.1; plays = subst (λ (n : ℕ). PutPlay k false s n r.0 r.1) e1 r.2; stands = r.3; out = r.4 })
+    inl (record { after = r.0; printed = r.1; plays = subst (λ (n : ℕ). PutPlay k false s n r.0 r.1) e1 (connection_puts (let b = st1.connections in omega (arith, lt, b)) r.2); stands = r.3; out = r.4 })
 
 pub returns-clause-follows : goal.returns-clause-follows
 returns-clause-follows c k s st =
     let i = c.self.inside in
-    let h : State = record { core = i.desk.core; callers = i.callers.items; serials = i.serials.items; visitors = i.visitors.items; directory = i.directory; host = i.host.items; max_message = i.max_message } in
+    let h : State = record { core = i.desk.core; callers = i.callers.items; serials = i.serials.items; visitors = i.visitors.items; entered = i.entered.items; directory = i.directory; host = i.host.items; max_message = i.max_message } in
     let st1 = subst (λ (x : State). StandsFor k x s) (sym c.self.view_is) st in
     let many = ap (λ (x : State). length x.callers) c.self.view_is in
     let e1 = c.from-seat.ensures in
@@ -40,12 +45,12 @@ returns-clause-follows c k s st =
     let at = c.note_put_at.ensures ∙ ap (option_map (noted_put (heard_verdict c.in-Ok.why))) (c.index_mut-place.ensures.value ∙ get_or-any i.callers.items c.from-seat.result _ None lt ∙ some) in
     let r = put_led k h s c.args.connection c.from-seat.result i.directory p.0 c.put_next.new.core c.in-Ok.why c.note_put_at.new.place c.go_on_at.new.place true c.args.out.now.items c.go_on_at.new.out.items
     st1 number refl lt some p.2 at c.in-Ok-go_on_at.ensures.ok in
-    record { after = r.0; printed = r.1; plays = subst (λ (n : ℕ). PutPlay k true s n r.0 r.1) e1 r.2; stands = r.3; out = r.4 }
+    record { after = r.0; printed = r.1; plays = subst (λ (n : ℕ). PutPlay k true s n r.0 r.1) e1 (connection_puts (let b = st1.connections in omega (arith, lt, b)) r.2); stands = r.3; out = r.4 }
 
 pub returns-in-Err-clause-idle : goal.returns-in-Err-clause-idle
 returns-in-Err-clause-idle c e k s st t printed p =
     let i = c.self.inside in
-    let h : State = record { core = i.desk.core; callers = i.callers.items; serials = i.serials.items; visitors = i.visitors.items; directory = i.directory; host = i.host.items; max_message = i.max_message } in
+    let h : State = record { core = i.desk.core; callers = i.callers.items; serials = i.serials.items; visitors = i.visitors.items; entered = i.entered.items; directory = i.directory; host = i.host.items; max_message = i.max_message } in
     let st1 = subst (λ (x : State). StandsFor k x s) (sym c.self.view_is) st in
     let many = ap (λ (x : State). length x.callers) c.self.view_is in
     let e1 = c.from-seat.ensures in
@@ -54,22 +59,24 @@ returns-in-Err-clause-idle c e k s st t printed p =
     let is : c.in-Err.fault ≡ house_faults.Nothing = let e2 = e in cc in
     let n = c.in-Err.ensures.nothing (ap (λ x. Err x) is) in
     let some = get_or-any i.callers.items c.from-seat.result None c.index.result.now lt ∙ sym c.index.ensures ∙ n.1 in
-    absurd (put_idles k h s c.from-seat.result n.0 t printed st1 lt some n.2 (subst (λ (x : ℕ). PutPlay k true s x t printed) (sym e1) p))
+    absurd (puts_none k h s c.from-seat.result n.0 t printed st1 lt some n.2 (subst (λ (x : ℕ). PutPlay k true s x t printed) (sym e1) p))
 
 pub returns-in_default-clause-asks : goal.returns-in_default-clause-asks
 returns-in_default-clause-asks c e =
     let i = c.self.inside in
+    let h : State = record { core = i.desk.core; callers = i.callers.items; serials = i.serials.items; visitors = i.visitors.items; entered = i.entered.items; directory = i.directory; host = i.host.items; max_message = i.max_message } in
     let many = ap (λ (x : State). length x.callers) c.self.view_is in
     let e1 = c.from-seat.ensures in
     let number : c.args.connection ≡ c.from-seat.result + 1 = let n = c.requires.seat.number in omega (arith, n, e1) in
     let lt : c.from-seat.result < length i.callers.items = let m = c.requires.seat.seat in omega (arith, number, m, many) in
     let p = c.in-Ok.ensures.puts in
     let some = get_or-any i.callers.items c.from-seat.result None c.index.result.now lt ∙ sym c.index.ensures ∙ p.1 in
-    rw (← c.self.view_is, ← e1) (p.0, some, inr (c.in-Ok.why, p.2))
+    rw (← c.self.view_is, ← e1, due_first h c.from-seat.result p.0 lt some) (inr (c.put_next.new.core, c.in-Ok.why, p.2, same_delivery c.put_next.new.core))
 
 pub returns-in-Err-clause-asks : goal.returns-in-Err-clause-asks
 returns-in-Err-clause-asks c e =
     let i = c.self.inside in
+    let h : State = record { core = i.desk.core; callers = i.callers.items; serials = i.serials.items; visitors = i.visitors.items; entered = i.entered.items; directory = i.directory; host = i.host.items; max_message = i.max_message } in
     let many = ap (λ (x : State). length x.callers) c.self.view_is in
     let e1 = c.from-seat.ensures in
     let number : c.args.connection ≡ c.from-seat.result + 1 = let n = c.requires.seat.number in omega (arith, n, e1) in
@@ -77,4 +84,4 @@ returns-in-Err-clause-asks c e =
     let is : c.in-Err.fault ≡ house_faults.NoMemory = let e2 = e in cc in
     let n = c.in-Err.ensures.memory (ap (λ x. Err x) is) in
     let some = get_or-any i.callers.items c.from-seat.result None c.index.result.now lt ∙ sym c.index.ensures ∙ n.1 in
-    rw (← c.self.view_is, ← e1) (n.0, some, inl n.2)
+    rw (← c.self.view_is, ← e1, due_first h c.from-seat.result n.0 lt some) (inl n.2)

@@ -5,3 +5,9 @@ use Rattle.house.proofs.house.House.step.Goals as goal
 
 pub returns-in-End-clause-idle : goal.returns-in-End-clause-idle
 returns-in-End-clause-idle c e = subst (λ (x : Event). IsIdle c.args.self.now x) (sym c.in-End.is) (c.end.ensures.idle e)
+
+pub returns-in-Put-clause-idle : goal.returns-in-Put-clause-idle
+returns-in-Put-clause-idle c e = subst (λ (x : Event). IsIdle c.args.self.now x) (sym c.in-Put.is) (c.put_at.ensures.idle e)
+
+pub returns-in-Hear-clause-idle : goal.returns-in-Hear-clause-idle
+returns-in-Hear-clause-idle c e = subst (λ (x : Event). IsIdle c.args.self.now x) (sym c.in-Hear.is) (c.hear_at.ensures.idle e)

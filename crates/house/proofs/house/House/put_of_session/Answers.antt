@@ -1,0 +1,110 @@
+use Rattle.std.proofs.Common.{◌≡◌, ◌+◌, ◌-◌, ◌<◌, ◌∙◌, ap, arith, false, inl, inr, length, ℕ, not, None, Option, Some, Err, refl, subst, sym, true, get_or, [], ◌∷◌}
+use Rattle.std.specs.Option.{is_some, option_map}
+use Rattle.delivery_core.proofs.Follow.{get_or-any}
+use Rattle.delivery_core.specs.Changes.{Hears, SameDelivery}
+use Rattle.delivery_core.specs.Held.{Held, notes_of}
+use Rattle.delivery_core.specs.Stands as core
+use Rattle.world.specs.World as world
+use Rattle.house_session.specs.Seat.{Seat, noted_put}
+use Rattle.submission.specs.inner.Verdicts.{heard_verdict}
+use Rattle.house.specs.declared.event.HouseFault.TheVariants as house_faults
+use Rattle.house.specs.State.{State}
+use Rattle.house.specs.Setup.{session_seat}
+use Rattle.house.specs.Scene.{HearPlay, PutPlay, session_hears, session_puts}
+use Rattle.house.specs.Stands.{StandsFor}
+use Rattle.house.specs.inner.Steps.{PlaceVisited, StandsForSomebody}
+use Rattle.house.proofs.Ended.{due_behind}
+use Rattle.house.proofs.SessionEvents.{heard_at, heard_led, hears_none, put_led, puts_none}
+use Rattle.house.proofs.Visiting.{some_seat}
+use Rattle.house.proofs.house.House.put_of_session.Goals as goal
+
+pub returns-in_default-clause-no_memory : goal.returns-in_default-clause-no_memory
+returns-in_default-clause-no_memory c e k s st =
+    let i = c.self.inside in
+    let h : State = record { core = i.desk.core; callers = i.callers.items; serials = i.serials.items; visitors = i.visitors.items; entered = i.entered.items; directory = i.directory; host = i.host.items; max_message = i.max_message } in
+    let st1 = subst (λ (x : State). StandsFor k x s) (sym c.self.view_is) st in
+    let many = ap (λ (x : State). length x.visitors) c.self.view_is in
+    let first = ap (λ (x : State). length x.callers) c.self.view_is in
+    let place = c.from-place.result in
+    let counted = c.len.ensures in
+    let number = c.from-place.ensures in
+    let at : c.args.number - 1 ≡ length i.callers.items + place = let b = c.requires.number.behind in omega (arith, b, first, counted, number) in
+    let lt : place < length i.visitors.items = let b = c.requires.number.behind in let w = c.requires.number.within in omega (arith, b, w, first, many, counted, number) in
+    let mine : c.args.number - 1 ≡ session_seat k place = at ∙ ap (λ (n : ℕ). n + place) st1.connections in
+    let p = c.in-Ok.ensures.puts in
+    let some : ◌≡◌ {A = Option Seat} (get_or i.visitors.items place None) (Some p.0) = get_or-any i.visitors.items place None c.index.result.now lt ∙ sym c.index.ensures ∙ p.1 in
+    let here = c.note_put_at.ensures ∙ ap (option_map (noted_put (heard_verdict c.in-Ok.why))) (c.index_mut-here.ensures.value ∙ get_or-any i.visitors.items place _ None lt ∙ some) in
+    let r = put_led k false h s place p.0 c.put_next.new.core c.go_on_at.new.desk.core c.in-Ok.why c.note_put_at.new.place c.go_on_at.new.place c.args.out.now.items c.go_on_at.new.out.items st1 lt some p.2 here c.go_on_at.ensures.delivery
+    (λ next heard w b stands is. subst (λ (n : ℕ). PlaceVisited k false n next heard w b c.go_on_at.new.place c.go_on_at.new.desk.core c.args.out.now.items c.go_on_at.new.out.items) (sym number)
+    (c.in_default.ensures.err k next heard w b stands (subst (λ (n : ℕ). StandsForSomebody (session_seat k n) next heard c.note_put_at.new.place (Some b)) number is))) in
+    inl (record { after = r.0; printed = r.1; plays = session_puts place mine r.2; stands = r.3; out = r.4 })
+
+pub returns-clause-follows : goal.returns-clause-follows
+returns-clause-follows c k s st =
+    let i = c.self.inside in
+    let h : State = record { core = i.desk.core; callers = i.callers.items; serials = i.serials.items; visitors = i.visitors.items; entered = i.entered.items; directory = i.directory; host = i.host.items; max_message = i.max_message } in
+    let st1 = subst (λ (x : State). StandsFor k x s) (sym c.self.view_is) st in
+    let many = ap (λ (x : State). length x.visitors) c.self.view_is in
+    let first = ap (λ (x : State). length x.callers) c.self.view_is in
+    let place = c.from-place.result in
+    let counted = c.len.ensures in
+    let number = c.from-place.ensures in
+    let at : c.args.number - 1 ≡ length i.callers.items + place = let b = c.requires.number.behind in omega (arith, b, first, counted, number) in
+    let lt : place < length i.visitors.items = let b = c.requires.number.behind in let w = c.requires.number.within in omega (arith, b, w, first, many, counted, number) in
+    let mine : c.args.number - 1 ≡ session_seat k place = at ∙ ap (λ (n : ℕ). n + place) st1.connections in
+    let p = c.in-Ok.ensures.puts in
+    let some : ◌≡◌ {A = Option Seat} (get_or i.visitors.items place None) (Some p.0) = get_or-any i.visitors.items place None c.index.result.now lt ∙ sym c.index.ensures ∙ p.1 in
+    let here = c.note_put_at.ensures ∙ ap (option_map (noted_put (heard_verdict c.in-Ok.why))) (c.index_mut-here.ensures.value ∙ get_or-any i.visitors.items place _ None lt ∙ some) in
+    let r = put_led k true h s place p.0 c.put_next.new.core c.go_on_at.new.desk.core c.in-Ok.why c.note_put_at.new.place c.go_on_at.new.place c.args.out.now.items c.go_on_at.new.out.items st1 lt some p.2 here c.go_on_at.ensures.delivery
+    (λ next heard w b stands is. subst (λ (n : ℕ). PlaceVisited k true n next heard w b c.go_on_at.new.place c.go_on_at.new.desk.core c.args.out.now.items c.go_on_at.new.out.items) (sym number)
+    (c.in-Ok-go_on_at.ensures.ok k next heard w b stands (subst (λ (n : ℕ). StandsForSomebody (session_seat k n) next heard c.note_put_at.new.place (Some b)) number is))) in
+    record { after = r.0; printed = r.1; plays = session_puts place mine r.2; stands = r.3; out = r.4 }
+
+pub returns-in-Err-clause-idle : goal.returns-in-Err-clause-idle
+returns-in-Err-clause-idle c e k s st t printed p =
+    let i = c.self.inside in
+    let h : State = record { core = i.desk.core; callers = i.callers.items; serials = i.serials.items; visitors = i.visitors.items; entered = i.entered.items; directory = i.directory; host = i.host.items; max_message = i.max_message } in
+    let st1 = subst (λ (x : State). StandsFor k x s) (sym c.self.view_is) st in
+    let many = ap (λ (x : State). length x.visitors) c.self.view_is in
+    let first = ap (λ (x : State). length x.callers) c.self.view_is in
+    let place = c.from-place.result in
+    let counted = c.len.ensures in
+    let number = c.from-place.ensures in
+    let at : c.args.number - 1 ≡ length i.callers.items + place = let b = c.requires.number.behind in omega (arith, b, first, counted, number) in
+    let lt : place < length i.visitors.items = let b = c.requires.number.behind in let w = c.requires.number.within in omega (arith, b, w, first, many, counted, number) in
+    let mine : c.args.number - 1 ≡ session_seat k place = at ∙ ap (λ (n : ℕ). n + place) st1.connections in
+    let is : c.in-Err.fault ≡ house_faults.Nothing = let e2 = e in cc in
+    let n = c.in-Err.ensures.nothing (ap (λ x. Err x) is) in
+    let some : ◌≡◌ {A = Option Seat} (get_or i.visitors.items place None) (Some n.0) = get_or-any i.visitors.items place None c.index.result.now lt ∙ sym c.index.ensures ∙ n.1 in
+    absurd (puts_none k h s place n.0 t printed st1 lt some n.2 (subst (λ (x : ℕ). PutPlay k true s x t printed) mine p))
+
+pub returns-in_default-clause-asks : goal.returns-in_default-clause-asks
+returns-in_default-clause-asks c e =
+    let i = c.self.inside in
+    let h : State = record { core = i.desk.core; callers = i.callers.items; serials = i.serials.items; visitors = i.visitors.items; entered = i.entered.items; directory = i.directory; host = i.host.items; max_message = i.max_message } in
+    let many = ap (λ (x : State). length x.visitors) c.self.view_is in
+    let first = ap (λ (x : State). length x.callers) c.self.view_is in
+    let place = c.from-place.result in
+    let counted = c.len.ensures in
+    let number = c.from-place.ensures in
+    let at : c.args.number - 1 ≡ length i.callers.items + place = let b = c.requires.number.behind in omega (arith, b, first, counted, number) in
+    let lt : place < length i.visitors.items = let b = c.requires.number.behind in let w = c.requires.number.within in omega (arith, b, w, first, many, counted, number) in
+    let p = c.in-Ok.ensures.puts in
+    let some : ◌≡◌ {A = Option Seat} (get_or i.visitors.items place None) (Some p.0) = get_or-any i.visitors.items place None c.index.result.now lt ∙ sym c.index.ensures ∙ p.1 in
+    rw (← c.self.view_is, due_behind h (c.args.number - 1) place p.0 at some) (inr (c.put_next.new.core, c.in-Ok.why, p.2, c.go_on_at.ensures.delivery))
+
+pub returns-in-Err-clause-asks : goal.returns-in-Err-clause-asks
+returns-in-Err-clause-asks c e =
+    let i = c.self.inside in
+    let h : State = record { core = i.desk.core; callers = i.callers.items; serials = i.serials.items; visitors = i.visitors.items; entered = i.entered.items; directory = i.directory; host = i.host.items; max_message = i.max_message } in
+    let many = ap (λ (x : State). length x.visitors) c.self.view_is in
+    let first = ap (λ (x : State). length x.callers) c.self.view_is in
+    let place = c.from-place.result in
+    let counted = c.len.ensures in
+    let number = c.from-place.ensures in
+    let at : c.args.number - 1 ≡ length i.callers.items + place = let b = c.requires.number.behind in omega (arith, b, first, counted, number) in
+    let lt : place < length i.visitors.items = let b = c.requires.number.behind in let w = c.requires.number.within in omega (arith, b, w, first, many, counted, number) in
+    let is : c.in-Err.fault ≡ house_faults.NoMemory = let e2 = e in cc in
+    let n = c.in-Err.ensures.memory (ap (λ x. Err x) is) in
+    let some : ◌≡◌ {A = Option Seat} (get_or i.visitors.items place None) (Some n.0) = get_or-any i.visitors.items place None c.index.result.now lt ∙ sym c.index.ensures ∙ n.1 in
+    rw (← c.self.view_is, due_behind h (c.args.number - 1) place n.0 at some) (inl n.2)
