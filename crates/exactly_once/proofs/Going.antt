@@ -18,11 +18,12 @@ use Rattle.world.specs.Law.{Headline}
 use Rattle.world.proofs.Always.{always}
 use Rattle.world.proofs.Base.{all_of_every, every_weaker, rising_pair}
 use Rattle.house_connection.specs.HouseConnection.{HouseConnection, more_waits, greeted}
-use Rattle.house.specs.Setup.{Setup, terms_of}
+use Rattle.house.specs.Setup.{Setup, session_seat, terms_of}
 use Rattle.house_session.specs.HouseSession.{HouseSession}
 use Rattle.house.specs.Printing.{Speaks, Prints, prints_all, prints_none}
-use Rattle.house.specs.Printing.{marked_session, of_session}
-use Rattle.house_session.specs.HouseSession.{greeted as greeted_visitor, more_waits as visitor_more_waits}
+use Rattle.house.specs.Printing.{marked_session, of_session, still_unsaid, with_session}
+use Rattle.house_session.specs.HouseSession.{more_waits as visitor_more_waits}
+use Rattle.house_session.specs.Seated.{SeatedSession, seated_greeted}
 use Rattle.house_session.specs.Folders.{folders_of}
 use Rattle.house.proofs.Carried.{speaks_carried}
 use Rattle.imap_session.specs.Exchange as calls
@@ -30,19 +31,20 @@ use Rattle.imap_session.specs.Store.{Met}
 use Rattle.session_store.specs.Meets.{Meets}
 use Rattle.house.specs.declared.event.Event.{Event}
 use Rattle.house.specs.declared.event.Event.TheVariants.{Bytes, Vanish, Put, Take, Deliver, Answer, Hear, End, Enter, Say, Idle, Leave}
-use Rattle.house.specs.Scene.{Scene, Plays, BytesPlay, PutPlay, HearPlay, VanishPlay, SessionGoes, IdlePlay, Parts, EnterPlay, SayPlay, LeavePlay, LeavesMailbox, Moves, opens, goes_on, parts, remains, empty_scene, place_of, seat_of}
+use Rattle.house.specs.Scene as scene
+use Rattle.house.specs.Scene.{BytesPlay, ConnectionHears, ConnectionPuts, EnterPlay, HearPlay, IdlePlay, LeavePlay, LeavesMailbox, Lingers, Moves, Parts, Plays, PutPlay, SayPlay, Scene, SessionGoes, SessionHears, SessionPuts, SessionTalks, VanishPlay, connection_hears, connection_puts, empty_scene, fades, goes_on, opens, parts, place_of, remains, seat_of, session_hears, session_puts, waits}
 use Rattle.house.specs.Settling.{Happened}
 use Rattle.imap_session.specs.Commands.{greeting}
-use Rattle.exactly_once.specs.Promise.{HearsItsOwn, serial_of, Said, Piece, Replies, Lines, Silence, text_of, IsOwn, Entry, IsRecord, told_in, verdicts_of, TellsOnce, NoneTwice, ExactlyOnce}
+use Rattle.exactly_once.specs.Promise.{HearsItsOwn, HearsLines, PutsLines, serial_of, Said, Piece, Replies, Lines, Silence, text_of, IsOwn, Entry, IsRecord, told_in, verdicts_of, TellsOnce, NoneTwice, ExactlyOnce}
 use Rattle.exactly_once.proofs.Grown.{Reached, heard_stays_heard, meets_reached, moves, stays, reached_then}
 use Rattle.exactly_once.proofs.Told.{AreTold, InOrder, IsTold, none_told, told_front}
-use Rattle.exactly_once.proofs.Whole.{IsWhole, converses_whole, cut_of, greeting_whole, idles_whole, whole_append}
+use Rattle.exactly_once.proofs.Whole.{IsWhole, cut_of, goes_whole, greeting_whole, idles_whole, whole_append}
 use Rattle.exactly_once.proofs.Saying.{ConnectionOk, Spoke, caller_grows, greeted_talking, proceeds_spoke, unread_silent, verdicts}
 
 -- what a session has still to print is whole lines
-abbrev pub SessionOk : Option HouseSession → Type 0
+abbrev pub SessionOk : Option SeatedSession → Type 0
 SessionOk None = Unit {0}
-SessionOk (Some v) = IsWhole v.unsaid
+SessionOk (Some v) = IsWhole v.session.unsaid
 
 -- what every event keeps, where these verdicts were told at each seat: what callers have still to print comes after them
 pub record SceneOk (k : Setup) (told : ℕ → List Noted) (s : Scene) : Type 0 where
@@ -87,7 +89,7 @@ seat_stays k told s v seat next ok r l =
 -- the connection at a seat went on in a world that may have moved
 caller_did : (k : Setup) (told : ℕ → List Noted) (s : Scene) (e : Event) (v : World) (seat : ℕ) (o : Option HouseConnection) (next : ℕ → ℕ) (printed : List ℕ) → SceneOk k told s → Reached k.config s.world v
     → ((t : Scene) (said : List Said) → HearsItsOwn s seat said → IsOwn k s e t (Replies seat said)) → ((j : ℕ) → s.next j ≤ next j) → (serial : ℕ) → serial ≡ serial_of (s.next seat) (s.caller seat) → Spoke k seat serial (v.heard seat) (next seat) (told seat) o printed
-    → Did k told s e (record { world = v; caller = set_at s.caller seat o; next = next; visitor = s.visitor }) printed
+    → Did k told s e (record { world = v; caller = set_at s.caller seat o; next = next; visitor = s.visitor; entered = s.entered }) printed
 caller_did k told s e v seat o next printed ok r own l serial here spoke = record {
   piece = Replies seat spoke.said;
   is = spoke.is;
@@ -103,7 +105,7 @@ caller_did k told s e v seat o next printed ok r own l serial here spoke = recor
 -- the same of who stands at a seat, where it prints nothing
 seat_did : (k : Setup) (told : ℕ → List Noted) (s : Scene) (e : Event) (seat : ℕ) (o : Option HouseConnection) (printed : List ℕ) → SceneOk k told s
     → ConnectionOk k seat (s.world.heard seat) (s.next seat) (told seat) o → printed ≡ []
-    → Did k told s e (record { world = s.world; caller = set_at s.caller seat o; next = s.next; visitor = s.visitor }) printed
+    → Did k told s e (record { world = s.world; caller = set_at s.caller seat o; next = s.next; visitor = s.visitor; entered = s.entered }) printed
 seat_did k told s e seat o printed ok here is = record {
   piece = Silence;
   is = is;
@@ -140,17 +142,17 @@ bytes_did k told s e seat piece t printed own ok (goes_on b there read o g after
     rw after (caller_did k told s e s.world seat o s.next printed ok r own (λ j. omega arith) b.serial (ap (serial_of (s.next seat)) (sym there))
     (proceeds_spoke k false seat (s.world.heard seat) (s.next seat) (told seat) (more_waits b piece) o printed (at_seat k told s s.world seat b ok r there) g))
 
-put_did : (k : Setup) (told : ℕ → List Noted) (s : Scene) (e : Event) (seat : ℕ) (t : Scene) (printed : List ℕ) → ((t : Scene) (said : List Said) → HearsItsOwn s seat said → IsOwn k s e t (Replies seat said))
-    → SceneOk k told s → PutPlay k false s seat t printed → Did k told s e t printed
-put_did k told s e seat t printed own ok p =
+connection_put_did : (k : Setup) (told : ℕ → List Noted) (s : Scene) (e : Event) (seat : ℕ) (t : Scene) (printed : List ℕ) → ((t : Scene) (said : List Said) → HearsItsOwn s seat said → IsOwn k s e t (Replies seat said))
+    → SceneOk k told s → ConnectionPuts k false s seat t printed → Did k told s e t printed
+connection_put_did k told s e seat t printed own ok p =
     let r = moves k.config s.world p.moved (world.Put seat (world.shard_of k.config p.copy.mailbox) p.copy) p.step in
     rw p.after (caller_did k told s e p.moved seat p.left s.next printed ok r own (λ j. omega arith) p.caller.serial (ap (serial_of (s.next seat)) (sym p.there))
     (proceeds_spoke k false seat (p.moved.heard seat) (s.next seat) (told seat) (record { serial = p.caller.serial; gone = p.caller.gone; talk = p.caller.talk; to_put = p.others }) p.left printed
     (at_seat k told s p.moved seat p.caller ok r p.there) p.goes))
 
-hear_did : (k : Setup) (told : ℕ → List Noted) (s : Scene) (e : Event) (seat : ℕ) (t : Scene) (printed : List ℕ) → ((t : Scene) (said : List Said) → HearsItsOwn s seat said → IsOwn k s e t (Replies seat said))
-    → SceneOk k told s → HearPlay k false s seat t printed → Did k told s e t printed
-hear_did k told s e seat t printed own ok p =
+connection_hear_did : (k : Setup) (told : ℕ → List Noted) (s : Scene) (e : Event) (seat : ℕ) (t : Scene) (printed : List ℕ) → ((t : Scene) (said : List Said) → HearsItsOwn s seat said → IsOwn k s e t (Replies seat said))
+    → SceneOk k told s → ConnectionHears k false s seat t printed → Did k told s e t printed
+connection_hear_did k told s e seat t printed own ok p =
     let r = moves k.config s.world p.moved (world.Hear seat) p.step in
     rw p.after (caller_did k told s e p.moved seat p.left s.next printed ok r own (λ j. omega arith) p.caller.serial (ap (serial_of (s.next seat)) (sym p.there))
     (proceeds_spoke k false seat (p.moved.heard seat) (s.next seat) (told seat) p.caller p.left printed (at_seat k told s p.moved seat p.caller ok r p.there) p.goes))
@@ -165,24 +167,24 @@ vanish_did k told s e seat t printed ok p =
 -- ---- what no connection says
 
 -- what is left of the callers where none of them did anything, and of the visitors
-nobody_spoke : (k : Setup) (told : ℕ → List Noted) (s : Scene) (v : World) (visitor : ℕ → Option HouseSession) → SceneOk k told s → Reached k.config s.world v → ((place : ℕ) → SessionOk (visitor place))
-    → SceneOk k (λ p. told p ++ []) (record { world = v; caller = s.caller; next = s.next; visitor = visitor })
-nobody_spoke k told s v visitor ok r visitors = record { callers = λ j. seat_stays k told s v j (s.next j) ok r (omega arith); visitors = visitors }
+nobody_spoke : (k : Setup) (told : ℕ → List Noted) (s : Scene) (v : World) (visitor : ℕ → Option SeatedSession) (entered : ℕ → ℕ) → SceneOk k told s → Reached k.config s.world v → ((place : ℕ) → SessionOk (visitor place))
+    → SceneOk k (λ p. told p ++ []) (record { world = v; caller = s.caller; next = s.next; visitor = visitor; entered = entered })
+nobody_spoke k told s v visitor entered ok r visitors = record { callers = λ j. seat_stays k told s v j (s.next j) ok r (omega arith); visitors = visitors }
 
 moves_did : (k : Setup) (told : ℕ → List Noted) (s : Scene) (e : Event) (event : world.Event) (t : Scene) (printed : List ℕ) → SceneOk k told s
     → Moves k s event t printed → Did k told s e t printed
 moves_did k told s e event t printed ok m =
     let r = moves k.config s.world m.moved event m.step in
-    rw m.after (record { piece = Silence; is = m.silent; own = tt; ok = nobody_spoke k told s m.moved s.visitor ok r ok.visitors; reached = r })
+    rw m.after (record { piece = Silence; is = m.silent; own = tt; ok = nobody_spoke k told s m.moved s.visitor s.entered ok r ok.visitors; reached = r })
 
 -- ---- sessions
 
 -- a session's calls, one after the other, come to events of the world
-speaks_reached : (k : Config) (place n : ℕ) (w mid : World) (before after : HouseSession) (printed : List ℕ) → Speaks (Meets k place) n before w mid after printed → Reached k w mid
-speaks_reached k place n w mid before after printed s =
+speaks_reached : (k : Config) (place : ℕ) (whole : Bool) (seat n : ℕ) (heard : List Noted) (w mid : World) (before after : SeatedSession) (printed : List ℕ) → Speaks (Meets k place) whole seat n heard before w mid after printed → Reached k w mid
+speaks_reached k place whole seat n heard w mid before after printed s =
     (speaks_carried {S = World} {T = Unit {0}} (Meets k place) (λ a call answer b. Unit {0}) (λ v x. Reached k w v)
     (λ old new call answer x step r. (tt, tt, reached_then k w old new r (meets_reached k place old call answer new step)))
-    n before w mid after printed tt s (stays k w w refl)).2
+    whole seat n heard before w mid after printed tt s (stays k w w refl)).2
 
 -- so do the calls of a turn
 met_reached : (k : Config) (place : ℕ) (w : World) (events : List calls.Event) (v : World) → Met (Meets k place) w events v → Reached k w v
@@ -192,7 +194,7 @@ met_reached k place w (e ∷ es) v (mid, one, more) = reached_then k w mid v (me
 leaves_reached : (k : Setup) (place : ℕ) (w v : World) → LeavesMailbox k place w v → Reached k.config w v
 leaves_reached k place w v l = meets_reached k.config place w (calls.Leave false) l.0 v l.1
 
-parts_reached : (k : Setup) (whole : Bool) (place : ℕ) (after : HouseSession) (w v : World) (o : Option HouseSession) → Parts k whole place after w v o → Reached k.config w v
+parts_reached : (k : Setup) (whole : Bool) (place : ℕ) (after : SeatedSession) (w v : World) (o : Option SeatedSession) → Parts k whole place after w v o → Reached k.config w v
 parts_reached k whole place after w v o (parts ended said l e) = leaves_reached k place w v l
 parts_reached k whole place after w v o (remains not e f) = stays k.config w v e
 
@@ -201,29 +203,33 @@ data Wrote (k : Setup) (n : ℕ) (bytes printed : List ℕ) : Type 0 where
   nothing : printed ≡ [] → Wrote k n bytes printed
   wrote : (lines : List (List ℕ)) → IsCut bytes lines [] → printed ≡ text_of k (Lines n lines) → Wrote k n bytes printed
 
-wrote_of : (k : Setup) (n : ℕ) (before after : HouseSession) (said printed : List ℕ) → IsWhole (before.unsaid ++ said) → Prints of_session n (before.unsaid ++ said) after.unsaid printed → Wrote k n (before.unsaid ++ said) printed
-wrote_of k n before after said printed w (prints_none l p) = nothing p
-wrote_of k n before after said printed w (prints_all l p) =
-    let cut = cut_of (before.unsaid ++ said) w in
+wrote_of : (k : Setup) (n : ℕ) (bytes still printed : List ℕ) → IsWhole bytes → Prints of_session n bytes still printed → Wrote k n bytes printed
+wrote_of k n bytes still printed w (prints_none l p) = nothing p
+wrote_of k n bytes still printed w (prints_all l p) =
+    let cut = cut_of bytes w in
     wrote cut.0 cut.1 (p ∙ ap (λ (x : List ℕ). marked_session n x) (cut.1.whole ∙ append-nil (joined cut.0)))
 
 -- what it has still to print
-unsaid_whole : (n : ℕ) (before after : HouseSession) (said printed : List ℕ) → IsWhole (before.unsaid ++ said) → Prints of_session n (before.unsaid ++ said) after.unsaid printed → IsWhole after.unsaid
-unsaid_whole n before after said printed w (prints_all l p) = inl l
-unsaid_whole n before after said printed w (prints_none l p) = subst IsWhole (sym l) w
+unsaid_whole : (n : ℕ) (bytes still printed : List ℕ) → IsWhole bytes → Prints of_session n bytes still printed → IsWhole still
+unsaid_whole n bytes still printed w (prints_all l p) = inl l
+unsaid_whole n bytes still printed w (prints_none l p) = subst IsWhole (sym l) w
 
-left_whole : (k : Setup) (place : ℕ) (after : HouseSession) (w v : World) (o : Option HouseSession) → IsWhole after.unsaid → Parts k false place after w v o → SessionOk o
+left_whole : (k : Setup) (place : ℕ) (after : SeatedSession) (w v : World) (o : Option SeatedSession) → IsWhole after.session.unsaid → Parts k false place after w v o → SessionOk o
 left_whole k place after w v o whole (parts ended said l e) = rw e tt
 left_whole k place after w v o whole (remains not e f) = rw f whole
 
--- who visits at a place, and its session's bytes
-at_place : (k : Setup) (told : ℕ → List Noted) (s : Scene) (place : ℕ) (b : HouseSession) → SceneOk k told s → s.visitor place ≡ Some b → IsWhole b.unsaid
+lingers_whole : (seat : ℕ) (heard : List Noted) (v : SeatedSession) (o : Option SeatedSession) → IsWhole v.session.unsaid → Lingers seat heard v o → SessionOk o
+lingers_whole seat heard v o whole (waits a e) = rw e whole
+lingers_whole seat heard v o whole (fades a e) = rw e tt
+
+-- who is at a place, and its session's bytes
+at_place : (k : Setup) (told : ℕ → List Noted) (s : Scene) (place : ℕ) (b : SeatedSession) → SceneOk k told s → s.visitor place ≡ Some b → IsWhole b.session.unsaid
 at_place k told s place b ok there = subst SessionOk there (ok.visitors place)
 
 -- a session went on, and may have left
-visited : (k : Setup) (told : ℕ → List Noted) (s : Scene) (v : World) (place : ℕ) (o : Option HouseSession) → SceneOk k told s → Reached k.config s.world v → SessionOk o
-    → SceneOk k (λ p. told p ++ []) (record { world = v; caller = s.caller; next = s.next; visitor = set_at s.visitor place o })
-visited k told s v place o ok r here = nobody_spoke k told s v (set_at s.visitor place o) ok r (at_each (λ j x. SessionOk x) s.visitor place o ok.visitors here)
+visited : (k : Setup) (told : ℕ → List Noted) (s : Scene) (v : World) (place : ℕ) (o : Option SeatedSession) (entered : ℕ → ℕ) → SceneOk k told s → Reached k.config s.world v → SessionOk o
+    → SceneOk k (λ p. told p ++ []) (record { world = v; caller = s.caller; next = s.next; visitor = set_at s.visitor place o; entered = entered })
+visited k told s v place o entered ok r here = nobody_spoke k told s v (set_at s.visitor place o) entered ok r (at_each (λ j x. SessionOk x) s.visitor place o ok.visitors here)
 
 -- what a session's bytes and its place came to
 record Visited (k : Setup) (told : ℕ → List Noted) (s t : Scene) (n : ℕ) (bytes printed : List ℕ) : Type 0 where
@@ -231,22 +237,26 @@ record Visited (k : Setup) (told : ℕ → List Noted) (s t : Scene) (n : ℕ) (
   pub ok : SceneOk k (λ p. told p ++ []) t
   pub reached : Reached k.config s.world t.world
 
-goes_visited : (k : Setup) (told : ℕ → List Noted) (s : Scene) (place : ℕ) (b : HouseSession) (v : World) (o : Option HouseSession) (printed : List ℕ) → SceneOk k told s → IsWhole b.unsaid
-    → (g : SessionGoes k false place s.world b v o printed)
-    → Visited k told s (record { world = v; caller = s.caller; next = s.next; visitor = set_at s.visitor place o }) (place + 1) (b.unsaid ++ g.speaks.said) printed
-goes_visited k told s place b v o printed ok whole g =
-    let w = whole_append b.unsaid g.speaks.said whole (converses_whole (Meets k.config place) g.speaks.answers.converses) in
-    let r = reached_then k.config s.world g.mid v (speaks_reached k.config place (place + 1) s.world g.mid b g.after printed g.speaks) (parts_reached k false place g.after g.mid v o g.left) in
+-- from a world that the scene's has come to
+goes_visited : (k : Setup) (told : ℕ → List Noted) (s : Scene) (w : World) (place : ℕ) (heard : List Noted) (b : SeatedSession) (v : World) (o : Option SeatedSession) (printed : List ℕ) (entered : ℕ → ℕ) → SceneOk k told s → Reached k.config s.world w
+    → IsWhole b.session.unsaid → (g : SessionTalks k false place heard w b v o printed)
+    → Visited k told s (record { world = v; caller = s.caller; next = s.next; visitor = set_at s.visitor place o; entered = entered }) (place + 1) (b.session.unsaid ++ g.speaks.said) printed
+goes_visited k told s w place heard b v o printed entered ok came whole g =
+    let bytes = b.session.unsaid ++ g.speaks.said in
+    let all = whole_append b.session.unsaid g.speaks.said whole (goes_whole (Meets k.config place) false (session_seat k place) heard b w g.mid g.speaks.spoken g.speaks.said g.speaks.goes) in
+    let r = reached_then k.config s.world w v came (reached_then k.config w g.mid v (speaks_reached k.config place false (session_seat k place) (place + 1) heard w g.mid b g.after printed g.speaks) (parts_reached k false place g.after g.mid v o g.left)) in
+    let still : IsWhole g.after.session.unsaid = subst (λ (x : SeatedSession). IsWhole x.session.unsaid) (sym g.speaks.is) (unsaid_whole (place + 1) bytes g.speaks.still printed all g.speaks.prints) in
     record {
-      words = wrote_of k (place + 1) b g.after g.speaks.said printed w g.speaks.prints;
-      ok = visited k told s v place o ok r (left_whole k place g.after g.mid v o (unsaid_whole (place + 1) b g.after g.speaks.said printed w g.speaks.prints) g.left);
+      words = wrote_of k (place + 1) bytes g.speaks.still printed all g.speaks.prints;
+      ok = visited k told s v place o entered ok r (left_whole k place g.after g.mid v o still g.left);
       reached = r;
     }
 
 enter_did : (k : Setup) (told : ℕ → List Noted) (s : Scene) (session : ℕ) (user : Bor (List ℕ)) (t : Scene) (printed : List ℕ) → SceneOk k told s
     → EnterPlay k false s (place_of session) user.now t printed → Did k told s (Enter session user) t printed
 enter_did k told s session user t printed ok p = go (subst (λ (x : Scene). Visited k told s x (place_of session + 1) (greeting ++ p.goes.speaks.said) printed) (sym p.after)
-    (goes_visited k told s (place_of session) (greeted_visitor None (folders_of k.directory user.now)) p.moved p.left printed ok greeting_whole p.goes))
+    (goes_visited k told s s.world (place_of session) (s.world.heard (session_seat k (place_of session))) (seated_greeted (s.entered (place_of session)) (Some k.max_message) (folders_of k.directory user.now)) p.moved p.left printed
+    (set_at s.entered (place_of session) (s.entered (place_of session) + 1)) ok (stays k.config s.world s.world refl) greeting_whole p.goes))
   where
     by : (v : Visited k told s t (place_of session + 1) (greeting ++ p.goes.speaks.said) printed) → Wrote k (place_of session + 1) (greeting ++ p.goes.speaks.said) printed → Did k told s (Enter session user) t printed
     by v (nothing e) = record { piece = Silence; is = e; own = tt; ok = v.ok; reached = v.reached }
@@ -263,54 +273,52 @@ enter_did k told s session user t printed ok p = go (subst (λ (x : Scene). Visi
 
 say_did : (k : Setup) (told : ℕ → List Noted) (s : Scene) (session : ℕ) (piece : Bor (List ℕ)) (t : Scene) (printed : List ℕ) → SceneOk k told s
     → SayPlay k false s (place_of session) piece.now t printed → Did k told s (Say session piece) t printed
-say_did k told s session piece t printed ok p = go (subst (λ (x : Scene). Visited k told s x (place_of session + 1) (p.visitor.unsaid ++ p.goes.speaks.said) printed) (sym p.after)
-    (goes_visited k told s (place_of session) (visitor_more_waits p.visitor piece.now) p.moved p.left printed ok (at_place k told s (place_of session) p.visitor ok p.there) p.goes))
+say_did k told s session piece t printed ok p = go (subst (λ (x : Scene). Visited k told s x (place_of session + 1) (p.visitor.session.unsaid ++ p.goes.speaks.said) printed) (sym p.after)
+    (goes_visited k told s s.world (place_of session) (s.world.heard (session_seat k (place_of session))) (with_session (visitor_more_waits p.visitor.session piece.now) p.visitor) p.moved p.left printed s.entered ok (stays k.config s.world s.world refl)
+    (at_place k told s (place_of session) p.visitor ok p.there) p.goes))
   where
-    by : (v : Visited k told s t (place_of session + 1) (p.visitor.unsaid ++ p.goes.speaks.said) printed) → Wrote k (place_of session + 1) (p.visitor.unsaid ++ p.goes.speaks.said) printed → Did k told s (Say session piece) t printed
+    by : (v : Visited k told s t (place_of session + 1) (p.visitor.session.unsaid ++ p.goes.speaks.said) printed) → Wrote k (place_of session + 1) (p.visitor.session.unsaid ++ p.goes.speaks.said) printed → Did k told s (Say session piece) t printed
     by v (nothing e) = record { piece = Silence; is = e; own = tt; ok = v.ok; reached = v.reached }
     by v (wrote lines cut e) = record {
       piece = Lines (place_of session + 1) lines;
       is = e;
-      own = (let x = subst (λ (x : List ℕ). (p : SayPlay k false s (place_of session) piece.now t x) × IsCut (p.visitor.unsaid ++ p.goes.speaks.said) lines []) e (p, cut) in (refl, x.0, x.1));
+      own = (let x = subst (λ (x : List ℕ). (p : SayPlay k false s (place_of session) piece.now t x) × IsCut (p.visitor.session.unsaid ++ p.goes.speaks.said) lines []) e (p, cut) in (refl, x.0, x.1));
       ok = v.ok;
       reached = v.reached;
     }
 
-    go : Visited k told s t (place_of session + 1) (p.visitor.unsaid ++ p.goes.speaks.said) printed → Did k told s (Say session piece) t printed
+    go : Visited k told s t (place_of session + 1) (p.visitor.session.unsaid ++ p.goes.speaks.said) printed → Did k told s (Say session piece) t printed
     go v = by v v.words
 
 idle_did : (k : Setup) (told : ℕ → List Noted) (s : Scene) (session : ℕ) (t : Scene) (printed : List ℕ) → SceneOk k told s
     → IdlePlay k false s (place_of session) t printed → Did k told s (Idle session) t printed
 idle_did k told s session t printed ok p = by words
   where
-    place : ℕ
-    place = place_of session
+    whole : IsWhole (p.visitor.session.unsaid ++ p.goes.idles.said)
+    whole = whole_append p.visitor.session.unsaid p.goes.idles.said (at_place k told s (place_of session) p.visitor ok p.there)
+        (idles_whole (Meets k.config (place_of session)) p.visitor.session.standing s.world p.goes.mid p.goes.idles.said p.goes.shown p.goes.after.standing p.goes.idles.turned)
 
-    whole : IsWhole (p.visitor.unsaid ++ p.goes.idles.said)
-    whole = whole_append p.visitor.unsaid p.goes.idles.said (at_place k told s (place_of session) p.visitor ok p.there)
-        (idles_whole (Meets k.config (place_of session)) p.visitor.standing s.world p.goes.mid p.goes.idles.said p.goes.shown p.goes.after.standing p.goes.idles.turned)
-
-    words : Wrote k (place_of session + 1) (p.visitor.unsaid ++ p.goes.idles.said) printed
-    words = wrote_of k (place_of session + 1) p.visitor p.goes.after p.goes.idles.said printed whole p.goes.idles.prints
+    words : Wrote k (place_of session + 1) (p.visitor.session.unsaid ++ p.goes.idles.said) printed
+    words = wrote_of k (place_of session + 1) (p.visitor.session.unsaid ++ p.goes.idles.said) p.goes.after.unsaid printed whole p.goes.idles.prints
 
     reached : Reached k.config s.world p.moved
     reached = reached_then k.config s.world p.goes.mid p.moved (met_reached k.config (place_of session) s.world p.goes.idles.turned.events p.goes.mid p.goes.idles.turned.met)
-        (parts_reached k false (place_of session) p.goes.after p.goes.mid p.moved p.left p.goes.left)
+        (parts_reached k false (place_of session) (with_session p.goes.after p.visitor) p.goes.mid p.moved p.left p.goes.left)
 
     there : SceneOk k (λ q. told q ++ []) t
-    there = rw p.after (visited k told s p.moved (place_of session) p.left ok reached
-        (left_whole k (place_of session) p.goes.after p.goes.mid p.moved p.left
-        (unsaid_whole (place_of session + 1) p.visitor p.goes.after p.goes.idles.said printed whole p.goes.idles.prints) p.goes.left))
+    there = rw p.after (visited k told s p.moved (place_of session) p.left s.entered ok reached
+        (left_whole k (place_of session) (with_session p.goes.after p.visitor) p.goes.mid p.moved p.left
+        (unsaid_whole (place_of session + 1) (p.visitor.session.unsaid ++ p.goes.idles.said) p.goes.after.unsaid printed whole p.goes.idles.prints) p.goes.left))
 
     reached_there : Reached k.config s.world t.world
     reached_there = rw p.after reached
 
-    by : Wrote k (place_of session + 1) (p.visitor.unsaid ++ p.goes.idles.said) printed → Did k told s (Idle session) t printed
+    by : Wrote k (place_of session + 1) (p.visitor.session.unsaid ++ p.goes.idles.said) printed → Did k told s (Idle session) t printed
     by (nothing e) = record { piece = Silence; is = e; own = tt; ok = there; reached = reached_there }
     by (wrote lines cut e) = record {
       piece = Lines (place_of session + 1) lines;
       is = e;
-      own = (let x = subst (λ (x : List ℕ). (p : IdlePlay k false s (place_of session) t x) × IsCut (p.visitor.unsaid ++ p.goes.idles.said) lines []) e (p, cut) in (refl, x.0, x.1));
+      own = (let x = subst (λ (x : List ℕ). (p : IdlePlay k false s (place_of session) t x) × IsCut (p.visitor.session.unsaid ++ p.goes.idles.said) lines []) e (p, cut) in (refl, x.0, x.1));
       ok = there;
       reached = reached_there;
     }
@@ -319,18 +327,89 @@ leave_did : (k : Setup) (told : ℕ → List Noted) (s : Scene) (e : Event) (pla
     → LeavePlay k s place t printed → Did k told s e t printed
 leave_did k told s e place t printed ok p =
     let r = leaves_reached k place s.world p.moved p.leaves in
-    rw p.after (record { piece = Silence; is = p.silent; own = tt; ok = visited k told s p.moved place None ok r tt; reached = r })
+    rw p.after (record { piece = Silence; is = p.silent; own = tt; ok = visited k told s p.moved place p.left s.entered ok r (lingers_whole (session_seat k place) (s.world.heard (session_seat k place)) _ p.left (inl refl) p.stays); reached = r })
+
+-- ---- sessions that put and hear
+
+-- one whose client is gone says nothing
+gone_did : (k : Setup) (told : ℕ → List Noted) (s : Scene) (e : Event) (w : World) (place : ℕ) (b : SeatedSession) (o : Option SeatedSession) (t : Scene) (printed : List ℕ) → SceneOk k told s → Reached k.config s.world w → IsWhole b.session.unsaid
+    → (heard : List Noted) → Lingers (session_seat k place) heard b o → printed ≡ [] → t ≡ record { world = w; caller = s.caller; next = s.next; visitor = set_at s.visitor place o; entered = s.entered } → Did k told s e t printed
+gone_did k told s e w place b o t printed ok came whole heard l silent after =
+    rw after (record { piece = Silence; is = silent; own = tt; ok = visited k told s w place o s.entered ok came (lingers_whole (session_seat k place) heard b o whole l); reached = came })
+
+-- one that talks prints whole lines, which are of this kind, or nothing
+talked_did : (k : Setup) (told : ℕ → List Noted) (s : Scene) (e : Event) (n : ℕ) (bytes : List ℕ) (t : Scene) (printed : List ℕ) → Visited k told s t n bytes printed
+    → ((lines : List (List ℕ)) → IsCut bytes lines [] → printed ≡ text_of k (Lines n lines) → IsOwn k s e t (Lines n lines)) → Did k told s e t printed
+talked_did k told s e n bytes t printed v own = by v.words
+  where
+    by : Wrote k n bytes printed → Did k told s e t printed
+    by (nothing silent) = record { piece = Silence; is = silent; own = tt; ok = v.ok; reached = v.reached }
+    by (wrote lines cut is) = record { piece = Lines n lines; is = is; own = own lines cut is; ok = v.ok; reached = v.reached }
+
+session_put_did : (k : Setup) (told : ℕ → List Noted) (s : Scene) (number place : ℕ) (t : Scene) (printed : List ℕ) → seat_of number ≡ session_seat k place → SceneOk k told s → SessionPuts k false s place t printed → Did k told s (Put number) t printed
+session_put_did k told s number place t printed at ok p = by p.goes
+  where
+    rest : SeatedSession
+    rest = record { session = p.visitor.session; serial = p.visitor.serial; gone = p.visitor.gone; to_put = p.others }
+
+    came : Reached k.config s.world p.moved
+    came = moves k.config s.world p.moved (world.Put (session_seat k place) (world.shard_of k.config p.copy.mailbox) p.copy) p.step
+
+    by : SessionGoes k false place (p.moved.heard (session_seat k place)) p.moved (record { session = p.visitor.session; serial = p.visitor.serial; gone = p.visitor.gone; to_put = p.others }) p.later p.left printed → Did k told s (Put number) t printed
+    by (scene.talks l g) = talked_did k told s (Put number) (place + 1) (p.visitor.session.unsaid ++ g.speaks.said) t printed
+        (subst (λ (x : Scene). Visited k told s x (place + 1) (p.visitor.session.unsaid ++ g.speaks.said) printed) (sym p.after)
+        (goes_visited k told s p.moved place (p.moved.heard (session_seat k place)) rest p.later p.left printed s.entered ok came (at_place k told s place p.visitor ok p.there) g))
+        (λ lines cut is. own lines is (p, g, cut))
+      where
+        own : (lines : List (List ℕ)) → printed ≡ text_of k (Lines (place + 1) lines)
+            → (q : SessionPuts k false s place t printed) × (g : SessionTalks k false place (q.moved.heard (session_seat k place)) q.moved (record { session = q.visitor.session; serial = q.visitor.serial; gone = q.visitor.gone; to_put = q.others }) q.later q.left printed)
+            × IsCut (q.visitor.session.unsaid ++ g.speaks.said) lines [] → PutsLines k s number (place + 1) lines t
+        own lines is q =
+            let x = subst (λ (x : List ℕ). (q : SessionPuts k false s place t x) × (g : SessionTalks k false place (q.moved.heard (session_seat k place)) q.moved (record { session = q.visitor.session; serial = q.visitor.serial; gone = q.visitor.gone; to_put = q.others }) q.later q.left x)
+            × IsCut (q.visitor.session.unsaid ++ g.speaks.said) lines []) is q in
+            record { place = place; own = refl; seat = at; puts = x.0; talks = x.1; cut = x.2 }
+    by (scene.lingers l g same silent) = gone_did k told s (Put number) p.later place rest p.left t printed ok (subst (λ (x : World). Reached k.config s.world x) (sym same) came) (at_place k told s place p.visitor ok p.there) (p.moved.heard (session_seat k place)) g silent p.after
+
+session_hear_did : (k : Setup) (told : ℕ → List Noted) (s : Scene) (number place : ℕ) (t : Scene) (printed : List ℕ) → seat_of number ≡ session_seat k place → SceneOk k told s → SessionHears k false s place t printed → Did k told s (Hear number) t printed
+session_hear_did k told s number place t printed at ok p = by p.goes
+  where
+    came : Reached k.config s.world p.moved
+    came = moves k.config s.world p.moved (world.Hear (session_seat k place)) p.step
+
+    by : SessionGoes k false place (p.moved.heard (session_seat k place)) p.moved p.visitor p.later p.left printed → Did k told s (Hear number) t printed
+    by (scene.talks l g) = talked_did k told s (Hear number) (place + 1) (p.visitor.session.unsaid ++ g.speaks.said) t printed
+        (subst (λ (x : Scene). Visited k told s x (place + 1) (p.visitor.session.unsaid ++ g.speaks.said) printed) (sym p.after)
+        (goes_visited k told s p.moved place (p.moved.heard (session_seat k place)) p.visitor p.later p.left printed s.entered ok came (at_place k told s place p.visitor ok p.there) g))
+        (λ lines cut is. own lines is (p, g, cut))
+      where
+        own : (lines : List (List ℕ)) → printed ≡ text_of k (Lines (place + 1) lines)
+            → (q : SessionHears k false s place t printed) × (g : SessionTalks k false place (q.moved.heard (session_seat k place)) q.moved q.visitor q.later q.left printed) × IsCut (q.visitor.session.unsaid ++ g.speaks.said) lines []
+            → HearsLines k s number (place + 1) lines t
+        own lines is q =
+            let x = subst (λ (x : List ℕ). (q : SessionHears k false s place t x) × (g : SessionTalks k false place (q.moved.heard (session_seat k place)) q.moved q.visitor q.later q.left x) × IsCut (q.visitor.session.unsaid ++ g.speaks.said) lines []) is q in
+            record { place = place; own = refl; seat = at; hears = x.0; talks = x.1; cut = x.2 }
+    by (scene.lingers l g same silent) = gone_did k told s (Hear number) p.later place p.visitor p.left t printed ok (subst (λ (x : World). Reached k.config s.world x) (sym same) came) (at_place k told s place p.visitor ok p.there) (p.moved.heard (session_seat k place)) g silent p.after
+
+-- ---- of both kinds
+
+put_did : (k : Setup) (told : ℕ → List Noted) (s : Scene) (number : ℕ) (t : Scene) (printed : List ℕ) → SceneOk k told s → PutPlay k false s (seat_of number) t printed → Did k told s (Put number) t printed
+put_did k told s number t printed ok (connection_puts l p) = connection_put_did k told s (Put number) (seat_of number) t printed (λ u said x. (refl, l, x)) ok p
+put_did k told s number t printed ok (session_puts place e p) = session_put_did k told s number place t printed e ok p
+
+hear_did : (k : Setup) (told : ℕ → List Noted) (s : Scene) (number : ℕ) (t : Scene) (printed : List ℕ) → SceneOk k told s → HearPlay k false s (seat_of number) t printed → Did k told s (Hear number) t printed
+hear_did k told s number t printed ok (connection_hears l p) = connection_hear_did k told s (Hear number) (seat_of number) t printed (λ u said x. (refl, l, x)) ok p
+hear_did k told s number t printed ok (session_hears place e p) = session_hear_did k told s number place t printed e ok p
 
 -- ---- all events
 
 pub plays_did : (k : Setup) (told : ℕ → List Noted) (s : Scene) (e : Event) (t : Scene) (printed : List ℕ) → SceneOk k told s → Plays k false s e t printed → Did k told s e t printed
 plays_did k told s (Bytes connection piece) t printed ok p = bytes_did k told s (Bytes connection piece) (seat_of connection) piece.now t printed (λ u said x. (refl, x)) ok p
 plays_did k told s (Vanish connection) t printed ok p = vanish_did k told s (Vanish connection) (seat_of connection) t printed ok p
-plays_did k told s (Put connection) t printed ok p = put_did k told s (Put connection) (seat_of connection) t printed (λ u said x. (refl, x)) ok p
+plays_did k told s (Put number) t printed ok p = put_did k told s number t printed ok p
 plays_did k told s (Take shard) t printed ok p = moves_did k told s (Take shard) (world.Take shard) t printed ok p
 plays_did k told s (Deliver shard) t printed ok p = moves_did k told s (Deliver shard) (world.Deliver shard) t printed ok p
 plays_did k told s (Answer shard) t printed ok p = moves_did k told s (Answer shard) (world.Answer shard) t printed ok p
-plays_did k told s (Hear connection) t printed ok p = hear_did k told s (Hear connection) (seat_of connection) t printed (λ u said x. (refl, x)) ok p
+plays_did k told s (Hear number) t printed ok p = hear_did k told s number t printed ok p
 plays_did k told s (End connection shard) t printed ok p = moves_did k told s (End connection shard) (world.PutEnd (seat_of connection) shard) t printed ok p.1
 plays_did k told s (Enter session user) t printed ok p = enter_did k told s session user t printed ok p
 plays_did k told s (Say session piece) t printed ok p = say_did k told s session piece t printed ok p

@@ -33,7 +33,12 @@ use Rattle.imap_session.specs.Exchange as ex
 use Rattle.imap_session.specs.Exchange.{Answer, Appending, ForVerdict, Mailing, Call, Entered, Looked, Found, Counted, Altered, Expunged, Fed, Left, Refused, Starved, Exchange, Folder, Standing, Turn, played, refused, refusal_text, refusal_after, saying, having, closed, tagged, bye, is_idling}
 use Rattle.imap_session.specs.Commands.{all_flags, appending, is_over, last_number, most_unasked, nowhere, number_named, on_rest, on_text, over, wanting, closing, completed, counting, entering, expunge_set, fetch_messages, fetched, fetching, flags_answer, folder_of, greeting, idle_turn, idle_turn_in, if_writable, messages_done, on_chosen, on_command, on_folder, on_found, on_idle_line, opened, opening_text, says, showing, store_messages, stored, storing, turn_of, turn_of_long_line, unlimited, wrong_state}
 use Rattle.imap_session.specs.Commands as commands_of
-use Rattle.imap_session.specs.Store.{IdleTurns}
+use Rattle.imap_session.specs.Store.{AnswersVerdict, IdleTurns}
+use Rattle.delivery_token.specs.declared.Verdict.{Verdict}
+use Rattle.delivery_token.specs.declared.Verdict.TheVariants as verdicts
+use Rattle.delivery_token.specs.declared.log.Noted.{Noted}
+use Rattle.house_session.specs.Seated as seated
+use Rattle.house_session.specs.Seated.{GoesOn, SeatedSession}
 use Rattle.imap_connection.specs.Dialogue as dialogue
 use Rattle.imap_connection.specs.Dialogue.{AnswersLine, AnswersOne, Converses, Sends, goes_on, parts, reads, silent, too_long}
 
@@ -437,6 +442,29 @@ pub converses_whole : {S : Type 0} (step : S → Call → Answer → S → Type 
 converses_whole step (silent now old) = inl refl
 converses_whole step (parts now next one old new said how stops a) = one_answered step now one old new said how next a
 converses_whole step (goes_on now between next one others old mid new first second how follows a more) = whole_append first second (one_answered step now one old mid first _ between a) (converses_whole step more)
+
+-- ---- verdicts
+
+in_verdict : (selected : Option Selected) (mailbox : ℕ) (verdict : Verdict) → SaysWhole (commands_of.on_verdict selected mailbox verdict)
+in_verdict selected mailbox (verdicts.Stored uid) = λ status. in_showing selected _ tt
+in_verdict selected mailbox (verdicts.Refused why) = tt
+
+verdict_whole : (sent : Option ex.Sent) (now : Standing) (verdict : Verdict) (answers : List Answer) → TurnWhole (commands_of.turn_with sent now verdict answers)
+verdict_whole None now verdict answers = tt
+verdict_whole (Some sent) now verdict answers = played_whole sent.tag (commands_of.without_sent now) (commands_of.on_verdict now.selected sent.append.mailbox verdict) answers (in_verdict now.selected sent.append.mailbox verdict)
+
+verdict_answered : {S : Type 0} (step : S → Call → Answer → S → Type 0) (now : Standing) (verdict : Verdict) (old new : S) (said : List ℕ) (how : After) (next : Standing) → AnswersVerdict step now verdict old new [] said how next → IsWhole said
+verdict_answered step now verdict old new said how next a = subst IsWhole (sym a.wrote) (some_whole _ _ (verdict_whole now.mailing.sent now verdict a.answers) a.played)
+
+-- ---- what a session at its seat says
+
+pub goes_whole : {S : Type 0} (step : S → Call → Answer → S → Type 0) (whole : Bool) (seat : ℕ) (heard : List Noted) (v : SeatedSession) (old new : S) (after : SeatedSession) (said : List ℕ) → GoesOn step whole seat heard v old new after said → IsWhole said
+goes_whole step whole seat heard v old new after said (seated.works n w) = converses_whole step w.answers.converses
+goes_whole step whole seat heard v old new after said (seated.answers verdict mid first second how next known a w e) =
+    subst IsWhole (sym e) (whole_append first second (verdict_answered step v.session.standing verdict old mid first how next a) (converses_whole step w.answers.converses))
+goes_whole step whole seat heard v old new after said (seated.waits a n e f) = inl f
+goes_whole step whole seat heard v old new after said (seated.rests a n e f) = inl f
+goes_whole step whole seat heard v old new after said (seated.stalls a n e f) = inl f
 
 -- ---- turns while it idles
 

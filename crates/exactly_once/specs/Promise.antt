@@ -1,5 +1,5 @@
 -- What a house promises whatever happened in it: of all that was printed so far, and of the mailboxes.
-use Rattle.std.specs.Prelude.{◌≡◌, ◌≢◌, ℕ, ◌+◌, ◌==◌, if◌then◌else◌, ◌⊎◌, false, true, List, [], ◌∷◌, ◌++◌, flat_map, filter_map, map, All, AllPairs, Contains, Option, Some, None}
+use Rattle.std.specs.Prelude.{◌≡◌, ◌≢◌, ℕ, ◌+◌, ◌<◌, ◌==◌, if◌then◌else◌, ◌⊎◌, false, true, List, [], ◌∷◌, ◌++◌, flat_map, filter_map, map, All, AllPairs, Contains, Option, Some, None}
 use Rattle.delivery_token.specs.Keys.{Below}
 use Rattle.delivery_token.specs.declared.Verdict.TheVariants.{Stored}
 use Rattle.delivery_token.specs.declared.log.Noted.{Noted}
@@ -12,9 +12,9 @@ use Rattle.imap_session.specs.Commands.{greeting}
 use Rattle.world.specs.World.{World, Event, IsWorld}
 use Rattle.world.specs.Law.{Headline, StandsOnce, pairs}
 use Rattle.house_connection.specs.HouseConnection.{HouseConnection}
-use Rattle.house.specs.Setup.{Setup}
+use Rattle.house.specs.Setup.{Setup, session_seat}
 use Rattle.house.specs.Printing.{marked_connection, marked_session}
-use Rattle.house.specs.Scene.{EnterPlay, HasNothing, IdlePlay, Plays, SayPlay, Scene, empty_scene, place_of, seat_of}
+use Rattle.house.specs.Scene.{EnterPlay, HasNothing, IdlePlay, Plays, SayPlay, Scene, SessionHears, SessionPuts, SessionTalks, empty_scene, place_of, seat_of}
 use Rattle.house.specs.Steps.{IsBusy, IsNobody}
 use Rattle.house.specs.declared.event.Event as house
 use Rattle.house.specs.declared.event.Event.TheVariants.{Bytes, Put, Hear, Enter, Say, Idle}
@@ -56,18 +56,38 @@ serial_of next (Some caller) = caller.serial
 abbrev pub HearsItsOwn : Scene → ℕ → List Said → Type 0
 HearsItsOwn s seat said = All (λ noted. noted.key.serial ≡ serial_of (s.next seat) (s.caller seat)) (filter_map verdict_in said)
 
+-- Session n put the copy of a message that its client appended, or heard a verdict, and these are its whole lines: what was still to be printed of it and what
+-- it said since. So what it says to a verdict is of one that its own seat has heard.
+pub record PutsLines (k : Setup) (s : Scene) (number n : ℕ) (lines : List (List ℕ)) (t : Scene) : Type 0 where
+  pub place : ℕ
+  pub own : n ≡ place + 1
+  pub seat : seat_of number ≡ session_seat k place
+  pub puts : SessionPuts k false s place t (text_of k (Lines n lines))
+  pub talks : SessionTalks k false place (puts.moved.heard (session_seat k place)) puts.moved (record { session = puts.visitor.session; serial = puts.visitor.serial; gone = puts.visitor.gone; to_put = puts.others }) puts.later puts.left (text_of k (Lines n lines))
+  pub cut : IsCut (puts.visitor.session.unsaid ++ talks.speaks.said) lines []
+
+pub record HearsLines (k : Setup) (s : Scene) (number n : ℕ) (lines : List (List ℕ)) (t : Scene) : Type 0 where
+  pub place : ℕ
+  pub own : n ≡ place + 1
+  pub seat : seat_of number ≡ session_seat k place
+  pub hears : SessionHears k false s place t (text_of k (Lines n lines))
+  pub talks : SessionTalks k false place (hears.moved.heard (session_seat k place)) hears.moved hears.visitor hears.later hears.left (text_of k (Lines n lines))
+  pub cut : IsCut (hears.visitor.session.unsaid ++ talks.speaks.said) lines []
+
 -- The piece is the event's own: its connection says it, or its session, and then the whole lines are what was still to be printed of it and what it said since.
 abbrev pub IsOwn : Setup → Scene → house.Event → Scene → Piece → Type 0
 IsOwn k s event t Silence = Unit {0}
 IsOwn k s (Bytes connection bytes) t (Replies seat said) = (seat ≡ seat_of connection) × HearsItsOwn s seat said
-IsOwn k s (Put connection) t (Replies seat said) = (seat ≡ seat_of connection) × HearsItsOwn s seat said
-IsOwn k s (Hear connection) t (Replies seat said) = (seat ≡ seat_of connection) × HearsItsOwn s seat said
+IsOwn k s (Put number) t (Replies seat said) = (seat ≡ seat_of number) × (seat < k.connections) × HearsItsOwn s seat said
+IsOwn k s (Hear number) t (Replies seat said) = (seat ≡ seat_of number) × (seat < k.connections) × HearsItsOwn s seat said
+IsOwn k s (Put number) t (Lines session lines) = PutsLines k s number session lines t
+IsOwn k s (Hear number) t (Lines session lines) = HearsLines k s number session lines t
 IsOwn k s (Enter session user) t (Lines number lines) =
     (number ≡ place_of session + 1) × (p : EnterPlay k false s (place_of session) user.now t (text_of k (Lines number lines))) × IsCut (greeting ++ p.goes.speaks.said) lines []
 IsOwn k s (Say session bytes) t (Lines number lines) =
-    (number ≡ place_of session + 1) × (p : SayPlay k false s (place_of session) bytes.now t (text_of k (Lines number lines))) × IsCut (p.visitor.unsaid ++ p.goes.speaks.said) lines []
+    (number ≡ place_of session + 1) × (p : SayPlay k false s (place_of session) bytes.now t (text_of k (Lines number lines))) × IsCut (p.visitor.session.unsaid ++ p.goes.speaks.said) lines []
 IsOwn k s (Idle session) t (Lines number lines) =
-    (number ≡ place_of session + 1) × (p : IdlePlay k false s (place_of session) t (text_of k (Lines number lines))) × IsCut (p.visitor.unsaid ++ p.goes.idles.said) lines []
+    (number ≡ place_of session + 1) × (p : IdlePlay k false s (place_of session) t (text_of k (Lines number lines))) × IsCut (p.visitor.session.unsaid ++ p.goes.idles.said) lines []
 IsOwn k s event t piece = ⊥
 
 -- an entry of the record: what happened, what it led to, and what was printed

@@ -253,7 +253,7 @@ put_idles k h s place g t printed st lt some why p =
         let ln : seat < length h.core.next = let q = st.core.nexts in omega (arith, lk, q) in
         let z = at_place k h s place c.key g st lt some in
         let ahead : AtLeast (get_or h.core.next seat c.key) c.key = may_be_used seat (get_or h.core.next seat c.key) z.visitor.serial z.visitor.session.standing.mailing.number (sent_by z.visitor) g.slots c others
-            (next_copy seat (get_or h.core.next seat c.key) (s.world.heard seat) z.visitor g c others z.stands first) z.stands.ahead in
+        (next_copy seat (get_or h.core.next seat c.key) (s.world.heard seat) z.visitor g c others z.stands first) z.stands.ahead in
         let own : (get_or h.core.next seat c.key).seat ≡ seat = (st.core.next seat c.key ln).own in
         let last : c.key.recipient ≡ 0 = ap (λ (j : Job). j.key.recipient) n.is in
         isnt (record {

@@ -31,9 +31,9 @@ use house_connection::HouseConnection;
 use house_session::SeatedSession;
 use lmtp_machine::{Limits, What};
 use session_store::Desk;
-use submission::NextCopy;
 use std::alloc::{AllocError, Global};
 use std::marker::Model;
+use submission::NextCopy;
 
 /// A house on one thread.
 #[derive(Drop)]

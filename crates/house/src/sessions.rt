@@ -335,11 +335,7 @@ impl House {
     }
 
     // A session puts the copy of the message that it submitted.
-    pub(crate) fn put_of_session(
-        &mut self,
-        number: u8,
-        out: &mut Vec<u8>,
-    ) -> Result<(), HouseFault>
+    pub(crate) fn put_of_session(&mut self, number: u8, out: &mut Vec<u8>) -> Result<(), HouseFault>
         requires number { IsSession self.old number }
         ensures follows { OnOk result (Follows self.old (events.Put number) self.new out.old.items out.new.items) }
         ensures effort { OnOk result (MakesLess (events.Put number) self.old self.new) }

@@ -54,7 +54,7 @@ no_caller k seat next heard serials (Some h) o e s = absurd (let n : Some h ≡ 
 pub seat_cases : (k : Setup) (h : State) (s : Scene) (connection : ℕ) → StandsFor k h s → 0 < connection → IsNoConnection k connection ⊎ (seat_of connection < length h.callers)
 seat_cases k h s connection st some = elim (below (seat_of connection) (length h.callers)) [
   | inl l ↦ inr l
-  | inr l ↦ inl (inr (let e = st.seats in omega arith))
+  | inr l ↦ inl (inr (let e = st.connections in omega arith))
 ]
 
 ended : (k : Setup) (h : State) (s : Scene) (connection : ℕ) → StandsFor k h s → IsSpent h connection → get_or h.serials (seat_of connection) 0 ≡ s.next (seat_of connection) → seat_of connection < length h.callers
@@ -64,7 +64,7 @@ ended k h s connection st (inr x) e l = inr (ended_somewhere k.config h.core s.w
 
 pub nobody_there : (k : Setup) (h : State) (s : Scene) (connection : ℕ) → StandsFor k h s → IsNoSeat h connection ⊎ (IsEmptySeat h connection × IsSpent h connection) → NobodyThere k s connection
 nobody_there k h s connection st (inl (inl e)) = inl (inl e)
-nobody_there k h s connection st (inl (inr l)) = inl (inr (let e = st.seats in omega arith))
+nobody_there k h s connection st (inl (inr l)) = inl (inr (let e = st.connections in omega arith))
 nobody_there k h s zero st (inr n) = inl (inl refl)
 nobody_there k h s (suc c) st (inr n) = elim (seat_cases k h s (suc c) st (omega arith)) [
   | inl l ↦ inl l
@@ -74,7 +74,7 @@ nobody_there k h s (suc c) st (inr n) = elim (seat_cases k h s (suc c) st (omega
 
 pub away : (k : Setup) (h : State) (s : Scene) (connection : ℕ) → StandsFor k h s → IsNoSeat h connection ⊎ IsEmptySeat h connection → IsAway k s connection
 away k h s connection st (inl (inl e)) = inl (inl e)
-away k h s connection st (inl (inr l)) = inl (inr (let e = st.seats in omega arith))
+away k h s connection st (inl (inr l)) = inl (inr (let e = st.connections in omega arith))
 away k h s zero st (inr n) = inl (inl refl)
 away k h s (suc c) st (inr n) = elim (seat_cases k h s (suc c) st (omega arith)) [
   | inl l ↦ inl l

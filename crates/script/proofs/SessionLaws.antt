@@ -1,32 +1,46 @@
 -- From what the house promises of a session's events to what a run promises of the lines of sessions.
-use Rattle.std.proofs.Common.{◌≡◌, ◌∙◌, ℕ, zero, suc, ◌<◌, ◌⊎◌, inl, inr, List, ◌++◌, length, refl, sym, ap, arith, Option, Some, None, false, true}
+use Rattle.std.proofs.Common.{◌≡◌, ◌∙◌, ℕ, zero, suc, ◌+◌, ◌<◌, ◌≤◌, ◌⊎◌, inl, inr, List, ◌++◌, length, refl, sym, ap, subst, arith, get_or, Option, Some, None, false, true}
 use Rattle.std.specs.Prelude.{IsSome, codes}
 use Rattle.std.specs.Borrow.{Bor}
 use Rattle.envelope.specs.Directory.{Directory}
 use Rattle.house_session.specs.Folders.{has_user}
-use Rattle.house_session.specs.HouseSession.{HouseSession}
-use Rattle.house_session.specs.Place.{Place}
-use Rattle.house.specs.Setup.{Setup}
+use Rattle.house_session.specs.Seated.{SeatedSession}
+use Rattle.house_session.specs.Seat.{Seat}
+use Rattle.delivery_token.specs.declared.CopyKey.{CopyKey}
+use Rattle.delivery_token.specs.declared.log.Noted.{Noted}
+use Rattle.delivery_core.specs.Held.{has_ended}
+use Rattle.house.specs.Setup.{Setup, session_seat}
 use Rattle.house.specs.declared.event.Event.TheVariants as events
 use Rattle.house.specs.State.{State}
-use Rattle.house.specs.Scene.{Scene, place_of}
+use Rattle.house.specs.Scene.{HasEnded, Scene, most_serials, place_of}
 use Rattle.house.specs.Stands.{StandsFor, StandsForVisit}
-use Rattle.house.specs.Steps.{IsFreePlace, IsNoPlace, IsTakenPlace, Led}
-use Rattle.script.specs.Script.{Asks, Enters, IsNoSession, IsUnknown, IsUnvisited, IsVisited, Leaves, asks, asks_nobody, enters, enters_nowhere, enters_taken, leaves, leaves_nobody, refusal}
+use Rattle.house.specs.Steps.{IsFreePlace, IsLeft, IsNoPlace, IsSpentPlace, IsTakenPlace, Led, is_left}
+use Rattle.house.proofs.Ended.{ended_somewhere}
+use Rattle.house.proofs.Seats.{seat_within}
+use Rattle.script.specs.Script.{Asks, Enters, IsLingering, IsNoSession, IsSpentSession, IsUnknown, IsUnvisited, IsVisited, Leaves, asks, asks_lingering, asks_nobody, enters, enters_nowhere, enters_taken, leaves, leaves_again, leaves_nobody, refusal}
 use Rattle.script.specs.inner.Running.{LineDone}
 use Rattle.script.proofs.RunLaws.{below}
 
 -- ---- who visits
 
-no_visitor : (p : Option Place) (v : Option HouseSession) → p ≡ None → StandsForVisit p v → v ≡ None
-no_visitor None None e s = refl
-no_visitor None (Some v) e s = absurd s
-no_visitor (Some p) v e s = absurd (let x : Some p ≡ None = e in cc)
+no_visitor : (seat : ℕ) (next : CopyKey) (heard : List Noted) (serials : ℕ) (p : Option Seat) (v : Option SeatedSession) → p ≡ None → StandsForVisit seat next heard serials p v → v ≡ None
+no_visitor seat next heard serials None None e s = refl
+no_visitor seat next heard serials None (Some v) e s = absurd s
+no_visitor seat next heard serials (Some p) v e s = absurd (let x : Some p ≡ None = e in cc)
 
-some_visitor : (p : Option Place) (v : Option HouseSession) → IsSome p → StandsForVisit p v → (x : HouseSession) × (v ≡ Some x)
-some_visitor None v some s = absurd (let e : false ≡ true = some in cc)
-some_visitor (Some p) None some s = absurd s
-some_visitor (Some p) (Some v) some s = (v, refl)
+some_visitor : (seat : ℕ) (next : CopyKey) (heard : List Noted) (serials : ℕ) (p : Option Seat) (v : Option SeatedSession) → IsSome p → StandsForVisit seat next heard serials p v → (x : SeatedSession) × (v ≡ Some x)
+some_visitor seat next heard serials None v some s = absurd (let e : false ≡ true = some in cc)
+some_visitor seat next heard serials (Some p) None some s = absurd s
+some_visitor seat next heard serials (Some p) (Some v) some s = (v, refl)
+
+gone_visitor : (seat : ℕ) (next : CopyKey) (heard : List Noted) (serials : ℕ) (p : Option Seat) (v : Option SeatedSession) → is_left p ≡ true → StandsForVisit seat next heard serials p v → (x : SeatedSession) × (v ≡ Some x) × (x.gone ≡ true)
+gone_visitor seat next heard serials None v gone s = absurd (let e : false ≡ true = gone in cc)
+gone_visitor seat next heard serials (Some p) None gone s = absurd s
+gone_visitor seat next heard serials (Some p) (Some v) gone s = (v, refl, sym s.0.gone ∙ gone)
+
+-- a key, whichever
+any_key : CopyKey
+any_key = record { seat = 0; serial = 0; message = 0; recipient = 0 }
 
 no_session : (k : Setup) (h : State) (s : Scene) (session : ℕ) → StandsFor k h s → IsNoPlace h session → IsNoSession k session
 no_session k h s session st (inl e) = inl e
@@ -36,20 +50,42 @@ pub unvisited : (k : Setup) (h : State) (s : Scene) (session : ℕ) → StandsFo
 unvisited k h s session st (inl n) = inl (no_session k h s session st n)
 unvisited k h s zero st (inr n) = inl (inl refl)
 unvisited k h s (suc c) st (inr n) = elim (below (place_of (suc c)) (length h.visitors)) [
-  | inl l ↦ inr (no_visitor _ (s.visitor (place_of (suc c))) n (st.visitors (place_of (suc c)) None l))
+  | inl l ↦ inr (no_visitor _ _ _ _ _ (s.visitor (place_of (suc c))) n (st.visitors (place_of (suc c)) any_key 0 None l).who)
   | inr l ↦ inl (inr (let e = st.places in omega (arith, l, e)))
 ]
 
 pub visited : (k : Setup) (h : State) (s : Scene) (session : ℕ) → StandsFor k h s → IsTakenPlace h session → IsVisited s session
 visited k h s session st t =
     let l : place_of session < length h.visitors = let n = t.number in let m = t.place in omega (arith, n, m) in
-    some_visitor _ (s.visitor (place_of session)) t.who (st.visitors (place_of session) None l)
+    some_visitor _ _ _ _ _ (s.visitor (place_of session)) t.who (st.visitors (place_of session) any_key 0 None l).who
+
+pub lingering : (k : Setup) (h : State) (s : Scene) (session : ℕ) → StandsFor k h s → IsLeft h session → IsLingering s session
+lingering k h s session st t =
+    let l : place_of session < length h.visitors = let n = t.number in let m = t.place in omega (arith, n, m) in
+    gone_visitor _ _ _ _ _ (s.visitor (place_of session)) t.gone (st.visitors (place_of session) any_key 0 None l).who
+
+-- its seat takes no more
+spent : (k : Setup) (h : State) (s : Scene) (session : ℕ) → StandsFor k h s → place_of session < length h.visitors → IsFreePlace h session → IsSpentPlace h session → IsSpentSession k s session
+spent k h s session st l free more =
+    let at = st.visitors (place_of session) any_key 0 None l in
+    (no_visitor _ _ _ _ _ (s.visitor (place_of session)) free at.who, by more at.counted)
+  where
+    by : IsSpentPlace h session → get_or h.entered (place_of session) 0 ≡ s.entered (place_of session) → (most_serials ≤ s.entered (place_of session)) ⊎ HasEnded k.config s.world (session_seat k (place_of session))
+    by (inl m) e = inl (omega (arith, m, e))
+    by (inr x) e = inr (ended_somewhere k.config h.core s.world (session_seat k (place_of session)) st.core (seat_within k h s (place_of session) st l)
+        (subst (λ (n : ℕ). has_ended h.core (n + place_of session) ≡ true) st.connections x))
 
 -- ---- users
 
-pub nowhere : (k : Setup) (h : State) (s : Scene) (session : ℕ) (user : List ℕ) → StandsFor k h s → IsNoPlace h session ⊎ (has_user h.directory user ≡ false) → IsNoSession k session ⊎ IsUnknown k user
+pub nowhere : (k : Setup) (h : State) (s : Scene) (session : ℕ) (user : List ℕ) → StandsFor k h s → IsNoPlace h session ⊎ (has_user h.directory user ≡ false ⊎ (IsFreePlace h session × IsSpentPlace h session))
+    → IsNoSession k session ⊎ (IsUnknown k user ⊎ IsSpentSession k s session)
 nowhere k h s session user st (inl n) = inl (no_session k h s session st n)
-nowhere k h s session user st (inr e) = inr (ap (λ (d : Directory). has_user d user) (sym st.directory) ∙ e)
+nowhere k h s session user st (inr (inl e)) = inr (inl (ap (λ (d : Directory). has_user d user) (sym st.directory) ∙ e))
+nowhere k h s zero user st (inr (inr n)) = inl (inl refl)
+nowhere k h s (suc c) user st (inr (inr n)) = elim (below (place_of (suc c)) (length h.visitors)) [
+  | inl l ↦ inr (inr (spent k h s (suc c) st l n.0 n.1))
+  | inr l ↦ inl (inr (let e = st.places in omega (arith, l, e)))
+]
 
 pub known : (k : Setup) (h : State) (s : Scene) (user : List ℕ) → StandsFor k h s → has_user h.directory user ≡ true → IsUnknown k user → ⊥
 known k h s user st is e = let f : has_user h.directory user ≡ false = ap (λ (d : Directory). has_user d user) st.directory ∙ e in let g = is in cc
@@ -61,7 +97,7 @@ pub entered : (k : Setup) (number : ℕ) (s : Scene) (session : ℕ) (user : Bor
 entered k number s session user h old new led = record { after = led.after; printed = led.printed; does = enters session user.now led.plays; stands = led.stands; out = led.out }
 
 pub entered_nowhere : (k : Setup) (number : ℕ) (s : Scene) (session : ℕ) (user : List ℕ) (h : State) (old new : List ℕ)
-    → StandsFor k h s → IsNoSession k session ⊎ IsUnknown k user → new ≡ old ++ refusal number (codes "Nobody") → LineDone k number (Enters session user) s h old new
+    → StandsFor k h s → IsNoSession k session ⊎ (IsUnknown k user ⊎ IsSpentSession k s session) → new ≡ old ++ refusal number (codes "Nobody") → LineDone k number (Enters session user) s h old new
 entered_nowhere k number s session user h old new st none e = record { after = s; printed = _; does = enters_nowhere session user none refl refl; stands = st; out = e }
 
 pub entered_taken : (k : Setup) (number : ℕ) (s : Scene) (session : ℕ) (user : List ℕ) (h : State) (old new : List ℕ)
@@ -82,3 +118,13 @@ left k number s session h old new led = record { after = led.after; printed = le
 pub left_nobody : (k : Setup) (number : ℕ) (s : Scene) (session : ℕ) (h : State) (old new : List ℕ)
     → StandsFor k h s → IsUnvisited k s session → new ≡ old ++ refusal number (codes "Nobody") → LineDone k number (Leaves session) s h old new
 left_nobody k number s session h old new st nobody e = record { after = s; printed = _; does = leaves_nobody session nobody refl refl; stands = st; out = e }
+
+-- ---- while its client is gone
+
+pub asked_lingering : (k : Setup) (number : ℕ) (s : Scene) (session : ℕ) (bytes : List ℕ) (h : State) (old new : List ℕ)
+    → StandsFor k h s → IsLingering s session → new ≡ old ++ refusal number (codes "Busy") → LineDone k number (Asks session bytes) s h old new
+asked_lingering k number s session bytes h old new st lingers e = record { after = s; printed = _; does = asks_lingering session bytes lingers refl refl; stands = st; out = e }
+
+pub left_again : (k : Setup) (number : ℕ) (s : Scene) (session : ℕ) (h : State) (old new : List ℕ)
+    → StandsFor k h s → IsLingering s session → new ≡ old ++ refusal number (codes "Busy") → LineDone k number (Leaves session) s h old new
+left_again k number s session h old new st lingers e = record { after = s; printed = _; does = leaves_again session lingers refl refl; stands = st; out = e }

@@ -8,13 +8,13 @@ use Rattle.hex.specs.declared.error.FromHexError.{FromHexError}
 use Rattle.envelope.specs.Names.{number_of}
 use Rattle.line_io.specs.Wire.{crlf}
 use Rattle.house_connection.specs.HouseConnection.{HouseConnection}
-use Rattle.house.specs.Setup.{Setup}
+use Rattle.house.specs.Setup.{Setup, session_seat}
 use Rattle.house.specs.Scene.{BytesPlay, EnterPlay, HasEnded, LeavePlay, SayPlay, Scene, VanishPlay, most_serials, place_of, seat_of}
 use Rattle.house.specs.Settled.{is_held}
 use Rattle.house.specs.Settling.{Settles}
 use Rattle.house.specs.Window.{window_text}
 use Rattle.house_session.specs.Folders.{has_user}
-use Rattle.house_session.specs.HouseSession.{HouseSession}
+use Rattle.house_session.specs.Seated.{SeatedSession}
 use Rattle.script.specs.declared.line.ScriptLine as read
 use Rattle.script.specs.declared.line.ScriptLine.TheVariants as reads
 
@@ -192,7 +192,7 @@ refusal number why = codes "? " ++ decimal number ++ codes " " ++ why ++ 10 ∷ 
 
 -- there is no such connection
 abbrev pub IsNoConnection : Setup → ℕ → Type 0
-IsNoConnection k connection = (connection ≡ 0) ⊎ (k.config.seats < connection)
+IsNoConnection k connection = (connection ≡ 0) ⊎ (k.connections < connection)
 
 -- nobody is at the connection's seat
 abbrev pub IsAway : Setup → Scene → ℕ → Type 0
@@ -211,13 +211,21 @@ IsOwing s connection = (b : HouseConnection) × (s.caller (seat_of connection) �
 abbrev pub IsNoSession : Setup → ℕ → Type 0
 IsNoSession k session = (session ≡ 0) ⊎ (k.config.sessions < session)
 
--- nobody visits at the session's place
+-- nobody is at the session's place
 abbrev pub IsUnvisited : Setup → Scene → ℕ → Type 0
 IsUnvisited k s session = IsNoSession k session ⊎ (s.visitor (place_of session) ≡ None)
 
--- somebody visits at the session's place
+-- somebody is at the session's place
 abbrev pub IsVisited : Scene → ℕ → Type 0
-IsVisited s session = (v : HouseSession) × (s.visitor (place_of session) ≡ Some v)
+IsVisited s session = (v : SeatedSession) × (s.visitor (place_of session) ≡ Some v)
+
+-- its client is gone, and it still waits for the verdict on a message
+abbrev pub IsLingering : Scene → ℕ → Type 0
+IsLingering s session = (v : SeatedSession) × (s.visitor (place_of session) ≡ Some v) × (v.gone ≡ true)
+
+-- nobody is at its place, and the seat takes no more: its serials are spent, or it has ended
+abbrev pub IsSpentSession : Setup → Scene → ℕ → Type 0
+IsSpentSession k s session = (s.visitor (place_of session) ≡ None) × ((most_serials ≤ s.entered (place_of session)) ⊎ HasEnded k.config s.world (session_seat k (place_of session)))
 
 -- there is no such user, compared byte by byte
 abbrev pub IsUnknown : Setup → (user : List ℕ) → Type 0
@@ -237,15 +245,19 @@ pub data LineDoes (k : Setup) (number : ℕ) (s : Scene) (t : Scene) (printed : 
   vanishes_again : (connection : ℕ) → IsOwing s connection → t ≡ s → printed ≡ refusal number (codes "Busy")
       → LineDoes k number s t printed (Vanishes connection)
   enters : (session : ℕ) (user : List ℕ) → EnterPlay k true s (place_of session) user t printed → LineDoes k number s t printed (Enters session user)
-  enters_nowhere : (session : ℕ) (user : List ℕ) → IsNoSession k session ⊎ IsUnknown k user → t ≡ s → printed ≡ refusal number (codes "Nobody")
+  enters_nowhere : (session : ℕ) (user : List ℕ) → IsNoSession k session ⊎ (IsUnknown k user ⊎ IsSpentSession k s session) → t ≡ s → printed ≡ refusal number (codes "Nobody")
       → LineDoes k number s t printed (Enters session user)
   enters_taken : (session : ℕ) (user : List ℕ) → (IsUnknown k user → ⊥) → IsVisited s session → t ≡ s → printed ≡ refusal number (codes "Busy")
       → LineDoes k number s t printed (Enters session user)
   asks : (session : ℕ) (bytes : List ℕ) → SayPlay k true s (place_of session) bytes t printed → LineDoes k number s t printed (Asks session bytes)
   asks_nobody : (session : ℕ) (bytes : List ℕ) → IsUnvisited k s session → t ≡ s → printed ≡ refusal number (codes "Nobody")
       → LineDoes k number s t printed (Asks session bytes)
+  asks_lingering : (session : ℕ) (bytes : List ℕ) → IsLingering s session → t ≡ s → printed ≡ refusal number (codes "Busy")
+      → LineDoes k number s t printed (Asks session bytes)
   leaves : (session : ℕ) → LeavePlay k s (place_of session) t printed → LineDoes k number s t printed (Leaves session)
   leaves_nobody : (session : ℕ) → IsUnvisited k s session → t ≡ s → printed ≡ refusal number (codes "Nobody")
+      → LineDoes k number s t printed (Leaves session)
+  leaves_again : (session : ℕ) → IsLingering s session → t ≡ s → printed ≡ refusal number (codes "Busy")
       → LineDoes k number s t printed (Leaves session)
   -- what is held is said by `held_after`
   stands_still : (shard : ℕ) → shard < k.config.shards → t ≡ s → printed ≡ [] → LineDoes k number s t printed (Hold shard)

@@ -263,6 +263,7 @@ fn ask_bytes(
     match house.step(Event::Say(session, bytes), out) {
         Ok(()) => Ok(()),
         Err(HouseFault::Nobody) => refuse(number, b"Nobody", out),
+        Err(HouseFault::Busy) => refuse(number, b"Busy", out),
         Err(_) => Err(AllocError),
     }
 }
@@ -314,6 +315,7 @@ fn leave_session(
     match house.step(Event::Leave(session), out) {
         Ok(()) => Ok(()),
         Err(HouseFault::Nobody) => refuse(number, b"Nobody", out),
+        Err(HouseFault::Busy) => refuse(number, b"Busy", out),
         Err(_) => Err(AllocError),
     }
 }

@@ -4,8 +4,8 @@ use Rattle.std.proofs.lemmas.Result.{on_ok_weaker}
 use Rattle.house.specs.State.{State}
 use Rattle.house.specs.Stands.{StandsFor}
 use Rattle.script.specs.Script.{Asks, refusal}
-use Rattle.script.proofs.RunLaws.{step_failed, is_nobody, not_wanting}
-use Rattle.script.proofs.SessionLaws.{asked_bytes, asked_nobody, unvisited}
+use Rattle.script.proofs.RunLaws.{step_failed, busy_not_wanting, is_busy, is_nobody, not_wanting}
+use Rattle.script.proofs.SessionLaws.{asked_bytes, asked_lingering, asked_nobody, lingering, unvisited}
 use Rattle.script.proofs.run.ask_bytes.Goals as goal
 
 pub returns-in-Ok-clause-done : goal.returns-in-Ok-clause-done
@@ -22,6 +22,17 @@ returns-in-Err-Nobody-clause-done c =
     (unvisited k c.args.house.now s c.args.session st (e.nobody.0 (is_nobody c.in-Err-Nobody.field-0 c.in-Err-Nobody.field-0-is)))
     (printed ∙ ap (λ (x : List ℕ). x ++ refusal c.args.number (codes "Nobody")) same.1))
     c.refuse.ensures.ok
+
+pub returns-in-Err-Busy-clause-done : goal.returns-in-Err-Busy-clause-done
+returns-in-Err-Busy-clause-done c =
+    let e = c.in-Err-Busy.ensures in
+    let same = e.refused (busy_not_wanting c.in-Err-Busy.field-0 c.in-Err-Busy.field-0-is) in
+    on_ok_weaker c.refuse-in-Err-Busy.result
+    (λ printed k s st. asked_lingering k c.args.number s c.args.session c.args.bytes.now c.step.new.self c.args.out.now.items c.refuse-in-Err-Busy.new.out.items
+    (subst (λ (h : State). StandsFor k h s) (sym same.0) st)
+    (lingering k c.args.house.now s c.args.session st (e.busy.0 (is_busy c.in-Err-Busy.field-0 c.in-Err-Busy.field-0-is)))
+    (printed ∙ ap (λ (x : List ℕ). x ++ refusal c.args.number (codes "Busy")) same.1))
+    c.refuse-in-Err-Busy.ensures.ok
 
 pub returns-in-Err-clause-wanting : goal.returns-in-Err-clause-wanting
 returns-in-Err-clause-wanting c k s st =
