@@ -17,7 +17,7 @@ const CASES: &[(&str, &[Step])] = &[
             Step::Refused(Event::End(1, 0), HouseFault::Nothing),
             Step::Refused(Event::End(1, 1), HouseFault::Nobody),
             Step::Refused(Event::End(0, 0), HouseFault::Nobody),
-            Step::Refused(Event::End(9, 0), HouseFault::Nobody),
+            Step::Refused(Event::End(17, 0), HouseFault::Nobody),
             Step::Printed(b""),
             Step::Made(Event::Bytes(2, b"")),
             Step::Printed(b"L2 220 mx.example.org LMTP ready\n"),
