@@ -24,7 +24,7 @@ use Rattle.house.specs.State.{State}
 use Rattle.house.specs.Settling.{GoesRounds, Happened, Settles, Visits, idle_turns, in_a_row, round}
 use Rattle.std.specs.Prelude.{replicate}
 use Rattle.house.proofs.Settlement.{plays_part, visits_happened}
-use Rattle.script.specs.Script.{LineDoes, LinePlays, Script, ScriptLine, asks, asks_nobody, enters, enters_nowhere, enters_taken, goes_again, goes_nobody, held_after, is_bad, leaves, leaves_nobody, none_held, refusal, sends, sends_to_nobody, sends_to_owing, skips, stands_nobody, stands_still, tails, tails_nobody, vanishes, vanishes_again, vanishes_away}
+use Rattle.script.specs.Script.{LineDoes, LinePlays, Script, ScriptLine, asks, asks_lingering, asks_nobody, enters, enters_nowhere, enters_taken, goes_again, goes_nobody, held_after, is_bad, leaves, leaves_again, leaves_nobody, none_held, refusal, sends, sends_to_nobody, sends_to_owing, skips, stands_nobody, stands_still, tails, tails_nobody, vanishes, vanishes_again, vanishes_away}
 use Rattle.script.specs.Leaving.{Writes, WritesBeginning, WritesFirst}
 use Rattle.script.specs.Promise.{AreParts, DeliversOnce, OfHouse, Part, Refusal, Why, Line, Nobody, Busy, Window, WroteOnce, entries_of, entry_in, refusals_of, refused_in, scene_after, text_of_part, word_of}
 
@@ -127,8 +127,10 @@ line_goes k told number s t printed line ok (enters_nowhere session user n e p) 
 line_goes k told number s t printed line ok (enters_taken session user n m e p) = refuses k told number Busy s t printed ok e p
 line_goes k told number s t printed line ok (asks session bytes p) = event_goes k told number (number + 1) (omega arith) s (events.Say session (lent bytes)) t printed ok p
 line_goes k told number s t printed line ok (asks_nobody session bytes n e p) = refuses k told number Nobody s t printed ok e p
+line_goes k told number s t printed line ok (asks_lingering session bytes n e p) = refuses k told number Busy s t printed ok e p
 line_goes k told number s t printed line ok (leaves session p) = event_goes k told number (number + 1) (omega arith) s (events.Leave session) t printed ok p
 line_goes k told number s t printed line ok (leaves_nobody session n e p) = refuses k told number Nobody s t printed ok e p
+line_goes k told number s t printed line ok (leaves_again session n e p) = refuses k told number Busy s t printed ok e p
 line_goes k told number s t printed line ok (stands_still shard l e p) = is_silent k told number (number + 1) (omega arith) s t printed ok e p
 line_goes k told number s t printed line ok (stands_nobody shard l e p) = refuses k told number Nobody s t printed ok e p
 line_goes k told number s t printed line ok (goes_again shard l e p) = is_silent k told number (number + 1) (omega arith) s t printed ok e p
