@@ -12,3 +12,4 @@ pub mod Naming
 pub mod Lines
 pub mod Turns
 pub mod Verdicts
+pub mod Telling

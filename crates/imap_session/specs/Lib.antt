@@ -2,5 +2,6 @@ pub mod Exchange
 pub mod Commands
 pub mod Store
 pub mod Shows
+pub mod Telling
 pub mod rows
 pub mod inner

@@ -1,11 +1,14 @@
 //! What holds of every command, whatever the store answers.
 
 ghost use Rattle.imap_grammar.specs.declared.command.Command.{Command};
-ghost use Rattle.std.specs.Prelude.{◌≡◌, ◌&&◌, ◌++◌, ℕ, Bool, List, Option};
+ghost use Rattle.imap_grammar.specs.declared.command.ImapFault.{ImapFault};
+ghost use Rattle.mailbox.specs.declared.clients.MailFault.{MailFault};
+ghost use Rattle.std.specs.Prelude.{◌≡◌, ◌&&◌, ◌++◌, ℕ, Bool, true, List, Option};
 ghost use Rattle.delivery_token.specs.declared.Verdict.{Verdict};
-ghost use Rattle.imap_session.specs.Exchange.{Appending, Mailing, Standing};
-ghost use Rattle.imap_session.specs.Commands.{on_command, on_idle_line, on_rest, on_verdict, with_bytes};
+ghost use Rattle.imap_session.specs.Exchange.{Appending, Mailing, Standing, kept_tag, refusal_text};
+ghost use Rattle.imap_session.specs.Commands.{appended_words, fault_text, on_command, on_idle_line, on_rest, on_verdict, turn_of_long_line, with_bytes};
 ghost use Rattle.imap_session.specs.Shows.{DoneShowsInPlace, RestShowsNone, ShowsInPlace, VerdictShowsInPlace};
+ghost use Rattle.imap_session.specs.Telling.{LineTellsNoUid, RefusalTellsNoUid, TellsNoUid, VerdictTellsUid, WordsTellWhich, fault_tag, tells_uid};
 ghost use Rattle.imap_session.specs.declared.standing.Selected.{Selected};
 
 /// Changes are shown right before the tagged OK of NOOP, EXPUNGE, STATUS, LIST, UID FETCH, UID STORE and UID EXPUNGE, and as EXPUNGE and
@@ -30,6 +33,22 @@ pub fn rest_shows_none()
 /// refused has no tagged OK, and shows none.
 pub fn verdicts_show_in_place()
     ensures { (selected : Option Selected) (mailbox : ℕ) (verdict : Verdict) → VerdictShowsInPlace selected verdict (on_verdict selected mailbox verdict) }
+{}
+
+/// A tagged last line begins `OK [APPENDUID` where it answers a verdict that was `Stored`, and nowhere else: not where it ends a command or an IDLE, not
+/// behind a literal, not for a line that is too long or no command, and not where the message is refused or the store or memory refuses. It tells
+/// that verdict's UID, behind the UIDVALIDITY that the store told of the mailbox. So a client that reads such a line under the tag of its APPEND may
+/// conclude that its message was stored, under this UID (RFC 9051, 6.3.12; RFC 4315, 3).
+pub fn only_a_stored_verdict_tells_a_uid()
+    ensures words { (uidvalidity uid : ℕ) → tells_uid (appended_words uidvalidity uid) ≡ true }
+    ensures numbers { WordsTellWhich }
+    ensures verdicts { (selected : Option Selected) (mailbox : ℕ) (verdict : Verdict) → VerdictTellsUid selected mailbox verdict (on_verdict selected mailbox verdict) }
+    ensures commands { (now : Standing) (command : Command) → TellsNoUid (on_command now command) }
+    ensures idling { (selected : Option Selected) (line : List ℕ) → TellsNoUid (on_idle_line selected line) }
+    ensures rest { (mailing : Mailing) (begun : Appending) (ends : Bool) → TellsNoUid (on_rest mailing begun ends) }
+    ensures faults { (fault : ImapFault) → LineTellsNoUid (fault_tag fault) (fault_text fault) }
+    ensures long { (now : Standing) → LineTellsNoUid (kept_tag now) (turn_of_long_line now).bytes }
+    ensures refusals { (tag : List ℕ) (fault : MailFault) → RefusalTellsNoUid tag (refusal_text tag fault) }
 {}
 
 /// However the bytes of a literal are cut, the session comes to stand where it would by all at once.

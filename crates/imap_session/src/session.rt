@@ -632,6 +632,17 @@ impl Session {
         ))
     }
 
+    /// For how many bytes there has to be room before the verdict on the message that was submitted is answered; 0 where none is waited for.
+    /// Where there is, the answer is never refused for want of memory.
+    pub fn verdict_room(&self) -> usize
+        ensures { result ≡ room_for_verdict self.now }
+    {
+        match &self.mailing.sent {
+            None => 0,
+            Some(sent) => sent.tag.as_slice().len() + STORED,
+        }
+    }
+
     /// Answers the verdict on the message that was submitted (RFC 9051, 6.3.12): where it was stored, shows what is pending in the selected
     /// mailbox and says under which UID (RFC 4315, 3); else says why it wasn't. The session then takes lines again.
     ///

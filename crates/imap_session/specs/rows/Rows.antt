@@ -11,12 +11,13 @@ use Rattle.delivery_token.specs.declared.Refusal.TheVariants.{Full, MailboxFull}
 use Rattle.imap_grammar.specs.Reading.{read}
 use Rattle.imap_session.specs.Exchange.{Answer, Entered, Looked, Found, Counted, Altered, Expunged, Fed, Left, Refused, Starved, Turn, Sent, Standing, may_send, nothing_sent}
 use Rattle.imap_grammar.specs.declared.command.Command.TheVariants as commands
-use Rattle.imap_session.specs.Exchange.{Exchange, Done, Leave, Write}
+use Rattle.imap_session.specs.Exchange.{Count, Exchange, Done, Leave, Write}
 use Rattle.imap_session.specs.Shows.{RestShowsNone, ShowsInPlace, VerdictShowsInPlace}
+use Rattle.imap_session.specs.Telling.{TellsNoUid, VerdictTellsUid}
 use Rattle.imap_session.specs.declared.standing.After.TheVariants.{Go}
 use Rattle.imap_session.specs.declared.standing.After.TheVariants as afters
 use Rattle.imap_session.specs.declared.standing.Append.{Append}
-use Rattle.imap_session.specs.Commands.{completed, with_bytes, turn_of_verdict, idle_turn, turn_of, turn_of_long_line}
+use Rattle.imap_session.specs.Commands.{appended_words, completed, with_bytes, turn_of_verdict, idle_turn, turn_of, turn_of_long_line}
 
 differ : true ≡ false → ⊥
 differ e = cc
@@ -457,3 +458,23 @@ told_before p = differ p
 -- an OK for a message that was refused
 told_of_refused : VerdictShowsInPlace None (verdicts.Refused Full) (Done (codes "OK [APPENDUID 7 1] APPEND completed") Go) → ⊥
 told_of_refused p = differ p
+
+-- ---- who tells a UID
+
+abbrev one_of_seven : List ℕ
+one_of_seven = codes "OK [APPENDUID 7 1] APPEND completed"
+
+-- an exchange that tells one, behind a call and a line
+tells_at_the_end : TellsNoUid (Count 0 (λ status. Write (codes "* 1 EXISTS\r\n") (Done one_of_seven Go))) → ⊥
+tells_at_the_end p = differ (p (record { messages = 1; uidnext = 2; uidvalidity = 7; unseen = 1; deleted = 0; size = 5 }))
+
+-- a message that was refused
+tells_of_refused : VerdictTellsUid None 0 (verdicts.Refused Full) (Done one_of_seven Go) → ⊥
+tells_of_refused p = differ p
+
+-- a UIDVALIDITY that no mailbox was counted for, and one of another mailbox
+tells_uncounted : VerdictTellsUid None 0 (verdicts.Stored 1) (Done one_of_seven Go) → ⊥
+tells_uncounted p = p
+
+tells_of_another : VerdictTellsUid None 0 (verdicts.Stored 1) (Count 1 (λ status. Done (appended_words status.uidvalidity 1) Go)) → ⊥
+tells_of_another p = cc

@@ -1,0 +1,228 @@
+-- No last line but the one of a stored verdict tells a UID.
+use Rattle.std.proofs.Common.{◌≡◌, inl, inr, ℕ, ◌<◌, ◌^◌, arith, Bool, true, false, codes, List, [], ◌∷◌, ◌++◌, Option, Some, None, refl, ap, sym, ◌∙◌, subst, append_assoc, ◌==◌, if◌then◌else◌}
+use Rattle.std.specs.Prelude.{decimal, nat_le, nat_lt}
+use Rattle.std.specs.Char.{digit_value}
+use Rattle.std.specs.List.{AllByRecursion, list_any, slice_split}
+use Rattle.std.specs.Str.Parse.{AllDigits}
+use Rattle.std.proofs.lemmas.Bool.Decides.{Decides-eqb}
+use Rattle.std.proofs.lemmas.Fmt.{decimal_injective, decimal_is_IsNumeral}
+use Rattle.std.proofs.lemmas.List.{append_cancel_left, append_cancel_right}
+use Rattle.std.proofs.lemmas.List.Elements.{All-from_recursion}
+use Rattle.std.proofs.lemmas.List.Splits.{slice_split_at, slice_split_none}
+use Rattle.mailbox.specs.declared.clients.MailFault.{MailFault}
+use Rattle.mailbox.specs.declared.clients.MailFault.TheVariants as mail_faults
+use Rattle.imap_grammar.specs.Reading.{is_done}
+use Rattle.imap_grammar.specs.Sets.{named_in}
+use Rattle.imap_grammar.specs.declared.command.Append.{Append}
+use Rattle.imap_grammar.specs.declared.command.Command.{Command}
+use Rattle.imap_grammar.specs.declared.command.Command.TheVariants as commands
+use Rattle.imap_grammar.specs.declared.command.Fetch.{Fetch}
+use Rattle.imap_grammar.specs.declared.command.ImapFault.{ImapFault}
+use Rattle.imap_grammar.specs.declared.command.ImapFault.TheVariants as faults
+use Rattle.imap_grammar.specs.declared.command.Store.{Store}
+use Rattle.imap_grammar.specs.declared.command.Verb.TheVariants as verbs
+use Rattle.delivery_token.specs.declared.Refusal.{Refusal}
+use Rattle.delivery_token.specs.declared.Refusal.TheVariants.{Full, MailboxFull, NoMemory, UidSpent}
+use Rattle.delivery_token.specs.declared.Verdict.{Verdict}
+use Rattle.delivery_token.specs.declared.Verdict.TheVariants.{Stored, Refused}
+use Rattle.imap_session.specs.declared.standing.Selected.{Selected}
+use Rattle.imap_session.specs.Exchange.{Appending, Exchange, Expunge, Feed, Folder, ForNothing, ForVerdict, Mailing, Standing, Wait, bye, kept_behind, kept_tag, refusal_text}
+use Rattle.imap_session.specs.Commands.{appended_words, awaiting, closing, completed, counting, entering, expunge_set, fault_text, fetch_messages, fetching, folder_of, if_writable, is_over, last_number, long_rest_words, long_text, most_unasked, messages_done, nowhere, number_named, on_chosen, on_command, on_folder, on_found, on_idle_line, on_rest, on_text, on_verdict, over, refused_words, says, showing, store_messages, storing, turn_of_long_line, unlimited, verb_text, wanting, wrong_state}
+use Rattle.imap_session.specs.Telling.{LineTellsNoUid, RefusalTellsNoUid, TellsNoUid, VerdictTellsUid, WordsTellWhich, fault_tag, tells_uid}
+use Rattle.imap_session.proofs.Appends.{asked_at, sent_at}
+
+-- ---- what an exchange is made of
+
+in_either : (b : Bool) (x y : Exchange) → TellsNoUid x → TellsNoUid y → TellsNoUid (if b then x else y)
+in_either true x y p q = p
+in_either false x y p q = q
+
+in_showing : (selected : Option Selected) (x : Exchange) → TellsNoUid x → TellsNoUid (showing selected x)
+in_showing None x p = p
+in_showing (Some selected) x p = p
+
+in_closing : (selected : Option Selected) (x : Exchange) → TellsNoUid x → TellsNoUid (closing selected x)
+in_closing None x p = p
+in_closing (Some selected) x p = p
+
+in_found : {A : Type 0} (next : A → Exchange) (gone : Exchange) → ((a : A) → TellsNoUid (next a)) → TellsNoUid gone → (found : Option A) → TellsNoUid (on_found next gone found)
+in_found next gone p q None = q
+in_found next gone p q (Some a) = p a
+
+in_folder : (name : List ℕ) (folders : List Folder) (next : Folder → Exchange) → ((folder : Folder) → TellsNoUid (next folder)) → TellsNoUid (on_folder name folders next)
+in_folder name folders next p = in_found next (says (codes "NO [NONEXISTENT] No such mailbox")) p refl (folder_of name folders)
+
+in_writable : (selected : Option Selected) (x : Exchange) → TellsNoUid x → TellsNoUid (on_found (if_writable x) wrong_state selected)
+in_writable selected x p = in_found (if_writable x) wrong_state (λ (s : Selected). in_either s.read_only (says (codes "NO Mailbox is read-only")) x refl p) refl selected
+
+in_chosen : (chosen : Option (List ℕ)) (next : List ℕ → Exchange) → ((uids : List ℕ) → TellsNoUid (next uids)) → TellsNoUid (on_chosen chosen next)
+in_chosen None next p = refl
+in_chosen (Some uids) next p = p uids
+
+in_done : (command : Command) (by_uid gone : Bool) → TellsNoUid (completed command) → TellsNoUid (messages_done command by_uid gone)
+in_done command true gone p = p
+in_done command false true p = refl
+in_done command false false p = p
+
+in_fetching : (fetch : Fetch) (mark : Bool) (view : List ℕ) (done : Bool → Exchange) → ((gone : Bool) → TellsNoUid (done gone))
+    → (uids : List ℕ) (gone : Bool) → TellsNoUid (fetching fetch mark view done uids gone)
+in_fetching fetch mark view done p [] gone = p gone
+in_fetching fetch mark view done p (uid ∷ uids) gone =
+    elim [ None ↦ in_fetching fetch mark view done p uids true | Some row ↦ in_fetching fetch mark view done p uids gone ]
+
+in_storing : (store : Store) (view : List ℕ) (done : Bool → Exchange) → ((gone : Bool) → TellsNoUid (done gone))
+    → (uids : List ℕ) (gone : Bool) → TellsNoUid (storing store view done uids gone)
+in_storing store view done p [] gone = p gone
+in_storing store view done p (uid ∷ uids) gone =
+    elim [ None ↦ in_storing store view done p uids true | Some flags ↦ in_storing store view done p uids gone ]
+
+-- the words of FETCH and STORE, and of their UID forms
+fetch_words : (by_uid : Bool) → tells_uid (codes "OK " ++ verb_text (if by_uid then verbs.UidFetch else verbs.Fetch) ++ codes " completed") ≡ false
+fetch_words true = refl
+fetch_words false = refl
+
+store_words : (by_uid : Bool) → tells_uid (codes "OK " ++ verb_text (if by_uid then verbs.UidStore else verbs.Store) ++ codes " completed") ≡ false
+store_words true = refl
+store_words false = refl
+
+entered_words : (read_only : Bool) → tells_uid (if read_only then codes "OK [READ-ONLY] EXAMINE completed" else codes "OK [READ-WRITE] SELECT completed") ≡ false
+entered_words true = refl
+entered_words false = refl
+
+over_tells_none : (most : Option ℕ) → TellsNoUid (over most)
+over_tells_none None = refl
+over_tells_none (Some most) = refl
+
+-- ---- commands
+
+selecting_tells_none : (now : Standing) (read_only : Bool) (name : List ℕ) → TellsNoUid (closing now.selected (on_folder name now.folders (entering read_only)))
+selecting_tells_none now read_only name =
+    in_closing now.selected (on_folder name now.folders (entering read_only)) (in_folder name now.folders (entering read_only) (λ folder opening. entered_words read_only))
+
+append_tells_none : (most : Option ℕ) (a : Append) (found : Option ℕ) → TellsNoUid (if a.literal.waits then wanting (asked_at most a found) else sent_at most a found)
+append_tells_none most a found =
+    in_either a.literal.waits (wanting (asked_at most a found)) (sent_at most a found)
+    (in_found (λ m. if is_over most a.literal.size then over most else awaiting (codes "+ ready\r\n") (Some m) a.flags a.literal.size) nowhere
+    (λ m. in_either (is_over most a.literal.size) (over most) (awaiting (codes "+ ready\r\n") (Some m) a.flags a.literal.size) (over_tells_none most) tt) refl found)
+    (in_either (nat_lt most_unasked a.literal.size) (Wait (bye (codes "Literal too big")) ForNothing) (wanting (awaiting [] found a.flags a.literal.size)) tt tt)
+
+pub command_tells_none : (now : Standing) (command : Command) → TellsNoUid (on_command now command)
+command_tells_none now commands.Capability = refl
+command_tells_none now commands.Noop = in_showing now.selected (completed commands.Noop) refl
+command_tells_none now commands.Logout = refl
+command_tells_none now commands.Namespace = refl
+command_tells_none now commands.Idle = tt
+command_tells_none now commands.Login = refl
+command_tells_none now commands.Authenticate = refl
+command_tells_none now commands.StartTls = refl
+command_tells_none now (commands.Select name) = selecting_tells_none now false name
+command_tells_none now (commands.Examine name) = selecting_tells_none now true name
+command_tells_none now (commands.List reference pattern) = in_showing now.selected (completed (commands.List reference pattern)) refl
+command_tells_none now (commands.Status name items) =
+    in_folder name now.folders (counting now name items) (λ folder status. in_showing now.selected (completed (commands.Status name items)) refl)
+command_tells_none now commands.Close = in_found _ wrong_state (λ s. refl) refl now.selected
+command_tells_none now commands.Unselect = in_found _ wrong_state (λ s. refl) refl now.selected
+command_tells_none now commands.Expunge = in_writable now.selected (Expunge None (Feed unlimited (completed commands.Expunge))) refl
+command_tells_none now (commands.UidExpunge set) =
+    in_writable now.selected (expunge_set set)
+    (λ view. in_chosen (named_in true set view) (λ uids. Expunge (Some uids) (Feed unlimited (completed (commands.UidExpunge set)))) (λ uids. refl))
+command_tells_none now (commands.Fetch fetch) =
+    in_found (fetch_messages fetch) wrong_state
+    (λ s view. in_chosen (named_in fetch.by_uid fetch.set view) _
+    (λ uids. in_fetching fetch _ view _ (λ gone. in_done (commands.Fetch fetch) fetch.by_uid gone (fetch_words fetch.by_uid)) uids false)) refl now.selected
+command_tells_none now (commands.Store store) =
+    in_writable now.selected (store_messages store)
+    (λ view. in_chosen (named_in store.by_uid store.set view) _
+    (λ uids. in_storing store view _ (λ gone. in_done (commands.Store store) store.by_uid gone (store_words store.by_uid)) uids false))
+command_tells_none now (commands.Append append) = append_tells_none now.mailing.most append (number_named append.name now.folders)
+
+-- ---- other lines
+
+pub idling_tells_none : (selected : Option Selected) (line : List ℕ) → TellsNoUid (on_idle_line selected line)
+idling_tells_none selected line =
+    in_either (is_done line) (showing selected (completed commands.Idle)) (says (codes "BAD Expected DONE")) (in_showing selected (completed commands.Idle) refl) refl
+
+text_tells_none : (mailing : Mailing) (a : Appending) (text : List ℕ) (mailbox : ℕ) → TellsNoUid (on_text mailing a text mailbox)
+text_tells_none mailing a text mailbox =
+    in_either (is_over mailing.most a.size) (over mailing.most) _ (over_tells_none mailing.most)
+    (in_either (list_any (λ b. b == 0) text) (says (codes "NO NUL byte")) _ refl
+    (in_either (nat_le last_number mailing.number) (says (codes "NO Mailbox is spent")) (wanting (Wait [] (ForVerdict mailbox a.flags text))) refl tt))
+
+pub rest_tells_none : (mailing : Mailing) (a : Appending) (empty : Bool) → TellsNoUid (on_rest mailing a empty)
+rest_tells_none mailing a empty =
+    in_found (λ text. if empty then on_found (on_text mailing a text) nowhere a.mailbox else says (codes "BAD Invalid arguments")) (says (codes "NO Out of memory"))
+    (λ text. in_either empty (on_found (on_text mailing a text) nowhere a.mailbox) (says (codes "BAD Invalid arguments")) (in_found (on_text mailing a text) nowhere (text_tells_none mailing a text) refl a.mailbox) refl)
+    refl a.text
+
+pub fault_tells_none : (fault : ImapFault) → LineTellsNoUid (fault_tag fault) (fault_text fault)
+fault_tells_none faults.NoTag = (codes "BAD Missing tag\r\n", refl)
+fault_tells_none (faults.Unknown tag) = (codes "BAD Unknown command", refl, refl)
+fault_tells_none (faults.LeftOut tag) = (codes "NO [CANNOT] Not offered here", refl, refl)
+fault_tells_none (faults.Arguments tag) = (codes "BAD Invalid arguments", refl, refl)
+
+long_rest_tells_none : (text : Option (List ℕ)) → tells_uid (long_rest_words text) ≡ false
+long_rest_tells_none None = refl
+long_rest_tells_none (Some text) = refl
+
+long_tells_none : (begun : Option Appending) (idling : Option (List ℕ)) → LineTellsNoUid (kept_behind begun idling) (long_text begun idling)
+long_tells_none None None = (codes "BAD Line too long\r\n", refl)
+long_tells_none None (Some tag) = (codes "BAD Expected DONE", refl, refl)
+long_tells_none (Some a) idling = (long_rest_words a.text, refl, long_rest_tells_none a.text)
+
+pub long_line_tells_none : (now : Standing) → LineTellsNoUid (kept_tag now) (turn_of_long_line now).bytes
+long_line_tells_none now = long_tells_none now.mailing.begun now.idling
+
+pub refusal_tells_none : (tag : List ℕ) (fault : MailFault) → RefusalTellsNoUid tag (refusal_text tag fault)
+refusal_tells_none tag mail_faults.Stranger = inl (codes "BYE Internal fault\r\n", refl)
+refusal_tells_none tag mail_faults.Lapped = inl (codes "BYE Too many changes were missed\r\n", refl)
+refusal_tells_none tag mail_faults.Spent = inr (codes "NO Mailbox is spent", refl, refl)
+refusal_tells_none tag mail_faults.NoMemory = inr (codes "NO Out of memory", refl, refl)
+
+-- ---- verdicts
+
+pub appended_tells : (uidvalidity uid : ℕ) → tells_uid (appended_words uidvalidity uid) ≡ true
+appended_tells uidvalidity uid = refl
+
+no_space : (b : ℕ) → digit_value b < 10 → (b == 32) ≡ false
+no_space b h = never (b == 32) (λ e. let l : 36 < 10 = subst (λ (x : ℕ). digit_value x < 10) ((Decides-eqb b 32).0 e) h in omega (arith, l))
+  where
+    never : (t : Bool) → (t ≡ true → ⊥) → t ≡ false
+    never true n = absurd (n refl)
+    never false n = refl
+
+no_spaces : (digits : List ℕ) → AllDigits 10 digits → AllByRecursion (λ b. (b == 32) ≡ false) digits
+no_spaces [] h = tt
+no_spaces (b ∷ digits) h = (no_space b h.0, no_spaces digits h.1)
+
+-- two numbers, cut at the space between them
+cut_again : (v n : ℕ) → v < 2 ^ 64 → n < 2 ^ 64 → slice_split (λ b. b == 32) (decimal v ++ 32 ∷ decimal n) ≡ decimal v ∷ decimal n ∷ []
+cut_again v n fits also_fits =
+    slice_split_at (λ b. b == 32) (decimal v) 32 (decimal n) (All-from_recursion _ (decimal v) (no_spaces (decimal v) (decimal_is_IsNumeral v fits).0.1)) refl
+    ∙ ap (λ parts. decimal v ∷ parts) (slice_split_none (λ b. b == 32) (decimal n) (All-from_recursion _ (decimal n) (no_spaces (decimal n) (decimal_is_IsNumeral n also_fits).0.1)))
+
+regrouped : (front v space n end : List ℕ) → (((front ++ v) ++ space) ++ n) ++ end ≡ front ++ ((v ++ (space ++ n)) ++ end)
+regrouped front v space n end = simp append_assoc refl
+
+both_same : (a b c d : List ℕ) → a ∷ b ∷ [] ≡ c ∷ d ∷ [] → (a ≡ c) × (b ≡ d)
+both_same a b c d e = (cc, cc)
+
+pub words_tell_which : WordsTellWhich
+words_tell_which v n w m v_fits n_fits w_fits m_fits same =
+    let front = codes "OK [APPENDUID " in
+    let end = codes "] APPEND completed" in
+    let inner : decimal v ++ 32 ∷ decimal n ≡ decimal w ++ 32 ∷ decimal m =
+    append_cancel_right (decimal v ++ 32 ∷ decimal n) (decimal w ++ 32 ∷ decimal m) end
+    (append_cancel_left front ((decimal v ++ 32 ∷ decimal n) ++ end) ((decimal w ++ 32 ∷ decimal m) ++ end)
+    (sym (regrouped front (decimal v) (codes " ") (decimal n) end) ∙ same ∙ regrouped front (decimal w) (codes " ") (decimal m) end)) in
+    let parts = both_same (decimal v) (decimal n) (decimal w) (decimal m) (sym (cut_again v n v_fits n_fits) ∙ ap (slice_split (λ b. b == 32)) inner ∙ cut_again w m w_fits m_fits) in
+    (decimal_injective v w v_fits w_fits parts.0, decimal_injective n m n_fits m_fits parts.1)
+
+refused_tells_none : (why : Refusal) → tells_uid (refused_words why) ≡ false
+refused_tells_none Full = refl
+refused_tells_none MailboxFull = refl
+refused_tells_none NoMemory = refl
+refused_tells_none UidSpent = refl
+
+pub verdict_tells : (selected : Option Selected) (mailbox : ℕ) (verdict : Verdict) → VerdictTellsUid selected mailbox verdict (on_verdict selected mailbox verdict)
+verdict_tells selected mailbox (Stored uid) = (refl, λ status. refl)
+verdict_tells selected mailbox (Refused why) = refused_tells_none why

@@ -1,0 +1,73 @@
+-- Which last line of a session tells the UID of a message that its client appended (RFC 9051, 6.3.12; RFC 4315, 3).
+use Rattle.std.specs.Prelude.{◌≡◌, ◌⊎◌, ◌<◌, ◌^◌, ℕ, Bool, false, codes, take, List, ◌++◌, Option, Some, None}
+use Rattle.std.specs.Str.{bytes_eq}
+use Rattle.change_ring.specs.declared.change.Flags.{Flags}
+use Rattle.mailbox.specs.declared.clients.Opening.{Opening}
+use Rattle.mailbox.specs.declared.clients.Row.{Row}
+use Rattle.mailbox.specs.declared.mailbox.Status.{Status}
+use Rattle.imap_grammar.specs.declared.command.ImapFault.{ImapFault}
+use Rattle.imap_grammar.specs.declared.command.ImapFault.TheVariants.{NoTag, Unknown, LeftOut, Arguments}
+use Rattle.delivery_token.specs.declared.Verdict.{Verdict}
+use Rattle.delivery_token.specs.declared.Verdict.TheVariants.{Stored, Refused}
+use Rattle.imap_session.specs.declared.standing.Selected.{Selected}
+use Rattle.imap_session.specs.Exchange.{Exchange, Done, Wait, Write, Put, Enter, Look, Read, Count, Alter, Expunge, Feed, Leave, tagged}
+use Rattle.imap_session.specs.Commands.{appended_words, says, showing}
+
+-- the words behind the tag begin as those that tell a UID
+abbrev pub tells_uid : List ℕ → Bool
+tells_uid words = bytes_eq (take 14 words) (codes "OK [APPENDUID ")
+
+-- which numbers they tell: the words are the same only of the same UIDVALIDITY and the same UID
+abbrev pub WordsTellWhich : Type 0
+WordsTellWhich = (uidvalidity uid other_uidvalidity other_uid : ℕ) → uidvalidity < 2 ^ 64 → uid < 2 ^ 64 → other_uidvalidity < 2 ^ 64 → other_uid < 2 ^ 64
+    → appended_words uidvalidity uid ≡ appended_words other_uidvalidity other_uid → (uidvalidity ≡ other_uidvalidity) × (uid ≡ other_uid)
+
+-- whatever the store answers, the last line tells no UID. Where the session waits there is no last line
+abbrev pub TellsNoUid : Exchange → Type 0
+TellsNoUid (Done words how) = tells_uid words ≡ false
+TellsNoUid (Wait bytes waits) = Unit {0}
+TellsNoUid (Write bytes x) = TellsNoUid x
+TellsNoUid (Put bytes x) = TellsNoUid x
+TellsNoUid (Enter selected next) = (opening : Opening) → TellsNoUid (next opening)
+TellsNoUid (Look next) = (view : List ℕ) → TellsNoUid (next view)
+TellsNoUid (Read uid mark next) = (row : Option Row) → TellsNoUid (next row)
+TellsNoUid (Count mailbox next) = (status : Status) → TellsNoUid (next status)
+TellsNoUid (Alter uid op next) = (flags : Option Flags) → TellsNoUid (next flags)
+TellsNoUid (Expunge uids x) = TellsNoUid x
+TellsNoUid (Feed limit x) = TellsNoUid x
+TellsNoUid (Leave remove x) = TellsNoUid x
+
+-- this mailbox is counted, what is pending is shown, and then the last line tells this UID, behind the UIDVALIDITY that was counted
+abbrev pub TellsUid : Option Selected → (mailbox uid : ℕ) → Exchange → Type 0
+TellsUid selected mailbox uid (Count counted next) = (counted ≡ mailbox) × ((status : Status) → next status ≡ showing selected (says (appended_words status.uidvalidity uid)))
+TellsUid selected mailbox uid _ = ⊥
+
+-- the last line tells the UID under which the message was stored, and none where it was refused
+abbrev pub VerdictTellsUid : Option Selected → (mailbox : ℕ) → Verdict → Exchange → Type 0
+VerdictTellsUid selected mailbox (Stored uid) = TellsUid selected mailbox uid
+VerdictTellsUid selected mailbox (Refused why) = TellsNoUid
+
+-- ---- lines that no exchange says
+
+abbrev pub IsUntagged : List ℕ → Type 0
+IsUntagged text = (rest : List ℕ) × (text ≡ codes "* " ++ rest)
+
+-- the text is a line with this tag, and tells no UID
+abbrev pub IsTaggedWithoutUid : (tag text : List ℕ) → Type 0
+IsTaggedWithoutUid tag text = (words : List ℕ) × (text ≡ tagged tag words) × (tells_uid words ≡ false)
+
+-- the line has this tag and tells no UID; where there is no tag it is untagged
+abbrev pub LineTellsNoUid : Option (List ℕ) → (text : List ℕ) → Type 0
+LineTellsNoUid None text = IsUntagged text
+LineTellsNoUid (Some tag) text = IsTaggedWithoutUid tag text
+
+-- the tag of a line that is no command
+abbrev pub fault_tag : ImapFault → Option (List ℕ)
+fault_tag NoTag = None
+fault_tag (Unknown tag) = Some tag
+fault_tag (LeftOut tag) = Some tag
+fault_tag (Arguments tag) = Some tag
+
+-- where the store or memory refuses, the line is untagged, or it has this tag and tells no UID
+abbrev pub RefusalTellsNoUid : (tag text : List ℕ) → Type 0
+RefusalTellsNoUid tag text = IsUntagged text ⊎ IsTaggedWithoutUid tag text
