@@ -139,6 +139,14 @@ impl ImapConnection {
         self.session.may_send()
     }
 
+    /// For how many bytes there has to be room before the verdict on the message that was submitted is answered; 0 where none is waited for.
+    /// Where there is, the answer is never refused for want of memory.
+    pub fn verdict_room(&self) -> usize
+        ensures { result ≡ room_for_verdict self.now.session }
+    {
+        self.session.verdict_room()
+    }
+
     /// Answers the verdict on the message that was submitted. Bytes are taken again then.
     ///
     /// Errors, after which the connection, the store and `out` are as they were, and the same verdict is waited for: `Ended` exactly where the

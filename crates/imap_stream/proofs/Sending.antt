@@ -1,13 +1,15 @@
 -- What was said is sent: from the parts of a visit to the visit.
-use Rattle.std.proofs.Common.{◌≡◌, ℕ, ◌<◌, ◌⊎◌, inl, inr, true, false, List, [], length, take, refl, sym, subst}
-use Rattle.std.specs.Prelude.{OnErr, OnOk, Result, Ok, Err}
+use Rattle.std.proofs.Common.{◌≡◌, ◌≢◌, ℕ, ◌<◌, ◌⊎◌, inl, inr, true, false, List, [], ◌++◌, length, take, refl, sym, subst}
+use Rattle.std.specs.Prelude.{IfErr, OnErr, OnOk, Result, Ok, Err}
+use Rattle.courier.specs.Carried.{Carried}
+use Rattle.courier.specs.declared.Lost.{Lost}
 use Rattle.std.specs.Io.KnownBytes.{Appends}
 use Rattle.imap_connection.specs.Dialogue.{Dialogue, StandsFor}
 use Rattle.session_thread.specs.Life.{Moment, moment}
 use Rattle.imap_session.specs.declared.standing.After.{After}
 use Rattle.imap_stream.specs.declared.visit.VisitFault.{VisitFault}
-use Rattle.imap_stream.specs.declared.visit.VisitFault.TheVariants.{NoMemory, Write}
-use Rattle.imap_stream.specs.Visits.{LeadsTo, SendsAll, SendsFirst, ShowsAll, ShowsInPart, Tells, VisitState, is_over}
+use Rattle.imap_stream.specs.declared.visit.VisitFault.TheVariants.{NoMemory, Torn, Write}
+use Rattle.imap_stream.specs.Visits.{Hears, HearsInPart, LeadsTo, SendsAll, SendsFirst, ShowsAll, ShowsInPart, Tells, VisitState, is_over}
 use Rattle.imap_stream.specs.inner.Visits.{Looks, cut, cut_in_part, in_part, whole}
 
 -- each dialogue was led by P, behind what stood in the room before
@@ -45,6 +47,32 @@ tells_what_went (Ok x) P Q room now old seen new before said same is empty h k t
 tells_what_went (Err e) P Q room now old seen new before said same is empty h k took failed over =
     inr (tells_first (Q now) old seen new before said is empty (subst (λ (r : ℕ). Led (Q r) seen before said new) (sym same) k) took failed over)
 
+-- a piece was heard, and what was said was sent
+abbrev pub HeardAll : (List Carried → Type 0) → (List Carried → Type 0) → List ℕ → VisitState → List ℕ → List ℕ → VisitState → Type 0
+HeardAll Was Now piece old before said new = (carried : List Carried) × ((done : List Carried) → Was done → Now (done ++ carried)) × Led (Hears piece carried) old before said new
+
+pub hears_all : (Was Now : List Carried → Type 0) (piece : List ℕ) (old seen new : VisitState) (before said : List ℕ) → seen ≡ old → before ≡ [] → HeardAll Was Now piece seen before said new → Appends seen.taken new.taken said → new.failed ≡ false
+    → (carried : List Carried) × ((done : List Carried) → Was done → Now (done ++ carried)) × Tells (Hears piece carried) SendsAll old new
+hears_all Was Now piece old seen new before said is empty h took live = (h.0, h.1, tells_all (Hears piece h.0) old seen new before said is empty h.2 took live)
+
+pub the_fault : {A : Type 0} {x y : VisitFault} → ◌≡◌ {A = Result A VisitFault} (Err x) (Err y) → x ≡ y
+the_fault is = cc
+
+-- the session stopped, and what was said was sent
+pub hears_in_part : {A : Type 0} (r : Result A Lost) (found why : Lost) (piece : List ℕ) (room now : ℕ) (old seen new : VisitState) (before said : List ℕ) → r ≡ Err found → found ≡ why → now ≡ room → seen ≡ old → before ≡ []
+    → IfErr r (λ lost. Led (HearsInPart room piece lost) seen before said new) → Appends seen.taken new.taken said → new.failed ≡ false → Tells (HearsInPart now piece why) SendsAll old new
+hears_in_part r found why piece room now old seen new before said stops is same at empty h took live =
+    let stopped : Led (HearsInPart room piece why) seen before said new = subst (λ (l : Lost). Led (HearsInPart room piece l) seen before said new) is (subst (λ (x : Result _ Lost). IfErr x (λ l. Led (HearsInPart room piece l) seen before said new)) stops h) in
+    tells_all_in_part (λ (n : ℕ). HearsInPart n piece why) room now old seen new before said same at empty stopped took live
+
+-- the output failed, whatever was heard
+pub hears_what_went : {A : Type 0} (r : Result A Lost) (Was Now : List Carried → Type 0) (piece : List ℕ) (room now : ℕ) (old seen new : VisitState) (before said : List ℕ) → now ≡ room → seen ≡ old → before ≡ []
+    → OnOk r (HeardAll Was Now piece seen before said new) → IfErr r (λ why. Led (HearsInPart room piece why) seen before said new) → TookFirst seen said new → new.failed ≡ true → new.closed ≡ true
+    → ((carried : List Carried) × ((done : List Carried) → Was done → Now (done ++ carried)) × Tells (Hears piece carried) SendsFirst old new) ⊎ ((why : Lost) × Tells (HearsInPart now piece why) SendsFirst old new)
+hears_what_went (Ok x) Was Now piece room now old seen new before said same is empty h k took failed over = inl (h.0, h.1, tells_first (Hears piece h.0) old seen new before said is empty h.2 took failed over)
+hears_what_went (Err why) Was Now piece room now old seen new before said same is empty h k took failed over =
+    inr (why, tells_first (HearsInPart now piece why) old seen new before said is empty (subst (λ (r : ℕ). Led (HearsInPart r piece why) seen before said new) (sym same) k) took failed over)
+
 pub sends_first : (old seen new : VisitState) (said : List ℕ) → seen ≡ old → TookFirst seen said new → new.failed ≡ true → new.closed ≡ true → SendsFirst old said new
 sends_first old seen new said is took failed over = subst (λ (o : VisitState). SendsFirst o said new) is
     (record { sent = took.0; few = took.1; took = took.2; failed = failed; over = over })
@@ -54,8 +82,9 @@ was_cut old new (inl all) = cut all
 was_cut old new (inr part) = cut_in_part part
 
 -- a look, by what it answered
-pub looked : (r : Result After VisitFault) (old new : VisitState) → OnOk r (is_over old ≡ false → Tells ShowsAll SendsAll old new) → (r ≡ Err NoMemory → Tells (ShowsInPart new.room) SendsAll old new)
+pub looked : (r : Result After VisitFault) (old new : VisitState) → IfErr r (λ fault. fault ≢ Torn) → OnOk r (is_over old ≡ false → Tells ShowsAll SendsAll old new) → (r ≡ Err NoMemory → Tells (ShowsInPart new.room) SendsAll old new)
     → (r ≡ Err Write → Tells ShowsAll SendsFirst old new ⊎ Tells (ShowsInPart new.room) SendsFirst old new) → is_over old ≡ false → Looks old new
-looked (Ok x) old new ok short failed goes = whole (ok goes)
-looked (Err NoMemory) old new ok short failed goes = in_part (short refl)
-looked (Err Write) old new ok short failed goes = was_cut old new (failed refl)
+looked (Ok x) old new untorn ok short failed goes = whole (ok goes)
+looked (Err NoMemory) old new untorn ok short failed goes = in_part (short refl)
+looked (Err Write) old new untorn ok short failed goes = was_cut old new (failed refl)
+looked (Err Torn) old new untorn ok short failed goes = absurd (untorn refl)

@@ -6,7 +6,8 @@ use Rattle.imap_connection.specs.Dialogue as dialogue
 use Rattle.imap_connection.specs.Dialogue.{Dialogue, Link, StandsFor}
 use Rattle.session_thread.specs.Locks.{Holds, Place}
 use Rattle.session_thread.specs.Life.{IsShort, Moment, moment}
-use Rattle.std.specs.Prelude.{OnErr, OnOk, Result, Ok, Err}
+use Rattle.courier.specs.Carried.{Carried}
+use Rattle.courier.specs.declared.Lost.TheVariants as lost
 use Rattle.session_thread.specs.Life.{Says}
 use Rattle.imap_stream.specs.Visits.{GoesOnShowing, HasShown, Hears, HearsInPart, ShowsAll, ShowsInPart, nothing_left, within_turns}
 
@@ -48,18 +49,18 @@ shows_all count first now last showed had none = nothing_left now showed (subst 
 
 -- ---- turns behind a piece
 
-pub heard : {A E : Type 0} (r : Result A E) (piece : List ℕ) (old middle new : Place) (before between after : List ℕ) (was link last : Link)
-    → ((d : Dialogue) → StandsFor was d → (next : Dialogue) × StandsFor link next × Says piece (moment d old before) (moment next middle between))
-    → OnOk r ((d : Dialogue) → StandsFor link d → (next : Dialogue) × StandsFor last next × ShowsAll (moment d middle between) (moment next new after))
-    → OnOk r ((d : Dialogue) → StandsFor was d → (next : Dialogue) × StandsFor last next × Hears piece (moment d old before) (moment next new after))
-heard (Ok x) piece old middle new before between after was link last said shown =
-    λ d s. let t = said d s in let n = shown t.0 t.1 in (n.0, n.1, record { between = moment t.0 middle between; says = t.2; shows = n.2 })
-heard (Err e) piece old middle new before between after was link last said shown = shown
+pub heard : (piece : List ℕ) (carried : List Carried) (old middle new : Place) (before between after : List ℕ) (was link last : Link)
+    → ((d : Dialogue) → StandsFor was d → (next : Dialogue) × StandsFor link next × Says piece carried (moment d old before) (moment next middle between))
+    → ((d : Dialogue) → StandsFor link d → (next : Dialogue) × StandsFor last next × ShowsAll (moment d middle between) (moment next new after))
+    → (d : Dialogue) → StandsFor was d → (next : Dialogue) × StandsFor last next × Hears piece carried (moment d old before) (moment next new after)
+heard piece carried old middle new before between after was link last said shown d s =
+    let t = said d s in
+    let n = shown t.0 t.1 in (n.0, n.1, record { between = moment t.0 middle between; says = t.2; shows = n.2 })
 
-pub heard_in_part : {A E : Type 0} (r : Result A E) (room : ℕ) (piece : List ℕ) (old middle new : Place) (before between after : List ℕ) (was link last : Link)
-    → ((d : Dialogue) → StandsFor was d → (next : Dialogue) × StandsFor link next × Says piece (moment d old before) (moment next middle between))
-    → OnErr r ((d : Dialogue) → StandsFor link d → (next : Dialogue) × StandsFor last next × ShowsInPart room (moment d middle between) (moment next new after))
-    → OnErr r ((d : Dialogue) → StandsFor was d → (next : Dialogue) × StandsFor last next × HearsInPart room piece (moment d old before) (moment next new after))
-heard_in_part (Ok x) room piece old middle new before between after was link last said shown = shown
-heard_in_part (Err e) room piece old middle new before between after was link last said shown =
-    λ d s. let t = said d s in let n = shown t.0 t.1 in (n.0, n.1, within_turns (moment t.0 middle between) t.2 n.2)
+pub heard_in_part : (room : ℕ) (piece : List ℕ) (carried : List Carried) (old middle new : Place) (before between after : List ℕ) (was link last : Link)
+    → ((d : Dialogue) → StandsFor was d → (next : Dialogue) × StandsFor link next × Says piece carried (moment d old before) (moment next middle between))
+    → ((d : Dialogue) → StandsFor link d → (next : Dialogue) × StandsFor last next × ShowsInPart room (moment d middle between) (moment next new after))
+    → (d : Dialogue) → StandsFor was d → (next : Dialogue) × StandsFor last next × HearsInPart room piece lost.NoMemory (moment d old before) (moment next new after)
+heard_in_part room piece carried old middle new before between after was link last said shown d s =
+    let t = said d s in
+    let n = shown t.0 t.1 in (n.0, n.1, within_turns (moment t.0 middle between) carried t.2 n.2 refl)

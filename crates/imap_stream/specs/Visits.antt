@@ -7,7 +7,10 @@ use Rattle.imap_session.specs.Exchange.{Folder, bye, is_idling, may_send, nothin
 use Rattle.imap_session.specs.Commands.{greeting}
 use Rattle.imap_connection.specs.Dialogue.{Dialogue, Link, StandsFor, may_follow}
 use Rattle.session_thread.specs.Locks.{Place}
-use Rattle.session_thread.specs.Life.{HasTurn, IsShort, Moment, Says, SaysFirst, moment}
+use Rattle.session_thread.specs.Life.{HasTurn, IsShort, Moment, Says, SaysInPart, moment}
+use Rattle.courier.specs.Carried.{Carried}
+use Rattle.courier.specs.declared.Lost.{Lost}
+use Rattle.courier.specs.declared.Lost.TheVariants as lost
 
 -- What is known of a visit. Between two calls nothing that was said is left unsent.
 pub record VisitState : Type 0 where
@@ -58,17 +61,18 @@ pub record ShowsInPart (room : ℕ) (first last : Moment) : Type 0 where
 
 -- ---- a piece of the client's bytes
 
--- The bytes were taken, to their end or to the line that ended the session or submitted a message, and each line that ended in them was answered. Where the session
--- idled then, the client was shown what there is.
-pub record Hears (piece : List ℕ) (before after : Moment) : Type 0 where
+-- The bytes were taken, to their end or to the line that ended the session, each line that ended in them was answered, and so was the verdict on each message
+-- that was submitted in them, which was carried. Where the session idled then, the client was shown what there is.
+pub record Hears (piece : List ℕ) (carried : List Carried) (before after : Moment) : Type 0 where
   pub between : Moment
-  pub says : Says piece before between
+  pub says : Says piece carried before between
   pub shows : ShowsAll between after
 
--- So it went until memory was refused, within the bytes or within the turns behind them.
-pub data HearsInPart (room : ℕ) (piece : List ℕ) (before after : Moment) : Type 0 where
-  within_bytes : (used : ℕ) → SaysFirst piece used before after → IsShort room after → HearsInPart room piece before after
-  within_turns : (between : Moment) → Says piece before between → ShowsInPart room between after → HearsInPart room piece before after
+-- So it went until the session stopped, within the bytes, or until memory was refused within the turns behind them.
+pub data HearsInPart (room : ℕ) (piece : List ℕ) (why : Lost) (before after : Moment) : Type 0 where
+  within_bytes : SaysInPart room piece why before after → HearsInPart room piece why before after
+  within_turns : (between : Moment) (carried : List Carried) → Says piece carried before between → ShowsInPart room between after → why ≡ lost.NoMemory
+      → HearsInPart room piece why before after
 
 -- ---- what is sent
 
@@ -97,9 +101,9 @@ pub record Tells (P : Moment → Moment → Type 0) (Sends : VisitState → List
 
 -- ---- the first and the last words
 
--- The client was greeted (RFC 9051, 7.1.4), and nothing else was done: its session is in no mailbox and takes no message, and its line has not begun.
-pub record IsGreeted (folders : List Folder) (place : Place) (taken : Option (List ℕ)) (visit : VisitState) : Type 0 where
-  pub stands : StandsFor visit.link (record { standing = record { folders = folders; selected = None; idling = None; ended = false; mailing = nothing_sent None }; begun = [] })
+-- The client was greeted (RFC 9051, 7.1.4), and nothing else was done: its session is in no mailbox, it takes messages of at most so many bytes, or none, and its line has not begun.
+pub record IsGreeted (most : Option ℕ) (folders : List Folder) (place : Place) (taken : Option (List ℕ)) (visit : VisitState) : Type 0 where
+  pub stands : StandsFor visit.link (record { standing = record { folders = folders; selected = None; idling = None; ended = false; mailing = nothing_sent most }; begun = [] })
   pub desk : visit.place ≡ place
   pub took : Appends taken visit.taken greeting
   pub live : visit.failed ≡ false

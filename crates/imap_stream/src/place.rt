@@ -7,6 +7,7 @@ ghost use Rattle.imap_stream.specs.Visits.{is_over};
 ghost use Rattle.imap_stream.specs.inner.Visits.{Looks};
 
 use crate::visit::Visit;
+use courier::Courier;
 use imap_session::After;
 use line_io::Sink;
 use pace::Gate;
@@ -57,28 +58,33 @@ impl<'a, R: Wait, G: Gate, W: Sink + Drop> Place<'a, R, G, W> {
         }
     }
 
-    /// Reads what a client sends and answers it, until it goes or reading fails, its session ends or
-    /// submits a message, on which no verdict would come, its output fails, memory is refused, or `stop`
-    /// is set: then it is dismissed. At the end its session leaves its mailbox, and the place has no
+    /// Reads what a client sends and answers it, until it goes or reading fails, its session ends, its
+    /// output fails, memory is refused, no verdict comes on a message that it submitted, or `stop` is
+    /// set: then it is dismissed. The messages that it submits are given to `courier`, whose verdicts are
+    /// awaited while the visit is held. At the end its session leaves its mailbox, and the place has no
     /// client. `stop` is looked at before each read and behind it, so who sets it has to end a read that
     /// waits, as by shutting the stream down. `buffer` is what a read may fill, and is not empty.
     ///
     /// Errors: the visit is given back where the place has a client, and nothing was done.
-    pub fn attend<I: Read>(
+    pub fn attend<I: Read, C: Courier>(
         &self,
         rt: &R,
         alloc: Global,
         visit: Visit<'a, R, G, W>,
+        courier: &mut C,
         input: &mut I,
         buffer: &mut [u8],
         stop: &AtomicBool,
     ) -> Result<(), Visit<'a, R, G, W>>
-        ensures { IfErr result (λ back. back ≡ visit.entry) }
+        requires ready { C.ready courier.old }
+        ensures back { IfErr result (λ back. (back ≡ visit.entry) × (courier.new ≡ courier.old)) }
+        ensures ready { C.ready courier.new }
+        ensures kept { (first : C) → C.kept first courier.old → C.kept first courier.new }
     {
         if let Err(back) = self.admit(rt, visit) {
             return Err(back);
         }
-        self.serve(rt, alloc, input, buffer, stop);
+        self.serve(rt, alloc, courier, input, buffer, stop);
         self.vacate(rt);
         Ok(())
     }
@@ -113,14 +119,19 @@ impl<'a, R: Wait, G: Gate, W: Sink + Drop> Place<'a, R, G, W> {
         Ok(())
     }
 
-    fn serve<I: Read>(
+    fn serve<I: Read, C: Courier>(
         &self,
         rt: &R,
         alloc: Global,
+        courier: &mut C,
         input: &mut I,
         buffer: &mut [u8],
         stop: &AtomicBool,
-    ) {
+    )
+        requires ready { C.ready courier.old }
+        ensures ready { C.ready courier.new }
+        ensures kept { (first : C) → C.kept first courier.old → C.kept first courier.new }
+    {
         for _ in rt.forever() {
             if self.is_stopped(rt, stop) {
                 return;
@@ -132,7 +143,7 @@ impl<'a, R: Wait, G: Gate, W: Sink + Drop> Place<'a, R, G, W> {
             match read {
                 Ok(0) => return,
                 Ok(count) => {
-                    if !self.hear(rt, alloc, &buffer[..count]) {
+                    if !self.hear(rt, alloc, courier, &buffer[..count]) {
                         return;
                     }
                 }
@@ -157,12 +168,16 @@ impl<'a, R: Wait, G: Gate, W: Sink + Drop> Place<'a, R, G, W> {
     }
 
     // Hears the client: whether it may send more.
-    fn hear(&self, rt: &R, alloc: Global, piece: &[u8]) -> bool {
+    fn hear<C: Courier>(&self, rt: &R, alloc: Global, courier: &mut C, piece: &[u8]) -> bool
+        requires ready { C.ready courier.old }
+        ensures ready { C.ready courier.new }
+        ensures kept { (first : C) → C.kept first courier.old → C.kept first courier.new }
+    {
         let mut held = self.visit.lock(rt);
         let Some(visit) = &mut *held else {
             return false;
         };
-        match visit.hear(alloc, piece, &*self.idles) {
+        match visit.hear(alloc, courier, piece, &*self.idles) {
             Ok(after) => !matches!(after, After::Bye | After::Submit),
             Err(_) => false,
         }

@@ -3,9 +3,11 @@
 
 ghost use Rattle.std.specs.Prelude.{◌≡◌, false};
 
+use crate::courier_tests::TestCourier;
 use crate::place::{Hush, Place};
 use crate::visit::{Visit, VisitFault};
 use change_ring::NO_FLAGS;
+use courier::Lost;
 use delivery_token::{CopyKey, Job, Text};
 use imap_session::{After, Folder};
 use line_io::{Sink, Watched};
@@ -31,12 +33,12 @@ const PATIENCE: u64 = 10_000_000;
 
 // A gate that counts how often it was asked: once for each event of the session.
 #[derive(Drop)]
-struct Tally {
+pub(crate) struct Tally {
     asked: AtomicU64,
 }
 
 impl Tally {
-    fn new() -> Tally {
+    pub(crate) fn new() -> Tally {
         Tally {
             asked: AtomicU64::new(0),
         }
@@ -51,11 +53,11 @@ impl Gate for Tally {
 
 // What happens while a client is served.
 #[derive(Drop)]
-struct Marks {
+pub(crate) struct Marks {
     // The client waits while it idles.
     waits: AtomicBool,
     // It was shown a message.
-    told: AtomicBool,
+    pub(crate) told: AtomicBool,
     // Its line was hushed.
     hushed: AtomicBool,
     // The watch is over.
@@ -63,7 +65,7 @@ struct Marks {
 }
 
 impl Marks {
-    fn new() -> Marks {
+    pub(crate) fn new() -> Marks {
         Marks {
             waits: AtomicBool::new(false),
             told: AtomicBool::new(false),
@@ -92,16 +94,21 @@ fn wait_until(mark: &AtomicBool) {
 // Takes what it is offered, and fails once its calls are used up. A struct with a `&mut` couldn't be handed on to
 // the visit, so the bytes stand under a lock.
 #[derive(Drop)]
-struct Wire<'a, R: Wait> {
+pub(crate) struct Wire<'a, R: Wait> {
     rt: &'a R,
     bytes: &'a Mutex<Vec<u8>>,
     calls: usize,
-    has_failed: bool,
+    pub(crate) has_failed: bool,
     told: &'a AtomicBool,
 }
 
 impl<'a, R: Wait> Wire<'a, R> {
-    fn new(rt: &'a R, bytes: &'a Mutex<Vec<u8>>, calls: usize, told: &'a AtomicBool) -> Wire<'a, R>
+    pub(crate) fn new(
+        rt: &'a R,
+        bytes: &'a Mutex<Vec<u8>>,
+        calls: usize,
+        told: &'a AtomicBool,
+    ) -> Wire<'a, R>
         ensures { result.has_failed ≡ false }
     {
         Wire {
@@ -237,7 +244,7 @@ fn deliver<R: Wait>(rt: &R, mailboxes: &[Mutex<Mailbox>], job: &Job) -> bool {
 }
 
 // One mailbox, with a message or without.
-fn a_mailbox<R: Wait>(
+pub(crate) fn a_mailbox<R: Wait>(
     rt: &R,
     alloc: Global,
     has_message: bool,
@@ -251,11 +258,22 @@ fn a_mailbox<R: Wait>(
     Ok(mailboxes)
 }
 
-fn folders(alloc: Global) -> Result<Vec<Folder>, AllocError> {
+pub(crate) fn folders(alloc: Global) -> Result<Vec<Folder>, AllocError> {
     let name = Vec::from_slice(alloc, b"INBOX")?;
     let mut folders = Vec::new(alloc);
     folders.push(Folder::new(name, 0))?;
     Ok(folders)
+}
+
+// The courier of a session that takes no message: it is never asked.
+fn nobody<R: Wait>(rt: &R) -> TestCourier<'_, R> {
+    TestCourier::new(rt, &[], Some(Lost::Torn))
+}
+
+const GREETING: &[u8] = b"* PREAUTH IMAP4rev2 server ready\r\n";
+
+pub(crate) fn is_greeting_and(told: &[u8], rest: &[u8]) -> bool {
+    told.starts_with(GREETING) && &told[GREETING.len()..] == rest
 }
 
 // A client is served by one thread: what it was told, before its output failed after so many sends, and how many
@@ -298,9 +316,10 @@ fn serve_over<'x, R: Wait, I: Read>(
     };
     let place = Place::new(idles);
     let mut buffer = [0; 64];
-    match Visit::open(rt, alloc, desk, folders, wire) {
+    let mut courier = nobody(rt);
+    match Visit::open(rt, alloc, desk, folders, None, wire) {
         Ok(visit) => place
-            .attend(rt, alloc, visit, input, &mut buffer, stop)
+            .attend(rt, alloc, visit, &mut courier, input, &mut buffer, stop)
             .is_ok(),
         Err(_) => false,
     }
@@ -384,7 +403,15 @@ fn attend<'a, R: Wait>(
     let mut buffer = [0; 64];
     let never = AtomicBool::new(false);
     let is_done = place
-        .attend(rt, alloc, visit, &mut idler, &mut buffer, &never)
+        .attend(
+            rt,
+            alloc,
+            visit,
+            &mut nobody(rt),
+            &mut idler,
+            &mut buffer,
+            &never,
+        )
         .is_ok();
     marks.over.store(true, Ordering::SeqCst);
     bell.wake();
@@ -448,7 +475,7 @@ fn idle_through<R: Threads + Wait + Sync>(
     let (tally, marks) = (Tally::new(), Marks::new());
     let desk = LockedDesk::new(rt, &tally, 0, &mailboxes, &[]);
     let wire = Wire::new(rt, bytes, nap.sends, &marks.told);
-    let is_served = match Visit::open(rt, alloc, desk, folders(alloc)?, wire) {
+    let is_served = match Visit::open(rt, alloc, desk, folders(alloc)?, None, wire) {
         Ok(visit) => serve_idler(rt, alloc, &mailboxes, visit, &marks, nap)?,
         Err(_) => false,
     };
@@ -542,11 +569,11 @@ fn answers<'x, R: Wait>(
     };
     let tally = Tally::new();
     let desk = LockedDesk::new(rt, &tally, 0, mailboxes, &[]);
-    let Ok(mut visit) = Visit::open(rt, alloc, desk, folders, wire) else {
+    let Ok(mut visit) = Visit::open(rt, alloc, desk, folders, None, wire) else {
         return None;
     };
     let idles = AtomicBool::new(false);
-    let heard = visit.hear(alloc, piece, &idles);
+    let heard = visit.hear(alloc, &mut nobody(rt), piece, &idles);
     if idles.load(Ordering::SeqCst) != (heard == Ok(After::Idle)) {
         return None;
     }
@@ -628,7 +655,7 @@ fn greeted<R: Wait>(rt: &R, alloc: Global, told: &mut Vec<u8>) -> Result<bool, A
     let mailboxes = a_mailbox(rt, alloc, false)?;
     let tally = Tally::new();
     let desk = LockedDesk::new(rt, &tally, 0, &mailboxes, &[]);
-    let visit = Visit::open(rt, alloc, desk, folders(alloc)?, Watched::new(told));
+    let visit = Visit::open(rt, alloc, desk, folders(alloc)?, None, Watched::new(told));
     Ok(visit.is_ok())
 }
 

@@ -1,45 +1,24 @@
 //! What a visit says, over the parts that it is made of: the answers to a piece of the client's bytes,
 //! and the turns of a session that idles. All of it is appended; who sends it stands in `visit`.
 
-ghost use Rattle.std.specs.Prelude.{◌≡◌, ◌≢◌, ℕ, None, false, true, OnErr, OnOk, IfOk};
+ghost use Rattle.std.specs.Prelude.{◌≡◌, ◌++◌, List, None, false, true, OnErr, OnOk, IfErr, IfOk};
 ghost use Rattle.std.specs.Vec.{vec_capacity};
 ghost use Rattle.imap_session.specs.Exchange.{is_idling};
 ghost use Rattle.imap_connection.specs.Dialogue.{Dialogue, StandsFor};
-ghost use Rattle.session_thread.specs.Life.{HasTurn, IsShort, Says, SaysFirst, moment};
+ghost use Rattle.courier.specs.Carried.{Carried};
+ghost use Rattle.session_thread.specs.Life.{IsShort, moment};
 ghost use Rattle.imap_stream.specs.Visits.{HasShown, Hears, HearsInPart, ShowsAll, ShowsInPart};
 
+use courier::{Courier, Lost};
 use imap_connection::ImapConnection;
 use pace::Gate;
-use session_thread::LockedDesk;
+use session_thread::{LockedDesk, answer};
 use std::alloc::{AllocError, Global};
 use std::sync::Wait;
 use std::sync::atomic::{AtomicBool, Ordering};
 
 /// Room for the line that a turn may end a session with.
 const TURN_ROOM: usize = 48;
-
-// Each line that ends in the bytes is answered, unless the session ends before, or submits a message.
-fn answer<R: Wait, G: Gate>(
-    alloc: Global,
-    connection: &mut ImapConnection,
-    desk: &mut LockedDesk<'_, R, G>,
-    bytes: &[u8],
-    out: &mut Vec<u8>,
-) -> Result<(), AllocError>
-    requires going { connection.old.session.ended ≡ false }
-    requires unsent { connection.old.session.mailing.sent ≡ None }
-    ensures ok { OnOk result ((d : Dialogue) → StandsFor connection.old d → (next : Dialogue) × StandsFor connection.new next
-        × Says bytes.now (moment d desk.old out.old.items) (moment next desk.new out.new.items)) }
-    ensures err { OnErr result ((d : Dialogue) → StandsFor connection.old d → (next : Dialogue) × StandsFor connection.new next
-        × ((used : ℕ) × SaysFirst bytes.now used (moment d desk.old out.old.items) (moment next desk.new out.new.items))
-        × IsShort (vec_capacity out.new) (moment next desk.new out.new.items)) }
-{
-    let progress = connection.take(alloc, bytes, desk, out);
-    if progress.after.is_none() {
-        return Err(AllocError);
-    }
-    Ok(())
-}
 
 // The session has a turn while it idles: how many changes were shown.
 fn turn<R: Wait, G: Gate>(
@@ -89,30 +68,39 @@ pub(crate) fn show_all<R: Wait, G: Gate>(
 }
 
 /// Answers a piece, and shows what there is where the session idles then. Whether it does is stored
-/// in `idles` before its first turn.
+/// in `idles` before its first turn. A message that is submitted in the piece is given to `courier`, and the
+/// verdict on it is answered before anything more is taken.
 ///
-/// Errors: `AllocError` where memory was refused, within the piece or within the turns; what was done
-/// by then stands.
-pub(crate) fn answer_and_show<R: Wait, G: Gate>(
+/// Errors: `NoMemory` where memory was refused, within the piece or within the turns, or to the courier;
+/// `Torn` where the courier met something else than the verdict. What was done by then stands.
+pub(crate) fn answer_and_show<R: Wait, G: Gate, C: Courier>(
     rt: &R,
     alloc: Global,
     connection: &mut ImapConnection,
     desk: &mut LockedDesk<'_, R, G>,
+    courier: &mut C,
     piece: &[u8],
     idles: &AtomicBool,
     out: &mut Vec<u8>,
-) -> Result<(), AllocError>
+) -> Result<(), Lost>
     requires going { connection.old.session.ended ≡ false }
     requires unsent { connection.old.session.mailing.sent ≡ None }
-    ensures ok { OnOk result ((d : Dialogue) → StandsFor connection.old d → (next : Dialogue) × StandsFor connection.new next
-        × Hears piece.now (moment d desk.old out.old.items) (moment next desk.new out.new.items)) }
-    ensures err { OnErr result ((d : Dialogue) → StandsFor connection.old d → (next : Dialogue) × StandsFor connection.new next
-        × HearsInPart (vec_capacity out.new) piece.now (moment d desk.old out.old.items) (moment next desk.new out.new.items)) }
+    requires ready { C.ready courier.old }
+    ensures ready { C.ready courier.new }
+    ensures kept { (first : C) → C.kept first courier.old → C.kept first courier.new }
+    ensures ok { OnOk result ((carried : List Carried) × ((done : List Carried) → C.carried courier.old done → C.carried courier.new (done ++ carried))
+        × ((d : Dialogue) → StandsFor connection.old d → (next : Dialogue) × StandsFor connection.new next
+        × Hears piece.now carried (moment d desk.old out.old.items) (moment next desk.new out.new.items))) }
+    ensures err { IfErr result (λ why. (d : Dialogue) → StandsFor connection.old d → (next : Dialogue) × StandsFor connection.new next
+        × HearsInPart (vec_capacity out.new) piece.now why (moment d desk.old out.old.items) (moment next desk.new out.new.items)) }
 {
-    let answered = answer(alloc, connection, desk, piece, out);
+    let answered = answer(alloc, connection, desk, courier, piece, out);
     idles.store(connection.is_idling(), Ordering::SeqCst);
-    let Ok(()) = answered else {
-        return Err(AllocError);
-    };
-    show_all(rt, connection, desk, out)
+    if let Err(why) = answered {
+        return Err(why);
+    }
+    match show_all(rt, connection, desk, out) {
+        Ok(()) => Ok(()),
+        Err(_) => Err(Lost::NoMemory),
+    }
 }

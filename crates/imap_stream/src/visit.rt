@@ -1,14 +1,17 @@
 //! One client's visit: its session, and where its answers go. Nothing is left unsent between two calls.
 //! Whose threads make the calls stands in `place`.
 
-ghost use Rattle.std.specs.Prelude.{◌≡◌, ◌⊎◌, ℕ, ◌<◌, [], None, Ok, Err, false, true, length, take, IfOk, IfErr, OnErr, OnOk};
+ghost use Rattle.std.specs.Prelude.{◌≡◌, ◌≢◌, ◌⊎◌, ℕ, ◌<◌, ◌++◌, [], List, None, Ok, Err, false, true, length, take, IfOk, IfErr, OnErr, OnOk};
 ghost use Rattle.std.specs.Io.KnownBytes.{Appends};
 ghost use Rattle.std.specs.Vec.{vec_capacity};
+ghost use Rattle.courier.specs.Carried.{Carried};
+ghost use Rattle.courier.specs.declared.Lost.{Lost};
 ghost use Rattle.session_thread.specs.Life.{Departs};
 ghost use Rattle.imap_session.specs.Commands.{greeting};
 ghost use Rattle.imap_stream.specs.Visits.{Hears, HearsInPart, IsGreeted, SendsAll, SendsFirst, ShowsAll, ShowsInPart, Tells, VisitState, awaited, farewell, is_over, takes_bytes};
 
 use crate::turns::{answer_and_show, show_all};
+use courier::{Courier, Lost};
 use imap_connection::ImapConnection;
 use imap_session::{After, Folder, Store};
 use line_io::{Sink, send};
@@ -18,9 +21,6 @@ use std::alloc::Global;
 use std::marker::Model;
 use std::sync::Wait;
 use std::sync::atomic::AtomicBool;
-
-// No message is taken from a client: nobody here would hear the verdict on it.
-const NO_MESSAGES: Option<u32> = None;
 
 /// What a client is told that is dismissed.
 const FAREWELL: &[u8] = b"* BYE Shutting down\r\n";
@@ -32,6 +32,8 @@ pub enum VisitFault {
     NoMemory,
     /// The output failed.
     Write,
+    /// Something came that was no verdict on a message that was submitted.
+    Torn,
 }
 
 // Sends what was written, and lets go of it.
@@ -49,6 +51,18 @@ fn flush<W: Sink>(output: &mut W, written: &mut Vec<u8>) -> Result<(), VisitFaul
     match sent {
         Ok(()) => Ok(()),
         Err(_) => Err(VisitFault::Write),
+    }
+}
+
+// Why a visit stops whose session brought no verdict, or was refused memory.
+fn fault_of(why: Lost) -> VisitFault
+    ensures memory { result ≡ VisitFault.NoMemory → why ≡ Lost.NoMemory }
+    ensures torn { result ≡ VisitFault.Torn → why ≡ Lost.Torn }
+    ensures sent { result ≢ VisitFault.Write }
+{
+    match why {
+        Lost::NoMemory => VisitFault::NoMemory,
+        Lost::Torn => VisitFault::Torn,
     }
 }
 
@@ -85,8 +99,8 @@ impl<'a, R: Wait, G: Gate, W: Sink> Model for Visit<'a, R, G, W> {
 
 impl<'a, R: Wait, G: Gate, W: Sink> Visit<'a, R, G, W> {
     /// Opens the visit of a client, and greets it (RFC 9051, 7.1.4): the greeting was sent. `desk` is
-    /// its session's, which is in no mailbox, `folders` are its user's mailboxes, and its answers go to
-    /// `output`.
+    /// its session's, which is in no mailbox, `folders` are its user's mailboxes, its answers go to
+    /// `output`, and it may append messages of at most `most` bytes, or none.
     ///
     /// Errors give the output back: `NoMemory` as it was, where memory was refused before anything was
     /// sent; `Write` where it failed, behind the first bytes of the greeting.
@@ -95,16 +109,18 @@ impl<'a, R: Wait, G: Gate, W: Sink> Visit<'a, R, G, W> {
         alloc: Global,
         desk: LockedDesk<'a, R, G>,
         folders: Vec<Folder>,
+        most: Option<u32>,
         mut output: W,
     ) -> Result<Visit<'a, R, G, W>, (W, VisitFault)>
         requires live { W.failed output ≡ false }
         requires outside { desk.entered ≡ None }
-        ensures ok { IfOk result (λ visit. IsGreeted folders.items desk.entry (W.taken output) visit) }
+        ensures ok { IfOk result (λ visit. IsGreeted most folders.items desk.entry (W.taken output) visit) }
+        ensures untorn { IfErr result (λ stop. stop.1 ≢ VisitFault.Torn) }
         ensures short { IfErr result (λ stop. stop.1 ≡ VisitFault.NoMemory → stop.0 ≡ output) }
         ensures cut { IfErr result (λ stop. stop.1 ≡ VisitFault.Write → (sent : ℕ) × (sent < length greeting) × Appends (W.taken output) (W.taken stop.0) (take sent greeting)) }
         ensures failed { IfErr result (λ stop. stop.1 ≡ VisitFault.Write → W.failed stop.0 ≡ true) }
     {
-        let Ok(connection) = ImapConnection::new(alloc, folders, NO_MESSAGES) else {
+        let Ok(connection) = ImapConnection::new(alloc, folders, most) else {
             return Err((output, VisitFault::NoMemory));
         };
         let mut out = Vec::new(alloc);
@@ -152,30 +168,39 @@ impl<'a, R: Wait, G: Gate, W: Sink> Visit<'a, R, G, W> {
     }
 
     /// Takes a piece of the client's bytes: each line that ends in it is answered, up to the one that
-    /// ends the session or submits a message: what the piece has behind that is lost. Where the session
-    /// idles then, it has turns until one shows nothing. What was said is sent, all at once, and no
-    /// mailbox is held meanwhile. Answers what the client may send next; a visit that is over does
-    /// nothing, nor does one whose session awaits a verdict on a message.
+    /// ends the session. A message that is submitted in it is given to `courier`, and the verdict on it
+    /// is answered before anything more is taken. Where the session idles behind the piece, it has turns
+    /// until one shows nothing. What was said is sent, all at once, and no mailbox is held meanwhile.
+    /// Answers what the client may send next; a visit that is over does nothing.
     ///
     /// Whether the session idles is stored in `idles` before its first turn: a change that this turn
     /// doesn't meet was logged by someone who can read there that it idles.
     ///
-    /// Errors, after which the visit is over: `NoMemory` where memory was refused, within the piece or
-    /// within the turns. What was said by then was sent, and the rest of the piece is lost. `Write`
-    /// where the output failed: it took the first bytes of what was said.
-    pub fn hear(
+    /// Errors, after which the visit is over: `NoMemory` where memory was refused, within the piece,
+    /// within the turns or to the courier; `Torn` where the courier met something else than the verdict.
+    /// What was said by then was sent, and the rest of the piece is lost. `Write` where the output
+    /// failed: it took the first bytes of what was said.
+    pub fn hear<C: Courier>(
         &mut self,
         alloc: Global,
+        courier: &mut C,
         piece: &[u8],
         idles: &AtomicBool,
     ) -> Result<After, VisitFault>
-        ensures over { takes_bytes self.old ≡ false → (result ≡ Ok (awaited self.old)) × (self.new ≡ self.old) }
-        ensures ok { OnOk result (takes_bytes self.old ≡ true → Tells (Hears piece.now) SendsAll self.old self.new) }
+        requires ready { C.ready courier.old }
+        ensures ready { C.ready courier.new }
+        ensures kept { (first : C) → C.kept first courier.old → C.kept first courier.new }
+        ensures over { takes_bytes self.old ≡ false → (result ≡ Ok (awaited self.old)) × (self.new ≡ self.old) × (courier.new ≡ courier.old) }
+        ensures ok { OnOk result (takes_bytes self.old ≡ true
+            → (carried : List Carried) × ((done : List Carried) → C.carried courier.old done → C.carried courier.new (done ++ carried)) × Tells (Hears piece.now carried) SendsAll self.old self.new) }
         ensures next { IfOk result (λ after. after ≡ awaited self.new) }
         ensures goes_on { OnOk result (self.new.closed ≡ self.old.closed) }
         ensures ends { OnErr result (self.new.closed ≡ true) }
-        ensures short { result ≡ Err VisitFault.NoMemory → Tells (HearsInPart self.new.room piece.now) SendsAll self.old self.new }
-        ensures cut { result ≡ Err VisitFault.Write → Tells (Hears piece.now) SendsFirst self.old self.new ⊎ Tells (HearsInPart self.new.room piece.now) SendsFirst self.old self.new }
+        ensures short { result ≡ Err VisitFault.NoMemory → Tells (HearsInPart self.new.room piece.now Lost.NoMemory) SendsAll self.old self.new }
+        ensures torn { result ≡ Err VisitFault.Torn → Tells (HearsInPart self.new.room piece.now Lost.Torn) SendsAll self.old self.new }
+        ensures cut { result ≡ Err VisitFault.Write
+            → ((carried : List Carried) × ((done : List Carried) → C.carried courier.old done → C.carried courier.new (done ++ carried)) × Tells (Hears piece.now carried) SendsFirst self.old self.new)
+            ⊎ ((why : Lost) × Tells (HearsInPart self.new.room piece.now why) SendsFirst self.old self.new) }
     {
         if !self.takes_bytes() {
             return Ok(self.awaited());
@@ -185,6 +210,7 @@ impl<'a, R: Wait, G: Gate, W: Sink> Visit<'a, R, G, W> {
             alloc,
             &mut self.connection,
             &mut self.desk,
+            courier,
             piece,
             idles,
             &mut self.out,
@@ -193,12 +219,14 @@ impl<'a, R: Wait, G: Gate, W: Sink> Visit<'a, R, G, W> {
             self.is_closed = true;
             return Err(VisitFault::Write);
         };
-        let Ok(()) = heard else {
-            // What comes behind the bytes that are lost would be read as something else.
-            self.is_closed = true;
-            return Err(VisitFault::NoMemory);
-        };
-        Ok(self.awaited())
+        match heard {
+            Ok(()) => Ok(self.awaited()),
+            Err(why) => {
+                // What comes behind the bytes that are lost would be read as something else.
+                self.is_closed = true;
+                Err(fault_of(why))
+            }
+        }
     }
 
     /// Shows the client what there is, where its session idles: turns until one shows nothing, and what
@@ -213,6 +241,7 @@ impl<'a, R: Wait, G: Gate, W: Sink> Visit<'a, R, G, W> {
         ensures ok { OnOk result (is_over self.old ≡ false → Tells ShowsAll SendsAll self.old self.new) }
         ensures next { IfOk result (λ after. after ≡ awaited self.new) }
         ensures goes_on { OnOk result (self.new.closed ≡ self.old.closed) }
+        ensures untorn { IfErr result (λ fault. fault ≢ VisitFault.Torn) }
         ensures waits { result ≡ Err VisitFault.NoMemory → self.new.closed ≡ self.old.closed }
         ensures short { result ≡ Err VisitFault.NoMemory → Tells (ShowsInPart self.new.room) SendsAll self.old self.new }
         ensures cut { result ≡ Err VisitFault.Write → Tells ShowsAll SendsFirst self.old self.new ⊎ Tells (ShowsInPart self.new.room) SendsFirst self.old self.new }

@@ -1,7 +1,7 @@
 -- A session's steps.
-use Rattle.std.proofs.Common.{◌≡◌, ℕ, suc, ◌+◌, ◌<◌, ◌⊎◌, inl, inr, Bool, true, false, List, [], ◌∷◌, ◌++◌, length, take, drop, get_or, arith, refl, sym, ap, ap₂, ◌∙◌, subst, ◌&&◌, not, is_some, None}
+use Rattle.std.proofs.Common.{◌≡◌, ℕ, suc, ◌+◌, ◌<◌, ◌⊎◌, inl, inr, Bool, true, false, List, [], ◌∷◌, ◌++◌, length, take, drop, get_or, arith, refl, sym, ap, ap₂, ◌∙◌, subst, ◌&&◌, not, is_some, Option, None}
 use Rattle.std.specs.Global.{Global}
-use Rattle.std.specs.Prelude.{OnErr, OnOk, Result, Ok, Err, Vec}
+use Rattle.std.specs.Prelude.{IfErr, OnOk, Result, Ok, Err, Vec}
 use Rattle.imap_session.specs.Commands.{greeting, most_changes}
 use Rattle.std.proofs.Math.Seq.{split_at}
 use Rattle.std.proofs.lemmas.List.{take_more}
@@ -10,22 +10,14 @@ use Rattle.imap_session.specs.declared.standing.SessionFault.TheVariants as faul
 use Rattle.imap_session.specs.declared.standing.SessionFault.TheVariants.{Ended}
 use Rattle.imap_session.specs.Exchange.{Feed, Folder, Refused, Standing, is_idling, nothing_sent}
 use Rattle.mailbox.specs.declared.clients.MailFault.TheVariants.{NoMemory}
-use Rattle.imap_connection.specs.Dialogue as dialogue
 use Rattle.imap_connection.specs.Dialogue.{Dialogue, Link, StandsFor}
 use Rattle.session_thread.specs.declared.life.Step.{Step}
 use Rattle.session_thread.specs.declared.life.Step.TheVariants.{Say, Await}
 use Rattle.session_thread.specs.Locks.{Holds, Place, shown_in}
-use Rattle.session_thread.specs.Life.{Begins, Departs, HasTurn, IsOver, IsShort, Lives, LivesInPart, Moment, SaysFirst, Steps, Turns, another, goes_on, greeted_at, moment, takes_more}
-
--- ---- results
-
-on_ok : {A E : Type 0} (r : Result A E) (P Q : Type 0) → (P → Q) → OnOk r P → OnOk r Q
-on_ok (Ok x) P Q f h = f h
-on_ok (Err e) P Q f h = h
-
-on_err : {A E : Type 0} (r : Result A E) (P Q : Type 0) → (P → Q) → OnErr r P → OnErr r Q
-on_err (Ok x) P Q f h = h
-on_err (Err e) P Q f h = f h
+use Rattle.session_thread.specs.Life.{Awaits, Departs, Does, HasTurn, IsOver, IsShort, Lives, LivesInPart, Moment, Says, SaysInPart, Steps, StopsIn, Turns, another, goes_on, greeted_at, moment, takes_more}
+use Rattle.courier.specs.Carried.{Carried}
+use Rattle.courier.specs.declared.Lost.{Lost}
+use Rattle.courier.specs.declared.Lost.TheVariants as lost
 
 -- ---- turns
 
@@ -69,58 +61,93 @@ no_turn d old new before middle after room was link faults.NoMemory stands idles
 
 -- ---- steps
 
-pub lived_on : (turns : ℕ) (first : Moment) (steps : List Step) (i : ℕ) (step : Step) (now next : Moment) → i < length steps → step ≡ get_or steps i step → Lives turns first (take i steps) now → Steps turns step now next → Lives turns first (take (i + 1) steps) next
-lived_on turns first steps i step now next l is lives does =
-    subst (λ (xs : List Step). Lives turns first xs next) (sym (take_more steps i step l ∙ ap (λ (s : Step). take i steps ++ s ∷ []) (sym is))) (goes_on (take i steps) step now next lives does)
+pub lived_on : (turns : ℕ) (first : Moment) (steps : List Step) (i : ℕ) (step : Step) (carried more : List Carried) (now next : Moment) → i < length steps → step ≡ get_or steps i step → Lives turns first (take i steps) carried now → Steps turns step more now next
+    → Lives turns first (take (i + 1) steps) (carried ++ more) next
+lived_on turns first steps i step carried more now next l is lives does =
+    subst (λ (xs : List Step). Lives turns first xs (carried ++ more) next) (sym (take_more steps i step l ∙ ap (λ (s : Step). take i steps ++ s ∷ []) (sym is))) (goes_on (take i steps) step carried more now next lives does)
 
--- a step was begun by a session whose client may send more
-going : (turns room : ℕ) (step kind : Step) (d next : Dialogue) (old new : Place) (before after : List ℕ) (was link : Link) → takes_more was.session ≡ true → step ≡ kind → StandsFor was d → StandsFor link next
-    → Begins turns kind (moment d old before) (moment next new after) → IsShort room (moment next new after)
-    → (x : Dialogue) × StandsFor link x × (takes_more d.standing ≡ true) × Begins turns step (moment d old before) (moment x new after) × IsShort room (moment x new after)
-going turns room step kind d next old new before after was link goes is stands there b short =
-    (next, there, subst (λ (s : Standing). takes_more s ≡ true) stands.session goes, subst (λ (s : Step). Begins turns s (moment d old before) (moment next new after)) (sym is) b, short)
+-- a session that takes nothing more does nothing
+pub rested : (turns : ℕ) (step : Step) (d : Dialogue) (place : Place) (text : List ℕ) (was : Link) → takes_more was.session ≡ false → StandsFor was d
+    → (next : Dialogue) × StandsFor was next × Steps turns step [] (moment d place text) (moment next place text)
+rested turns step d place text was over stands = (d, stands, inl (subst (λ (s : Standing). takes_more s ≡ false) stands.session over, refl, refl))
 
-pub said_first : {A E : Type 0} (r : Result A E) (turns room : ℕ) (step : Step) (v : Vec ℕ Global) (bytes : List ℕ) (old new : Place) (before after : List ℕ) (was link : Link) → takes_more was.session ≡ true → step ≡ Say v → bytes ≡ v.items
-    → OnErr r ((d : Dialogue) → StandsFor was d → (next : Dialogue) × StandsFor link next × ((used : ℕ) × SaysFirst bytes used (moment d old before) (moment next new after)) × IsShort room (moment next new after))
-    → OnErr r ((d : Dialogue) → StandsFor was d → (next : Dialogue) × StandsFor link next × (takes_more d.standing ≡ true) × Begins turns step (moment d old before) (moment next new after) × IsShort room (moment next new after))
-said_first r turns room step v bytes old new before after was link goes is items h = on_err r _ _
-    (λ f d stands. let t = f d stands in going turns room step (Say v) d t.0 old new before after was link goes is stands t.1 (t.2.0, subst (λ (b : List ℕ). SaysFirst b t.2.0 (moment d old before) (moment t.0 new after)) items t.2.1) t.3) h
+-- what a step of this kind does
+abbrev Leads : (Moment → Moment → Type 0) → Link → Place → List ℕ → Link → Place → List ℕ → Type 0
+Leads P was old before link new after = (d : Dialogue) → StandsFor was d → (next : Dialogue) × StandsFor link next × P (moment d old before) (moment next new after)
 
-pub awaited_first : {A E : Type 0} (r : Result A E) (turns room : ℕ) (step : Step) (count : ℕ) (old new : Place) (before after : List ℕ) (was link : Link) → takes_more was.session ≡ true → step ≡ Await count
-    → OnErr r ((d : Dialogue) → StandsFor was d → (next : Dialogue) × StandsFor link next × ((had : ℕ) × (had < turns) × Turns count (moment d old before) had (moment next new after) × (IsOver count (moment next new after) → ⊥)) × IsShort room (moment next new after))
-    → OnErr r ((d : Dialogue) → StandsFor was d → (next : Dialogue) × StandsFor link next × (takes_more d.standing ≡ true) × Begins turns step (moment d old before) (moment next new after) × IsShort room (moment next new after))
-awaited_first r turns room step count old new before after was link goes is h = on_err r _ _
-    (λ f d stands. let t = f d stands in going turns room step (Await count) d t.0 old new before after was link goes is stands t.1 t.2 t.3) h
+did : (turns : ℕ) (step kind : Step) (carried : List Carried) (old new : Place) (before after : List ℕ) (was link : Link) → takes_more was.session ≡ true → step ≡ kind
+    → Leads (Does turns kind carried) was old before link new after → Leads (Steps turns step carried) was old before link new after
+did turns step kind carried old new before after was link goes is does d stands =
+    let t = does d stands in (
+      t.0,
+      t.1,
+      inr (subst (λ (s : Standing). takes_more s ≡ true) stands.session goes, subst (λ (s : Step). Does turns s carried (moment d old before) (moment t.0 new after)) (sym is) t.2),
+    )
 
--- the first steps were made, and the next was begun
-pub lived_in_part : (turns room : ℕ) (first : Moment) (steps : List Step) (i : ℕ) (step : Step) (now last : Moment) → i < length steps → step ≡ get_or steps i step → Lives turns first (take i steps) now → takes_more now.dialogue.standing ≡ true
-    → Begins turns step now last → IsShort room last → LivesInPart turns room first steps last
-lived_in_part turns room first steps i step now last l is lives goes begun short = record {
+pub said_step : {A E : Type 0} (r : Result A E) (Was Now : List Carried → Type 0) (turns : ℕ) (step : Step) (v : Vec ℕ Global) (bytes : List ℕ) (old new : Place) (before after : List ℕ) (was link : Link) → takes_more was.session ≡ true → step ≡ Say v → bytes ≡ v.items
+    → OnOk r ((carried : List Carried) × ((done : List Carried) → Was done → Now (done ++ carried)) × Leads (Says bytes carried) was old before link new after)
+    → OnOk r ((carried : List Carried) × ((done : List Carried) → Was done → Now (done ++ carried)) × Leads (Steps turns step carried) was old before link new after)
+said_step (Ok x) Was Now turns step v bytes old new before after was link goes is items h =
+    (h.0, h.1, did turns step (Say v) h.0 old new before after was link goes is (subst (λ (b : List ℕ). Leads (Says b h.0) was old before link new after) items h.2))
+said_step (Err e) Was Now turns step v bytes old new before after was link goes is items h = h
+
+pub awaited_step : (turns : ℕ) (step : Step) (count : ℕ) (old new : Place) (before after : List ℕ) (was link : Link) → takes_more was.session ≡ true → step ≡ Await count
+    → Leads (Awaits turns count) was old before link new after → Leads (Steps turns step []) was old before link new after
+awaited_step turns step count old new before after was link goes is h =
+    did turns step (Await count) [] old new before after was link goes is (λ d stands. let t = h d stands in (t.0, t.1, (refl, t.2)))
+
+-- a step was begun by a session whose client may send more, and the session stopped in it
+abbrev Stops : ℕ → ℕ → Step → Lost → Link → Place → List ℕ → Link → Place → List ℕ → Type 0
+Stops turns room step why was old before link new after = (d : Dialogue) → StandsFor was d → (x : Dialogue) × StandsFor link x × (takes_more d.standing ≡ true) × StopsIn turns room step why (moment d old before) (moment x new after)
+
+stopped : (turns room : ℕ) (step kind : Step) (why : Lost) (old new : Place) (before after : List ℕ) (was link : Link) → takes_more was.session ≡ true → step ≡ kind
+    → Leads (StopsIn turns room kind why) was old before link new after → Stops turns room step why was old before link new after
+stopped turns room step kind why old new before after was link goes is h d stands =
+    let t = h d stands in (t.0, t.1, subst (λ (s : Standing). takes_more s ≡ true) stands.session goes, subst (λ (s : Step). StopsIn turns room s why (moment d old before) (moment t.0 new after)) (sym is) t.2)
+
+pub said_in_part : {A : Type 0} (r : Result A Lost) (turns room : ℕ) (step : Step) (v : Vec ℕ Global) (bytes : List ℕ) (old new : Place) (before after : List ℕ) (was link : Link) → takes_more was.session ≡ true → step ≡ Say v → bytes ≡ v.items
+    → IfErr r (λ why. Leads (SaysInPart room bytes why) was old before link new after) → IfErr r (λ why. Stops turns room step why was old before link new after)
+said_in_part (Ok x) turns room step v bytes old new before after was link goes is items h = h
+said_in_part (Err why) turns room step v bytes old new before after was link goes is items h =
+    stopped turns room step (Say v) why old new before after was link goes is (subst (λ (b : List ℕ). Leads (SaysInPart room b why) was old before link new after) items h)
+
+pub awaited_in_part : (turns room : ℕ) (step : Step) (count : ℕ) (old new : Place) (before after : List ℕ) (was link : Link) → takes_more was.session ≡ true → step ≡ Await count
+    → ((d : Dialogue) → StandsFor was d → (next : Dialogue) × StandsFor link next × ((had : ℕ) × (had < turns) × Turns count (moment d old before) had (moment next new after) × (IsOver count (moment next new after) → ⊥)) × IsShort room (moment next new after))
+    → Stops turns room step lost.NoMemory was old before link new after
+awaited_in_part turns room step count old new before after was link goes is h =
+    stopped turns room step (Await count) lost.NoMemory old new before after was link goes is (λ d stands. let t = h d stands in (t.0, t.1, (t.2.0, t.2.1, t.2.2, t.2.3, t.3, refl)))
+
+-- the first steps were made, and in the next the session stopped
+pub lived_in_part : (turns room : ℕ) (first : Moment) (steps : List Step) (i : ℕ) (step : Step) (carried : List Carried) (why : Lost) (now last : Moment) → i < length steps → step ≡ get_or steps i step → Lives turns first (take i steps) carried now
+    → takes_more now.dialogue.standing ≡ true → StopsIn turns room step why now last → LivesInPart turns room first steps why last
+lived_in_part turns room first steps i step carried why now last l is lives goes stops = record {
   made = take i steps;
   step = step;
   others = drop (suc i) steps;
   are = split_at steps i step l ∙ ap (λ (s : Step). take i steps ++ s ∷ drop (suc i) steps) (sym is);
+  carried = carried;
   now = now;
   lives = lives;
   goes = goes;
-  begun = begun;
-  short = short;
+  stops = stops;
 }
 
 -- ---- the whole life
 
 -- a client that was just greeted
-abbrev pub first_dialogue : List Folder → Dialogue
-first_dialogue folders = record { standing = record { folders = folders; selected = None; idling = None; ended = false; mailing = nothing_sent None }; begun = [] }
+abbrev pub first_dialogue : Option ℕ → List Folder → Dialogue
+first_dialogue most folders = record { standing = record { folders = folders; selected = None; idling = None; ended = false; mailing = nothing_sent most }; begun = [] }
 
-pub lived : {A E : Type 0} (r : Result A E) (turns : ℕ) (folders : List Folder) (steps : List Step) (old new end : Place) (before text after : List ℕ) (link last : Link) → StandsFor link (first_dialogue folders) → text ≡ before ++ greeting
-    → OnOk r ((d : Dialogue) → StandsFor link d → (next : Dialogue) × StandsFor last next × Lives turns (moment d old text) steps (moment next new after)) → Departs new end
-    → OnOk r ((x : Moment) × Lives turns (greeted_at folders old (before ++ greeting)) steps x × (after ≡ x.text) × Departs x.place end)
-lived r turns folders steps old new end before text after link last stands greets h goes = on_ok r _ _
-    (λ f. let t = f (first_dialogue folders) stands in (moment t.0 new after, subst (λ (w : List ℕ). Lives turns (greeted_at folders old w) steps (moment t.0 new after)) greets t.2, refl, goes)) h
+pub lived : {A E : Type 0} (r : Result A E) (Was Now : List Carried → Type 0) (turns : ℕ) (most : Option ℕ) (folders : List Folder) (steps : List Step) (old new end : Place) (before text after : List ℕ) (link last : Link) → StandsFor link (first_dialogue most folders) → text ≡ before ++ greeting
+    → OnOk r ((carried : List Carried) × ((done : List Carried) → Was done → Now (done ++ carried)) × ((d : Dialogue) → StandsFor link d → (next : Dialogue) × StandsFor last next × Lives turns (moment d old text) steps carried (moment next new after))) → Departs new end
+    → OnOk r ((carried : List Carried) × ((done : List Carried) → Was done → Now (done ++ carried)) × ((x : Moment) × Lives turns (greeted_at most folders old (before ++ greeting)) steps carried x × (after ≡ x.text) × Departs x.place end))
+lived (Ok x) Was Now turns most folders steps old new end before text after link last stands greets h goes =
+    let t = h.2 (first_dialogue most folders) stands in (h.0, h.1, (moment t.0 new after, subst (λ (w : List ℕ). Lives turns (greeted_at most folders old w) steps h.0 (moment t.0 new after)) greets t.2, refl, goes))
+lived (Err e) Was Now turns most folders steps old new end before text after link last stands greets h goes = h
 
-pub lived_some : {A E : Type 0} (r : Result A E) (turns room : ℕ) (folders : List Folder) (steps : List Step) (old new end : Place) (before text after : List ℕ) (link last : Link) → StandsFor link (first_dialogue folders) → text ≡ before ++ greeting
-    → OnErr r ((d : Dialogue) → StandsFor link d → (next : Dialogue) × StandsFor last next × LivesInPart turns room (moment d old text) steps (moment next new after)) → Departs new end
-    → OnErr r ((end ≡ old) × (after ≡ before) ⊎ (x : Moment) × LivesInPart turns room (greeted_at folders old (before ++ greeting)) steps x × (after ≡ x.text) × Departs x.place end)
-lived_some r turns room folders steps old new end before text after link last stands greets h goes = on_err r _ _
-    (λ f. let t = f (first_dialogue folders) stands in inr (moment t.0 new after, subst (λ (w : List ℕ). LivesInPart turns room (greeted_at folders old w) steps (moment t.0 new after)) greets t.2, refl, goes)) h
+pub lived_some : {A : Type 0} (r : Result A Lost) (turns room : ℕ) (most : Option ℕ) (folders : List Folder) (steps : List Step) (old new end : Place) (before text after : List ℕ) (link last : Link) → StandsFor link (first_dialogue most folders) → text ≡ before ++ greeting
+    → IfErr r (λ why. (d : Dialogue) → StandsFor link d → (next : Dialogue) × StandsFor last next × LivesInPart turns room (moment d old text) steps why (moment next new after)) → Departs new end
+    → IfErr r (λ why. (end ≡ old) × (after ≡ before) × (why ≡ lost.NoMemory) ⊎ (x : Moment) × LivesInPart turns room (greeted_at most folders old (before ++ greeting)) steps why x × (after ≡ x.text) × Departs x.place end)
+lived_some (Ok x) turns room most folders steps old new end before text after link last stands greets h goes = h
+lived_some (Err why) turns room most folders steps old new end before text after link last stands greets h goes =
+    let t = h (first_dialogue most folders) stands in inr (moment t.0 new after, subst (λ (w : List ℕ). LivesInPart turns room (greeted_at most folders old w) steps why (moment t.0 new after)) greets t.2, refl, goes)

@@ -1,10 +1,16 @@
 -- The life of a session's thread: its steps, one after another, over mailboxes behind locks.
-use Rattle.std.specs.Prelude.{◌≡◌, ℕ, suc, ◌+◌, ◌<◌, ◌≤◌, ◌⊎◌, Bool, true, false, List, [], ◌∷◌, ◌++◌, length, take, None}
+use Rattle.std.specs.Prelude.{◌≡◌, ℕ, suc, ◌+◌, ◌<◌, ◌≤◌, ◌⊎◌, Bool, true, false, List, [], ◌∷◌, ◌++◌, length, take, drop, Option, None, Some}
+use Rattle.delivery_token.specs.declared.Verdict.{Verdict}
+use Rattle.courier.specs.Carried.{Carried}
+use Rattle.courier.specs.declared.Lost.{Lost}
+use Rattle.courier.specs.declared.Lost.TheVariants as lost
 use Rattle.mailbox.specs.declared.clients.MailFault.TheVariants.{NoMemory}
 use Rattle.imap_session.specs.declared.standing.After.{After}
-use Rattle.imap_session.specs.Exchange.{Answer, Feed, Folder, Leave, Refused, Standing, is_idling, kept_tag, may_send, nothing_sent}
+use Rattle.imap_session.specs.declared.standing.After.TheVariants.{Submit}
+use Rattle.imap_session.specs.declared.standing.Append.{Append}
+use Rattle.imap_session.specs.Exchange.{Answer, Feed, Folder, Leave, Refused, Sent, Standing, is_idling, kept_tag, may_send, nothing_sent}
 use Rattle.imap_session.specs.Commands.{most_changes}
-use Rattle.imap_session.specs.Store.{IdleTurns}
+use Rattle.imap_session.specs.Store.{AnswersVerdict, IdleTurns}
 use Rattle.imap_connection.specs.Dialogue.{Answered, Dialogue, may_follow, tag_len}
 use Rattle.session_thread.specs.declared.life.Step.{Step}
 use Rattle.session_thread.specs.declared.life.Step.TheVariants.{Say, Await}
@@ -19,10 +25,10 @@ pub record Moment : Type 0 where
 abbrev pub moment : Dialogue → Place → List ℕ → Moment
 moment dialogue place text = record { dialogue = dialogue; place = place; text = text }
 
--- the first moment of a session with these mailboxes, which has been greeted, and takes no message
-abbrev pub greeted_at : List Folder → Place → List ℕ → Moment
-greeted_at folders place text = record {
-  dialogue = record { standing = record { folders = folders; selected = None; idling = None; ended = false; mailing = nothing_sent None }; begun = [] };
+-- the first moment of a session with these mailboxes, which has been greeted, and takes messages of at most so many bytes, or none
+abbrev pub greeted_at : Option ℕ → List Folder → Place → List ℕ → Moment
+greeted_at most folders place text = record {
+  dialogue = record { standing = record { folders = folders; selected = None; idling = None; ended = false; mailing = nothing_sent most }; begun = [] };
   place = place;
   text = text;
 }
@@ -48,7 +54,7 @@ pub data Turns (count : ℕ) (first : Moment) : ℕ → Moment → Type 0 where
   none : Turns count first 0 first
   another : (k : ℕ) (now next : Moment) → Turns count first k now → (IsOver count now → ⊥) → HasTurn now next → Turns count first (suc k) next
 
--- ---- steps
+-- ---- what the client says
 
 -- So many of these bytes were taken, from the front, and each line that ended in them was answered.
 pub record SaysFirst (bytes : List ℕ) (used : ℕ) (before after : Moment) : Type 0 where
@@ -58,11 +64,35 @@ pub record SaysFirst (bytes : List ℕ) (used : ℕ) (before after : Moment) : T
   pub answered : Answered Holds before.dialogue (take used bytes) before.place after.place said how after.dialogue
   pub wrote : after.text ≡ before.text ++ said
 
--- The bytes were taken, to their end or to the line that ended the session or submitted a message.
-pub record Says (bytes : List ℕ) (before after : Moment) : Type 0 where
+-- a message that was submitted, with what became of it
+abbrev pub carried_of : Append → Verdict → Carried
+carried_of append verdict = record { message = append.message; mailbox = append.mailbox; text = append.text; flags = append.flags; verdict = verdict }
+
+-- The message that was submitted was carried to its mailbox, and the verdict on it was answered.
+pub record TellsVerdict (one : Carried) (before after : Moment) : Type 0 where
+  pub sent : Sent
+  pub awaited : before.dialogue.standing.mailing.sent ≡ Some sent
+  pub carries : one ≡ carried_of sent.append one.verdict
+  pub how : After
+  pub answered : AnswersVerdict Holds before.dialogue.standing one.verdict before.place after.place before.text after.text how after.dialogue.standing
+  pub begun : after.dialogue.begun ≡ before.dialogue.begun
+
+-- So many of these bytes were taken, in one go or in several. Each line that ended in them was answered, and so was, before anything more was taken, the
+-- verdict on each message that was submitted there: these, in this order.
+pub data Speaks (bytes : List ℕ) (first : Moment) : ℕ → List Carried → Moment → Type 0 where
+  silent : Speaks bytes first 0 [] first
+  takes : (used more : ℕ) (carried : List Carried) (now next : Moment) → Speaks bytes first used carried now → takes_more now.dialogue.standing ≡ true
+      → SaysFirst (drop used bytes) more now next → Speaks bytes first (used + more) carried next
+  hears : (used : ℕ) (carried : List Carried) (one : Carried) (now next : Moment) → Speaks bytes first used carried now → TellsVerdict one now next
+      → Speaks bytes first used (carried ++ one ∷ []) next
+
+-- The bytes were taken, to their end or to the line that ended the session, and no verdict is awaited any more.
+pub record Says (bytes : List ℕ) (carried : List Carried) (before after : Moment) : Type 0 where
   pub used : ℕ
-  pub first : SaysFirst bytes used before after
-  pub all : (used ≡ length bytes) ⊎ (takes_more after.dialogue.standing ≡ false)
+  pub speaks : Speaks bytes before used carried after
+  pub all : ((used ≡ length bytes) × (takes_more after.dialogue.standing ≡ true)) ⊎ (after.dialogue.standing.ended ≡ true)
+
+-- ---- steps
 
 -- Turns were had until enough was shown, the session idled no more, or its turns were spent.
 pub record Awaits (turns count : ℕ) (before after : Moment) : Type 0 where
@@ -71,43 +101,52 @@ pub record Awaits (turns count : ℕ) (before after : Moment) : Type 0 where
   pub turned : Turns count before had after
   pub enough : (had ≡ turns) ⊎ IsOver count after
 
--- what a step of a session does whose client may send more
-abbrev pub Does : ℕ → Step → Moment → Moment → Type 0
-Does turns (Say bytes) before after = Says bytes.items before after
-Does turns (Await count) before after = Awaits turns count before after
+-- what a step of a session does whose client may send more, and which messages it carried
+abbrev pub Does : ℕ → Step → List Carried → Moment → Moment → Type 0
+Does turns (Say bytes) carried before after = Says bytes.items carried before after
+Does turns (Await count) carried before after = (carried ≡ []) × Awaits turns count before after
 
 -- One step: a session that has ended, or awaits a verdict, does nothing.
-abbrev pub Steps : ℕ → Step → Moment → Moment → Type 0
-Steps turns step before after = ((takes_more before.dialogue.standing ≡ false) × (after ≡ before)) ⊎ ((takes_more before.dialogue.standing ≡ true) × Does turns step before after)
+abbrev pub Steps : ℕ → Step → List Carried → Moment → Moment → Type 0
+Steps turns step carried before after =
+    ((takes_more before.dialogue.standing ≡ false) × (carried ≡ []) × (after ≡ before)) ⊎ ((takes_more before.dialogue.standing ≡ true) × Does turns step carried before after)
 
--- These steps were made.
-pub data Lives (turns : ℕ) (first : Moment) : List Step → Moment → Type 0 where
-  begins : Lives turns first [] first
-  goes_on : (steps : List Step) (step : Step) (now next : Moment) → Lives turns first steps now → Steps turns step now next → Lives turns first (steps ++ step ∷ []) next
+-- These steps were made, and these messages were carried on the way, in this order.
+pub data Lives (turns : ℕ) (first : Moment) : List Step → List Carried → Moment → Type 0 where
+  begins : Lives turns first [] [] first
+  goes_on : (steps : List Step) (step : Step) (carried more : List Carried) (now next : Moment) → Lives turns first steps carried now → Steps turns step more now next
+      → Lives turns first (steps ++ step ∷ []) (carried ++ more) next
 
--- ---- where memory is refused
+-- ---- where it stops
 
 -- Memory was refused to a session where it stands: what it writes to has no room for the next line's last words and their like, out of `room` bytes,
 -- or a mailbox refused it a turn.
 abbrev pub IsShort : ℕ → Moment → Type 0
 IsShort room now = (room < length now.text + (8272 + tag_len (kept_tag now.dialogue.standing))) ⊎ Holds now.place (Feed most_changes) (Refused NoMemory) now.place
 
--- A step was begun: of its bytes some were taken, or some of its turns were had, and there was still something to wait for.
-abbrev pub Begins : ℕ → Step → Moment → Moment → Type 0
-Begins turns (Say bytes) before after = (used : ℕ) × SaysFirst bytes.items used before after
-Begins turns (Await count) before after = (had : ℕ) × (had < turns) × Turns count before had after × (IsOver count after → ⊥)
+-- Of these bytes some were taken, and then the session stopped: memory was refused, or no verdict came on the message that it had submitted.
+pub data SaysInPart (room : ℕ) (bytes : List ℕ) (why : Lost) (before after : Moment) : Type 0 where
+  short : (used : ℕ) (carried : List Carried) → Speaks bytes before used carried after → IsShort room after → why ≡ lost.NoMemory → SaysInPart room bytes why before after
+  unheard : (used : ℕ) (carried : List Carried) → Speaks bytes before used carried after → may_send after.dialogue.standing ≡ Submit → SaysInPart room bytes why before after
 
--- The first of these steps were made, and the next was begun, in which memory was refused.
-pub record LivesInPart (turns room : ℕ) (first : Moment) (steps : List Step) (last : Moment) : Type 0 where
+-- A step was begun, and the session stopped in it: so it was with its bytes; or some of its turns were had, memory was refused, and there was still
+-- something to wait for.
+abbrev pub StopsIn : ℕ → ℕ → Step → Lost → Moment → Moment → Type 0
+StopsIn turns room (Say bytes) why before after = SaysInPart room bytes.items why before after
+StopsIn turns room (Await count) why before after =
+    (had : ℕ) × (had < turns) × Turns count before had after × (IsOver count after → ⊥) × IsShort room after × (why ≡ lost.NoMemory)
+
+-- The first of these steps were made, and in the next the session stopped.
+pub record LivesInPart (turns room : ℕ) (first : Moment) (steps : List Step) (why : Lost) (last : Moment) : Type 0 where
   pub made : List Step
   pub step : Step
   pub others : List Step
   pub are : steps ≡ made ++ step ∷ others
+  pub carried : List Carried
   pub now : Moment
-  pub lives : Lives turns first made now
+  pub lives : Lives turns first made carried now
   pub goes : takes_more now.dialogue.standing ≡ true
-  pub begun : Begins turns step now last
-  pub short : IsShort room last
+  pub stops : StopsIn turns room step why now last
 
 -- ---- the end
 

@@ -1,14 +1,18 @@
 //! The store of a session of the running house: mailboxes behind locks. Which lock a call takes, and
 //! whose bells ring behind it, stands here; what is done to the mailbox that is found doesn't.
 
-ghost use Rattle.std.specs.Prelude.{◌≡◌, None, length};
+ghost use Rattle.std.specs.Prelude.{◌≡◌, ◌∷◌, ◌++◌, [], List, IfOk, None, length};
+ghost use Rattle.courier.specs.Carried.{Carried};
+ghost use Rattle.session_thread.specs.Life.{carried_of};
 ghost use Rattle.session_thread.specs.Locks.{Holds, shown_in};
 
 use crate::locked;
 use change_ring::{FlagOp, Flags};
+use courier::{Courier, Lost};
 use cursor_set::CursorSeat;
+use delivery_token::Verdict;
 use imap_grammar::{Named, SeqSet};
-use imap_session::Store;
+use imap_session::{Append, Store};
 use mailbox::{MailFault, Mailbox, Opening, Row, Status};
 use pace::{Actor, Gate, Pace};
 use session_bells::{SessionBell, ring_each};
@@ -97,6 +101,40 @@ impl<'a, R: Wait, G: Gate> LockedDesk<'a, R, G> {
             bells,
             entered: None,
         }
+    }
+
+    /// Gives the message that the session submitted to a courier, who makes its events at the session's
+    /// pace. No lock is held meanwhile.
+    pub(crate) fn carry<C: Courier>(
+        &mut self,
+        courier: &mut C,
+        append: &Append,
+    ) -> Result<Verdict, Lost>
+        requires ready { C.ready courier.old }
+        ensures ready { C.ready courier.new }
+        ensures kept { (first : C) → C.kept first courier.old → C.kept first courier.new }
+        ensures carried { IfOk result (λ verdict. (done : List Carried) → C.carried courier.old done → C.carried courier.new (done ++ carried_of append.now verdict ∷ [])) }
+        ensures same { self.new ≡ self.old }
+    {
+        courier.carry(
+            &mut self.pace,
+            append.message,
+            append.mailbox,
+            &append.text,
+            append.flags,
+        )
+    }
+
+    /// The session's pace, for events that are no hold of a mailbox.
+    pub fn into_pace(self) -> Pace<'a, G> {
+        let LockedDesk {
+            rt: _,
+            pace,
+            mailboxes: _,
+            bells: _,
+            entered: _,
+        } = self;
+        pace
     }
 
     /// How many changes the session was shown since it entered its mailbox; 0 in none.

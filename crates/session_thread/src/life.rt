@@ -1,14 +1,17 @@
 //! The life of a session's thread: the greeting, its steps, and the leaving of its mailbox. Who starts
 //! the thread, and what its steps are, stands above.
 
-ghost use Rattle.std.specs.Prelude.{◌≡◌, ◌++◌, ◌<◌, ◌⊎◌, ℕ, None, false, true, OnErr, OnOk};
+ghost use Rattle.std.specs.Prelude.{◌≡◌, ◌++◌, ◌<◌, ◌⊎◌, ℕ, List, None, false, true, IfErr, OnErr, OnOk};
 ghost use Rattle.std.specs.Vec.{vec_capacity};
 ghost use Rattle.imap_session.specs.Commands.{greeting};
 ghost use Rattle.imap_session.specs.Exchange.{is_idling};
 ghost use Rattle.imap_connection.specs.Dialogue.{Dialogue, StandsFor};
-ghost use Rattle.session_thread.specs.Life.{Awaits, Begins, Departs, HasTurn, IsOver, IsShort, Lives, LivesInPart, Moment, Says, SaysFirst, Steps, Turns, greeted_at, moment, takes_more};
+ghost use Rattle.courier.specs.Carried.{Carried};
+ghost use Rattle.session_thread.specs.Life.{Awaits, Departs, HasTurn, IsOver, IsShort, Lives, LivesInPart, Moment, Steps, StopsIn, Turns, greeted_at, moment, takes_more};
 
 use crate::desk::LockedDesk;
+use crate::speaking::answer;
+use courier::{Courier, Lost};
 use imap_connection::ImapConnection;
 use imap_session::{After, Folder, Store};
 use pace::Gate;
@@ -36,30 +39,6 @@ pub fn takes_more(connection: &ImapConnection) -> bool
     ensures unsent { result ≡ true → connection.now.session.mailing.sent ≡ None }
 {
     !matches!(connection.may_send(), After::Bye | After::Submit)
-}
-
-// The client sends bytes: each line that ends in them is answered, unless the session ends before, or
-// submits a message.
-fn say<R: Wait, G: Gate>(
-    alloc: Global,
-    connection: &mut ImapConnection,
-    desk: &mut LockedDesk<'_, R, G>,
-    bytes: &[u8],
-    out: &mut Vec<u8>,
-) -> Result<(), AllocError>
-    requires going { connection.old.session.ended ≡ false }
-    requires unsent { connection.old.session.mailing.sent ≡ None }
-    ensures ok { OnOk result ((d : Dialogue) → StandsFor connection.old d → (next : Dialogue) × StandsFor connection.new next
-        × Says bytes.now (moment d desk.old out.old.items) (moment next desk.new out.new.items)) }
-    ensures err { OnErr result ((d : Dialogue) → StandsFor connection.old d → (next : Dialogue) × StandsFor connection.new next
-        × ((used : ℕ) × SaysFirst bytes.now used (moment d desk.old out.old.items) (moment next desk.new out.new.items))
-        × IsShort (vec_capacity out.new) (moment next desk.new out.new.items)) }
-{
-    let progress = connection.take(alloc, bytes, desk, out);
-    if progress.after.is_none() {
-        return Err(AllocError);
-    }
-    Ok(())
 }
 
 // The session has a turn while it idles, and lets others go on where it showed nothing.
@@ -114,47 +93,59 @@ fn wait_for<R: Wait, G: Gate>(
 }
 
 // One step. A session that has ended, or awaits a verdict, does nothing.
-fn make<R: Wait, G: Gate>(
+fn make<R: Wait, G: Gate, C: Courier>(
     alloc: Global,
     connection: &mut ImapConnection,
     desk: &mut LockedDesk<'_, R, G>,
+    courier: &mut C,
     step: &Step,
     turns: u64,
     out: &mut Vec<u8>,
-) -> Result<(), AllocError>
-    ensures ok { OnOk result ((d : Dialogue) → StandsFor connection.old d → (next : Dialogue) × StandsFor connection.new next
-        × Steps turns step.now (moment d desk.old out.old.items) (moment next desk.new out.new.items)) }
-    ensures err { OnErr result ((d : Dialogue) → StandsFor connection.old d → (next : Dialogue) × StandsFor connection.new next
-        × (takes_more d.standing ≡ true) × Begins turns step.now (moment d desk.old out.old.items) (moment next desk.new out.new.items)
-        × IsShort (vec_capacity out.new) (moment next desk.new out.new.items)) }
+) -> Result<(), Lost>
+    requires ready { C.ready courier.old }
+    ensures ready { C.ready courier.new }
+    ensures kept { (first : C) → C.kept first courier.old → C.kept first courier.new }
+    ensures ok { OnOk result ((carried : List Carried) × ((done : List Carried) → C.carried courier.old done → C.carried courier.new (done ++ carried))
+        × ((d : Dialogue) → StandsFor connection.old d → (next : Dialogue) × StandsFor connection.new next
+        × Steps turns step.now carried (moment d desk.old out.old.items) (moment next desk.new out.new.items))) }
+    ensures err { IfErr result (λ why. (d : Dialogue) → StandsFor connection.old d → (next : Dialogue) × StandsFor connection.new next
+        × (takes_more d.standing ≡ true) × StopsIn turns (vec_capacity out.new) step.now why (moment d desk.old out.old.items) (moment next desk.new out.new.items)) }
 {
     if !takes_more(connection) {
         return Ok(());
     }
     match step {
-        Step::Say(bytes) => say(alloc, connection, desk, bytes, out),
-        Step::Await(count) => wait_for(connection, desk, *count, turns, out),
+        Step::Say(bytes) => answer(alloc, connection, desk, courier, bytes, out),
+        Step::Await(count) => match wait_for(connection, desk, *count, turns, out) {
+            Ok(()) => Ok(()),
+            Err(_) => Err(Lost::NoMemory),
+        },
     }
 }
 
 // The steps, after the greeting.
-fn make_all<R: Wait, G: Gate>(
+fn make_all<R: Wait, G: Gate, C: Courier>(
     alloc: Global,
     connection: &mut ImapConnection,
     desk: &mut LockedDesk<'_, R, G>,
+    courier: &mut C,
     steps: &[Step],
     turns: u64,
     out: &mut Vec<u8>,
-) -> Result<(), AllocError>
-    ensures ok { OnOk result ((d : Dialogue) → StandsFor connection.old d → (next : Dialogue) × StandsFor connection.new next
-        × Lives turns (moment d desk.old out.old.items) steps.now (moment next desk.new out.new.items)) }
-    ensures err { OnErr result ((d : Dialogue) → StandsFor connection.old d → (next : Dialogue) × StandsFor connection.new next
-        × LivesInPart turns (vec_capacity out.new) (moment d desk.old out.old.items) steps.now (moment next desk.new out.new.items)) }
+) -> Result<(), Lost>
+    requires ready { C.ready courier.old }
+    ensures ready { C.ready courier.new }
+    ensures kept { (first : C) → C.kept first courier.old → C.kept first courier.new }
+    ensures ok { OnOk result ((carried : List Carried) × ((done : List Carried) → C.carried courier.old done → C.carried courier.new (done ++ carried))
+        × ((d : Dialogue) → StandsFor connection.old d → (next : Dialogue) × StandsFor connection.new next
+        × Lives turns (moment d desk.old out.old.items) steps.now carried (moment next desk.new out.new.items))) }
+    ensures err { IfErr result (λ why. (d : Dialogue) → StandsFor connection.old d → (next : Dialogue) × StandsFor connection.new next
+        × LivesInPart turns (vec_capacity out.new) (moment d desk.old out.old.items) steps.now why (moment next desk.new out.new.items)) }
 {
     for step in steps {
-        let Ok(()) = make(alloc, connection, desk, step, turns, out) else {
-            return Err(AllocError);
-        };
+        if let Err(why) = make(alloc, connection, desk, courier, step, turns, out) {
+            return Err(why);
+        }
     }
     Ok(())
 }
@@ -162,31 +153,43 @@ fn make_all<R: Wait, G: Gate>(
 /// A session lives: its client is greeted, makes its steps, and leaves the mailbox that it is in, if
 /// any, without removal. What was said stands behind `out`. A step that awaits changes has at most
 /// `turns` turns, and waits on no bell; where a turn showed nothing, other threads may go on. A step of
-/// a session that has ended, or awaits a verdict, does nothing, nor does one that awaits changes while it
-/// doesn't idle. The session takes no message that its client appends.
+/// a session that has ended does nothing, nor does one that awaits changes while it doesn't idle. The
+/// session takes messages of at most `most` bytes that its client appends, or none: each is given to
+/// `courier`, and the verdict on it is answered before anything more is taken.
 ///
-/// Errors: `AllocError` where memory was refused to the session itself. Before the greeting nothing was
-/// done then. After it the session stops, and leaves its mailbox all the same: what was said by then
-/// stands behind `out`, and is what the steps say that were made, and of the next the lines that were
-/// answered or the turns that were had. What a command was refused memory for is told to the client
-/// and is no error.
-pub fn live<R: Wait, G: Gate>(
+/// Errors: `NoMemory` where memory was refused to the session itself, or to the courier. Before the
+/// greeting nothing was done then. `Torn` where the courier met something else than the verdict that was
+/// awaited. After the greeting the session stops, and leaves its mailbox all the same: what was said by
+/// then stands behind `out`, and is what the steps say that were made, and of the next what was answered
+/// or the turns that were had. What a command was refused memory for is told to the client and is no
+/// error.
+pub fn live<R: Wait, G: Gate, C: Courier>(
     alloc: Global,
     desk: &mut LockedDesk<'_, R, G>,
+    courier: &mut C,
     folders: Vec<Folder>,
+    most: Option<u32>,
     steps: &[Step],
     turns: u64,
     out: &mut Vec<u8>,
-) -> Result<(), AllocError>
-    ensures ok { OnOk result ((last : Moment) × Lives turns (greeted_at folders.items desk.old (out.old.items ++ greeting)) steps.now last
-        × (out.new.items ≡ last.text) × Departs last.place desk.new) }
-    ensures err { OnErr result ((desk.new ≡ desk.old) × (out.new.items ≡ out.old.items)
-        ⊎ (last : Moment) × LivesInPart turns (vec_capacity out.new) (greeted_at folders.items desk.old (out.old.items ++ greeting)) steps.now last
+) -> Result<(), Lost>
+    requires ready { C.ready courier.old }
+    ensures ready { C.ready courier.new }
+    ensures kept { (first : C) → C.kept first courier.old → C.kept first courier.new }
+    ensures ok { OnOk result ((carried : List Carried) × ((done : List Carried) → C.carried courier.old done → C.carried courier.new (done ++ carried))
+        × ((last : Moment) × Lives turns (greeted_at most folders.items desk.old (out.old.items ++ greeting)) steps.now carried last
+        × (out.new.items ≡ last.text) × Departs last.place desk.new)) }
+    ensures err { IfErr result (λ why. (desk.new ≡ desk.old) × (out.new.items ≡ out.old.items) × (why ≡ Lost.NoMemory)
+        ⊎ (last : Moment) × LivesInPart turns (vec_capacity out.new) (greeted_at most folders.items desk.old (out.old.items ++ greeting)) steps.now why last
         × (out.new.items ≡ last.text) × Departs last.place desk.new) }
 {
-    let mut connection = ImapConnection::new(alloc, folders, None)?;
-    connection.greet(out)?;
-    let lived = make_all(alloc, &mut connection, desk, steps, turns, out);
+    let Ok(mut connection) = ImapConnection::new(alloc, folders, most) else {
+        return Err(Lost::NoMemory);
+    };
+    let Ok(()) = connection.greet(out) else {
+        return Err(Lost::NoMemory);
+    };
+    let lived = make_all(alloc, &mut connection, desk, courier, steps, turns, out);
     let _ = desk.leave(false);
     lived
 }

@@ -1,9 +1,11 @@
 //! Sessions that read what another thread delivers, their gate and their bells. What they are shown is
 //! written in RFC 9051, 6.3.2, 6.4.5 and 7.4.
 
+use crate::courier_tests::{TestCourier, Way};
 use crate::desk::LockedDesk;
 use crate::life::{Step, live, takes_more};
 use change_ring::{FlagOp, Flags, NO_FLAGS};
+use courier::Lost;
 use delivery_token::{CopyKey, Job, Text};
 use imap_connection::ImapConnection;
 use imap_grammar::{Command, read_line};
@@ -71,21 +73,21 @@ impl Gate for Order {
     }
 }
 
-fn two_mailboxes(alloc: Global) -> Result<Vec<Mutex<Mailbox>>, AllocError> {
+pub(crate) fn two_mailboxes(alloc: Global) -> Result<Vec<Mutex<Mailbox>>, AllocError> {
     let mut mailboxes = Vec::new(alloc);
     mailboxes.push(Mutex::new(Mailbox::new(alloc, 0, 7, 1, SMALL, History::Kept)?))?;
     mailboxes.push(Mutex::new(Mailbox::new(alloc, 1, 8, 1, SMALL, History::Kept)?))?;
     Ok(mailboxes)
 }
 
-fn folders(alloc: Global) -> Result<Vec<Folder>, AllocError> {
+pub(crate) fn folders(alloc: Global) -> Result<Vec<Folder>, AllocError> {
     let name = Vec::from_slice(alloc, b"INBOX")?;
     let mut folders = Vec::new(alloc);
     folders.push(Folder::new(name, 0))?;
     Ok(folders)
 }
 
-fn saying(alloc: Global, steps: &mut Vec<Step>, bytes: &[u8]) -> Result<(), AllocError> {
+pub(crate) fn saying(alloc: Global, steps: &mut Vec<Step>, bytes: &[u8]) -> Result<(), AllocError> {
     steps.push(Step::Say(Vec::from_slice(alloc, bytes)?))?;
     Ok(())
 }
@@ -135,7 +137,19 @@ fn session<R: Wait>(
     };
     let mut said = Vec::new(alloc);
     let mut desk = LockedDesk::new(rt, order, 0, mailboxes, bells);
-    match live(alloc, &mut desk, folders, steps, PATIENCE, &mut said) {
+    // It takes no message, so nobody is asked to carry one.
+    let mut courier = TestCourier::new(rt, mailboxes, Way::Loses(Lost::Torn));
+    let lived = live(
+        alloc,
+        &mut desk,
+        &mut courier,
+        folders,
+        None,
+        steps,
+        PATIENCE,
+        &mut said,
+    );
+    match lived {
         Ok(()) => Some(said),
         Err(_) => None,
     }
@@ -269,18 +283,18 @@ fn a_bell_wakes_a_session(rt: HostRuntime) -> Result<(), AllocError> {
 
 // A gate that counts how often it was asked.
 #[derive(Drop)]
-struct Tally {
+pub(crate) struct Tally {
     asked: AtomicU64,
 }
 
 impl Tally {
-    fn new() -> Tally {
+    pub(crate) fn new() -> Tally {
         Tally {
             asked: AtomicU64::new(0),
         }
     }
 
-    fn asked(&self) -> u64 {
+    pub(crate) fn asked(&self) -> u64 {
         self.asked.load(Ordering::SeqCst)
     }
 }

@@ -1,7 +1,12 @@
-use Rattle.std.proofs.Common.{take}
+use Rattle.std.proofs.Common.{◌++◌, List, take}
+use Rattle.courier.specs.Carried.{Carried}
 use Rattle.imap_connection.specs.Dialogue.{Dialogue, StandsFor}
 use Rattle.session_thread.specs.Life.{Lives, moment}
 use Rattle.session_thread.proofs.life.make_all.Given as goal
 
 abbrev pub invariant-loop-step : goal.invariant-loop-step
-invariant-loop-step g l = (d : Dialogue) → StandsFor l.fn.connection d → (now : Dialogue) × StandsFor l.connection now × Lives l.turns (moment d l.fn.desk l.fn.out.items) (take l.step-index l.steps) (moment now l.desk l.out.items)
+invariant-loop-step g l =
+    g.C.Courier.ready l.courier
+    × ((first : g.row.C.Denot) → g.C.Courier.kept first l.fn.courier → g.C.Courier.kept first l.courier)
+    × ((carried : List Carried) × ((done : List Carried) → g.C.Courier.carried l.fn.courier done → g.C.Courier.carried l.courier (done ++ carried))
+    × ((d : Dialogue) → StandsFor l.fn.connection d → (now : Dialogue) × StandsFor l.connection now × Lives l.turns (moment d l.fn.desk l.fn.out.items) (take l.step-index l.steps) carried (moment now l.desk l.out.items)))

@@ -1,0 +1,169 @@
+-- What a client says, and the verdicts on the messages that it submits.
+use Rattle.std.proofs.Common.{◌≡◌, ◌≢◌, ℕ, ◌+◌, ◌-◌, ◌<◌, ◌≤◌, ◌⊎◌, inl, inr, Bool, true, false, List, [], ◌∷◌, ◌++◌, length, length-drop, take, drop, append-nil, append_assoc, arith, refl, sym, ap, ap₂, ◌∙◌, subst, Option, None, Some, if◌then◌else◌}
+use Rattle.std.specs.Prelude.{IfSome}
+use Rattle.std.specs.Option.{option_map}
+use Rattle.std.proofs.lemmas.List.{take_rest}
+use Rattle.delivery_token.specs.declared.Verdict.{Verdict}
+use Rattle.courier.specs.Carried.{Carried}
+use Rattle.courier.specs.declared.Lost.{Lost}
+use Rattle.courier.specs.declared.Lost.TheVariants as lost
+use Rattle.imap_session.specs.declared.standing.After.{After}
+use Rattle.imap_session.specs.declared.standing.After.TheVariants.{Bye, Go, Submit}
+use Rattle.imap_session.specs.declared.standing.After.TheVariants as afters
+use Rattle.imap_session.specs.declared.standing.Append.{Append}
+use Rattle.imap_session.specs.Exchange.{Appending, Sent, Standing, kept_tag, may_send, waits_begun, waits_idling, waits_sent}
+use Rattle.imap_session.specs.Store.{AnswersVerdict}
+use Rattle.imap_connection.specs.declared.connection.Progress.{Progress}
+use Rattle.imap_connection.specs.Dialogue as dialogue
+use Rattle.imap_connection.specs.Dialogue.{Dialogue, Link, StandsFor, Took, may_follow, tag_len}
+use Rattle.session_thread.specs.Locks.{Holds, Place}
+use Rattle.session_thread.specs.Life.{Says, SaysInPart, Speaks, TellsVerdict, carried_of, hears, moment, short, takes, takes_more, unheard}
+
+-- ---- what was carried
+
+pub none_more : (P : List Carried → Type 0) (done : List Carried) → P done → P (done ++ [])
+none_more P done h = subst P (sym (append-nil done)) h
+
+pub more_carried : (P Q R : List Carried → Type 0) (carried more : List Carried) → ((done : List Carried) → P done → Q (done ++ carried)) → ((done : List Carried) → Q done → R (done ++ more))
+    → (done : List Carried) → P done → R (done ++ (carried ++ more))
+more_carried P Q R carried more first second done h = subst R (append_assoc done carried more) (second (done ++ carried) (first done h))
+
+-- ---- what a session waits for
+
+-- what a client may send, by the parts of a standing that say it
+abbrev sends : Bool → Option Sent → Option Appending → Option (List ℕ) → After
+sends ended sent begun idling = if ended then Bye else waits_sent sent (waits_begun begun (waits_idling idling))
+
+follows : (ended : Bool) (sent : Option Sent) (begun : Option Appending) (idling : Option (List ℕ)) → ended ≡ false → sent ≡ None → may_follow (sends ended sent begun idling) ≡ true
+follows true sent begun idling going unsent = absurd (let x : true ≡ false = going in cc)
+follows false (Some s) begun idling going unsent = absurd (let x : Some s ≡ None = unsent in cc)
+follows false None None None going unsent = refl
+follows false None None (Some tag) going unsent = refl
+follows false None (Some a) idling going unsent = refl
+
+-- one that has not ended, and awaits no verdict, takes more
+pub takes_more_now : (now : Standing) → now.ended ≡ false → now.mailing.sent ≡ None → takes_more now ≡ true
+takes_more_now now going unsent = follows now.ended now.mailing.sent now.mailing.begun now.idling going unsent
+
+submits : (ended : Bool) (sent : Option Sent) (begun : Option Appending) (idling : Option (List ℕ)) → sends ended sent begun idling ≡ Submit → (ended ≡ false) × ((s : Sent) × (sent ≡ Some s))
+submits true sent begun idling is = absurd (let x : Bye ≡ Submit = is in cc)
+submits false (Some s) begun idling is = (refl, (s, refl))
+submits false None None None is = absurd (let x : Go ≡ Submit = is in cc)
+submits false None None (Some tag) is = absurd (let x : afters.Idle ≡ Submit = is in cc)
+submits false None (Some a) idling is = absurd (let x : afters.Literal a.due ≡ Submit = is in cc)
+
+-- one that waits for a verdict has not ended, and submitted a message
+pub submitted : (now : Standing) → may_send now ≡ Submit → (now.ended ≡ false) × ((s : Sent) × (now.mailing.sent ≡ Some s))
+submitted now is = submits now.ended now.mailing.sent now.mailing.begun now.idling is
+
+stops : (ended : Bool) (sent : Option Sent) (begun : Option Appending) (idling : Option (List ℕ)) → sends ended sent begun idling ≢ Submit → (may_follow (sends ended sent begun idling) ≡ true) ⊎ (ended ≡ true)
+stops true sent begun idling not = inr refl
+stops false (Some s) begun idling not = absurd (not refl)
+stops false None None None not = inl refl
+stops false None None (Some tag) not = inl refl
+stops false None (Some a) idling not = inl refl
+
+-- one that waits for none takes more, or has ended
+pub goes_or_ended : (now : Standing) → may_send now ≢ Submit → (takes_more now ≡ true) ⊎ (now.ended ≡ true)
+goes_or_ended now not = stops now.ended now.mailing.sent now.mailing.begun now.idling not
+
+-- ---- a verdict
+
+-- the message that waits, as it was submitted
+pub sent_of : (sent : Option Sent) (append : Append) → Some append ≡ option_map (λ (s : Sent). s.append) sent → (s : Sent) × (sent ≡ Some s) × (append ≡ s.append)
+sent_of None append is = cc
+sent_of (Some s) append is = (s, refl, cc)
+
+pub told_verdict : (d : Dialogue) (append : Append) (verdict : Verdict) (old middle new : Place) (before between after : List ℕ) (how : After) (was link : Link) → StandsFor was d → Some append ≡ option_map (λ (s : Sent). s.append) was.session.mailing.sent
+    → middle ≡ old → between ≡ before → dialogue.Hears Holds d verdict middle new between after how link
+    → (next : Dialogue) × StandsFor link next × TellsVerdict (carried_of append verdict) (moment d old before) (moment next new after)
+told_verdict d append verdict old middle new before between after how was link stands is desk text h =
+    let s = sent_of was.session.mailing.sent append is in
+    let place = subst (λ (p : Place). AnswersVerdict Holds d.standing verdict p new between after how h.next) desk h.answered in (
+      record { standing = h.next; begun = d.begun },
+      h.stands,
+      record {
+        sent = s.0;
+        awaited = subst (λ (x : Standing). x.mailing.sent ≡ Some s.0) stands.session s.1;
+        carries = ap (λ (a : Append). carried_of a verdict) s.2;
+        how = how;
+        answered = subst (λ (b : List ℕ). AnswersVerdict Holds d.standing verdict old new b after how h.next) text place;
+        begun = refl;
+      },
+    )
+
+-- ---- bytes
+
+-- So each dialogue was led on, by so many of the bytes, with these verdicts.
+abbrev pub Spoken : List ℕ → ℕ → List Carried → Link → Place → List ℕ → Link → Place → List ℕ → Type 0
+Spoken bytes used carried was old before link new after = (d : Dialogue) → StandsFor was d → (now : Dialogue) × StandsFor link now × Speaks bytes (moment d old before) used carried (moment now new after)
+
+-- bytes more, which the session took from the rest
+pub said_more : (bytes : List ℕ) (used : ℕ) (carried : List Carried) (old middle new : Place) (before between after : List ℕ) (progress : Progress) (was mid link : Link) → mid.session.ended ≡ false → mid.session.mailing.sent ≡ None
+    → progress.used ≤ length (take (length bytes - used) (drop used bytes)) → ((d : Dialogue) → StandsFor mid d → Took Holds d (take (length bytes - used) (drop used bytes)) middle new between after progress link)
+    → Spoken bytes used carried was old before mid middle between → Spoken bytes (used + progress.used) carried was old before link new after
+said_more bytes used carried old middle new before between after progress was mid link going unsent few takes_some spoken d stands =
+    let rest : take (length bytes - used) (drop used bytes) ≡ drop used bytes = take_rest bytes used in
+    let n = spoken d stands in
+    let t = subst (λ (piece : List ℕ). Took Holds n.0 piece middle new between after progress link) rest (takes_some n.0 n.1) in
+    let few_here = subst (λ (piece : List ℕ). progress.used ≤ length piece) rest few in (
+      t.next,
+      t.stands,
+      takes used progress.used carried (moment n.0 middle between) (moment t.next new after) n.2 (subst (λ (s : Standing). takes_more s ≡ true) n.1.session (takes_more_now mid.session going unsent))
+          (record { within = few_here; said = t.said; how = t.how; answered = t.answered; wrote = t.wrote }),
+    )
+
+-- a verdict more, which was answered
+pub heard_more : (bytes : List ℕ) (used : ℕ) (carried : List Carried) (one : Carried) (old middle new : Place) (before between after : List ℕ) (was mid link : Link)
+    → ((d : Dialogue) → StandsFor mid d → (next : Dialogue) × StandsFor link next × TellsVerdict one (moment d middle between) (moment next new after))
+    → Spoken bytes used carried was old before mid middle between → Spoken bytes used (carried ++ one ∷ []) was old before link new after
+heard_more bytes used carried one old middle new before between after was mid link tells spoken d stands =
+    let n = spoken d stands in
+    let t = tells n.0 n.1 in (t.0, t.1, hears used carried one (moment n.0 middle between) (moment t.0 new after) n.2 t.2)
+
+-- ---- where it ends
+
+-- the bytes were taken to their end, and the session takes more, or it has ended
+abbrev pub WasAll : ℕ → List ℕ → Standing → Type 0
+WasAll used bytes now = ((used ≡ length bytes) × (takes_more now ≡ true)) ⊎ (now.ended ≡ true)
+
+-- so it is where no verdict is awaited behind what was taken
+took_all : (bytes : List ℕ) (used more : ℕ) (now : Standing) (after : After) → used ≤ length bytes → after ≡ may_send now → (may_follow after ≡ true → more ≡ length (take (length bytes - used) (drop used bytes)))
+    → (takes_more now ≡ true) ⊎ (now.ended ≡ true) → WasAll (used + more) bytes now
+took_all bytes used more now after within is all (inl goes) =
+    let whole : more ≡ length (take (length bytes - used) (drop used bytes)) = all (ap may_follow is ∙ goes) in
+    let rest : length (take (length bytes - used) (drop used bytes)) ≡ length bytes - used = ap (length {A = ℕ}) (take_rest bytes used) ∙ length-drop used bytes in
+    inl (omega (arith, whole, rest, within), goes)
+took_all bytes used more now after within is all (inr over) = inr over
+
+pub was_all : (bytes : List ℕ) (used : ℕ) (progress : Progress) (now : Standing) → used ≤ length bytes → (progress.after ≡ None → ⊥) → IfSome progress.after (λ after. after ≡ may_send now)
+    → IfSome progress.after (λ after. may_follow after ≡ true → progress.used ≡ length (take (length bytes - used) (drop used bytes))) → may_send now ≢ Submit → WasAll (used + progress.used) bytes now
+was_all bytes used progress now within some is all not = of progress.after within some is all where
+  of : (after : Option After) → used ≤ length bytes → (after ≡ None → ⊥) → IfSome after (λ a. a ≡ may_send now) → IfSome after (λ a. may_follow a ≡ true → progress.used ≡ length (take (length bytes - used) (drop used bytes)))
+      → WasAll (used + progress.used) bytes now
+  of None w s i a = absurd (s refl)
+  of (Some after) w s i a = took_all bytes used progress.used now after w i a (goes_or_ended now not)
+
+-- all was said
+pub said_all : (bytes : List ℕ) (used : ℕ) (carried : List Carried) (old new : Place) (before after : List ℕ) (was link : Link) → WasAll used bytes link.session → Spoken bytes used carried was old before link new after
+    → (d : Dialogue) → StandsFor was d → (next : Dialogue) × StandsFor link next × Says bytes carried (moment d old before) (moment next new after)
+said_all bytes used carried old new before after was link whole spoken d stands =
+    let n = spoken d stands in (n.0, n.1, record { used = used; speaks = n.2; all = subst (λ (s : Standing). WasAll used bytes s) n.1.session whole })
+
+-- memory was refused before the next line
+pub said_short : (room : ℕ) (bytes : List ℕ) (used : ℕ) (carried : List Carried) (old new : Place) (before after : List ℕ) (was link : Link) → room < length after + (8272 + tag_len (kept_tag link.session)) → Spoken bytes used carried was old before link new after
+    → (d : Dialogue) → StandsFor was d → (next : Dialogue) × StandsFor link next × SaysInPart room bytes lost.NoMemory (moment d old before) (moment next new after)
+said_short room bytes used carried old new before after was link full spoken d stands =
+    let n = spoken d stands in (n.0, n.1, short used carried n.2 (inl (subst (λ (s : Standing). room < length after + (8272 + tag_len (kept_tag s))) n.1.session full)) refl)
+
+-- no verdict came on the message that was submitted
+pub said_unheard : (room : ℕ) (bytes : List ℕ) (used : ℕ) (carried : List Carried) (why : Lost) (old middle new : Place) (before between after : List ℕ) (was mid link : Link) → may_send mid.session ≡ Submit → (link ≡ mid) × (new ≡ middle) × (after ≡ between)
+    → Spoken bytes used carried was old before mid middle between
+    → (d : Dialogue) → StandsFor was d → (next : Dialogue) × StandsFor link next × SaysInPart room bytes why (moment d old before) (moment next new after)
+said_unheard room bytes used carried why old middle new before between after was mid link awaits same spoken d stands =
+    let n = spoken d stands in
+    let m : moment n.0 new after ≡ moment n.0 middle between = ap₂ (moment n.0) same.1 same.2 in (
+      n.0,
+      subst (λ (l : Link). StandsFor l n.0) (sym same.0) n.1,
+      subst (SaysInPart room bytes why (moment d old before)) (sym m) (unheard used carried n.2 (subst (λ (s : Standing). may_send s ≡ Submit) n.1.session awaits)),
+    )

@@ -1,0 +1,18 @@
+use Rattle.std.proofs.Common.{◌≡◌, ◌≤◌, ◌-◌, ◌++◌, List, None, false, length}
+use Rattle.courier.specs.Carried.{Carried}
+use Rattle.imap_connection.specs.Dialogue.{Dialogue, StandsFor}
+use Rattle.session_thread.specs.Life.{Speaks, moment}
+use Rattle.session_thread.proofs.speaking.answer.Given as goal
+
+abbrev pub invariant-loop-alloc : goal.invariant-loop-alloc
+invariant-loop-alloc g l =
+    g.C.Courier.ready l.courier
+    × ((first : g.row.C.Denot) → g.C.Courier.kept first l.fn.courier → g.C.Courier.kept first l.courier)
+    × (l.used ≤ length l.bytes)
+    × (l.connection.session.ended ≡ false)
+    × (l.connection.session.mailing.sent ≡ None)
+    × ((carried : List Carried) × ((done : List Carried) → g.C.Courier.carried l.fn.courier done → g.C.Courier.carried l.courier (done ++ carried))
+    × ((d : Dialogue) → StandsFor l.fn.connection d → (now : Dialogue) × StandsFor l.connection now × Speaks l.bytes (moment d l.fn.desk l.fn.out.items) l.used carried (moment now l.desk l.out.items)))
+
+abbrev pub decreases-loop-alloc : goal.decreases-loop-alloc
+decreases-loop-alloc g l = length l.bytes - l.used

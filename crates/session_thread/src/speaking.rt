@@ -1,0 +1,109 @@
+//! What a client says is answered, to the end of what came, over mailboxes behind locks; a message that it
+//! submits is carried, and the verdict on it answered, before anything behind it is taken. Which bytes come,
+//! and what becomes of the answers, stands above.
+
+ghost use Rattle.std.specs.Prelude.{◌≡◌, ◌≢◌, ◌∷◌, ◌++◌, [], List, None, false, true, IfErr, OnErr, OnOk};
+ghost use Rattle.std.specs.Vec.{vec_capacity};
+ghost use Rattle.imap_connection.specs.Dialogue.{Dialogue, StandsFor};
+ghost use Rattle.imap_session.specs.Exchange.{may_send};
+ghost use Rattle.imap_session.specs.declared.standing.After.TheVariants as after;
+ghost use Rattle.courier.specs.Carried.{Carried};
+ghost use Rattle.session_thread.specs.Life.{Says, SaysInPart, TellsVerdict, moment};
+
+use crate::desk::LockedDesk;
+use courier::{Courier, Lost};
+use imap_connection::ImapConnection;
+use imap_session::After;
+use pace::Gate;
+use std::alloc::Global;
+use std::sync::Wait;
+
+// Whether the session waits for the verdict on a message: where it has ended it waits for nothing.
+fn awaits_verdict(connection: &ImapConnection) -> bool
+    ensures yes { result ≡ true → may_send connection.now.session ≡ after.Submit }
+    ensures no { result ≡ false → may_send connection.now.session ≢ after.Submit }
+{
+    matches!(connection.may_send(), After::Submit)
+}
+
+// Carries the message that was submitted, and answers the verdict on it. Room for the answer is asked for
+// first: behind the carrying nothing is refused.
+fn hear_verdict<R: Wait, G: Gate, C: Courier>(
+    connection: &mut ImapConnection,
+    desk: &mut LockedDesk<'_, R, G>,
+    courier: &mut C,
+    out: &mut Vec<u8>,
+) -> Result<(), Lost>
+    requires ready { C.ready courier.old }
+    requires awaits { may_send connection.old.session ≡ after.Submit }
+    ensures ready { C.ready courier.new }
+    ensures kept { (first : C) → C.kept first courier.old → C.kept first courier.new }
+    ensures unsent { OnOk result (connection.new.session.mailing.sent ≡ None) }
+    ensures told { OnOk result ((one : Carried) × ((done : List Carried) → C.carried courier.old done → C.carried courier.new (done ++ one ∷ []))
+        × ((d : Dialogue) → StandsFor connection.old d → (next : Dialogue) × StandsFor connection.new next
+        × TellsVerdict one (moment d desk.old out.old.items) (moment next desk.new out.new.items))) }
+    ensures same { OnErr result ((connection.new ≡ connection.old) × (desk.new ≡ desk.old) × (out.new.items ≡ out.old.items)) }
+{
+    let Ok(()) = out.reserve(connection.verdict_room()) else {
+        return Err(Lost::NoMemory);
+    };
+    let Some(append) = connection.submission() else {
+        unreachable!()
+    };
+    let verdict = match desk.carry(courier, append) {
+        Ok(verdict) => verdict,
+        Err(why) => return Err(why),
+    };
+    let Ok(_) = connection.appended(verdict, desk, out) else {
+        unreachable!()
+    };
+    Ok(())
+}
+
+/// Answers what a client says: each line that ends in it, and each verdict on a message that it submits
+/// there, unless the session ends before. What is answered stands behind `out`.
+///
+/// Errors, after which the session takes nothing more: `NoMemory` where memory was refused, to the session
+/// before the next line, or to the courier, or for the answer to a verdict before its message was carried;
+/// `Torn` where the courier met something else than that verdict. What was answered by then stands behind
+/// `out`.
+pub fn answer<R: Wait, G: Gate, C: Courier>(
+    alloc: Global,
+    connection: &mut ImapConnection,
+    desk: &mut LockedDesk<'_, R, G>,
+    courier: &mut C,
+    bytes: &[u8],
+    out: &mut Vec<u8>,
+) -> Result<(), Lost>
+    requires going { connection.old.session.ended ≡ false }
+    requires unsent { connection.old.session.mailing.sent ≡ None }
+    requires ready { C.ready courier.old }
+    ensures ready { C.ready courier.new }
+    ensures kept { (first : C) → C.kept first courier.old → C.kept first courier.new }
+    ensures ok { OnOk result ((carried : List Carried) × ((done : List Carried) → C.carried courier.old done → C.carried courier.new (done ++ carried))
+        × ((d : Dialogue) → StandsFor connection.old d → (next : Dialogue) × StandsFor connection.new next
+        × Says bytes.now carried (moment d desk.old out.old.items) (moment next desk.new out.new.items))) }
+    ensures err { IfErr result (λ why. (d : Dialogue) → StandsFor connection.old d → (next : Dialogue) × StandsFor connection.new next
+        × SaysInPart (vec_capacity out.new) bytes.now why (moment d desk.old out.old.items) (moment next desk.new out.new.items)) }
+{
+    let mut used = 0;
+    loop {
+        let progress = connection.take(alloc, &bytes[used..], desk, out);
+        used += progress.used;
+        if progress.after.is_none() {
+            return Err(Lost::NoMemory);
+        }
+        if !awaits_verdict(connection) {
+            return Ok(());
+        }
+        if let Err(why) = hear_verdict(connection, desk, courier, out) {
+            return Err(why);
+        }
+        if connection.has_ended() {
+            return Ok(());
+        }
+        if used == bytes.len() {
+            return Ok(());
+        }
+    }
+}
