@@ -1,5 +1,5 @@
 -- A worker's log, beside its lanes.
-use Rattle.std.proofs.Common.{◌≡◌, inl, inr, ℕ, List, [], ◌∷◌, ◌++◌, length, map, refl, ap, sym, subst, ◌∙◌, Contains, arith}
+use Rattle.std.proofs.Common.{◌≡◌, inl, inr, ℕ, ◌<◌, List, [], ◌∷◌, ◌++◌, length, map, slice_index_or, refl, ap, sym, subst, ◌∙◌, Contains, arith}
 use Rattle.std.specs.Prelude.{All, AllPairs, flat_map, zip}
 use Rattle.std.proofs.lemmas.List.{map-append}
 use Rattle.std.proofs.lemmas.List.Elements.{All-head, All-tail, Contains-append_left, Contains-append_cases}
@@ -10,6 +10,7 @@ use Rattle.delivery_token.specs.declared.Verdict.TheVariants.{Stored}
 use Rattle.delivery_token.specs.declared.log.Noted.{Noted}
 use Rattle.delivery_token.specs.Keys.{Precedes}
 use Rattle.envelope.specs.Directory.{Directory, shard_of}
+use Rattle.lane_work.specs.Account.{AreAccountedFor, Premises}
 use Rattle.lane_work.specs.Copies.{IsHeard, Room, WerePut, copies, copies_of, note_of, room_at, told}
 use Rattle.lane_work.specs.Copies as were
 use Rattle.lane_work.specs.Talk.{Judged}
@@ -17,7 +18,7 @@ use Rattle.lane_work.proofs.HistoryLaws.{stored_was_put}
 use Rattle.shard_queue.specs.declared.lane.Entry.{Entry}
 use Rattle.shard_queue.specs.declared.lane.Entry.TheVariants.{Item, End}
 use Rattle.account_laws.specs.Laws.{AccountIsOfLines, LogHasEachVerdict, PutWasSubmitted, StoredIsOnItsLane}
-use Rattle.account_laws.specs.Storing.{IsFull}
+use Rattle.account_laws.specs.Storing.{IsFull, WasPut}
 use Rattle.account_laws.proofs.Connections.{dialogues, talked}
 use Rattle.account_laws.proofs.FullLaws.{all_full}
 use Rattle.account_laws.proofs.KeyLaws.{keys_rise}
@@ -81,15 +82,18 @@ log_has_each_verdict house seat connections replies notes heard said account =
 
 -- ---- what is stored was put
 
-pub stored_is_on_its_lane : StoredIsOnItsLane
-stored_is_on_its_lane house seat connections replies notes heard said account noted uid lane in_log stored shard under =
+-- of every producer that accounts for its copies
+pub stored_is_there : (house : Premises) (seat : ℕ) (copies : List (Job × Verdict)) (notes : List Noted) (heard : List (Entry Noted)) (said : List (List (Entry Job))) → AreAccountedFor house seat copies notes heard said
+    → (noted : Noted) (uid lane : ℕ) → Contains notes noted → noted.verdict ≡ Stored uid → shard_of house.directory noted.mailbox ≡ lane → lane < length said
+    → WasPut seat (slice_index_or said lane []) heard noted
+stored_is_there house seat copies notes heard said account noted uid lane in_log stored shard under =
     let on = account.lanes lane under in
-    let t = unmapped note_of (told account.judged) noted (subst (λ (ns : List Noted). Contains ns noted) account.noted in_log) in
+    let t = unmapped note_of copies noted (subst (λ (ns : List Noted). Contains ns noted) account.noted in_log) in
     let copy : Job = t.0.0 in
     let same : note_of t.0 ≡ noted = t.2 in
     let verdict : t.0.1 ≡ Stored uid = ap (λ (n : Noted). n.verdict) same ∙ stored in
     let mailbox : copy.mailbox ≡ noted.mailbox = ap (λ (n : Noted). n.mailbox) same in
-    let was : Contains (told account.judged) (copy, Stored uid) = subst (λ (v : Verdict). Contains (told account.judged) (copy, v)) verdict t.1 in
+    let was : Contains copies (copy, Stored uid) = subst (λ (v : Verdict). Contains copies (copy, v)) verdict t.1 in
     let r = stored_was_put house.directory (room_at house.rooms lane) seat lane heard on.1 copy uid (ap (λ n. shard_of house.directory n) mailbox ∙ shard) was in
     record {
       copy = copy;
@@ -99,6 +103,10 @@ stored_is_on_its_lane house seat connections replies notes heard said account no
           (Contains-append_left (map (λ (job : Job). Item seat job) on.0) (End seat ∷ []) (Item seat copy) (mapped (λ (job : Job). Item seat job) on.0 copy r.0));
       verdict = subst (IsHeard heard) (ap (λ (v : Verdict). note_of (copy, v)) (sym verdict) ∙ same) r.1;
     }
+
+pub stored_is_on_its_lane : StoredIsOnItsLane
+stored_is_on_its_lane house seat connections replies notes heard said account noted uid lane in_log stored shard under =
+    stored_is_there house seat (told account.judged) notes heard said (record { noted = account.noted; lanes = account.lanes }) noted uid lane in_log stored shard under
 
 -- ---- what is put was submitted
 

@@ -346,7 +346,7 @@ fn run_in<H: Hall + Send, T: Threads + Wait + Sync + Abort>(
     requires depot { H.depot ≡ Some floor.depot }
     requires shards { floor.office.directory.shards ≡ length floor.office.lanes.items }
     requires few { length floor.office.lanes.items ≤ length floor.depot.channels.items }
-    requires crew { IsCrew floor (length floor.depot.channels.items) [] crew }
+    requires crew { IsCrew floor (length floor.depot.channels.items) crew }
     requires baskets { AreBaskets (length floor.depot.channels.items) (length floor.office.lanes.items) baskets }
 {
     let alloc = floor.alloc;
@@ -356,7 +356,6 @@ fn run_in<H: Hall + Send, T: Threads + Wait + Sync + Abort>(
         consumed,
         worked,
         unmanned,
-        said: _,
     } = crew;
     worked.destroy_empty();
     unmanned.destroy_empty();
@@ -435,7 +434,7 @@ const LIMITS: Limits = Limits {
 const SIZES: Sizes<'static> = Sizes {
     host: b"mx.example.org",
     max_message: 1000,
-    workers: WORKERS,
+    producers: WORKERS,
     depth: 4,
     uidvalidity: 7,
     first_uid: 1,
@@ -564,7 +563,6 @@ fn clerks_with_nothing_to_do_are_stood_down(rt: HostRuntime) -> Result<(), Fail>
         consumed,
         worked,
         unmanned,
-        said: _,
     } = crew;
     let (shard, ends, stands) = idle_in::<Brand, HostRuntime>(&rt, &floor, stands);
     let count = stands.len();

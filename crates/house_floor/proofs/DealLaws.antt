@@ -15,7 +15,7 @@ use Rattle.lane_seats.specs.rows.Rows.{AreConsumers, AreHands}
 use Rattle.lane_seats.specs.rows.SenderRows.{AreReceivers, AreSenderHands}
 use Rattle.house_floor.specs.Crew.{AllAt}
 
--- a worker's seats on all lanes, which have put nothing
+-- a producer's seats on all lanes, which have put nothing
 abbrev pub IsHand : List (ShardQueue Job) → ℕ → Vec (ProducerSeat Job) Global → Type 0
 IsHand lanes n v = AreSeats lanes n v.items × All (λ s. sent s ≡ []) v.items
 

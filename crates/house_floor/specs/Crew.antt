@@ -19,13 +19,13 @@ abbrev pub AllAt : {A : Type 0} → (ℕ → A → Type 0) → ℕ → List A �
 AllAt P n [] = Unit {0}
 AllAt P n (x ∷ xs) = P n x × AllAt P (suc n) xs
 
--- the house that they work in is one: a shard for each lane, and a channel for each worker
-pub record IsHouse (floor : Floor) (workers : ℕ) : Type 0 where
+-- the house that they work in is one: a shard for each lane, and a channel for each producer
+pub record IsHouse (floor : Floor) (producers : ℕ) : Type 0 where
   pub shards : floor.office.directory.shards ≡ length floor.office.lanes.items
   pub host : length floor.office.host.items < 256
   pub few_lanes : length floor.office.lanes.items < 256
-  pub channels : length floor.depot.channels.items ≡ workers
-  pub few_workers : workers < 256
+  pub channels : length floor.depot.channels.items ≡ producers
+  pub few_producers : producers < 256
 
 -- each session's user is one of the directory, and each mailbox has a list of bells; there are no more sessions than an actor's number tells apart
 pub record AreVisits (floor : Floor) (visits : List Visit) : Type 0 where
@@ -35,7 +35,7 @@ pub record AreVisits (floor : Floor) (visits : List Visit) : Type 0 where
 
 -- ---- what is dealt
 
--- the post of worker n: it has put nothing, and hears its own channel, of which it has heard nothing yet
+-- the post of producer n: it has put nothing, and hears its own channel, of which it has heard nothing yet
 pub record IsPost (floor : Floor) (n : ℕ) (post : Post) : Type 0 where
   pub number : post.desk.number ≡ n
   pub seats : AreSeats floor.office.lanes.items n post.desk.seats.items
@@ -55,13 +55,12 @@ pub record IsStand (floor : Floor) (n : ℕ) (stand : Stand) : Type 0 where
   pub empty : stand.room.items ≡ []
   pub room : length floor.depot.channels.items ≤ vec_capacity stand.room
 
--- a stand for each lane, a post for each worker, and room for what comes of them and of the sessions
-pub record IsCrew (floor : Floor) (workers : ℕ) (visits : List Visit) (crew : Crew) : Type 0 where
+-- a stand for each lane, a post for each producer, and room for what comes of them
+pub record IsCrew (floor : Floor) (producers : ℕ) (crew : Crew) : Type 0 where
   pub stands : AllAt (IsStand floor) 0 crew.stands.items
   pub each_lane : vec_len crew.stands ≡ length floor.office.lanes.items
   pub posts : AllAt (IsPost floor) 0 crew.posts.items
-  pub each_worker : vec_len crew.posts ≡ workers
+  pub each_post : vec_len crew.posts ≡ producers
   pub consumed : (crew.consumed.items ≡ []) × (length floor.office.lanes.items ≤ vec_capacity crew.consumed)
-  pub worked : (crew.worked.items ≡ []) × (workers ≤ vec_capacity crew.worked)
-  pub unmanned : (crew.unmanned.items ≡ []) × (workers ≤ vec_capacity crew.unmanned)
-  pub said : (crew.said.items ≡ []) × (length visits ≤ vec_capacity crew.said)
+  pub worked : (crew.worked.items ≡ []) × (producers ≤ vec_capacity crew.worked)
+  pub unmanned : (crew.unmanned.items ≡ []) × (producers ≤ vec_capacity crew.unmanned)

@@ -16,14 +16,14 @@ reply_room = 128
 
 -- the floor is that of a house with this directory, each consumer has a bell, and each queue is as large as the sizes say
 pub record IsFloor (directory : Directory) (sizes : Sizes) (floor : Floor) : Type 0 where
-  pub house : IsHouse floor sizes.workers
+  pub house : IsHouse floor sizes.producers
   pub is : floor.office.directory ≡ directory
   pub host : floor.office.host.items ≡ sizes.host.now
   pub max_message : floor.office.max_message ≡ sizes.max_message
   pub turns : floor.turns ≡ sizes.turns
   pub bells : length floor.bells.items ≡ directory.shards
   pub mailboxes : length floor.depot.mailboxes.items ≡ length directory.homes
-  pub lanes : All (λ q. (capacity_of q ≡ sizes.depth) × (producers_of q ≡ sizes.workers)) floor.office.lanes.items
+  pub lanes : All (λ q. (capacity_of q ≡ sizes.depth) × (producers_of q ≡ sizes.producers)) floor.office.lanes.items
   pub channels : All (λ c. (room_of c ≡ reply_room) × (senders_of c ≡ directory.shards)) floor.depot.channels.items
 
 -- nothing lies in these lists
@@ -38,17 +38,17 @@ pub record AreSpares (n : ℕ) (s : Spares) : Type 0 where
   pub senders : n ≤ vec_capacity s.senders
   pub senders_ended : n ≤ vec_capacity s.senders_ended
 
--- nothing lies in the baskets, and there is room for what so many workers and consumers leave
-pub record AreBaskets (workers shards : ℕ) (b : Baskets) : Type 0 where
-  pub hands : (b.hands.items ≡ []) × (workers ≤ vec_capacity b.hands)
-  pub lists : AreRooms shards workers b.lists
+-- nothing lies in the baskets, and there is room for what so many producers and consumers leave
+pub record AreBaskets (producers shards : ℕ) (b : Baskets) : Type 0 where
+  pub hands : (b.hands.items ≡ []) × (producers ≤ vec_capacity b.hands)
+  pub lists : AreRooms shards producers b.lists
   pub sender_hands : (b.sender_hands.items ≡ []) × (shards ≤ vec_capacity b.sender_hands)
-  pub sender_lists : AreRooms workers shards b.sender_lists
+  pub sender_lists : AreRooms producers shards b.sender_lists
   pub consumers : (b.consumers.items ≡ []) × (shards ≤ vec_capacity b.consumers)
-  pub receivers : (b.receivers.items ≡ []) × (workers ≤ vec_capacity b.receivers)
-  pub replies : (b.replies.items ≡ []) × (workers ≤ vec_capacity b.replies)
-  pub logs : (b.logs.items ≡ []) × (workers ≤ vec_capacity b.logs)
+  pub receivers : (b.receivers.items ≡ []) × (producers ≤ vec_capacity b.receivers)
+  pub replies : (b.replies.items ≡ []) × (producers ≤ vec_capacity b.replies)
+  pub logs : (b.logs.items ≡ []) × (producers ≤ vec_capacity b.logs)
   pub copies : (b.copies.items ≡ []) × (shards ≤ vec_capacity b.copies)
   pub lanes : (b.lanes.items ≡ []) × (shards ≤ vec_capacity b.lanes)
-  pub channels : (b.channels.items ≡ []) × (workers ≤ vec_capacity b.channels)
-  pub spares : AreSpares (workers * shards) b.spares
+  pub channels : (b.channels.items ≡ []) × (producers ≤ vec_capacity b.channels)
+  pub spares : AreSpares (producers * shards) b.spares

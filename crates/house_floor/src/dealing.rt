@@ -1,5 +1,5 @@
 //! What is dealt to the threads of a house: its seats, lane by lane and channel by channel, become a
-//! post for each worker and a stand for each consumer. Nothing is made here, so nothing is refused.
+//! post for each producer and a stand for each consumer. Nothing is made here, so nothing is refused.
 
 ghost use Rattle.std.specs.Prelude.{◌≡◌, ◌≤◌, [], All, length, map, vec_len, vec_capacity};
 ghost use Rattle.house_floor.specs.Crew.{AllAt, IsPost, IsStand};
@@ -17,26 +17,26 @@ use lane_seats::{Hands, deal_all, deal_all_senders};
 use lane_work::{Desk, Stall};
 use shard_queue::{ConsumerSeat, Ended, ProducerSeat, ReceiverSeat, SenderEnded, SenderSeat};
 
-// A post for each of so many workers, from the hands that were dealt to them, from the receivers' ends
-// of their channels, and from empty lists with room for what is left of their seats. `posts`, which is
-// empty, has room for all.
+// A post for each of so many producers, from the hands that were dealt to them, from the receivers'
+// ends of their channels, and from empty lists with room for what is left of their seats. `posts`,
+// which is empty, has room for all.
 fn set_posts(
     floor: &Floor,
-    workers: u8,
+    producers: u8,
     mut hands: Vec<Vec<ProducerSeat<Job>>>,
     mut receivers: Vec<ReceiverSeat<Noted>>,
     mut rooms: Vec<Vec<Ended<Job>>>,
     mut posts: Vec<Post>,
 ) -> Vec<Post>
-    requires hands { (vec_len hands ≡ workers) × AreHands floor.now.office.lanes.items 0 (map (λ v. v.items) hands.items) }
-    requires receivers { (vec_len receivers ≡ workers) × AreReceivers floor.now.depot.channels.items receivers.items }
+    requires hands { (vec_len hands ≡ producers) × AreHands floor.now.office.lanes.items 0 (map (λ v. v.items) hands.items) }
+    requires receivers { (vec_len receivers ≡ producers) × AreReceivers floor.now.depot.channels.items receivers.items }
     requires unheard { All (λ s. received s ≡ []) receivers.items }
-    requires rooms { AreRooms workers (length floor.now.office.lanes.items) rooms }
-    requires posts { (posts.items ≡ []) × (workers ≤ vec_capacity posts) }
-    ensures count { vec_len result ≡ workers }
+    requires rooms { AreRooms producers (length floor.now.office.lanes.items) rooms }
+    requires posts { (posts.items ≡ []) × (producers ≤ vec_capacity posts) }
+    ensures count { vec_len result ≡ producers }
     ensures posts { AllAt (IsPost floor.now) 0 result.items }
 {
-    for number in 0..workers {
+    for number in 0..producers {
         let desk = Desk {
             number,
             seats: hands.remove(0),
@@ -95,9 +95,9 @@ fn set_stands(
 
 /// What is to be dealt, and the empty lists that it goes into.
 pub(crate) struct Undealt {
-    /// For each lane the workers' seats.
+    /// For each lane the producers' seats.
     pub(crate) lane_seats: Vec<Vec<ProducerSeat<Job>>>,
-    /// For each worker its end of its reply channel.
+    /// For each producer its end of its reply channel.
     pub(crate) receivers: Vec<ReceiverSeat<Noted>>,
     /// For each reply channel the consumers' seats.
     pub(crate) channel_seats: Vec<Vec<SenderSeat<Noted>>>,
@@ -105,9 +105,9 @@ pub(crate) struct Undealt {
     pub(crate) consumers: Vec<ConsumerSeat<Job>>,
     /// For each consumer its own end of its bell.
     pub(crate) parkers: Vec<Parker>,
-    /// For each worker's seats.
+    /// For each producer's seats.
     pub(crate) hands: Hands<ProducerSeat<Job>>,
-    /// For what is left of each worker's seats.
+    /// For what is left of each producer's seats.
     pub(crate) rooms: Vec<Vec<Ended<Job>>>,
     /// For each consumer's seats.
     pub(crate) sender_hands: Hands<SenderSeat<Noted>>,
@@ -116,21 +116,21 @@ pub(crate) struct Undealt {
 }
 
 /// Deals the seats of all lanes and channels, none of which has put, taken or sent anything: a stand
-/// for each of so many consumers and a post for each of so many workers, in the order of their numbers.
-/// The two lists, which are empty, have room for all.
+/// for each of so many consumers and a post for each of so many producers, in the order of their
+/// numbers. The two lists, which are empty, have room for all.
 pub(crate) fn deal_out(
     floor: &Floor,
-    workers: u8,
+    producers: u8,
     shards: u8,
     undealt: Undealt,
     stands: Vec<Stand>,
     posts: Vec<Post>,
 ) -> (Vec<Stand>, Vec<Post>)
-    requires lanes { (length floor.now.office.lanes.items ≡ shards) × All (λ q. producers_of q ≡ workers) floor.now.office.lanes.items }
-    requires channels { (length floor.now.depot.channels.items ≡ workers) × All (λ c. senders_of c ≡ shards) floor.now.depot.channels.items }
-    requires undealt { AreUndealt workers shards floor.now.office.lanes.items floor.now.depot.channels.items undealt }
-    requires room { (stands.items ≡ []) × (posts.items ≡ []) × (shards ≤ vec_capacity stands) × (workers ≤ vec_capacity posts) }
-    ensures count { (vec_len result.0 ≡ shards) × (vec_len result.1 ≡ workers) }
+    requires lanes { (length floor.now.office.lanes.items ≡ shards) × All (λ q. producers_of q ≡ producers) floor.now.office.lanes.items }
+    requires channels { (length floor.now.depot.channels.items ≡ producers) × All (λ c. senders_of c ≡ shards) floor.now.depot.channels.items }
+    requires undealt { AreUndealt producers shards floor.now.office.lanes.items floor.now.depot.channels.items undealt }
+    requires room { (stands.items ≡ []) × (posts.items ≡ []) × (shards ≤ vec_capacity stands) × (producers ≤ vec_capacity posts) }
+    ensures count { (vec_len result.0 ≡ shards) × (vec_len result.1 ≡ producers) }
     ensures stands { AllAt (IsStand floor.now) 0 result.0.items }
     ensures posts { AllAt (IsPost floor.now) 0 result.1.items }
 {
@@ -146,7 +146,7 @@ pub(crate) fn deal_out(
         sender_rooms,
     } = undealt;
     let Hands { each, all } = hands;
-    let hands = deal_all(&floor.office.lanes, lane_seats, workers, each, all);
+    let hands = deal_all(&floor.office.lanes, lane_seats, producers, each, all);
     let Hands { each, all } = sender_hands;
     let sender_hands = deal_all_senders(&floor.depot.channels, channel_seats, shards, each, all);
     let stands = set_stands(
@@ -158,6 +158,6 @@ pub(crate) fn deal_out(
         sender_rooms,
         stands,
     );
-    let posts = set_posts(floor, workers, hands, receivers, rooms, posts);
+    let posts = set_posts(floor, producers, hands, receivers, rooms, posts);
     (stands, posts)
 }

@@ -1,7 +1,7 @@
 //! What a house is made of, as far as it may be let go again: so it is made first, and where memory is
 //! refused nothing has to be undone. What can't be let go stands in `stock`.
 
-ghost use Rattle.std.specs.Prelude.{◌≡◌, ◌<◌, ◌≤◌, [], IfOk, length, vec_len, vec_capacity};
+ghost use Rattle.std.specs.Prelude.{◌≡◌, ◌<◌, ◌≤◌, IfOk, length, vec_len};
 ghost use Rattle.house_floor.specs.inner.Making.{AreFittings, ArePapers};
 
 use crate::bells::{Bells, hang_bells};
@@ -19,9 +19,10 @@ use std::sync::Mutex;
 /// Room for what the threads leave, of what may be let go.
 #[derive(Drop)]
 pub(crate) struct Papers {
-    /// For each worker, for each connection, what was replied.
+    /// For each producer, what it said: of a worker the replies to each connection, of a session one
+    /// text.
     pub(crate) replies: Vec<Vec<Vec<u8>>>,
-    /// For each worker, the verdicts that it heard.
+    /// For each producer, the verdicts that it heard.
     pub(crate) logs: Vec<WorkerLog>,
     /// For each consumer, the copies that it took.
     pub(crate) copies: Vec<Vec<Job>>,
@@ -52,8 +53,6 @@ pub(crate) struct Fittings {
     pub(crate) parkers: Vec<Parker>,
     /// Each session's own end of its bell.
     pub(crate) sleepers: Vec<Sleeper>,
-    /// Room for what each session will have said.
-    pub(crate) said: Vec<Result<Vec<u8>, AllocError>>,
     pub(crate) papers: Papers,
 }
 
@@ -90,17 +89,17 @@ fn make_mailboxes(
     Ok(mailboxes)
 }
 
-// Room for what so many workers and consumers leave.
-fn make_papers(alloc: Global, workers: u8, shards: u8) -> Result<Papers, AllocError>
-    ensures { IfOk result (λ p. ArePapers workers shards p) }
+// Room for what so many producers and consumers leave.
+fn make_papers(alloc: Global, producers: u8, shards: u8) -> Result<Papers, AllocError>
+    ensures { IfOk result (λ p. ArePapers producers shards p) }
 {
-    let (workers, shards) = (usize::from(workers), usize::from(shards));
+    let (producers, shards) = (usize::from(producers), usize::from(shards));
     Ok(Papers {
-        replies: Vec::with_capacity(alloc, workers)?,
-        logs: Vec::with_capacity(alloc, workers)?,
+        replies: Vec::with_capacity(alloc, producers)?,
+        logs: Vec::with_capacity(alloc, producers)?,
         copies: Vec::with_capacity(alloc, shards)?,
         lanes: Vec::with_capacity(alloc, shards)?,
-        channels: Vec::with_capacity(alloc, workers)?,
+        channels: Vec::with_capacity(alloc, producers)?,
     })
 }
 
@@ -114,7 +113,6 @@ pub(crate) fn make_fittings(
 ) -> Result<Fittings, AllocError>
     requires ring { 0 < sizes.limits.ring }
     ensures fittings { IfOk result (λ f. AreFittings directory.now sizes.entry f) }
-    ensures said { IfOk result (λ f. length visits.now ≤ vec_capacity f.said) }
     ensures sleepers { IfOk result (λ f. vec_len f.sleepers ≡ length visits.now) }
 {
     let host = Vec::from_slice(alloc, sizes.host)?;
@@ -125,8 +123,7 @@ pub(crate) fn make_fittings(
         sleepers,
         sessions,
     } = hang_bells(alloc, directory, visits)?;
-    let said = Vec::with_capacity(alloc, visits.len())?;
-    let papers = make_papers(alloc, sizes.workers, directory.shards())?;
+    let papers = make_papers(alloc, sizes.producers, directory.shards())?;
     let hall = Hall {
         host,
         mailboxes,
@@ -137,7 +134,6 @@ pub(crate) fn make_fittings(
         hall,
         parkers,
         sleepers,
-        said,
         papers,
     })
 }

@@ -5,16 +5,16 @@ use delivery_token::{Job, Noted};
 use lane_work::{Consumed, Depot, Desk, Office, Stall, Worked};
 use session_thread::Step;
 use shard_queue::{Ended, SenderEnded};
-use std::alloc::{AllocError, Global};
+use std::alloc::Global;
 
 /// What all threads share. It owns what it holds: a closure that captures a reference to a struct with
 /// borrows in it loses what is proved of its result.
 pub struct Floor {
-    /// What the workers share.
+    /// What the producers share.
     pub office: Office,
     /// What the consumers share.
     pub depot: Depot,
-    /// The bell of each shard's consumer, which the workers ring.
+    /// The bell of each shard's consumer, which the producers ring.
     pub bells: Vec<Unparker>,
     /// So many turns a session has at most where it awaits changes.
     pub turns: u64,
@@ -29,7 +29,7 @@ pub struct Visit {
     pub steps: Vec<Step>,
 }
 
-/// A worker's desk, and room for what is left of its seats.
+/// A producer's desk, and room for what is left of its seats.
 pub struct Post {
     pub desk: Desk,
     pub room: Vec<Ended<Job>>,
@@ -41,8 +41,8 @@ pub struct Stand {
     pub room: Vec<SenderEnded<Noted>>,
 }
 
-/// A stand for each shard and a post for each worker, and empty lists with room for what comes of
-/// them: nothing grows once a thread runs.
+/// A stand for each shard and a post for each producer, first the workers' and then the sessions', and
+/// empty lists with room for what comes of them: nothing grows once a thread runs.
 pub struct Crew {
     pub stands: Vec<Stand>,
     pub posts: Vec<Post>,
@@ -50,6 +50,4 @@ pub struct Crew {
     pub worked: Vec<Worked>,
     /// For posts that are never handed to a thread.
     pub unmanned: Vec<Post>,
-    /// What each session said, or that it wanted memory.
-    pub said: Vec<Result<Vec<u8>, AllocError>>,
 }

@@ -1,9 +1,8 @@
 //! A house is put together of what was made for it. Nothing is made here, so nothing is refused.
 
-ghost use Rattle.std.specs.Prelude.{◌≡◌, ◌<◌, ◌≤◌, [], List, All, length, vec_len, vec_capacity};
+ghost use Rattle.std.specs.Prelude.{◌≡◌, ◌<◌, All, length, vec_len};
 ghost use Rattle.shard_queue.specs.Reply.{room_of, senders_of};
 ghost use Rattle.shard_queue.specs.Seats.{capacity_of, producers_of};
-ghost use Rattle.house_floor.specs.declared.floor.Visit.{Visit};
 ghost use Rattle.house_floor.specs.Crew.{IsCrew};
 ghost use Rattle.house_floor.specs.inner.Making.{AreCrewLists, AreFittings, AreStock, AreUndealt, IsHall};
 ghost use Rattle.house_floor.specs.Opening.{AreBaskets, IsFloor, reply_room};
@@ -19,7 +18,7 @@ use envelope::Directory;
 use lane_seats::{Channels, Hands, Lanes, Rooms, SeatRooms};
 use lane_work::{Depot, Office};
 use shard_queue::{Ended, ReplyChannel, SenderEnded, ShardQueue};
-use std::alloc::{AllocError, Global};
+use std::alloc::Global;
 
 // The floor of a house with this directory and of these sizes.
 fn lay_floor(
@@ -32,8 +31,8 @@ fn lay_floor(
 ) -> Floor
     requires host { length sizes.host.now < 256 }
     requires hall { IsHall directory sizes hall }
-    requires lanes { (vec_len lanes ≡ directory.shards) × All (λ q. (capacity_of q ≡ sizes.depth) × (producers_of q ≡ sizes.workers)) lanes.items }
-    requires channels { (vec_len channels ≡ sizes.workers) × All (λ c. (room_of c ≡ reply_room) × (senders_of c ≡ directory.shards)) channels.items }
+    requires lanes { (vec_len lanes ≡ directory.shards) × All (λ q. (capacity_of q ≡ sizes.depth) × (producers_of q ≡ sizes.producers)) lanes.items }
+    requires channels { (vec_len channels ≡ sizes.producers) × All (λ c. (room_of c ≡ reply_room) × (senders_of c ≡ directory.shards)) channels.items }
     ensures floor { IsFloor directory sizes.entry result }
     ensures sessions { length result.depot.sessions.items ≡ length directory.homes }
     ensures lanes { result.office.lanes ≡ lanes }
@@ -59,21 +58,13 @@ fn lay_floor(
     }
 }
 
-// What is dealt to so many workers and consumers, and room for what comes of it.
-fn man(
-    floor: &Floor,
-    workers: u8,
-    shards: u8,
-    undealt: Undealt,
-    lists: CrewLists,
-    said: Vec<Result<Vec<u8>, AllocError>>,
-) -> Crew
-    requires lanes { (length floor.now.office.lanes.items ≡ shards) × All (λ q. producers_of q ≡ workers) floor.now.office.lanes.items }
-    requires channels { (length floor.now.depot.channels.items ≡ workers) × All (λ c. senders_of c ≡ shards) floor.now.depot.channels.items }
-    requires undealt { AreUndealt workers shards floor.now.office.lanes.items floor.now.depot.channels.items undealt }
-    requires lists { AreCrewLists workers shards lists }
-    requires said { said.items ≡ [] }
-    ensures { (visits : List Visit) → length visits ≤ vec_capacity said → IsCrew floor.now workers visits result }
+// What is dealt to so many producers and consumers, and room for what comes of it.
+fn man(floor: &Floor, producers: u8, shards: u8, undealt: Undealt, lists: CrewLists) -> Crew
+    requires lanes { (length floor.now.office.lanes.items ≡ shards) × All (λ q. producers_of q ≡ producers) floor.now.office.lanes.items }
+    requires channels { (length floor.now.depot.channels.items ≡ producers) × All (λ c. senders_of c ≡ shards) floor.now.depot.channels.items }
+    requires undealt { AreUndealt producers shards floor.now.office.lanes.items floor.now.depot.channels.items undealt }
+    requires lists { AreCrewLists producers shards lists }
+    ensures { IsCrew floor.now producers result }
 {
     let CrewLists {
         stands,
@@ -82,14 +73,13 @@ fn man(
         worked,
         unmanned,
     } = lists;
-    let (stands, posts) = deal_out(floor, workers, shards, undealt, stands, posts);
+    let (stands, posts) = deal_out(floor, producers, shards, undealt, stands, posts);
     Crew {
         stands,
         posts,
         consumed,
         worked,
         unmanned,
-        said,
     }
 }
 
@@ -121,7 +111,7 @@ struct Sorted {
     lanes: Vec<ShardQueue<Job>>,
     channels: Vec<ReplyChannel<Noted>>,
     undealt: Undealt,
-    of_workers: Leavings<Ended<Job>>,
+    of_producers: Leavings<Ended<Job>>,
     of_consumers: Leavings<SenderEnded<Noted>>,
 }
 
@@ -133,11 +123,11 @@ fn sort_out(rooms: Rooms, lanes: Lanes, channels: Channels, parkers: Vec<Parker>
     ensures parkers { result.undealt.parkers ≡ parkers }
     ensures rooms { (result.undealt.hands ≡ rooms.workers.seats) × (result.undealt.rooms ≡ rooms.workers.ended.each)
         × (result.undealt.sender_hands ≡ rooms.consumers.seats) × (result.undealt.sender_rooms ≡ rooms.consumers.ended.each) }
-    ensures left { (result.of_workers.hands ≡ rooms.workers.ended.all) × (result.of_workers.lists ≡ rooms.workers.lists)
+    ensures left { (result.of_producers.hands ≡ rooms.workers.ended.all) × (result.of_producers.lists ≡ rooms.workers.lists)
         × (result.of_consumers.hands ≡ rooms.consumers.ended.all) × (result.of_consumers.lists ≡ rooms.consumers.lists) }
 {
     let Rooms { workers, consumers } = rooms;
-    let (hands, rooms, of_workers) = parted(workers);
+    let (hands, rooms, of_producers) = parted(workers);
     let (sender_hands, sender_rooms, of_consumers) = parted(consumers);
     let Lanes {
         queues,
@@ -164,25 +154,25 @@ fn sort_out(rooms: Rooms, lanes: Lanes, channels: Channels, parkers: Vec<Parker>
         lanes: queues,
         channels,
         undealt,
-        of_workers,
+        of_producers,
         of_consumers,
     }
 }
 
 // Room for what the threads leave.
 fn baskets_of(
-    workers: Leavings<Ended<Job>>,
+    producers: Leavings<Ended<Job>>,
     consumers: Leavings<SenderEnded<Noted>>,
     ends: EndLists,
     papers: Papers,
 ) -> Baskets
-    ensures workers { (result.hands ≡ workers.hands) × (result.lists ≡ workers.lists) }
+    ensures producers { (result.hands ≡ producers.hands) × (result.lists ≡ producers.lists) }
     ensures consumers { (result.sender_hands ≡ consumers.hands) × (result.sender_lists ≡ consumers.lists) }
     ensures ends { (result.consumers ≡ ends.consumers) × (result.receivers ≡ ends.receivers) × (result.spares ≡ ends.spares) }
     ensures papers { (result.replies ≡ papers.replies) × (result.logs ≡ papers.logs) × (result.copies ≡ papers.copies)
         × (result.lanes ≡ papers.lanes) × (result.channels ≡ papers.channels) }
 {
-    let Leavings { hands, lists } = workers;
+    let Leavings { hands, lists } = producers;
     let Leavings {
         hands: sender_hands,
         lists: sender_lists,
@@ -218,14 +208,14 @@ pub(crate) fn put_together(
 ) -> Opened
     requires host { length sizes.host.now < 256 }
     requires fittings { AreFittings directory sizes fittings }
-    requires stock { AreStock sizes.workers directory.shards sizes.depth stock }
+    requires stock { AreStock sizes.producers directory.shards sizes.depth stock }
     ensures floor { IsFloor directory sizes.entry result.floor }
     ensures sessions { length result.floor.depot.sessions.items ≡ length directory.homes }
-    ensures crew { (visits : List Visit) → length visits ≤ vec_capacity fittings.said → IsCrew result.floor sizes.entry.workers visits result.crew }
-    ensures baskets { AreBaskets sizes.entry.workers directory.shards result.baskets }
+    ensures crew { IsCrew result.floor sizes.entry.producers result.crew }
+    ensures baskets { AreBaskets sizes.entry.producers directory.shards result.baskets }
     ensures sleepers { result.sleepers ≡ fittings.sleepers }
 {
-    let (workers, shards) = (sizes.workers, directory.shards());
+    let (producers, shards) = (sizes.producers, directory.shards());
     let Stock {
         rooms,
         lists,
@@ -237,12 +227,12 @@ pub(crate) fn put_together(
         lanes,
         channels,
         undealt,
-        of_workers,
+        of_producers,
         of_consumers,
     } = sort_out(rooms, lanes, channels, fittings.parkers);
     let floor = lay_floor(alloc, directory, sizes, fittings.hall, lanes, channels);
-    let crew = man(&floor, workers, shards, undealt, crew, fittings.said);
-    let baskets = baskets_of(of_workers, of_consumers, ends, fittings.papers);
+    let crew = man(&floor, producers, shards, undealt, crew);
+    let baskets = baskets_of(of_producers, of_consumers, ends, fittings.papers);
     Opened {
         floor,
         crew,

@@ -25,8 +25,8 @@ pub struct Sizes<'a> {
     pub host: &'a [u8],
     /// The most bytes of a message's data.
     pub max_message: usize,
-    /// So many workers, up to 255.
-    pub workers: u8,
+    /// So many producers, workers and behind them sessions, up to 255.
+    pub producers: u8,
     /// So many entries have room in a shard's lane, 1 at least.
     pub depth: usize,
     /// What each mailbox tells as its UIDVALIDITY.
@@ -43,7 +43,7 @@ pub struct Sizes<'a> {
 
 /// Room for what the threads leave.
 pub struct Baskets {
-    /// For each worker, what is left of its seats on the lanes.
+    /// For each producer, what is left of its seats on the lanes.
     pub hands: Vec<Vec<Ended<Job>>>,
     /// For each lane, the same.
     pub lists: Vec<Vec<Ended<Job>>>,
@@ -53,11 +53,12 @@ pub struct Baskets {
     pub sender_lists: Vec<Vec<SenderEnded<Noted>>>,
     /// Each lane's consumer's end.
     pub consumers: Vec<ConsumerSeat<Job>>,
-    /// Each worker's end of its reply channel.
+    /// Each producer's end of its reply channel.
     pub receivers: Vec<ReceiverSeat<Noted>>,
-    /// For each worker, for each connection, what was replied.
+    /// For each producer, what it said: of a worker the replies to each connection, of a session one
+    /// text.
     pub replies: Vec<Vec<Vec<u8>>>,
-    /// For each worker, the verdicts that it heard.
+    /// For each producer, the verdicts that it heard.
     pub logs: Vec<WorkerLog>,
     /// For each consumer, the copies that it took.
     pub copies: Vec<Vec<Job>>,
@@ -96,11 +97,11 @@ pub fn open(
     requires few { length visits.now ≤ 256 }
     ensures floor { IfOk result (λ o. IsFloor directory sizes.entry o.floor) }
     ensures visits { IfOk result (λ o. AreVisits o.floor visits.now) }
-    ensures crew { IfOk result (λ o. IsCrew o.floor sizes.entry.workers visits.now o.crew) }
-    ensures baskets { IfOk result (λ o. AreBaskets sizes.entry.workers directory.shards o.baskets) }
+    ensures crew { IfOk result (λ o. IsCrew o.floor sizes.entry.producers o.crew) }
+    ensures baskets { IfOk result (λ o. AreBaskets sizes.entry.producers directory.shards o.baskets) }
     ensures sleepers { IfOk result (λ o. vec_len o.sleepers ≡ length visits.now) }
 {
     let fittings = make_fittings(alloc, &directory, sizes, visits)?;
-    let stock = make_stock(alloc, sizes.workers, directory.shards(), sizes.depth)?;
+    let stock = make_stock(alloc, sizes.producers, directory.shards(), sizes.depth)?;
     Ok(put_together(alloc, directory, sizes, fittings, stock))
 }

@@ -15,18 +15,18 @@ use lane_work::{Consumed, Worked};
 use shard_queue::{ConsumerSeat, Ended, ProducerSeat, ReceiverSeat, SenderEnded, SenderSeat};
 use std::alloc::{AllocError, Global};
 
-/// So many verdicts have room in a worker's reply channel.
+/// So many verdicts have room in a producer's reply channel.
 pub const REPLY_ROOM: usize = 128;
 
 /// Empty lists for what the threads are given, and for what comes of them.
 pub(crate) struct CrewLists {
     /// For a stand for each consumer.
     pub(crate) stands: Vec<Stand>,
-    /// For a post for each worker.
+    /// For a post for each producer.
     pub(crate) posts: Vec<Post>,
     /// For what each consumer leaves.
     pub(crate) consumed: Vec<Consumed>,
-    /// For what each worker leaves.
+    /// For what each producer leaves.
     pub(crate) worked: Vec<Worked>,
     /// For posts that are never handed to a thread.
     pub(crate) unmanned: Vec<Post>,
@@ -36,7 +36,7 @@ pub(crate) struct CrewLists {
 pub(crate) struct EndLists {
     /// For each consumer's end of its lane.
     pub(crate) consumers: Vec<ConsumerSeat<Job>>,
-    /// For each worker's end of its reply channel.
+    /// For each producer's end of its reply channel.
     pub(crate) receivers: Vec<ReceiverSeat<Noted>>,
     pub(crate) spares: Spares,
 }
@@ -44,7 +44,7 @@ pub(crate) struct EndLists {
 /// Room for all seats of a house at once, and for what is left of them: a run that comes to nothing
 /// gives them back in whatever state they are.
 pub struct Spares {
-    /// For the workers' seats on all lanes.
+    /// For the producers' seats on all lanes.
     pub seats: Vec<ProducerSeat<Job>>,
     /// For what is left of them.
     pub ended: Vec<Ended<Job>>,
@@ -123,21 +123,21 @@ impl Lists {
         Lists { crew, ends }
     }
 
-    // Makes room in each list for what so many workers or consumers have to put there.
-    fn reserve(&mut self, workers: usize, shards: usize) -> Result<(), AllocError>
+    // Makes room in each list for what so many producers or consumers have to put there.
+    fn reserve(&mut self, producers: usize, shards: usize) -> Result<(), AllocError>
         requires empty { AreEmptyLists self.old }
-        requires few { (workers < 256) × (shards < 256) }
+        requires few { (producers < 256) × (shards < 256) }
         ensures empty { AreEmptyLists self.new }
-        ensures room { OnOk result (AreLists workers shards self.new) }
+        ensures room { OnOk result (AreLists producers shards self.new) }
     {
         self.crew.stands.reserve(shards)?;
-        self.crew.posts.reserve(workers)?;
+        self.crew.posts.reserve(producers)?;
         self.crew.consumed.reserve(shards)?;
-        self.crew.worked.reserve(workers)?;
-        self.crew.unmanned.reserve(workers)?;
+        self.crew.worked.reserve(producers)?;
+        self.crew.unmanned.reserve(producers)?;
         self.ends.consumers.reserve(shards)?;
-        self.ends.receivers.reserve(workers)?;
-        self.ends.spares.reserve(workers * shards)?;
+        self.ends.receivers.reserve(producers)?;
+        self.ends.spares.reserve(producers * shards)?;
         Ok(())
     }
 
@@ -169,12 +169,13 @@ impl Lists {
     }
 }
 
-// The lists for so many workers and consumers. An error where memory is refused; nothing is left then.
-fn make_lists(alloc: Global, workers: u8, shards: u8) -> Result<Lists, AllocError>
-    ensures { IfOk result (λ lists. AreLists workers shards lists) }
+// The lists for so many producers and consumers. An error where memory is refused; nothing is left
+// then.
+fn make_lists(alloc: Global, producers: u8, shards: u8) -> Result<Lists, AllocError>
+    ensures { IfOk result (λ lists. AreLists producers shards lists) }
 {
     let mut lists = Lists::new(alloc);
-    match lists.reserve(usize::from(workers), usize::from(shards)) {
+    match lists.reserve(usize::from(producers), usize::from(shards)) {
         Ok(()) => Ok(lists),
         Err(e) => {
             lists.spend();
@@ -191,26 +192,26 @@ pub(crate) struct Stock {
     pub(crate) channels: Channels,
 }
 
-/// All that can't be let go of a house with so many workers and shards, whose lanes have room for
+/// All that can't be let go of a house with so many producers and shards, whose lanes have room for
 /// `depth` entries. An error where memory is refused; nothing is left then.
 pub(crate) fn make_stock(
     alloc: Global,
-    workers: u8,
+    producers: u8,
     shards: u8,
     depth: usize,
 ) -> Result<Stock, AllocError>
     requires { 0 < depth }
-    ensures { IfOk result (λ stock. AreStock workers shards depth stock) }
+    ensures { IfOk result (λ stock. AreStock producers shards depth stock) }
 {
-    let rooms = make_rooms(alloc, workers, shards)?;
-    let lists = match make_lists(alloc, workers, shards) {
+    let rooms = make_rooms(alloc, producers, shards)?;
+    let lists = match make_lists(alloc, producers, shards) {
         Ok(lists) => lists,
         Err(e) => {
             spend_rooms(rooms);
             return Err(e);
         }
     };
-    let lanes = match make_lanes(alloc, shards, depth, workers) {
+    let lanes = match make_lanes(alloc, shards, depth, producers) {
         Ok(lanes) => lanes,
         Err(e) => {
             spend_rooms(rooms);
@@ -218,7 +219,7 @@ pub(crate) fn make_stock(
             return Err(e);
         }
     };
-    match make_channels(alloc, workers, REPLY_ROOM, shards) {
+    match make_channels(alloc, producers, REPLY_ROOM, shards) {
         Ok(channels) => Ok(Stock {
             rooms,
             lists,

@@ -1,4 +1,4 @@
-//! A small house: two shards, two workers, alice with a folder, and bob.
+//! A small house: two shards, two producers, alice with a folder, and bob.
 
 use crate::fittings::make_fittings;
 use crate::{Opened, Sizes, Visit, inbox_numbered, open};
@@ -56,7 +56,7 @@ fn each_mailbox_has_the_bells_of_its_user(rt: HostRuntime) -> Result<(), Fail> {
     let sizes = Sizes {
         host: b"mx.example.org".as_slice(),
         max_message: 1000,
-        workers: 2,
+        producers: 2,
         depth: 4,
         uidvalidity: 7,
         first_uid: 1,
@@ -80,7 +80,7 @@ fn a_house_has_all_its_parts(rt: HostRuntime) -> Result<(), Fail> {
     let sizes = Sizes {
         host: b"mx.example.org".as_slice(),
         max_message: 1000,
-        workers: 2,
+        producers: 2,
         depth: 4,
         uidvalidity: 7,
         first_uid: 1,

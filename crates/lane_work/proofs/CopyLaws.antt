@@ -14,9 +14,12 @@ use Rattle.delivery_token.specs.declared.log.Noted.{Noted}
 use Rattle.lmtp_machine.specs.Dialogue.{Submission}
 use Rattle.shard_queue.specs.Shared.{IsStartOf}
 use Rattle.lane_work.specs.Talk.{Judged}
-use Rattle.lane_work.specs.Account.{AreBooks}
+use Rattle.lane_work.specs.declared.worker.Stop.{Stop}
+use Rattle.std.specs.Prelude.{Result, Ok, Err, IfOk}
+use Rattle.lane_work.specs.Account.{AreBooks, AreBooksOf}
 use Rattle.lane_work.specs.Copies.{FoundFull, IsAtOnce, IsHeard, Room, WerePut, none, put, elsewhere, refused, copies, copies_of, note_of, room_at, told}
-use Rattle.lane_work.specs.inner.Copies.{AreTried, Fills, FillsIn, HavePut, WereHeard, WereTried, under_way, unknown}
+use Rattle.courier.specs.Carried.{Carried, copy_of, judged_of}
+use Rattle.lane_work.specs.inner.Copies.{WasJudged, AreTried, Fills, FillsIn, HavePut, WereHeard, WereTried, under_way, unknown}
 use Rattle.lane_work.proofs.SlotLaws.{fills_length, heard_later}
 
 take_suc : {A : Type 0} (xs : List A) (i : ℕ) (x : A) → i < length xs → x ≡ slice_index_or xs i x → take (suc i) xs ≡ take i xs ++ x ∷ []
@@ -290,3 +293,104 @@ books_more d rooms p judged keeps more heard hears m slots full vs before after 
             was lane (omega arith) ∙ ap (λ l. l ++ map (λ job. Item p job) jobs) b.2 ∙ sym (map-append (λ job. Item p job) b.0 jobs),
           );
     }
+
+-- ---- one copy, in the books
+
+-- what was put on a lane where this copy's isn't, or is, and what was heard of it
+one_put : (d : Directory) (rooms : List Room) (p : ℕ) (heard : List (Entry Noted)) (lane : ℕ) (copy : Job) (slot : Option Verdict) (verdict : Verdict) (before after : List (List (Entry Job))) (jobs : List Job)
+    → shard_of d copy.mailbox < length before → slice_index_or before lane [] ≡ map (λ job. Item p job) jobs
+    → MatchOption slot (after ≡ slice_set before (shard_of d copy.mailbox) (slice_index_or before (shard_of d copy.mailbox) [] ++ Item p copy ∷ []))
+    (λ v. (after ≡ before) × IsAtOnce (FoundFull (room_at rooms (shard_of d copy.mailbox)) p (slice_index_or before (shard_of d copy.mailbox) [])) v)
+    → MatchOption slot (IsHeard heard (note_of (copy, verdict))) (λ v. verdict ≡ v)
+    → ((eqb (shard_of d copy.mailbox) lane ≡ true) × (shard_of d copy.mailbox ≡ lane)) ⊎ ((eqb (shard_of d copy.mailbox) lane ≡ false) × (shard_of d copy.mailbox ≢ lane))
+    → (more : List Job) × WerePut d (room_at rooms lane) p lane heard jobs ((copy, verdict) ∷ []) more × (slice_index_or after lane [] ≡ map (λ job. Item p job) (jobs ++ more))
+one_put d rooms p heard lane copy None verdict before after jobs under so put_there told (inl (is, here)) = (
+  copy ∷ [],
+  put copy verdict here told none,
+  ap (λ (l : List (List (Entry Job))). slice_index_or l lane []) put_there
+      ∙ ap (λ (n : ℕ). slice_index_or (slice_set before (shard_of d copy.mailbox) (slice_index_or before (shard_of d copy.mailbox) [] ++ Item p copy ∷ [])) n []) (sym here)
+      ∙ get_or-set_same before (shard_of d copy.mailbox) (slice_index_or before (shard_of d copy.mailbox) [] ++ Item p copy ∷ []) [] under
+      ∙ ap (λ (n : ℕ). slice_index_or before n [] ++ Item p copy ∷ []) here
+      ∙ ap (λ (l : List (Entry Job)). l ++ Item p copy ∷ []) so
+      ∙ sym (map-append (λ job. Item p job) jobs (copy ∷ [])),
+)
+one_put d rooms p heard lane copy None verdict before after jobs under so put_there told (inr (is, there)) = (
+  [],
+  elsewhere copy verdict there none,
+  ap (λ (l : List (List (Entry Job))). slice_index_or l lane []) put_there
+      ∙ get_or-set_other before (shard_of d copy.mailbox) lane (slice_index_or before (shard_of d copy.mailbox) [] ++ Item p copy ∷ []) [] (λ same_place. there (sym same_place))
+      ∙ so
+      ∙ ap (map (λ job. Item p job)) (sym (append-nil jobs)),
+)
+one_put d rooms p heard lane copy (Some v) verdict before after jobs under so put_there told (inl (is, here)) = (
+  [],
+  refused copy verdict here
+      (subst (λ (l : List (Entry Job)). IsAtOnce (FoundFull (room_at rooms lane) p l) verdict) so
+      (subst (λ (n : ℕ). IsAtOnce (FoundFull (room_at rooms n) p (slice_index_or before n [])) verdict) here
+      (subst (IsAtOnce (FoundFull (room_at rooms (shard_of d copy.mailbox)) p (slice_index_or before (shard_of d copy.mailbox) []))) (sym told) put_there.1)))
+      none,
+  ap (λ (l : List (List (Entry Job))). slice_index_or l lane []) put_there.0 ∙ so ∙ ap (map (λ job. Item p job)) (sym (append-nil jobs)),
+)
+one_put d rooms p heard lane copy (Some v) verdict before after jobs under so put_there told (inr (is, there)) = (
+  [],
+  elsewhere copy verdict there none,
+  ap (λ (l : List (List (Entry Job))). slice_index_or l lane []) put_there.0 ∙ so ∙ ap (map (λ job. Item p job)) (sym (append-nil jobs)),
+)
+
+-- a copy more that was tried, and the verdict on it
+pub one_more : (d : Directory) (rooms : List Room) (p : ℕ) (done : List (Job × Verdict)) (keeps more : List (Job × Verdict) → Type 0) (heard hears : List (Entry Noted)) (copy : Job) (verdict : Verdict) (before after : List (List (Entry Job)))
+    → WasJudged d rooms p copy verdict hears before after
+    → ((copies : List (Job × Verdict)) → keeps copies → more (copies ++ (copy, verdict) ∷ [])) → IsStartOf heard hears
+    → AreBooksOf d rooms p done keeps heard before → AreBooksOf d rooms p (done ++ (copy, verdict) ∷ []) more hears after
+one_more d rooms p done keeps more heard hears copy verdict before after was notes grew books = record {
+  noted = notes done books.noted;
+  lanes = λ lane under.
+      let len = was.lanes in
+      let b = books.lanes lane (omega (arith, under, len)) in
+      let one = one_put d rooms p hears lane copy was.at_once verdict before after b.0 was.within b.2 was.put was.told (eqb_tells (shard_of d copy.mailbox) lane) in (
+        b.0 ++ one.0,
+        were_put_more d (room_at rooms lane) p lane hears (were_put_later d (room_at rooms lane) p lane heard hears grew b.1) one.1,
+        one.2,
+      );
+}
+
+-- the same of a message more that a session submitted
+pub carried_more : (d : Directory) (rooms : List Room) (p q : ℕ) (serial : ℕ) (done : List Carried) (one : Carried) (keeps more : List (Job × Verdict) → Type 0) (heard hears : List (Entry Noted)) (before after : List (List (Entry Job)))
+    → q ≡ p → WasJudged d rooms p (copy_of p serial one) one.verdict hears before after
+    → ((copies : List (Job × Verdict)) → keeps copies → more (copies ++ (copy_of p serial one, one.verdict) ∷ [])) → IsStartOf heard hears
+    → AreBooksOf d rooms p (map (judged_of p serial) done) keeps heard before → AreBooksOf d rooms q (map (judged_of q serial) (done ++ one ∷ [])) more hears after
+carried_more d rooms p q serial done one keeps more heard hears before after same was notes grew books =
+    subst (λ (n : ℕ). AreBooksOf d rooms n (map (judged_of n serial) (done ++ one ∷ [])) more hears after) (sym same)
+    (subst (λ (l : List (Job × Verdict)). AreBooksOf d rooms p l more hears after) (sym (map-append (judged_of p serial) done (one ∷ [])))
+    (one_more d rooms p (map (judged_of p serial) done) keeps more heard hears (copy_of p serial one) one.verdict before after was notes grew books))
+
+-- what `put_copy` and `hear_one` tell, as one
+pub judged_at_once : (d : Directory) (rooms : List Room) (p : ℕ) (copy : Job) (slot : Option Verdict) (verdict : Verdict) (heard : List (Entry Noted)) (before after : List (List (Entry Job)))
+    → shard_of d copy.mailbox < length before → length after ≡ length before → slot ≡ Some verdict
+    → MatchOption slot (after ≡ slice_set before (shard_of d copy.mailbox) (slice_index_or before (shard_of d copy.mailbox) [] ++ Item p copy ∷ []))
+    (λ v. (after ≡ before) × IsAtOnce (FoundFull (room_at rooms (shard_of d copy.mailbox)) p (slice_index_or before (shard_of d copy.mailbox) [])) v)
+    → WasJudged d rooms p copy verdict heard before after
+judged_at_once d rooms p copy slot verdict heard before after within len is placed = record {
+  at_once = Some verdict;
+  within = within;
+  lanes = len;
+  put = subst (λ (o : Option Verdict). MatchOption o (after ≡ slice_set before (shard_of d copy.mailbox) (slice_index_or before (shard_of d copy.mailbox) [] ++ Item p copy ∷ []))
+      (λ v. (after ≡ before) × IsAtOnce (FoundFull (room_at rooms (shard_of d copy.mailbox)) p (slice_index_or before (shard_of d copy.mailbox) [])) v)) is placed;
+  told = refl;
+}
+
+pub judged_later : (d : Directory) (rooms : List Room) (p : ℕ) (copy : Job) (slot : Option Verdict) (r : Result Verdict Stop) (heard : List (Entry Noted)) (before after : List (List (Entry Job)))
+    → shard_of d copy.mailbox < length before → length after ≡ length before → slot ≡ None
+    → MatchOption slot (after ≡ slice_set before (shard_of d copy.mailbox) (slice_index_or before (shard_of d copy.mailbox) [] ++ Item p copy ∷ []))
+    (λ v. (after ≡ before) × IsAtOnce (FoundFull (room_at rooms (shard_of d copy.mailbox)) p (slice_index_or before (shard_of d copy.mailbox) [])) v)
+    → IfOk r (λ v. IsHeard heard (note_of (copy, v)))
+    → IfOk r (λ v. WasJudged d rooms p copy v heard before after)
+judged_later d rooms p copy slot (Ok verdict) heard before after within len is placed told = record {
+  at_once = None;
+  within = within;
+  lanes = len;
+  put = subst (λ (o : Option Verdict). MatchOption o (after ≡ slice_set before (shard_of d copy.mailbox) (slice_index_or before (shard_of d copy.mailbox) [] ++ Item p copy ∷ []))
+      (λ v. (after ≡ before) × IsAtOnce (FoundFull (room_at rooms (shard_of d copy.mailbox)) p (slice_index_or before (shard_of d copy.mailbox) [])) v)) is placed;
+  told = told;
+}
+judged_later d rooms p copy slot (Err e) heard before after within len is placed told = tt

@@ -13,8 +13,8 @@ use Rattle.shard_queue.specs.Seats.{sent}
 use Rattle.shard_queue.specs.Shared.{IsStartOf}
 use Rattle.envelope.specs.Directory.{Directory}
 use Rattle.lane_work.specs.Talk.{Judged, WholeTalk}
-use Rattle.lane_work.specs.Copies.{Room, none, room_at}
-use Rattle.lane_work.specs.Account.{Account, AreBooks, HaveEnded, HaveTalked, Premises, next, notes_tell, setting_at}
+use Rattle.lane_work.specs.Copies.{Room, none, room_at, told}
+use Rattle.lane_work.specs.Account.{Account, AreAccountedFor, AreBooks, AreBooksOf, HaveEnded, HaveTalked, Premises, next, notes_tell, setting_at}
 use Rattle.lane_work.specs.inner.Account.{HasServed}
 use Rattle.lane_work.specs.Account as account
 use Rattle.lane_work.specs.inner.Speaking.{Spoke}
@@ -42,21 +42,26 @@ books_begin d rooms p notes heard ss is each = record { noted = is; lanes = λ l
   nothing_sent (x ∷ xs) h zero = All-head (λ s. sent s ≡ []) x xs h
   nothing_sent (x ∷ xs) h (suc lane) = nothing_sent xs (All-tail (λ s. sent s ≡ []) x xs h) lane
 
+at_end : (p : ℕ) (xs : List (List (Entry Job))) (lane : ℕ) → lane < length xs → slice_index_or (map (λ entries. entries ++ End p ∷ []) xs) lane [] ≡ slice_index_or xs lane [] ++ End p ∷ []
+at_end p [] lane h = absurd (omega arith)
+at_end p (x ∷ xs) zero h = refl
+at_end p (x ∷ xs) (suc lane) h = at_end p xs lane (omega arith)
+
 -- the seats have ended
+pub accounted_of : (house : Premises) (p : ℕ) (copies : List (Job × Verdict)) (notes : List Noted) (heard hears : List (Entry Noted)) (before after : List (List (Entry Job)))
+    → IsStartOf heard hears → HaveEnded p before after → AreBooksOf house.directory house.rooms p copies (notes_tell notes) heard before → AreAccountedFor house p copies notes hears after
+accounted_of house p copies notes heard hears before after grew ended books = record {
+  noted = books.noted;
+  lanes = λ lane under.
+      let b = books.lanes lane (let l = ap length ended ∙ length-map before (λ entries. entries ++ End p ∷ []) in omega (arith, l, under)) in
+      (b.0, were_put_later house.directory (room_at house.rooms lane) p lane heard hears grew b.1, ap (λ l. slice_index_or l lane []) ended ∙ at_end p before lane (let l = ap length ended ∙ length-map before (λ entries. entries ++ End p ∷ []) in omega (arith, l, under)) ∙ ap (λ l. l ++ End p ∷ []) b.2);
+}
+
 pub account_of : (house : Premises) (p : ℕ) (connections replies : List (List ℕ)) (notes : List Noted) (heard hears : List (Entry Noted)) (before after : List (List (Entry Job)))
     → IsStartOf heard hears → HaveEnded p before after → HasServed house p connections replies (notes_tell notes) heard before → Account house p connections replies notes hears after
-account_of house p connections replies notes heard hears before after grew ended served = record {
-  judged = served.judged;
-  talked = served.talked;
-  noted = served.books.noted;
-  lanes = λ lane under.
-      let b = served.books.lanes lane (let l = ap length ended ∙ length-map before (λ entries. entries ++ End p ∷ []) in omega (arith, l, under)) in
-      (b.0, were_put_later house.directory (room_at house.rooms lane) p lane heard hears grew b.1, ap (λ l. slice_index_or l lane []) ended ∙ at_end before lane (let l = ap length ended ∙ length-map before (λ entries. entries ++ End p ∷ []) in omega (arith, l, under)) ∙ ap (λ l. l ++ End p ∷ []) b.2);
-} where
-  at_end : (xs : List (List (Entry Job))) (lane : ℕ) → lane < length xs → slice_index_or (map (λ entries. entries ++ End p ∷ []) xs) lane [] ≡ slice_index_or xs lane [] ++ End p ∷ []
-  at_end [] lane h = absurd (omega arith)
-  at_end (x ∷ xs) zero h = refl
-  at_end (x ∷ xs) (suc lane) h = at_end xs lane (omega arith)
+account_of house p connections replies notes heard hears before after grew ended served =
+    let a = accounted_of house p (told served.judged) notes heard hears before after grew ended served.books in
+    record { judged = served.judged; talked = served.talked; noted = a.noted; lanes = a.lanes }
 
 pub served_step : (house : Premises) (p : ℕ) (conns : List (Vec ℕ Global)) (i : ℕ) (conn : Vec ℕ Global) (bytes : List ℕ) (replies more : List (Vec ℕ Global)) (reply : Vec ℕ Global)
     (keeps kept : List (Job × Verdict) → Type 0) (heard hears : List (Entry Noted)) (before after : List (List (Entry Job)))

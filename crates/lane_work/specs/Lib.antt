@@ -1,5 +1,6 @@
 pub mod Talk
 pub mod Copies
+pub mod Couriers
 pub mod Seats
 pub mod Account
 pub mod Answering

@@ -1,20 +1,20 @@
 //! The verdicts on a message are heard, until each is there. What is done with them stands in
 //! `worker`.
 
-ghost use Rattle.std.specs.Prelude.{◌≡◌, ◌≤◌, ◌<◌, ◌+◌, ℕ, ◌++◌, ◌∷◌, [], true, false, length, map, Some, None, Ok, OnOk, OnErr, slice_index_or, slice_set, vec_len, vec_capacity};
+ghost use Rattle.std.specs.Prelude.{◌≡◌, ◌≤◌, ◌<◌, ◌+◌, ℕ, ◌++◌, ◌∷◌, [], true, false, length, map, Some, None, Ok, IfOk, OnOk, OnErr, slice_index_or, slice_set, vec_len, vec_capacity};
 ghost use Rattle.std.specs.List.{list_all};
 ghost use Rattle.std.specs.Option.{is_some};
 ghost use Rattle.shard_queue.specs.Reply.{IsReceiver, received};
 ghost use Rattle.shard_queue.specs.Shared.{IsStartOf};
 ghost use Rattle.lmtp_machine.specs.Calls.{submission_of};
-ghost use Rattle.lane_work.specs.Copies.{copies_of};
+ghost use Rattle.lane_work.specs.Copies.{IsHeard, copies_of};
 ghost use Rattle.lane_work.specs.inner.Copies.{Fills, FillsIn, WereHeard, unknown};
 ghost use Rattle.lane_work.specs.inner.Desk.{SameButReceiver};
 ghost use Rattle.lane_work.specs.Ends.{CountsEnds};
 
 use crate::desk::Desk;
 use crate::worker::Stop;
-use delivery_token::{Noted, Verdict};
+use delivery_token::{CopyKey, Noted, Verdict};
 use lmtp_machine::Submission;
 use pace::{Gate, Pace};
 use shard_queue::{Entry, ReplyChannel};
@@ -87,6 +87,41 @@ pub(crate) fn hear_all<R: Wait, G: Gate>(
         }
     }
     unreachable!()
+}
+
+/// Hears the verdict on the only copy that is under way; Torn where something else comes.
+pub(crate) fn hear_one<R: Wait, G: Gate>(
+    rt: &R,
+    pace: &mut Pace<'_, G>,
+    channel: &ReplyChannel<Noted>,
+    desk: &mut Desk,
+    key: CopyKey,
+    mailbox: u8,
+) -> Result<Verdict, Stop>
+    requires { IsReceiver channel.now desk.old.receiver }
+    ensures receiver { IsReceiver channel.now desk.new.receiver }
+    ensures same { SameButReceiver desk.old desk.new }
+    ensures ends { CountsEnds desk.old desk.new }
+    ensures grew { IsStartOf (received desk.old.receiver) (received desk.new.receiver) }
+    ensures heard { IfOk result (λ verdict. IsHeard (received desk.new.receiver) (record { key = key; mailbox = mailbox; verdict = verdict })) }
+    ensures torn { OnErr result (length (received desk.old.receiver) < length (received desk.new.receiver)) }
+{
+    pace.pass();
+    match channel.recv_as(rt, &mut desk.receiver) {
+        Entry::Item(_, noted) => {
+            if noted.key != key {
+                return Err(Stop::Torn);
+            }
+            if noted.mailbox != mailbox {
+                return Err(Stop::Torn);
+            }
+            Ok(noted.verdict)
+        }
+        Entry::End(_) => {
+            desk.ends = desk.ends.saturating_add(1);
+            Err(Stop::Torn)
+        }
+    }
 }
 
 /// The verdicts, where each is known. `verdicts`, which is empty, has room for them.

@@ -5,6 +5,7 @@
 
 mod answering;
 mod bells;
+mod carrying;
 mod consumer;
 mod desk;
 mod ending;
@@ -16,9 +17,10 @@ mod worker;
 
 pub use answering::serve_copy;
 pub use bells::Summons;
+pub use carrying::LaneCourier;
 pub use consumer::{Consumed, Depot, Stall, consume};
 pub use desk::{Desk, Office};
 pub use ending::{end_all, end_one, end_sender, end_senders, hear_ends};
 pub use laws::accounts_meet_histories;
 pub use notebook::{Notebook, Unkept};
-pub use worker::{Fate, Stop, Worked, turn, work};
+pub use worker::{Fate, Stop, Worked, finish, turn, work};

@@ -1,14 +1,14 @@
 //! What a worker notes of the copies that it has put: all of it, or nothing. How a verdict comes
 //! about does not belong here.
 
-ghost use Rattle.std.specs.Prelude.{◌≡◌, ◌≤◌, ◌++◌, ℕ, List, length, map, zip, IsOk, OnOk, OnErr, vec_len};
+ghost use Rattle.std.specs.Prelude.{◌≡◌, ◌≤◌, ◌++◌, ◌∷◌, [], ℕ, List, length, map, zip, IsOk, OnOk, OnErr, vec_len};
 ghost use Rattle.delivery_token.specs.declared.Job.{Job};
 ghost use Rattle.delivery_token.specs.declared.Verdict.{Verdict};
 ghost use Rattle.lmtp_machine.specs.Calls.{submission_of};
 ghost use Rattle.lane_work.specs.Account.{notes_tell};
 ghost use Rattle.lane_work.specs.Copies.{copies_of, note_of};
 
-use delivery_token::{Verdict, WorkerLog};
+use delivery_token::{CopyKey, Verdict, WorkerLog};
 use lmtp_machine::Submission;
 use std::alloc::AllocError;
 
@@ -39,6 +39,12 @@ pub trait Notebook {
         requires room { has_room self.old (length verdicts.now) }
         ensures owner { owner self.new ≡ owner self.old }
         ensures tells { (copies : List (Job × Verdict)) → tells self.old copies → tells self.new (copies ++ zip (copies_of (submission_of message.now)) verdicts.now) };
+
+    /// Notes the verdict on one copy, in room that was reserved.
+    fn note_one(&mut self, key: CopyKey, mailbox: u8, verdict: Verdict)
+        requires room { has_room self.old 1 }
+        ensures owner { owner self.new ≡ owner self.old }
+        ensures tells { (copy : Job) (copies : List (Job × Verdict)) → copy.key ≡ key → copy.mailbox ≡ mailbox → tells self.old copies → tells self.new (copies ++ (copy, verdict) ∷ []) };
 }
 
 /// A log notes each verdict.
@@ -55,6 +61,10 @@ impl Notebook for WorkerLog {
 
     fn note_all(&mut self, message: &Submission, verdicts: &[Verdict]) {
         log_all(self, message, verdicts);
+    }
+
+    fn note_one(&mut self, key: CopyKey, mailbox: u8, verdict: Verdict) {
+        self.note(key, mailbox, verdict);
     }
 }
 
@@ -74,6 +84,8 @@ impl Notebook for Unkept {
     }
 
     fn note_all(&mut self, _message: &Submission, _verdicts: &[Verdict]) {}
+
+    fn note_one(&mut self, _key: CopyKey, _mailbox: u8, _verdict: Verdict) {}
 }
 
 fn log_all(log: &mut WorkerLog, message: &Submission, verdicts: &[Verdict])

@@ -14,7 +14,7 @@ ghost use Rattle.lane_work.specs.inner.Copies.{HavePut, WereTried};
 
 use crate::bells::Summons;
 use crate::desk::{Desk, Office};
-use change_ring::NO_FLAGS;
+use change_ring::{Flags, NO_FLAGS};
 use delivery_token::{CopyKey, Job, Refusal, Text, Verdict};
 use lmtp_machine::Submission;
 use pace::{Gate, Pace};
@@ -29,11 +29,12 @@ fn put_on<R: Wait>(
     key: CopyKey,
     mailbox: u8,
     text: &Text,
+    flags: Flags,
 ) -> Option<Verdict>
     requires { IsProducer lane.now seat.old }
     ensures seat { IsProducer lane.now seat.new × (number_of seat.new ≡ number_of seat.old) }
     ensures put { MatchOption result
-        (sent seat.new ≡ sent seat.old ++ entries.Item (number_of seat.old) (record { key = key; mailbox = mailbox; text = text.now; flags = no_flags }) ∷ [])
+        (sent seat.new ≡ sent seat.old ++ entries.Item (number_of seat.old) (record { key = key; mailbox = mailbox; text = text.now; flags = flags }) ∷ [])
         (λ v. (sent seat.new ≡ sent seat.old) × IsAtOnce (FoundFull (room_of lane.now) (number_of seat.old) (sent seat.old)) v) }
 {
     let Ok(text) = text.copy() else {
@@ -43,7 +44,7 @@ fn put_on<R: Wait>(
         key,
         mailbox,
         text,
-        flags: NO_FLAGS,
+        flags,
     };
     match lane.put_as(rt, seat, job) {
         Ok(()) => None,
@@ -51,8 +52,8 @@ fn put_on<R: Wait>(
     }
 }
 
-// The same, at the lane of the copy's mailbox, for which it is summoned.
-fn put_copy<R: Wait, G: Gate, S: Summons>(
+/// The same, at the lane of the copy's mailbox, for which it is summoned.
+pub(crate) fn put_copy<R: Wait, G: Gate, S: Summons>(
     rt: &R,
     pace: &mut Pace<'_, G>,
     office: &Office,
@@ -61,14 +62,16 @@ fn put_copy<R: Wait, G: Gate, S: Summons>(
     key: CopyKey,
     mailbox: u8,
     text: &Text,
+    flags: Flags,
 ) -> Option<Verdict>
     requires seats { AreSeats office.now.lanes.items desk.old.number desk.old.seats.items }
     requires lanes { office.now.directory.shards ≡ length office.now.lanes.items }
     ensures seats { AreSeats office.now.lanes.items desk.old.number desk.new.seats.items }
     ensures same { SameButSeats desk.old desk.new }
+    ensures within { shard_of office.now.directory mailbox < length office.now.lanes.items }
     ensures put { MatchOption result
         (map sent desk.new.seats.items ≡ slice_set (map sent desk.old.seats.items) (shard_of office.now.directory mailbox)
-        (slice_index_or (map sent desk.old.seats.items) (shard_of office.now.directory mailbox) [] ++ entries.Item desk.old.number (record { key = key; mailbox = mailbox; text = text.now; flags = no_flags }) ∷ []))
+        (slice_index_or (map sent desk.old.seats.items) (shard_of office.now.directory mailbox) [] ++ entries.Item desk.old.number (record { key = key; mailbox = mailbox; text = text.now; flags = flags }) ∷ []))
         (λ v. (map sent desk.new.seats.items ≡ map sent desk.old.seats.items)
         × IsAtOnce (FoundFull (room_at (rooms_of office.now.lanes.items) (shard_of office.now.directory mailbox)) desk.old.number
         (slice_index_or (map sent desk.old.seats.items) (shard_of office.now.directory mailbox) [])) v) }
@@ -82,6 +85,7 @@ fn put_copy<R: Wait, G: Gate, S: Summons>(
         key,
         mailbox,
         text,
+        flags,
     );
     summons.summon(rt, shard);
     verdict
@@ -118,6 +122,7 @@ pub(crate) fn put_all<R: Wait, G: Gate, S: Summons>(
             message.keys[i],
             message.mailboxes[i],
             &message.text,
+            NO_FLAGS,
         );
         slots.push_reserved(verdict);
     }

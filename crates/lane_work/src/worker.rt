@@ -10,8 +10,8 @@ ghost use Rattle.shard_queue.specs.Reply.{IsReceiver, received};
 ghost use Rattle.shard_queue.specs.Shared.{IsStartOf};
 ghost use Rattle.lmtp_machine.specs.Calls.{Moves, submission_of};
 ghost use Rattle.lane_work.specs.Talk.{Judged};
-ghost use Rattle.lane_work.specs.Seats.{AreSeats};
-ghost use Rattle.lane_work.specs.Account.{AreBooks, notes_tell, setting_at};
+ghost use Rattle.lane_work.specs.Seats.{AreEnded, AreSeats};
+ghost use Rattle.lane_work.specs.Account.{AreBooks, HaveEnded, notes_tell, setting_at};
 ghost use Rattle.lane_work.specs.inner.Account.{HasServed};
 ghost use Rattle.lane_work.specs.Ends.{CountsEnds, ends_in};
 ghost use Rattle.lane_work.specs.Working.{IsWorked};
@@ -48,7 +48,7 @@ pub enum Stop {
 /// How a worker came to its end.
 #[derive(Clone, Copy, Debug, PartialEq, Eq)]
 pub enum Fate {
-    /// It went through all its connections.
+    /// It went through all its connections, or all its steps.
     Whole,
     /// It never had a thread, and its seats were ended for it.
     NotBegun,
@@ -297,13 +297,13 @@ fn converse<R: Wait, G: Gate, S: Summons>(
     }
 }
 
-/// What a worker leaves.
+/// What a producer leaves: a worker, or a session.
 pub struct Worked {
     /// What is left of its seat on each lane.
     pub ended: Vec<Ended<Job>>,
     /// Its end of its reply channel.
     pub receiver: ReceiverSeat<Noted>,
-    /// The replies to each of its connections, up to the one in which it stopped.
+    /// The replies to each of its connections, up to the one in which it stopped; of a session what it said.
     pub replies: Vec<Vec<u8>>,
     /// The verdicts on its copies.
     pub log: WorkerLog,
@@ -405,6 +405,41 @@ pub fn work<R: Wait, G: Gate, S: Summons>(
         &mut replies,
         connections,
     );
+    finish(
+        rt, pace, office, summons, channel, desk, room, log, replies, fate,
+    )
+}
+
+/// The end of a producer's life: its end on each lane, from shard 0 on, and then it receives until each
+/// shard's end came on its reply channel. What it has said and noted by then goes with it, and so does how
+/// it came there; where all had gone well and something else than an end comes now, it is torn.
+///
+/// `room`, which is empty, has room for what is left of each seat.
+pub fn finish<R: Wait, G: Gate, S: Summons>(
+    rt: &R,
+    pace: &mut Pace<'_, G>,
+    office: &Office,
+    summons: &S,
+    channel: &ReplyChannel<Noted>,
+    desk: Desk,
+    room: Vec<Ended<Job>>,
+    log: WorkerLog,
+    replies: Vec<Vec<u8>>,
+    fate: Fate,
+) -> Worked
+    requires seats { AreSeats office.now.lanes.items desk.number desk.seats.items }
+    requires receiver { IsReceiver channel.now desk.receiver }
+    requires room { (room.items ≡ []) × (length office.now.lanes.items ≤ vec_capacity room) }
+    ensures ended { AreEnded office.now.lanes.items desk.number result.ended.items }
+    ensures said { HaveEnded desk.number (map sent desk.seats.items) (map said result.ended.items) }
+    ensures receiver { IsReceiver channel.now result.receiver }
+    ensures grew { IsStartOf (received desk.receiver) (received result.receiver) }
+    ensures heard { length office.now.lanes.items + ends_in (received desk.receiver) ≤ desk.ends + ends_in (received result.receiver) }
+    ensures kept { (result.log ≡ log) × (result.replies ≡ replies) }
+    ensures whole { result.fate ≡ Fate.Whole → fate ≡ Fate.Whole }
+    ensures quiet { result.fate ≡ Fate.Whole → length (received result.receiver) + ends_in (received desk.receiver) ≡ length (received desk.receiver) + ends_in (received result.receiver) }
+    ensures began { fate ≢ Fate.NotBegun → result.fate ≢ Fate.NotBegun }
+{
     let Desk {
         number,
         seats,
@@ -422,7 +457,7 @@ pub fn work<R: Wait, G: Gate, S: Summons>(
     }
 }
 
-// A worker that went through all, and then heard what it didn't await, is torn.
+// A producer that went through all, and then heard what it didn't await, is torn.
 fn fate_after(fate: Fate, quiet: bool) -> Fate
     ensures whole { result ≡ Fate.Whole → (fate ≡ Fate.Whole) × (quiet ≡ true) }
     ensures began { fate ≢ Fate.NotBegun → result ≢ Fate.NotBegun }

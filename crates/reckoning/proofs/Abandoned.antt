@@ -9,20 +9,19 @@ use Rattle.house_floor.specs.Crew.{AllAt, IsHouse}
 use Rattle.house_floor.specs.Opening.{AreBaskets}
 use Rattle.house_floor.specs.declared.floor.Floor.{Floor}
 use Rattle.house_floor.specs.declared.opening.Baskets.{Baskets}
-use Rattle.house_threads.specs.Crew.{IsServiceOf, IsSpendable, IsWorkOf, Plans}
+use Rattle.house_floor.specs.declared.floor.Visit.{Visit}
+use Rattle.house_threads.specs.Crew.{IsProduceOf, IsServiceOf, IsSpendable, Plans}
 use Rattle.house_threads.specs.declared.run.Ran.{Ran}
 use Rattle.reckoning.proofs.Parts.{some_at}
 
--- a worker that had its turn has left something of each of its seats
-ended_lengths : (floor : Floor) (plans : Plans) → length floor.depot.channels.items ≡ length plans → (n : ℕ) (ws : List Worked) → AllAt (IsWorkOf floor plans) n ws → n + length ws ≤ length plans
+-- a producer that had its turn has left something of each of its seats
+ended_lengths : (floor : Floor) (plans : Plans) (visits : List Visit) (n : ℕ) (ws : List Worked) → AllAt (IsProduceOf floor plans visits) n ws
     → All (λ (w : Worked). vec_len w.ended ≡ length floor.office.lanes.items) ws
-ended_lengths floor plans same n [] all few = All-nil (λ (w : Worked). vec_len w.ended ≡ length floor.office.lanes.items)
-ended_lengths floor plans same n (w ∷ ws) all few =
-    let channel = some_at floor.depot.channels.items n (omega (arith, same, few)) in
-    let plan = some_at plans n (omega (arith, few)) in
-    let own = lanes.ended_hand_length floor.office.lanes.items n w.ended.items (all.0.each channel.0 plan.0 channel.1 plan.1).0 in
+ended_lengths floor plans visits n [] all = All-nil (λ (w : Worked). vec_len w.ended ≡ length floor.office.lanes.items)
+ended_lengths floor plans visits n (w ∷ ws) all =
+    let own = lanes.ended_hand_length floor.office.lanes.items n w.ended.items all.0.ended in
     let o = w.ended.ok.0 in
-    All-cons (λ (w : Worked). vec_len w.ended ≡ length floor.office.lanes.items) w ws (omega (arith, own, o)) (ended_lengths floor plans same (suc n) ws all.1 (omega (arith, few)))
+    All-cons (λ (w : Worked). vec_len w.ended ≡ length floor.office.lanes.items) w ws (omega (arith, own, o)) (ended_lengths floor plans visits (suc n) ws all.1)
 
 -- the same of a consumer
 senders_lengths : (floor : Floor) (n : ℕ) (cs : List Consumed) → AllAt (IsServiceOf floor) n cs → n + length cs ≤ length floor.office.lanes.items
@@ -34,31 +33,28 @@ senders_lengths floor n (c ∷ cs) all few =
     let o = c.senders.ok.0 in
     All-cons (λ (c : Consumed). vec_len c.senders ≡ length floor.depot.channels.items) c cs (omega (arith, own, o)) (senders_lengths floor (suc n) cs all.1 (omega (arith, few)))
 
--- The clauses of `abandon`, in their order, in a house with so many workers.
-module _ (floor : Floor) (workers : ℕ) (house : IsHouse floor workers) where
+-- The clauses of `abandon`, in their order, in a house with so many producers.
+module _ (floor : Floor) (producers : ℕ) (house : IsHouse floor producers) where
   pub some_lanes : 0 < floor.office.directory.shards → 0 < length floor.office.lanes.items
   some_lanes some = let e = house.shards in omega (arith, e, some)
 
-  pub some_channels : 0 < workers → 0 < length floor.depot.channels.items
+  pub some_channels : 0 < producers → 0 < length floor.depot.channels.items
   some_channels some = let e = house.channels in omega (arith, e, some)
 
-  pub baskets_for : (shards : ℕ) (baskets : Baskets) → floor.office.directory.shards ≡ shards → AreBaskets workers shards baskets
+  pub baskets_for : (shards : ℕ) (baskets : Baskets) → floor.office.directory.shards ≡ shards → AreBaskets producers shards baskets
       → AreBaskets (length floor.depot.channels.items) (length floor.office.lanes.items) baskets
   baskets_for shards baskets is are =
       subst (λ n. AreBaskets n (length floor.office.lanes.items) baskets) (sym house.channels)
-      (subst (λ n. AreBaskets workers n baskets) (sym is ∙ house.shards) are)
+      (subst (λ n. AreBaskets producers n baskets) (sym is ∙ house.shards) are)
 
-  pub left_for : (ran : Ran) → IsSpendable floor workers ran → IsSpendable floor (length floor.depot.channels.items) ran
+  pub left_for : (ran : Ran) → IsSpendable floor producers ran → IsSpendable floor (length floor.depot.channels.items) ran
   left_for ran left = subst (λ n. IsSpendable floor n ran) (sym house.channels) left
 
-  pub worked_for : (plans : Plans) (ran : Ran) → length plans ≡ workers → AllAt (IsWorkOf floor plans) 0 ran.worked.items → IsSpendable floor workers ran
+  pub worked_for : (plans : Plans) (visits : List Visit) (ran : Ran) → AllAt (IsProduceOf floor plans visits) 0 ran.worked.items
       → All (λ (w : Worked). vec_len w.ended ≡ length floor.office.lanes.items) ran.worked.items
-  worked_for plans ran same all left =
-      let each = left.each_worker in
-      let o = ran.worked.ok.0 in
-      ended_lengths floor plans (house.channels ∙ sym same) 0 ran.worked.items all (omega (arith, each, o, same))
+  worked_for plans visits ran all = ended_lengths floor plans visits 0 ran.worked.items all
 
-  pub consumed_for : (ran : Ran) → AllAt (IsServiceOf floor) 0 ran.consumed.items → IsSpendable floor workers ran
+  pub consumed_for : (ran : Ran) → AllAt (IsServiceOf floor) 0 ran.consumed.items → IsSpendable floor producers ran
       → All (λ (c : Consumed). vec_len c.senders ≡ length floor.depot.channels.items) ran.consumed.items
   consumed_for ran all left =
       let each = left.each_lane in

@@ -1,4 +1,4 @@
--- Each worker's account, said of what was taken of the queues.
+-- Each producer's account, said of what was taken of the queues.
 use Rattle.std.proofs.Common.{◌≡◌, ◌<◌, ◌+◌, ◌∙◌, ℕ, zero, suc, true, false, Bool, List, [], ◌∷◌, All, None, Some, Vec, length, map, slice_get, slice_index_or, refl, sym, ap, subst, arith}
 use Rattle.std.specs.Global.{Global}
 use Rattle.std.proofs.lemmas.List.Elements.{All-cons, All-nil, All-head, All-tail}
@@ -12,7 +12,7 @@ use Rattle.shard_queue.specs.declared.reply.ReplyClosed.{ReplyClosed}
 use Rattle.shard_queue.specs.declared.reply.SenderEnded.{SenderEnded}
 use Rattle.shard_queue.specs.Lane.{of}
 use Rattle.shard_queue.specs.Reply.{received, reply_history}
-use Rattle.shard_queue.specs.Seats.{got, history}
+use Rattle.shard_queue.specs.Seats.{got, history, said}
 use Rattle.lane_work.specs.Account.{Account}
 use Rattle.lane_work.specs.Consuming.{items_of}
 use Rattle.lane_work.specs.Speaking.{premises_of}
@@ -20,13 +20,14 @@ use Rattle.lane_work.specs.declared.consumer.Consumed.{Consumed}
 use Rattle.lane_work.specs.declared.worker.Fate.{Fate}
 use Rattle.lane_work.specs.declared.worker.Fate.TheVariants as fates
 use Rattle.lane_work.specs.declared.worker.Worked.{Worked}
-use Rattle.lane_work.proofs.HistoryLaws.{account_of_history}
+use Rattle.lane_work.proofs.HistoryLaws.{said_is_taken}
 use Rattle.lane_seats.specs.rows.Rows.{AllIn, AreIn}
 use Rattle.lane_seats.proofs.CloseLaws as lanes
 use Rattle.lane_seats.proofs.ChannelCloseLaws as channels
 use Rattle.house_floor.specs.Crew.{AllAt}
 use Rattle.house_floor.specs.declared.floor.Floor.{Floor}
-use Rattle.house_threads.specs.Crew.{IsServiceOf, IsWorkOf, Plans}
+use Rattle.house_floor.specs.declared.floor.Visit.{Visit}
+use Rattle.house_threads.specs.Crew.{IsProduceOf, IsServiceOf, Plans, SessionAccount}
 use Rattle.reckoning.specs.Closing.{AreChannelsClosedWith, AreClosedWith}
 use Rattle.reckoning.specs.Gathered.{fault_of_consumer, fault_of_fate}
 use Rattle.reckoning.proofs.Parts.{copies_of, some_at}
@@ -76,39 +77,72 @@ HasAccount floor plans replies notes answers histories p =
     Account (premises_of floor.office) p (slice_index_or (map (λ (w : Vec (Vec ℕ Global) Global). map (λ b. b.items) w.items) plans) p []) (slice_index_or replies p []) (slice_index_or notes p [])
     (slice_index_or answers p []) (map (of p) histories)
 
-module _ (floor : Floor) (plans : Plans) (same : length floor.depot.channels.items ≡ length plans) (ws : List Worked) (all : AllAt (IsWorkOf floor plans) 0 ws) (count : length ws ≡ length plans)
-    (fates : All (λ w. fault_of_fate w.fate ≡ None) ws) where
-  pub account_of : (seats : List (ConsumerSeat Job)) (closed : List (Closed Job)) → AreClosedWith floor.office.lanes.items (map (λ w. w.ended.items) ws) seats closed
-      → (hands : List (List (SenderEnded Noted))) (replied : List (ReplyClosed Noted)) → AreChannelsClosedWith floor.depot.channels.items hands (map (λ w. w.receiver) ws) replied
-      → (p : ℕ) → p < length plans
-      → HasAccount floor plans (map (λ (w : Worked). map (λ b. b.items) w.replies.items) ws) (map (λ (w : Worked). w.log.notes) ws) (map reply_history replied) (map history closed) p
-  account_of seats closed are hands replied heard p under =
+-- What the steps of the session with seat p came to.
+abbrev pub HasSessionAccount : (floor : Floor) (visit : Visit) (replies : List (List (List ℕ))) (notes : List (List Noted)) (answers : List (List (Entry Noted))) (histories : List (List (Entry Job))) → ℕ → Type 0
+HasSessionAccount floor visit replies notes answers histories p =
+    SessionAccount (premises_of floor.office) (length floor.depot.mailboxes.items) floor.turns p visit (slice_index_or replies p []) (slice_index_or notes p [])
+    (slice_index_or answers p []) (map (of p) histories)
+
+twice : (vs : List Worked) → map received (map (λ (v : Worked). v.receiver) vs) ≡ map (λ (v : Worked). received v.receiver) vs
+twice [] = refl
+twice (v ∷ vs) = ap (λ xs. received v.receiver ∷ xs) (twice vs)
+
+-- whatever holds of what one producer left holds of it where it lies among what all left
+module _ (ws : List Worked) (p : ℕ) (w : Worked) (at : slice_get ws p ≡ Some w) (answers : List (List (Entry Noted))) (are : answers ≡ map (λ (v : Worked). received v.receiver) ws)
+    (P : List (List ℕ) → List Noted → List (Entry Noted) → Type 0) where
+  pub among : P (map (λ b. b.items) w.replies.items) w.log.notes (received w.receiver)
+      → P (slice_index_or (map (λ (v : Worked). map (λ b. b.items) v.replies.items) ws) p []) (slice_index_or (map (λ (v : Worked). v.log.notes) ws) p []) (slice_index_or answers p [])
+  among here =
+      let b = sym (mapped_at (λ (v : Worked). map (λ b. b.items) v.replies.items) ws p w [] at) in
+      let c = sym (mapped_at (λ (v : Worked). v.log.notes) ws p w [] at) in
+      let d = sym (ap (λ xs. slice_index_or xs p []) are ∙ mapped_at (λ (v : Worked). received v.receiver) ws p w [] at) in
+      subst (λ x. P x (slice_index_or (map (λ (v : Worked). v.log.notes) ws) p []) (slice_index_or answers p [])) b
+      (subst (λ x. P (map (λ b. b.items) w.replies.items) x (slice_index_or answers p [])) c
+      (subst (λ x. P (map (λ b. b.items) w.replies.items) w.log.notes x) d here))
+
+module _ (floor : Floor) (plans : Plans) (visits : List Visit) (ws : List Worked) (all : AllAt (IsProduceOf floor plans visits) 0 ws) (count : length ws ≡ length plans + length visits)
+    (fine : All (λ w. fault_of_fate w.fate ≡ None) ws) (seats : List (ConsumerSeat Job)) (closed : List (Closed Job)) (are : AreClosedWith floor.office.lanes.items (map (λ w. w.ended.items) ws) seats closed)
+    (hands : List (List (SenderEnded Noted))) (replied : List (ReplyClosed Noted)) (heard : AreChannelsClosedWith floor.depot.channels.items hands (map (λ w. w.receiver) ws) replied) where
+  -- what producer p left, that it came to its end, and that what it said is what was taken
+  left_by : (p : ℕ) → p < length plans + length visits
+      → (w : Worked) × (slice_get ws p ≡ Some w) × IsProduceOf floor plans visits p w × (w.fate ≡ fates.Whole) × (map said w.ended.items ≡ map (of p) (map history closed))
+  left_by p under =
       let w = some_at ws p (omega (arith, under, count)) in
-      let channel = some_at floor.depot.channels.items p (omega (arith, same, under)) in
-      let plan = some_at plans p under in
-      let here = at_place (IsWorkOf floor plans) 0 p ws w.0 all w.1 in
+      let here = at_place (IsProduceOf floor plans visits) 0 p ws w.0 all w.1 in
       let e : 0 + p ≡ p = omega arith in
-      let work : IsWorkOf floor plans p w.0 = subst (λ i. IsWorkOf floor plans i w.0) e here in
-      let worked = work.each channel.0 plan.0 channel.1 plan.1 in
-      let account = worked.3 (whole_of w.0.fate (all_at (λ (v : Worked). fault_of_fate v.fate ≡ None) ws p w.0 fates w.1)) in
-      let within = in_at (λ (v : Worked). v.ended.items) ws are.0 p w.0 are.1 w.1 in
-      let carried = account_of_history (premises_of floor.office) p (map (λ b. b.items) plan.0.items) (map (λ b. b.items) w.0.replies.items) w.0.log.notes (received w.0.receiver)
-      floor.office.lanes.items w.0.ended.items (map history closed) worked.0 (lanes.are_heard are.2 w.0.ended.items within) account in
+      let work : IsProduceOf floor plans visits p w.0 = subst (λ i. IsProduceOf floor plans visits i w.0) e here in
+      let within = in_at (λ (v : Worked). v.ended.items) ws are.0 p w.0 are.1 w.1 in (
+        w.0,
+        w.1,
+        work,
+        whole_of w.0.fate (all_at (λ (v : Worked). fault_of_fate v.fate ≡ None) ws p w.0 fine w.1),
+        said_is_taken floor.office.lanes.items p w.0.ended.items (map history closed) work.ended (lanes.are_heard are.2 w.0.ended.items within),
+      )
+
+  answers_are : map reply_history replied ≡ map (λ (v : Worked). received v.receiver) ws
+  answers_are = channels.histories_taken heard.2 ∙ twice ws
+
+  pub account_of : (p : ℕ) → p < length plans
+      → HasAccount floor plans (map (λ (w : Worked). map (λ b. b.items) w.replies.items) ws) (map (λ (w : Worked). w.log.notes) ws) (map reply_history replied) (map history closed) p
+  account_of p under =
+      let l = left_by p (omega (arith, under)) in
+      let plan = some_at plans p under in
       let a = sym (mapped_at (λ (v : Vec (Vec ℕ Global) Global). map (λ b. b.items) v.items) plans p plan.0 [] plan.1) in
-      let b = sym (mapped_at (λ (v : Worked). map (λ b. b.items) v.replies.items) ws p w.0 [] w.1) in
-      let c = sym (mapped_at (λ (v : Worked). v.log.notes) ws p w.0 [] w.1) in
-      let d = sym (ap (λ xs. slice_index_or xs p []) (channels.histories_taken heard.2 ∙ twice ws) ∙ mapped_at (λ (v : Worked). received v.receiver) ws p w.0 [] w.1) in
-      subst (λ x. Account (premises_of floor.office) p x (slice_index_or (map (λ (v : Worked). map (λ b. b.items) v.replies.items) ws) p []) (slice_index_or (map (λ (v : Worked). v.log.notes) ws) p [])
-      (slice_index_or (map reply_history replied) p []) (map (of p) (map history closed))) a
-      (subst (λ x. Account (premises_of floor.office) p (map (λ b. b.items) plan.0.items) x (slice_index_or (map (λ (v : Worked). v.log.notes) ws) p [])
-      (slice_index_or (map reply_history replied) p []) (map (of p) (map history closed))) b
-      (subst (λ x. Account (premises_of floor.office) p (map (λ b. b.items) plan.0.items) (map (λ b. b.items) w.0.replies.items) x
-      (slice_index_or (map reply_history replied) p []) (map (of p) (map history closed))) c
-      (subst (λ x. Account (premises_of floor.office) p (map (λ b. b.items) plan.0.items) (map (λ b. b.items) w.0.replies.items) w.0.log.notes x (map (of p) (map history closed))) d carried)))
-    where
-      twice : (vs : List Worked) → map received (map (λ (v : Worked). v.receiver) vs) ≡ map (λ (v : Worked). received v.receiver) vs
-      twice [] = refl
-      twice (v ∷ vs) = ap (λ xs. received v.receiver ∷ xs) (twice vs)
+      among ws p l.0 l.1 (map reply_history replied) answers_are
+      (λ replies notes answers. Account (premises_of floor.office) p (slice_index_or (map (λ (w : Vec (Vec ℕ Global) Global). map (λ b. b.items) w.items) plans) p []) replies notes answers (map (of p) (map history closed)))
+      (subst (λ x. Account (premises_of floor.office) p x (map (λ b. b.items) l.0.replies.items) l.0.log.notes (received l.0.receiver) (map (of p) (map history closed))) a
+      (subst (λ x. Account (premises_of floor.office) p (map (λ b. b.items) plan.0.items) (map (λ b. b.items) l.0.replies.items) l.0.log.notes (received l.0.receiver) x) l.4
+      (l.2.worker plan.0 plan.1 l.3)))
+
+  pub session_account_of : (k : ℕ) (visit : Visit) → slice_get visits k ≡ Some visit → k < length visits
+      → HasSessionAccount floor visit (map (λ (w : Worked). map (λ b. b.items) w.replies.items) ws) (map (λ (w : Worked). w.log.notes) ws) (map reply_history replied) (map history closed) (length plans + k)
+  session_account_of k visit at under =
+      let p = length plans + k in
+      let l = left_by p (omega (arith, under)) in
+      among ws p l.0 l.1 (map reply_history replied) answers_are
+      (λ replies notes answers. SessionAccount (premises_of floor.office) (length floor.depot.mailboxes.items) floor.turns p visit replies notes answers (map (of p) (map history closed)))
+      (subst (λ x. SessionAccount (premises_of floor.office) (length floor.depot.mailboxes.items) floor.turns p visit (map (λ b. b.items) l.0.replies.items) l.0.log.notes (received l.0.receiver) x) l.4
+      (l.2.session k visit refl at l.3))
 
 -- ---- copies
 

@@ -1,4 +1,4 @@
--- What the workers and consumers promise of themselves, said of their parts in lists of their own.
+-- What the producers and consumers promise of themselves, said of their parts in lists of their own.
 use Rattle.std.proofs.Common.{◌≡◌, ◌<◌, ◌+◌, ◌∙◌, ℕ, zero, suc, true, List, [], ◌∷◌, All, Some, length, map, drop, slice_get, refl, sym, ap, subst, arith}
 use Rattle.std.proofs.lemmas.List.Elements.{All-head, All-tail}
 use Rattle.shard_queue.specs.Seats.{numbers}
@@ -11,7 +11,8 @@ use Rattle.lane_seats.specs.rows.Rows as rows
 use Rattle.lane_seats.specs.rows.SenderRows.{AreReceivers, AreSenderEndedHands}
 use Rattle.house_floor.specs.Crew.{AllAt}
 use Rattle.house_floor.specs.declared.floor.Floor.{Floor}
-use Rattle.house_threads.specs.Crew.{IsServiceOf, IsWorkOf, Plans}
+use Rattle.house_floor.specs.declared.floor.Visit.{Visit}
+use Rattle.house_threads.specs.Crew.{IsProduceOf, IsServiceOf, Plans}
 
 -- an element at each place below the end
 pub some_at : {A : Type 0} (xs : List A) (n : ℕ) → n < length xs → (x : A) × (slice_get xs n ≡ Some x)
@@ -31,28 +32,21 @@ past_all [] n is = let e : n ≡ 0 = omega (arith, is) in ap (λ k. drop k []) e
 past_all (x ∷ xs) zero is = absurd (cc)
 past_all (x ∷ xs) (suc n) is = past_all xs n (omega (arith, is))
 
-module _ (floor : Floor) (plans : Plans) (same : length floor.depot.channels.items ≡ length plans) where
-  pub ended_of : (n : ℕ) (ws : List Worked) → AllAt (IsWorkOf floor plans) n ws → n + length ws ≡ length plans → AreEndedHands floor.office.lanes.items n (map (λ w. w.ended.items) ws)
-  ended_of n [] all count = tt
-  ended_of n (w ∷ ws) all count =
-      let channel = some_at floor.depot.channels.items n (omega (arith, same, count)) in
-      let plan = some_at plans n (omega (arith, count)) in
-      ((all.0.each channel.0 plan.0 channel.1 plan.1).0, ended_of (suc n) ws all.1 (omega (arith, count)))
+module _ (floor : Floor) (plans : Plans) (visits : List Visit) where
+  pub ended_of : (n : ℕ) (ws : List Worked) → AllAt (IsProduceOf floor plans visits) n ws → AreEndedHands floor.office.lanes.items n (map (λ w. w.ended.items) ws)
+  ended_of n [] all = tt
+  ended_of n (w ∷ ws) all = (all.0.ended, ended_of (suc n) ws all.1)
 
-  pub receivers_of : (n : ℕ) (ws : List Worked) → AllAt (IsWorkOf floor plans) n ws → n + length ws ≡ length plans → AreReceivers (drop n floor.depot.channels.items) (map (λ w. w.receiver) ws)
-  receivers_of n [] all count = subst (λ cs. AreReceivers cs []) (sym (past_all floor.depot.channels.items n (omega (arith, same, count)))) tt
+  pub receivers_of : (n : ℕ) (ws : List Worked) → AllAt (IsProduceOf floor plans visits) n ws → n + length ws ≡ length floor.depot.channels.items → AreReceivers (drop n floor.depot.channels.items) (map (λ w. w.receiver) ws)
+  receivers_of n [] all count = subst (λ cs. AreReceivers cs []) (sym (past_all floor.depot.channels.items n (omega (arith, count)))) tt
   receivers_of n (w ∷ ws) all count =
-      let channel = some_at floor.depot.channels.items n (omega (arith, same, count)) in
-      let plan = some_at plans n (omega (arith, count)) in
+      let channel = some_at floor.depot.channels.items n (omega (arith, count)) in
       subst (λ cs. AreReceivers cs (w.receiver ∷ map (λ v. v.receiver) ws)) (sym (from_here floor.depot.channels.items n channel.0 channel.1))
-      ((all.0.each channel.0 plan.0 channel.1 plan.1).1, receivers_of (suc n) ws all.1 (omega (arith, count)))
+      (all.0.receiver channel.0 channel.1, receivers_of (suc n) ws all.1 (omega (arith, count)))
 
-  pub seats_of : (n : ℕ) (ws : List Worked) → AllAt (IsWorkOf floor plans) n ws → n + length ws ≡ length plans → map (λ w. w.log.seat) ws ≡ numbers n (length ws)
-  seats_of n [] all count = refl
-  seats_of n (w ∷ ws) all count =
-      let channel = some_at floor.depot.channels.items n (omega (arith, same, count)) in
-      let plan = some_at plans n (omega (arith, count)) in
-      ap (λ s. s ∷ map (λ v. v.log.seat) ws) (all.0.each channel.0 plan.0 channel.1 plan.1).2 ∙ ap (λ ss. n ∷ ss) (seats_of (suc n) ws all.1 (omega (arith, count)))
+  pub seats_of : (n : ℕ) (ws : List Worked) → AllAt (IsProduceOf floor plans visits) n ws → map (λ w. w.log.seat) ws ≡ numbers n (length ws)
+  seats_of n [] all = refl
+  seats_of n (w ∷ ws) all = ap (λ s. s ∷ map (λ v. v.log.seat) ws) all.0.seat ∙ ap (λ ss. n ∷ ss) (seats_of (suc n) ws all.1)
 
 module _ (floor : Floor) where
   pub consumers_of : (n : ℕ) (cs : List Consumed) → AllAt (IsServiceOf floor) n cs → n + length cs ≡ length floor.office.lanes.items → rows.AreConsumers (drop n floor.office.lanes.items) (map (λ c. c.seat) cs)

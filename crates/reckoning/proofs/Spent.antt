@@ -45,8 +45,8 @@ seats_of_posts lanes posts left = All-weaker (IsPostLeft lanes) (λ (p : Post). 
 pub rooms_of_posts : (lanes : ℕ) (posts : List Post) → All (IsPostLeft lanes) posts → All (λ (p : Post). vec_len p.room ≤ lanes) posts
 rooms_of_posts lanes posts left = All-weaker (IsPostLeft lanes) (λ (p : Post). vec_len p.room ≤ lanes) (λ p h. omega (arith, h)) posts left
 
-pub senders_of_stands : (workers : ℕ) (stands : List Stand) → All (IsStandLeft workers) stands → All (λ (s : Stand). vec_len s.stall.senders ≤ workers) stands
-senders_of_stands workers stands left = All-weaker (IsStandLeft workers) (λ (s : Stand). vec_len s.stall.senders ≤ workers) (λ s h. h.0) stands left
+pub senders_of_stands : (producers : ℕ) (stands : List Stand) → All (IsStandLeft producers) stands → All (λ (s : Stand). vec_len s.stall.senders ≤ producers) stands
+senders_of_stands producers stands left = All-weaker (IsStandLeft producers) (λ (s : Stand). vec_len s.stall.senders ≤ producers) (λ s h. h.0) stands left
 
 -- what is just so much is no more
 pub no_more : {X : Type 0} (f : X → ℕ) (n : ℕ) (xs : List X) → All (λ x. f x ≡ n) xs → All (λ x. f x ≤ n) xs

@@ -15,11 +15,11 @@ use Rattle.lane_seats.specs.Closings.{AreClosed, IsTorn}
 use Rattle.lane_seats.specs.rows.Rows.{AllIn}
 use Rattle.lane_seats.specs.rows.SenderRows.{AllSendersIn}
 
--- Each lane was closed, with what is left of all workers' seats there.
+-- Each lane was closed, with what is left of all producers' seats there.
 abbrev pub AreClosedWith : List (ShardQueue Job) → List (List (Ended Job)) → List (ConsumerSeat Job) → List (Closed Job) → Type 0
 AreClosedWith lanes hands consumers closed = (lists : List (List (Ended Job))) × AllIn hands lists × AreClosed lanes lists consumers closed
 
--- Some lane was torn, though what is left of all workers' seats was there.
+-- Some lane was torn, though what is left of all producers' seats was there.
 abbrev pub AreTornWith : List (ShardQueue Job) → List (List (Ended Job)) → List (ConsumerSeat Job) → Type 0
 AreTornWith lanes hands consumers = (lists : List (List (Ended Job))) × AllIn hands lists × IsTorn lanes lists consumers
 

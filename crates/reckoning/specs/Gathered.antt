@@ -38,12 +38,12 @@ gravest worst (one ∷ others) = gravest (graver worst one) others
 
 -- ---- parts
 
--- these are the workers' parts, in their order
-pub record AreWorkers (workers : List Worked) (from : FromWorkers) : Type 0 where
-  pub hands : map (λ h. h.items) from.hands.items ≡ map (λ w. w.ended.items) workers
-  pub receivers : from.receivers.items ≡ map (λ w. w.receiver) workers
-  pub replies : from.replies.items ≡ map (λ w. w.replies) workers
-  pub logs : from.logs.items ≡ map (λ w. w.log) workers
+-- these are the producers' parts, in their order
+pub record AreWorkers (producers : List Worked) (from : FromWorkers) : Type 0 where
+  pub hands : map (λ h. h.items) from.hands.items ≡ map (λ w. w.ended.items) producers
+  pub receivers : from.receivers.items ≡ map (λ w. w.receiver) producers
+  pub replies : from.replies.items ≡ map (λ w. w.replies) producers
+  pub logs : from.logs.items ≡ map (λ w. w.log) producers
 
 -- these are the consumers' parts, in their order
 pub record AreConsumers (consumers : List Consumed) (from : FromConsumers) : Type 0 where

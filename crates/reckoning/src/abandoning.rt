@@ -74,7 +74,7 @@ fn clear_posts(
     posts.destroy_empty();
 }
 
-// Takes apart what a worker left.
+// Takes apart what a producer left.
 fn clear_worker(
     worked: Worked,
     receivers: &mut Vec<ReceiverSeat<Noted>>,
@@ -291,7 +291,6 @@ pub fn abandon(alloc: Global, floor: Floor, ran: Ran, baskets: Baskets)
     let Ran {
         worked,
         consumed,
-        said: _,
         stands,
         posts,
         started: _,

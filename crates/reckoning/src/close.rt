@@ -14,9 +14,9 @@ use shard_queue::{
 };
 use std::alloc::Global;
 
-/// Closes each lane with what is left of all workers' seats, a hand for each worker, and with its
+/// Closes each lane with what is left of all producers' seats, a hand for each producer, and with its
 /// consumer's. None just where some lane is torn. `lists` has an empty list for each lane with room for
-/// all workers, `closed` has room for all lanes.
+/// all producers, `closed` has room for all lanes.
 pub fn close_all_lanes(
     alloc: Global,
     lanes: Vec<ShardQueue<Job>>,
@@ -37,8 +37,8 @@ pub fn close_all_lanes(
 }
 
 /// Closes each reply channel with what is left of all consumers' seats, a hand for each consumer, and
-/// with its worker's. None just where some channel is torn. `lists` has an empty list for each channel
-/// with room for all consumers, `closed` has room for all channels.
+/// with its producer's. None just where some channel is torn. `lists` has an empty list for each
+/// channel with room for all consumers, `closed` has room for all channels.
 pub fn close_all_channels(
     alloc: Global,
     channels: Vec<ReplyChannel<Noted>>,

@@ -11,15 +11,15 @@ use shard_queue::{ConsumerSeat, Ended, ReceiverSeat, SenderEnded};
 /// Why what the threads left is no report.
 #[derive(Clone, Copy, Debug, PartialEq, Eq)]
 pub enum Fault {
-    /// A worker never had a thread.
+    /// A producer never had a thread.
     Spawn,
     /// An actor wanted memory.
     NoMemory,
-    /// A worker heard what it didn't await, or a consumer met a copy that was nobody's.
+    /// A producer heard what it didn't await, or a consumer met a copy that was nobody's.
     Torn,
 }
 
-/// What the workers left, by their numbers.
+/// What the producers left, by their numbers.
 pub struct FromWorkers {
     pub hands: Vec<Vec<Ended<Job>>>,
     pub receivers: Vec<ReceiverSeat<Noted>>,
@@ -63,7 +63,7 @@ pub(crate) fn graver(one: Option<Fault>, other: Option<Fault>) -> Option<Fault>
     }
 }
 
-// Lays a worker's parts behind those of the workers before it.
+// Lays a producer's parts behind those of the producers before it.
 fn lay_worker(worked: Worked, into: &mut FromWorkers) -> Fate
     requires hands { vec_len into.old.hands < vec_capacity into.old.hands }
     requires receivers { vec_len into.old.receivers < vec_capacity into.old.receivers }
@@ -89,8 +89,8 @@ fn lay_worker(worked: Worked, into: &mut FromWorkers) -> Fate
     fate
 }
 
-/// Takes apart what the workers left; `into` is empty and has room for all. Answers the gravest fault
-/// of a worker, if one has any.
+/// Takes apart what the producers left; `into` is empty and has room for all. Answers the gravest fault
+/// of a producer, if one has any.
 pub fn gather_workers(mut worked: Vec<Worked>, into: &mut FromWorkers) -> Option<Fault>
     requires room { IsRoomForWorkers (vec_len worked) into.old }
     ensures parts { AreWorkers worked.items into.new }

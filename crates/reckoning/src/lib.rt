@@ -15,4 +15,4 @@ pub use close::{close_all_channels, close_all_lanes};
 pub use gather::{Fault, FromConsumers, FromWorkers};
 pub use remains::{Remains, remains_of};
 pub use settling::{Books, Closes, Gathered, gather_all, settle};
-pub use shelves::{Shelves, is_wanting, said_by_all, take_out};
+pub use shelves::{Shelves, take_out};

@@ -15,7 +15,7 @@ pub struct Remains {
     pub directory: Directory,
     /// The lane of each shard.
     pub lanes: Vec<ShardQueue<Job>>,
-    /// The reply channel of each worker.
+    /// The reply channel of each producer.
     pub channels: Vec<ReplyChannel<Noted>>,
     /// The mailboxes, by their numbers.
     pub mailboxes: Vec<Mutex<Mailbox>>,

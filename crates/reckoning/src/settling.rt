@@ -20,16 +20,17 @@ use std::alloc::Global;
 pub struct Closes {
     /// Of each shard's lane.
     pub lanes: Vec<Closed<Job>>,
-    /// Of each worker's reply channel.
+    /// Of each producer's reply channel.
     pub channels: Vec<ReplyClosed<Noted>>,
 }
 
 /// What the threads of a run left, by their numbers, and what passed between them.
 #[derive(Drop)]
 pub struct Books {
-    /// For each worker, for each of its connections, what was replied.
+    /// For each producer, what it said: of a worker the replies to each connection, of a session one
+    /// text.
     pub replies: Vec<Vec<Vec<u8>>>,
-    /// For each worker, the verdicts on its copies, in the order in which they were submitted.
+    /// For each producer, the verdicts on its copies, in the order in which they were submitted.
     pub logs: Vec<WorkerLog>,
     /// For each consumer, the copies that it took, in order.
     pub copies: Vec<Vec<Job>>,
@@ -41,13 +42,13 @@ pub struct Books {
 pub struct Gathered {
     pub workers: FromWorkers,
     pub consumers: FromConsumers,
-    /// For what is left of all workers' seats on each lane.
+    /// For what is left of all producers' seats on each lane.
     pub lists: Vec<Vec<Ended<Job>>>,
     /// For what is left of all consumers' seats on each channel.
     pub sender_lists: Vec<Vec<SenderEnded<Noted>>>,
     /// For what is taken of each queue.
     pub closed: Closes,
-    /// The gravest fault of a worker or a consumer.
+    /// The gravest fault of a producer or a consumer.
     pub worst: Option<Fault>,
 }
 
@@ -95,12 +96,11 @@ pub fn gather_all(worked: Vec<Worked>, consumed: Vec<Consumed>, baskets: Baskets
     }
 }
 
-/// Closes each lane and each reply channel with what the workers and consumers left, one of each for
-/// each of their own. `before` is a fault that is known already.
+/// Closes each lane and each reply channel with what the producers and consumers left, one of each for
+/// each of their own.
 ///
-/// Errors: the gravest of the faults that the threads had and of that one, `Spawn` before `NoMemory`
-/// before `Torn`; where there is none, `Torn` if some queue couldn't be closed. All that was given is
-/// spent then.
+/// Errors: the gravest of the faults that the threads had, `Spawn` before `NoMemory` before `Torn`;
+/// where there is none, `Torn` if some queue couldn't be closed. All that was given is spent then.
 pub fn settle(
     alloc: Global,
     lanes: Vec<ShardQueue<Job>>,
@@ -108,7 +108,6 @@ pub fn settle(
     worked: Vec<Worked>,
     consumed: Vec<Consumed>,
     baskets: Baskets,
-    before: Option<Fault>,
 ) -> Result<Books, Fault>
     requires counts { (vec_len worked ≡ vec_len channels) × (vec_len consumed ≡ vec_len lanes) }
     requires hands { AreEndedHands lanes.items 0 (map (λ w. w.ended.items) worked.items) }
@@ -116,8 +115,8 @@ pub fn settle(
     requires consumers { AreConsumers lanes.items (map (λ c. c.seat) consumed.items) }
     requires senders { AreSenderEndedHands channels.items 0 (map (λ c. c.senders.items) consumed.items) }
     requires baskets { AreBaskets (vec_len channels) (vec_len lanes) baskets }
-    ensures settled { IfOk result (λ books. IsSettled lanes.items channels.items worked.items consumed.items before books) }
-    ensures fault { IfErr result (IsWhyNot lanes.items channels.items worked.items consumed.items before) }
+    ensures settled { IfOk result (λ books. IsSettled lanes.items channels.items worked.items consumed.items books) }
+    ensures fault { IfErr result (IsWhyNot lanes.items channels.items worked.items consumed.items) }
 {
     let Gathered {
         workers,
@@ -147,7 +146,7 @@ pub fn settle(
         sender_lists,
         closed.channels,
     );
-    if let Some(fault) = graver(before, worst) {
+    if let Some(fault) = worst {
         return Err(fault);
     }
     let Some(lanes) = lanes else {

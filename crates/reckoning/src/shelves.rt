@@ -2,7 +2,6 @@
 //! said of it stands elsewhere.
 
 ghost use Rattle.std.specs.Prelude.{◌≡◌, IfOk, vec_len};
-ghost use Rattle.reckoning.specs.Settling.{are_said, wants};
 
 use delivery_token::{CopyKey, Text};
 use mailbox::Mailbox;
@@ -30,26 +29,4 @@ pub fn take_out(alloc: Global, mailboxes: Vec<Mutex<Mailbox>>) -> Result<Shelves
         texts.push(mailbox.texts(alloc)?)?;
     }
     Ok(Shelves { accepted, texts })
-}
-
-/// Whether some session wanted memory.
-pub fn is_wanting(said: &[Result<Vec<u8>, AllocError>]) -> bool
-    ensures { result ≡ wants said.now }
-{
-    said.iter().any(|one| one.is_err())
-}
-
-/// What the sessions said, where each has had memory. The only error is that memory is refused, to a
-/// session or here.
-pub fn said_by_all(
-    alloc: Global,
-    said: Vec<Result<Vec<u8>, AllocError>>,
-) -> Result<Vec<Vec<u8>>, AllocError>
-    ensures { IfOk result (λ all. are_said all.items ≡ said.items) }
-{
-    let mut all = Vec::with_capacity(alloc, said.len())?;
-    for one in said {
-        all.push(one?)?;
-    }
-    Ok(all)
 }

@@ -29,13 +29,13 @@ pub record AreBells (directory : Directory) (b : Bells) : Type 0 where
   pub consumers : vec_len b.consumers ≡ directory.shards
   pub mailboxes : vec_len b.sessions ≡ length directory.homes
 
--- nothing lies there, and there is room for what so many workers and consumers leave
-pub record ArePapers (workers shards : ℕ) (p : Papers) : Type 0 where
-  pub replies : (p.replies.items ≡ []) × (workers ≤ vec_capacity p.replies)
-  pub logs : (p.logs.items ≡ []) × (workers ≤ vec_capacity p.logs)
+-- nothing lies there, and there is room for what so many producers and consumers leave
+pub record ArePapers (producers shards : ℕ) (p : Papers) : Type 0 where
+  pub replies : (p.replies.items ≡ []) × (producers ≤ vec_capacity p.replies)
+  pub logs : (p.logs.items ≡ []) × (producers ≤ vec_capacity p.logs)
   pub copies : (p.copies.items ≡ []) × (shards ≤ vec_capacity p.copies)
   pub lanes : (p.lanes.items ≡ []) × (shards ≤ vec_capacity p.lanes)
-  pub channels : (p.channels.items ≡ []) × (workers ≤ vec_capacity p.channels)
+  pub channels : (p.channels.items ≡ []) × (producers ≤ vec_capacity p.channels)
 
 -- what the floor is made of beside the queues, for a house with this directory and of these sizes
 pub record IsHall (directory : Directory) (sizes : Sizes) (h : Hall) : Type 0 where
@@ -48,8 +48,7 @@ pub record IsHall (directory : Directory) (sizes : Sizes) (h : Hall) : Type 0 wh
 pub record AreFittings (directory : Directory) (sizes : Sizes) (f : Fittings) : Type 0 where
   pub hall : IsHall directory sizes f.hall
   pub parkers : vec_len f.parkers ≡ directory.shards
-  pub said : f.said.items ≡ []
-  pub papers : ArePapers sizes.workers directory.shards f.papers
+  pub papers : ArePapers sizes.producers directory.shards f.papers
 
 -- nothing is in the lists
 pub record AreEmptyLists (l : Lists) : Type 0 where
@@ -62,47 +61,47 @@ pub record AreEmptyLists (l : Lists) : Type 0 where
   pub receivers : l.ends.receivers.items ≡ []
   pub spares : AreNoSpares l.ends.spares
 
--- nothing is there, and there is room for what so many workers and consumers have to put there
-pub record AreCrewLists (workers shards : ℕ) (l : CrewLists) : Type 0 where
+-- nothing is there, and there is room for what so many producers and consumers have to put there
+pub record AreCrewLists (producers shards : ℕ) (l : CrewLists) : Type 0 where
   pub stands : (l.stands.items ≡ []) × (shards ≤ vec_capacity l.stands)
-  pub posts : (l.posts.items ≡ []) × (workers ≤ vec_capacity l.posts)
+  pub posts : (l.posts.items ≡ []) × (producers ≤ vec_capacity l.posts)
   pub consumed : (l.consumed.items ≡ []) × (shards ≤ vec_capacity l.consumed)
-  pub worked : (l.worked.items ≡ []) × (workers ≤ vec_capacity l.worked)
-  pub unmanned : (l.unmanned.items ≡ []) × (workers ≤ vec_capacity l.unmanned)
+  pub worked : (l.worked.items ≡ []) × (producers ≤ vec_capacity l.worked)
+  pub unmanned : (l.unmanned.items ≡ []) × (producers ≤ vec_capacity l.unmanned)
 
-pub record AreLists (workers shards : ℕ) (l : Lists) : Type 0 where
+pub record AreLists (producers shards : ℕ) (l : Lists) : Type 0 where
   pub empty : AreEmptyLists l
-  pub crew : AreCrewLists workers shards l.crew
+  pub crew : AreCrewLists producers shards l.crew
   pub consumers : (l.ends.consumers.items ≡ []) × (shards ≤ vec_capacity l.ends.consumers)
-  pub receivers : (l.ends.receivers.items ≡ []) × (workers ≤ vec_capacity l.ends.receivers)
-  pub spares : AreSpares (workers * shards) l.ends.spares
+  pub receivers : (l.ends.receivers.items ≡ []) × (producers ≤ vec_capacity l.ends.receivers)
+  pub spares : AreSpares (producers * shards) l.ends.spares
 
 -- a lane for each shard, with all its seats, which have put and taken nothing
-pub record AreNewLanes (workers shards depth : ℕ) (l : Lanes) : Type 0 where
+pub record AreNewLanes (producers shards depth : ℕ) (l : Lanes) : Type 0 where
   pub count : vec_len l.queues ≡ shards
-  pub queues : All (λ q. (capacity_of q ≡ depth) × (producers_of q ≡ workers)) l.queues.items
+  pub queues : All (λ q. (capacity_of q ≡ depth) × (producers_of q ≡ producers)) l.queues.items
   pub seats : Rows l.queues.items 0 (map (λ v. v.items) l.seats.items)
   pub consumers : AreConsumers l.queues.items l.consumers.items
   pub fresh : All (λ s. got s ≡ []) l.consumers.items
 
--- a reply channel for each worker, likewise
-pub record AreNewChannels (workers shards : ℕ) (c : Channels) : Type 0 where
-  pub count : vec_len c.channels ≡ workers
+-- a reply channel for each producer, likewise
+pub record AreNewChannels (producers shards : ℕ) (c : Channels) : Type 0 where
+  pub count : vec_len c.channels ≡ producers
   pub channels : All (λ q. (room_of q ≡ reply_room) × (senders_of q ≡ shards)) c.channels.items
   pub seats : SenderRows c.channels.items 0 (map (λ v. v.items) c.seats.items)
   pub receivers : AreReceivers c.channels.items c.receivers.items
   pub fresh : All (λ s. received s ≡ []) c.receivers.items
 
 -- all of a house that can't be let go
-pub record AreStock (workers shards depth : ℕ) (s : Stock) : Type 0 where
-  pub of_workers : AreSeatRooms workers shards s.rooms.workers
-  pub of_consumers : AreSeatRooms shards workers s.rooms.consumers
-  pub lists : AreLists workers shards s.lists
-  pub lanes : AreNewLanes workers shards depth s.lanes
-  pub channels : AreNewChannels workers shards s.channels
+pub record AreStock (producers shards depth : ℕ) (s : Stock) : Type 0 where
+  pub of_producers : AreSeatRooms producers shards s.rooms.workers
+  pub of_consumers : AreSeatRooms shards producers s.rooms.consumers
+  pub lists : AreLists producers shards s.lists
+  pub lanes : AreNewLanes producers shards depth s.lanes
+  pub channels : AreNewChannels producers shards s.channels
 
--- what is to be dealt to so many workers and consumers over these lanes and channels, and the empty lists that it goes into
-pub record AreUndealt (workers shards : ℕ) (lanes : List (ShardQueue Job)) (channels : List (ReplyChannel Noted)) (u : Undealt) : Type 0 where
+-- what is to be dealt to so many producers and consumers over these lanes and channels, and the empty lists that it goes into
+pub record AreUndealt (producers shards : ℕ) (lanes : List (ShardQueue Job)) (channels : List (ReplyChannel Noted)) (u : Undealt) : Type 0 where
   pub lane_seats : Rows lanes 0 (map (λ v. v.items) u.lane_seats.items)
   pub receivers : AreReceivers channels u.receivers.items
   pub unheard : All (λ s. received s ≡ []) u.receivers.items
@@ -110,7 +109,7 @@ pub record AreUndealt (workers shards : ℕ) (lanes : List (ShardQueue Job)) (ch
   pub consumers : AreConsumers lanes u.consumers.items
   pub fresh : All (λ s. got s ≡ []) u.consumers.items
   pub parkers : vec_len u.parkers ≡ shards
-  pub hands : AreHandRooms workers (length lanes) u.hands
-  pub rooms : AreRooms workers (length lanes) u.rooms
+  pub hands : AreHandRooms producers (length lanes) u.hands
+  pub rooms : AreRooms producers (length lanes) u.rooms
   pub sender_hands : AreHandRooms shards (length channels) u.sender_hands
   pub sender_rooms : AreRooms shards (length channels) u.sender_rooms

@@ -39,7 +39,7 @@ loop-number-preserved c =
     let receivers = c.loop-number.receivers.items in
     let rooms = c.loop-number.rooms.items in
     let posts = c.loop-number.posts.items in
-    let under : n < c.args.workers = search rules in
+    let under : n < c.args.producers = search rules in
     let some_hand : 0 < length hands = (let e = v.0 in let o = c.loop-number.hands.ok.0 in omega (arith, under, e, o)) in
     let some_end : 0 < length receivers = (let e = v.1 in let o = c.loop-number.receivers.ok.0 in omega (arith, under, e, o)) in
     let some_room : 0 < length rooms = (let e = v.2 in let o = c.loop-number.rooms.ok.0 in omega (arith, under, e, o)) in

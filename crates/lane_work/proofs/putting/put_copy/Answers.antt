@@ -1,5 +1,4 @@
 use Rattle.std.proofs.Common.{◌≡◌, ◌<◌, ◌∙◌, ap, sym, subst, slice_index_or, slice_set, length, map, ◌++◌, ◌∷◌, [], MatchOption, arith}
-use Rattle.change_ring.specs.Log.{no_flags}
 use Rattle.delivery_token.specs.declared.Job.{Job}
 use Rattle.shard_queue.specs.declared.lane.Entry.TheVariants.{Item}
 use Rattle.shard_queue.specs.Seats.{IsProducer, sent}
@@ -42,7 +41,7 @@ returns-clause-put g c =
     let at_seat : c.shard_of-shard.result < length c.args.desk.now.seats.items = omega (arith, n, w, l) in
     let was = seat_here c.args.office.now.lanes.items c.args.desk.now.number c.args.desk.now.seats.items c.requires.seats c.shard_of-shard.result under c.index.result.now c.index_mut.result.now
     c.index_mut.ensures.value in
-    let job : Job = record { key = c.args.key; mailbox = c.args.mailbox; text = c.args.text.now; flags = no_flags } in
+    let job : Job = record { key = c.args.key; mailbox = c.args.mailbox; text = c.args.text.now; flags = c.args.flags } in
     subst (λ lane. MatchOption c.put_on-verdict.result
     (map sent (slice_set c.args.desk.now.seats.items c.shard_of-shard.result c.put_on-verdict.new.seat)
     ≡ slice_set (map sent c.args.desk.now.seats.items) lane (slice_index_or (map sent c.args.desk.now.seats.items) lane [] ++ Item c.args.desk.now.number job ∷ []))

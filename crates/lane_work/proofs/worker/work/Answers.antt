@@ -1,8 +1,10 @@
-use Rattle.std.proofs.Common.{◌∙◌, subst, map}
+use Rattle.std.proofs.Common.{◌∙◌, ap, sym, subst, map, ℕ, Vec}
+use Rattle.std.specs.Global.{Global}
+use Rattle.delivery_token.specs.Book.{Book}
 use Rattle.shard_queue.specs.Reply.{received}
 use Rattle.shard_queue.specs.Seats.{sent, said}
 use Rattle.lane_work.specs.Copies.{rooms_of}
-use Rattle.lane_work.specs.Account.{HaveEnded}
+use Rattle.lane_work.specs.Account.{Account, HaveEnded}
 use Rattle.lane_work.specs.Seats.{AreEnded}
 use Rattle.lane_work.specs.Speaking.{premises_of}
 use Rattle.lane_work.proofs.ServedLaws.{account_of, books_begin}
@@ -17,11 +19,15 @@ go_through-fate-requires-clause-begun g c = (
 pub returns-clause-worked : goal.returns-clause-worked
 returns-clause-worked g c =
     let number = c.go_through-fate.ensures.number in
+    let f = c.finish.ensures in
     let before = map sent c.go_through-fate.new.desk.seats.items in
-    let after = map said c.end_all-ended.result.items in (
-      subst (λ n. AreEnded c.args.office.now.lanes.items n c.end_all-ended.result.items) number c.end_all-ended.ensures.ended,
-      c.hear_ends-quiet.ensures.receiver,
-      c.go_through-fate.ensures.seat ∙ c.new-log.ensures.seat,
-      λ whole. account_of (premises_of c.args.office.now) c.args.desk.number (map (λ b. b.items) c.args.connections.now) (map (λ b. b.items) c.go_through-fate.new.replies.items)
-          c.go_through-fate.new.log.notes (received c.go_through-fate.new.desk.receiver) (received c.hear_ends-quiet.new.receiver) before after c.hear_ends-quiet.ensures.grew (subst (λ n. HaveEnded n before after) number c.end_all-ended.ensures.said) (c.go_through-fate.ensures.whole (c.fate_after.ensures.whole whole).0),
+    let after = map said c.finish.result.ended.items in (
+      subst (λ n. AreEnded c.args.office.now.lanes.items n c.finish.result.ended.items) number f.ended,
+      f.receiver,
+      ap (λ (l : Book). l.seat) f.kept.0 ∙ c.go_through-fate.ensures.seat ∙ c.new-log.ensures.seat,
+      λ whole.
+          let account = account_of (premises_of c.args.office.now) c.args.desk.number (map (λ b. b.items) c.args.connections.now) (map (λ b. b.items) c.go_through-fate.new.replies.items)
+          c.go_through-fate.new.log.notes (received c.go_through-fate.new.desk.receiver) (received c.finish.result.receiver) before after f.grew (subst (λ n. HaveEnded n before after) number f.said) (c.go_through-fate.ensures.whole (f.whole whole)) in
+          subst (λ (l : Book). Account (premises_of c.args.office.now) c.args.desk.number (map (λ b. b.items) c.args.connections.now) (map (λ b. b.items) c.finish.result.replies.items) l.notes (received c.finish.result.receiver) after) (sym f.kept.0)
+          (subst (λ (r : Vec (Vec ℕ Global) Global). Account (premises_of c.args.office.now) c.args.desk.number (map (λ b. b.items) c.args.connections.now) (map (λ b. b.items) r.items) c.go_through-fate.new.log.notes (received c.finish.result.receiver) after) (sym f.kept.1) account),
     )

@@ -13,7 +13,7 @@ clear_posts-requires-clause-seats c =
     let channels = length c.args.floor.depot.channels.items in
     let spares = c.ends_of-consumers.result.spares in
     let room : AreSpares (channels * lanes) spares = subst (AreSpares (channels * lanes)) (sym c.ends_of-consumers.ensures.spares) c.requires.baskets.spares in
-    let few : length c.args.ran.posts.items ≤ channels = omega (arith, c.requires.left.each_worker, c.args.ran.posts.ok.0) in
+    let few : length c.args.ran.posts.items ≤ channels = omega (arith, c.requires.left.each_producer, c.args.ran.posts.ok.0) in
     fits (λ (p : Post). vec_len p.desk.seats) lanes channels c.args.ran.posts.items spares.seats room.empty.0 room.seats (seats_of_posts lanes c.args.ran.posts.items c.requires.left.posts) few
 
 pub clear_posts-requires-clause-ended : goal.clear_posts-requires-clause-ended
@@ -22,7 +22,7 @@ clear_posts-requires-clause-ended c =
     let channels = length c.args.floor.depot.channels.items in
     let spares = c.ends_of-consumers.result.spares in
     let room : AreSpares (channels * lanes) spares = subst (AreSpares (channels * lanes)) (sym c.ends_of-consumers.ensures.spares) c.requires.baskets.spares in
-    let few : length c.args.ran.posts.items ≤ channels = omega (arith, c.requires.left.each_worker, c.args.ran.posts.ok.0) in
+    let few : length c.args.ran.posts.items ≤ channels = omega (arith, c.requires.left.each_producer, c.args.ran.posts.ok.0) in
     fits (λ (p : Post). vec_len p.room) lanes channels c.args.ran.posts.items spares.ended room.empty.1 room.ended (rooms_of_posts lanes c.args.ran.posts.items c.requires.left.posts) few
 
 pub clear_workers-requires-clause-ended : goal.clear_workers-requires-clause-ended
@@ -33,7 +33,7 @@ clear_workers-requires-clause-ended c =
     let posts = c.args.ran.posts in
     let worked = c.args.ran.worked in
     let room : AreSpares (channels * lanes) spares = subst (AreSpares (channels * lanes)) (sym c.ends_of-consumers.ensures.spares) c.requires.baskets.spares in
-    let all : length posts.items + length worked.items ≡ channels = omega (arith, c.requires.left.each_worker, posts.ok.0, worked.ok.0) in
+    let all : length posts.items + length worked.items ≡ channels = omega (arith, c.requires.left.each_producer, posts.ok.0, worked.ok.0) in
     fits_behind (λ (p : Post). vec_len p.room) (λ (w : Worked). vec_len w.ended) lanes channels posts.items worked.items spares.ended c.clear_posts.new.ended room.empty.1 room.ended
     c.clear_posts.ensures.ended (rooms_of_posts lanes posts.items c.requires.left.posts) (no_more (λ (w : Worked). vec_len w.ended) lanes worked.items c.requires.worked) all
 

@@ -24,15 +24,12 @@ close_all_channels-channels-requires-clause-lists c =
 
 pub returns-clause-settled : goal.returns-clause-settled
 returns-clause-settled c =
-    let none = sym c.in_default.ensures in
-    let both = graver_none c.args.before c.gather_all-workers.result.worst none in
-    let each = graver_none _ _ (sym c.gather_all-workers.ensures.worst ∙ both.1) in
+    let each = graver_none _ _ (sym c.gather_all-workers.ensures.worst ∙ c.in_default.is) in
     let hands = c.gather_all-workers.ensures.of_workers.hands in
     let sender_hands = c.gather_all-workers.ensures.of_consumers.hands in
     record {
       fates = (gravest_none (λ (w : Worked). fault_of_fate w.fate) None c.args.worked.items each.0).1;
       services = (gravest_none fault_of_consumer None c.args.consumed.items each.1).1;
-      nothing_before = both.0;
       replies = c.gather_all-workers.ensures.of_workers.replies;
       logs = c.gather_all-workers.ensures.of_workers.logs;
       copies = c.gather_all-workers.ensures.of_consumers.copies;

@@ -1,0 +1,112 @@
+//! A session's way to the lanes: its seat on each, and its end of a reply channel, as a worker has them.
+//! What a session is answered stands above.
+
+ghost use Rattle.std.specs.Prelude.{◌≡◌, ◌+◌, ◌≤◌, IfOk, length, map};
+ghost use Rattle.shard_queue.specs.Reply.{IsReceiver, received};
+ghost use Rattle.shard_queue.specs.Seats.{sent};
+ghost use Rattle.shard_queue.specs.Shared.{IsStartOf};
+ghost use Rattle.lane_work.specs.Copies.{rooms_of};
+ghost use Rattle.lane_work.specs.Couriers.{HasCarried, IsReady, IsSameDesk};
+ghost use Rattle.lane_work.specs.inner.Copies.{WasJudged};
+ghost use Rattle.lane_work.specs.Ends.{CountsEnds};
+ghost use Rattle.lane_work.specs.Seats.{AreSeats};
+
+use crate::bells::Summons;
+use crate::desk::{Desk, Office};
+use crate::hearing::hear_one;
+use crate::notebook::Notebook;
+use crate::putting::put_copy;
+use crate::worker::Stop;
+use change_ring::Flags;
+use courier::{Courier, Lost};
+use delivery_token::{CopyKey, Noted, Text, Verdict};
+use pace::{Gate, Pace};
+use shard_queue::ReplyChannel;
+use std::sync::Wait;
+
+/// Carries the messages of one seat's sessions: each goes into the lane of its mailbox's shard, for which
+/// is summoned, and the verdict on it is awaited and noted.
+pub struct LaneCourier<'a, R: Wait, S: Summons, N: Notebook> {
+    pub rt: &'a R,
+    pub office: &'a Office,
+    pub summons: &'a S,
+    pub channel: &'a ReplyChannel<Noted>,
+    pub desk: Desk,
+    /// Which session of its seat it carries for, from 0.
+    pub serial: u64,
+    /// What it notes of the verdicts.
+    pub book: N,
+    /// Whether something came that it didn't await: then it carries nothing more.
+    pub is_torn: bool,
+}
+
+// Puts a copy, and hears the verdict on it.
+fn judge<R: Wait, G: Gate, S: Summons>(
+    rt: &R,
+    pace: &mut Pace<'_, G>,
+    office: &Office,
+    summons: &S,
+    channel: &ReplyChannel<Noted>,
+    desk: &mut Desk,
+    key: CopyKey,
+    mailbox: u8,
+    text: &Text,
+    flags: Flags,
+) -> Result<Verdict, Stop>
+    requires seats { AreSeats office.now.lanes.items desk.old.number desk.old.seats.items }
+    requires receiver { IsReceiver channel.now desk.old.receiver }
+    requires lanes { office.now.directory.shards ≡ length office.now.lanes.items }
+    ensures seats { AreSeats office.now.lanes.items desk.old.number desk.new.seats.items }
+    ensures receiver { IsReceiver channel.now desk.new.receiver }
+    ensures number { desk.new.number ≡ desk.old.number }
+    ensures ends { CountsEnds desk.old desk.new }
+    ensures grew { IsStartOf (received desk.old.receiver) (received desk.new.receiver) }
+    ensures judged { IfOk result (λ verdict. WasJudged office.now.directory (rooms_of office.now.lanes.items) desk.old.number (record { key = key; mailbox = mailbox; text = text.now; flags = flags }) verdict
+        (received desk.new.receiver) (map sent desk.old.seats.items) (map sent desk.new.seats.items)) }
+{
+    match put_copy(rt, pace, office, summons, desk, key, mailbox, text, flags) {
+        Some(verdict) => Ok(verdict),
+        None => hear_one(rt, pace, channel, desk, key, mailbox),
+    }
+}
+
+impl<'a, R: Wait, S: Summons, N: Notebook> Courier for LaneCourier<'a, R, S, N> {
+    ghost ready = { λ c. IsReady c.office.now c.channel.now c.desk };
+
+    ghost carried = { λ c done. HasCarried c.office.now c.desk c.serial (N.tells c.book) done };
+
+    ghost kept = { λ first now. IsSameDesk first.office.now now.office.now first.channel.now now.channel.now first.desk now.desk
+        × (now.serial ≡ first.serial) × (N.owner now.book ≡ N.owner first.book) };
+
+    fn carry<G: Gate>(
+        &mut self,
+        pace: &mut Pace<'_, G>,
+        message: u32,
+        mailbox: u8,
+        text: &Text,
+        flags: Flags,
+    ) -> Result<Verdict, Lost> {
+        if self.is_torn {
+            return Err(Lost::Torn);
+        }
+        let Ok(()) = self.book.reserve(1) else {
+            return Err(Lost::NoMemory);
+        };
+        let key = CopyKey {
+            seat: self.desk.number,
+            serial: self.serial,
+            message,
+            recipient: 0,
+        };
+        let (rt, office, summons, channel) = (self.rt, self.office, self.summons, self.channel);
+        let desk = &mut self.desk;
+        let Ok(verdict) = judge(
+            rt, pace, office, summons, channel, desk, key, mailbox, text, flags,
+        ) else {
+            self.is_torn = true;
+            return Err(Lost::Torn);
+        };
+        self.book.note_one(key, mailbox, verdict);
+        Ok(verdict)
+    }
+}
