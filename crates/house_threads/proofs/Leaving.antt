@@ -15,8 +15,8 @@ posts_left floor n (p ∷ ps) all =
     let none : length p.room.items ≡ 0 = ap length all.0.empty in
     All-cons (IsPostLeft (length floor.office.lanes.items)) p ps (omega (arith, seats, none, p.desk.seats.ok.0, p.room.ok.0)) (posts_left floor (suc n) ps all.1)
 
-pub stands_left : (floor : Floor) (workers : ℕ) → length floor.depot.channels.items ≡ workers → (n : ℕ) (ss : List Stand) → AllAt (IsStand floor) n ss → All (IsStandLeft workers) ss
-stands_left floor workers same n [] all = All-nil (IsStandLeft workers)
-stands_left floor workers same n (s ∷ ss) all =
+pub stands_left : (floor : Floor) (producers : ℕ) → length floor.depot.channels.items ≡ producers → (n : ℕ) (ss : List Stand) → AllAt (IsStand floor) n ss → All (IsStandLeft producers) ss
+stands_left floor producers same n [] all = All-nil (IsStandLeft producers)
+stands_left floor producers same n (s ∷ ss) all =
     let senders = senders_length floor.depot.channels.items n s.stall.senders.items all.0.senders in
-    All-cons (IsStandLeft workers) s ss (omega (arith, senders, same, s.stall.senders.ok.0), all.0.empty) (stands_left floor workers same (suc n) ss all.1)
+    All-cons (IsStandLeft producers) s ss (omega (arith, senders, same, s.stall.senders.ok.0), all.0.empty) (stands_left floor producers same (suc n) ss all.1)

@@ -1,3 +1,4 @@
 pub mod Places
 pub mod Lives
 pub mod Leaving
+pub mod Attending

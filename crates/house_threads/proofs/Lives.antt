@@ -1,5 +1,5 @@
 -- A life that was led with what lies at one's own place.
-use Rattle.std.proofs.Common.{◌≡◌, ◌<◌, ◌∙◌, ℕ, sym, ap, subst, List, [], All, Option, None, Some, IfSome, Vec, map, length, slice_get, slice_index_or}
+use Rattle.std.proofs.Common.{◌≡◌, ◌<◌, ◌+◌, ◌∙◌, ◌∷◌, ℕ, zero, suc, arith, sym, ap, subst, List, [], All, Option, None, Some, IfSome, Vec, map, length, slice_get, slice_index_or}
 use Rattle.std.specs.Global.{Global}
 use Rattle.std.proofs.lemmas.Option.{get_or_from_slice_get, slice_get-get_or}
 use Rattle.delivery_token.specs.declared.Job.{Job}
@@ -9,12 +9,21 @@ use Rattle.shard_queue.specs.declared.ends.ReplyChannel.{ReplyChannel}
 use Rattle.shard_queue.specs.declared.queue.ShardQueue.{ShardQueue}
 use Rattle.lane_work.specs.declared.worker.Worked.{Worked}
 use Rattle.lane_work.specs.declared.consumer.Consumed.{Consumed}
+use Rattle.lane_work.specs.declared.worker.Fate.TheVariants.{NotBegun, Whole}
+use Rattle.lane_work.specs.Seats.{AreEnded}
+use Rattle.lane_work.specs.Account.{Account}
+use Rattle.lane_work.specs.Speaking.{premises_of}
 use Rattle.lane_work.specs.Working.{IsWorked}
+use Rattle.shard_queue.specs.Reply.{IsReceiver, received}
+use Rattle.shard_queue.specs.Seats.{said}
+use Rattle.shard_queue.specs.declared.reply.ReceiverSeat.{ReceiverSeat}
+use Rattle.house_floor.specs.declared.floor.Visit.{Visit}
 use Rattle.lane_work.specs.Consuming.{IsConsumed}
 use Rattle.envelope.specs.Directory.{Home}
 use Rattle.house_floor.specs.Users.{user_numbered}
 use Rattle.house_floor.specs.declared.floor.Floor.{Floor}
-use Rattle.house_threads.specs.Crew.{IsServiceOf, IsWorkOf, Plans}
+use Rattle.house_threads.specs.Crew.{IsProduceOf, IsServiceOf, Plans, SessionAccount}
+use Rattle.house_threads.specs.inner.Crew.{IsAttended}
 
 pub here_at : {A : Type 0} (xs : List A) (i n : ℕ) (d : A) → i ≡ n → n < length xs → slice_get xs n ≡ Some (slice_index_or xs i d)
 here_at xs i n d same under = slice_get-get_or xs n d under ∙ ap (λ k. Some (slice_index_or xs k d)) (sym same)
@@ -22,16 +31,59 @@ here_at xs i n d same under = slice_get-get_or xs n d under ∙ ap (λ k. Some (
 pub found_at : {A : Type 0} (xs : List A) (i n : ℕ) (d x : A) → i ≡ n → slice_get xs n ≡ Some x → slice_index_or xs i d ≡ x
 found_at xs i n d x same is = ap (λ k. slice_index_or xs k d) same ∙ get_or_from_slice_get xs n x d is
 
-pub work_of : (floor : Floor) (plans : Plans) (i n number : ℕ) (c : ReplyChannel Noted) (p : Vec (Vec ℕ Global) Global) (bytes : List (Vec ℕ Global)) (w r : Worked)
-    → i ≡ n → number ≡ n → bytes ≡ (slice_index_or plans i p).items → r ≡ w
-    → IsWorked floor.office (slice_index_or floor.depot.channels.items i c) number (map (λ b. b.items) bytes) w → IsWorkOf floor plans n r
-work_of floor plans i n number c p bytes w r same of are is worked = record {
-  each = λ channel plan at-channel at-plan.
-      subst (IsWorked floor.office channel n (map (λ b. b.items) plan.items)) (sym is)
-      (subst (λ (x : ReplyChannel Noted). IsWorked floor.office x n (map (λ b. b.items) plan.items) w) (found_at floor.depot.channels.items i n c channel same at-channel)
-      (subst (λ (x : List (Vec ℕ Global)). IsWorked floor.office (slice_index_or floor.depot.channels.items i c) n (map (λ b. b.items) x) w) (are ∙ ap (λ (v : Vec (Vec ℕ Global) Global). v.items) (found_at plans i n p plan same at-plan))
-      (subst (λ (x : ℕ). IsWorked floor.office (slice_index_or floor.depot.channels.items i c) x (map (λ b. b.items) bytes) w) of worked)));
-}
+-- there is nothing at a place behind the end of a list
+pub nothing_at : {A : Type 0} (xs : List A) (n k : ℕ) (x : A) → n ≡ length xs + k → slice_get xs n ≡ Some x → ⊥
+nothing_at [] n k x is at = let e : None ≡ Some x = at in cc
+nothing_at (y ∷ ys) zero k x is at = omega (arith, is)
+nothing_at (y ∷ ys) (suc n) k x is at = nothing_at ys n k x (omega (arith, is)) at
+
+-- what a worker at its place left
+pub work_of : (floor : Floor) (plans : Plans) (visits : List Visit) (i n number : ℕ) (c : ReplyChannel Noted) (p : Vec (Vec ℕ Global) Global) (bytes : List (Vec ℕ Global)) (w : Worked)
+    → i ≡ n → n < length plans → number ≡ n → bytes ≡ (slice_index_or plans i p).items
+    → IsWorked floor.office (slice_index_or floor.depot.channels.items i c) number (map (λ b. b.items) bytes) w → IsProduceOf floor plans visits n w
+work_of floor plans visits i n number c p bytes w same under of are worked =
+    let own = subst (λ (x : ℕ). IsWorked floor.office (slice_index_or floor.depot.channels.items i c) x (map (λ b. b.items) bytes) w) of worked in
+    record {
+      ended = own.0;
+      receiver = λ channel at. subst (λ (x : ReplyChannel Noted). IsReceiver x w.receiver) (found_at floor.depot.channels.items i n c channel same at) own.1;
+      seat = own.2;
+      worker = λ plan at whole.
+          subst (λ (x : List (Vec ℕ Global)). Account (premises_of floor.office) n (map (λ b. b.items) x) (map (λ b. b.items) w.replies.items) w.log.notes (received w.receiver) (map said w.ended.items))
+          (are ∙ ap (λ (v : Vec (Vec ℕ Global) Global). v.items) (found_at plans i n p plan same at)) (own.3 whole);
+      session = λ k visit behind at whole. absurd (omega (arith, under, behind));
+    }
+
+-- what a session at its place left
+pub attended_of : (floor : Floor) (plans : Plans) (visits : List Visit) (i n number j : ℕ) (c : ReplyChannel Noted) (v : Visit) (w : Worked)
+    → i ≡ n → number ≡ n → n ≡ length plans + j
+    → IsAttended floor (slice_index_or floor.depot.channels.items i c) number (slice_index_or visits j v) w → IsProduceOf floor plans visits n w
+attended_of floor plans visits i n number j c v w same of behind attended =
+    let own = subst (λ (x : ℕ). IsAttended floor (slice_index_or floor.depot.channels.items i c) x (slice_index_or visits j v) w) of attended in
+    record {
+      ended = own.0;
+      receiver = λ channel at. subst (λ (x : ReplyChannel Noted). IsReceiver x w.receiver) (found_at floor.depot.channels.items i n c channel same at) own.1;
+      seat = own.2;
+      worker = λ plan at whole. absurd (nothing_at plans n j plan behind at);
+      session = λ k visit is at whole.
+          let e : j ≡ k = omega (arith, behind, is) in
+          subst (λ (x : Visit). SessionAccount (premises_of floor.office) (length floor.depot.mailboxes.items) floor.turns n x (map (λ b. b.items) w.replies.items) w.log.notes (received w.receiver) (map said w.ended.items))
+          (found_at visits j k v visit e at) (own.3 whole);
+    }
+
+-- what is left of a producer that stood down
+pub stood_down : (floor : Floor) (plans : Plans) (visits : List Visit) (n number : ℕ) (receiver : ReceiverSeat Noted) (w r : Worked)
+    → number ≡ n → r ≡ w → AreEnded floor.office.lanes.items number w.ended.items → w.receiver ≡ receiver → w.log.seat ≡ number → w.fate ≡ NotBegun
+    → ((channel : ReplyChannel Noted) → slice_get floor.depot.channels.items n ≡ Some channel → IsReceiver channel receiver)
+    → IsProduceOf floor plans visits n r
+stood_down floor plans visits n number receiver w r of is ended same seat fate hears =
+    let not_whole : w.fate ≡ Whole → ⊥ = λ whole. (let e : NotBegun ≡ Whole = sym fate ∙ whole in cc) in
+    subst (IsProduceOf floor plans visits n) (sym is) (record {
+      ended = subst (λ (x : ℕ). AreEnded floor.office.lanes.items x w.ended.items) of ended;
+      receiver = λ channel at. subst (IsReceiver channel) (sym same) (hears channel at);
+      seat = seat ∙ of;
+      worker = λ plan at whole. absurd (not_whole whole);
+      session = λ k visit behind at whole. absurd (not_whole whole);
+    })
 
 pub service_of : (floor : Floor) (i n shard : ℕ) (q : ShardQueue Job) (before : List (List (Entry Noted))) (c r : Consumed)
     → i ≡ n → shard ≡ n → r ≡ c → All (λ e. e ≡ []) before → IsConsumed (slice_index_or floor.office.lanes.items i q) floor.depot shard before c → IsServiceOf floor n r

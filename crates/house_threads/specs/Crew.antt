@@ -1,7 +1,7 @@
 -- What each thread of a house leaves.
-use Rattle.std.specs.Prelude.{◌≡◌, ◌≤◌, ◌+◌, ℕ, List, [], All, Some, None, IfOk, Result, length, map, slice_get, Vec, vec_len}
+use Rattle.std.specs.Prelude.{◌≡◌, ◌≤◌, ◌+◌, ℕ, List, [], ◌∷◌, All, Some, None, length, map, min, slice_get, Vec, vec_len}
 use Rattle.std.specs.Global.{Global}
-use Rattle.std.specs.declared.alloc.AllocError.{AllocError}
+use Rattle.courier.specs.Carried.{Carried, judged_of}
 use Rattle.delivery_token.specs.declared.Job.{Job}
 use Rattle.delivery_token.specs.declared.log.Noted.{Noted}
 use Rattle.envelope.specs.Directory.{Directory}
@@ -13,7 +13,12 @@ use Rattle.imap_session.specs.Commands.{greeting}
 use Rattle.session_thread.specs.Life.{Lives, Moment, greeted_at}
 use Rattle.lane_work.specs.declared.worker.Worked.{Worked}
 use Rattle.lane_work.specs.declared.consumer.Consumed.{Consumed}
-use Rattle.lane_work.specs.Working.{IsWorked}
+use Rattle.lane_work.specs.declared.worker.Fate.TheVariants.{Whole}
+use Rattle.lane_work.specs.Account.{Account, AreAccountedFor, Premises}
+use Rattle.lane_work.specs.Seats.{AreEnded}
+use Rattle.lane_work.specs.Speaking.{premises_of}
+use Rattle.shard_queue.specs.Reply.{IsReceiver, received}
+use Rattle.shard_queue.specs.Seats.{said}
 use Rattle.lane_work.specs.Consuming.{IsConsumed}
 use Rattle.house_floor.specs.Users.{user_numbered}
 use Rattle.house_floor.specs.declared.floor.Floor.{Floor}
@@ -28,34 +33,48 @@ Plans = List (Vec (Vec ℕ Global) Global)
 
 -- ---- what is left
 
--- what worker n left is what a worker's life promises, of its own channel and its own connections
-pub record IsWorkOf (floor : Floor) (plans : Plans) (n : ℕ) (w : Worked) : Type 0 where
-  pub each : (channel : ReplyChannel Noted) (plan : Vec (Vec ℕ Global) Global) → slice_get floor.depot.channels.items n ≡ Some channel → slice_get plans n ≡ Some plan
-      → IsWorked floor.office channel n (map (λ b. b.items) plan.items) w
+-- A session's client may append messages of as many bytes as one that a worker takes may have, as far as a session counts.
+abbrev pub most_of : ℕ → ℕ
+most_of max_message = min max_message 4294967295
+
+-- A session of this user with these steps said this: it was greeted in no mailbox, and lived through its steps, over so many mailboxes. These messages of its
+-- client were carried on the way, in this order.
+pub record WasVisited (house : Premises) (mailboxes turns : ℕ) (visit : Visit) (carried : List Carried) (text : List ℕ) : Type 0 where
+  pub user : List ℕ
+  pub named : user_numbered visit.user house.directory.homes ≡ Some user
+  pub last : Moment
+  pub lives : Lives turns (greeted_at (Some (most_of house.max_message)) (folders_of house.directory user) (record { mailboxes = mailboxes; entered = None }) greeting) visit.steps.items carried last
+  pub wrote : text ≡ last.text
+
+-- The account of a session that made its steps, as that of a worker: what it said, and of the messages that its client appended what its log has and what it
+-- has put on each lane, its end included. It is the first of its seat.
+pub record SessionAccount (house : Premises) (mailboxes turns seat : ℕ) (visit : Visit) (replies : List (List ℕ)) (notes : List Noted) (heard : List (Entry Noted)) (put : List (List (Entry Job))) : Type 0 where
+  pub carried : List Carried
+  pub text : List ℕ
+  pub visited : WasVisited house mailboxes turns visit carried text
+  pub alone : replies ≡ text ∷ []
+  pub copies : AreAccountedFor house seat (map (judged_of seat 0) carried) notes heard put
+
+-- What producer n left: its ended seats are its own on each lane, its receiver is of its channel, and the log is its own. Where a worker went through all its
+-- connections, that is its account of them; where a session, behind the workers, made all its steps, that is its account of these.
+pub record IsProduceOf (floor : Floor) (plans : Plans) (visits : List Visit) (n : ℕ) (w : Worked) : Type 0 where
+  pub ended : AreEnded floor.office.lanes.items n w.ended.items
+  pub receiver : (channel : ReplyChannel Noted) → slice_get floor.depot.channels.items n ≡ Some channel → IsReceiver channel w.receiver
+  pub seat : w.log.seat ≡ n
+  pub worker : (plan : Vec (Vec ℕ Global) Global) → slice_get plans n ≡ Some plan → w.fate ≡ Whole
+      → Account (premises_of floor.office) n (map (λ b. b.items) plan.items) (map (λ b. b.items) w.replies.items) w.log.notes (received w.receiver) (map said w.ended.items)
+  pub session : (k : ℕ) (visit : Visit) → n ≡ length plans + k → slice_get visits k ≡ Some visit → w.fate ≡ Whole
+      → SessionAccount (premises_of floor.office) (length floor.depot.mailboxes.items) floor.turns n visit (map (λ b. b.items) w.replies.items) w.log.notes (received w.receiver) (map said w.ended.items)
 
 -- what consumer n left is what a consumer's life promises that had sent nothing before, of its own lane
 pub record IsServiceOf (floor : Floor) (n : ℕ) (c : Consumed) : Type 0 where
   pub each : (lane : ShardQueue Job) → slice_get floor.office.lanes.items n ≡ Some lane
       → (before : List (List (Entry Noted))) × All (λ e. e ≡ []) before × IsConsumed lane floor.depot n before c
 
--- A session of this user with these steps said these bytes: it was greeted in no mailbox, and lived through its steps, over so many mailboxes.
-pub record WasVisited (directory : Directory) (mailboxes turns : ℕ) (visit : Visit) (said : List ℕ) : Type 0 where
-  pub user : List ℕ
-  pub named : user_numbered visit.user directory.homes ≡ Some user
-  pub last : Moment
-  pub lives : Lives turns (greeted_at (folders_of directory user) (record { mailboxes = mailboxes; entered = None }) greeting) visit.steps.items last
-  pub wrote : said ≡ last.text
-
--- what session n said, where it had memory
-pub record IsVisitOf (floor : Floor) (visits : List Visit) (n : ℕ) (said : Result (Vec ℕ Global) AllocError) : Type 0 where
-  pub each : (visit : Visit) → slice_get visits n ≡ Some visit
-      → IfOk said (λ bytes. WasVisited floor.office.directory (length floor.depot.mailboxes.items) floor.turns visit bytes.items)
-
 -- every actor has left what it was to leave, and nothing is left of what was dealt
 pub record LeavesAll (floor : Floor) (plans : Plans) (visits : List Visit) (ran : Ran) : Type 0 where
   pub consumed : vec_len ran.consumed ≡ length floor.office.lanes.items
-  pub worked : vec_len ran.worked ≡ length plans
-  pub said : vec_len ran.said ≡ length visits
+  pub worked : vec_len ran.worked ≡ length plans + length visits
   pub stands : ran.stands.items ≡ []
   pub posts : ran.posts.items ≡ []
 
@@ -65,11 +84,11 @@ IsPostLeft lanes post = vec_len post.desk.seats + vec_len post.room ≤ lanes
 
 -- a stand that no thread has had: none of its senders has ended
 abbrev pub IsStandLeft : ℕ → Stand → Type 0
-IsStandLeft workers stand = (vec_len stand.stall.senders ≤ workers) × (stand.room.items ≡ [])
+IsStandLeft producers stand = (vec_len stand.stall.senders ≤ producers) × (stand.room.items ≡ [])
 
--- However the threads were started: of each worker there is what it left or its post, of each consumer what it left or its stand, and none has more seats than it was dealt.
-pub record IsSpendable (floor : Floor) (workers : ℕ) (ran : Ran) : Type 0 where
-  pub each_worker : vec_len ran.posts + vec_len ran.worked ≡ workers
+-- However the threads were started: of each producer there is what it left or its post, of each consumer what it left or its stand, and none has more seats than it was dealt.
+pub record IsSpendable (floor : Floor) (producers : ℕ) (ran : Ran) : Type 0 where
+  pub each_producer : vec_len ran.posts + vec_len ran.worked ≡ producers
   pub each_lane : vec_len ran.stands + vec_len ran.consumed ≡ length floor.office.lanes.items
   pub posts : All (IsPostLeft (length floor.office.lanes.items)) ran.posts.items
-  pub stands : All (IsStandLeft workers) ran.stands.items
+  pub stands : All (IsStandLeft producers) ran.stands.items

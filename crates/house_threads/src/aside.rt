@@ -9,8 +9,7 @@ ghost use Rattle.shard_queue.specs.declared.queue.ShardQueue.{ShardQueue};
 ghost use Rattle.shard_queue.specs.Reply.{IsReceiver, sent_on};
 ghost use Rattle.shard_queue.specs.Seats.{IsConsumer, got};
 ghost use Rattle.lane_work.specs.Consuming.{IsConsumed};
-ghost use Rattle.lane_work.specs.Seats.{AreSeats, AreSenders};
-ghost use Rattle.lane_work.specs.Working.{IsWorked};
+ghost use Rattle.lane_work.specs.Seats.{AreEnded, AreSeats, AreSenders};
 ghost use Rattle.house_threads.specs.Crew.{IsPostLeft};
 
 use delivery_token::WorkerLog;
@@ -22,9 +21,9 @@ use pace::{Gate, Pace};
 use std::alloc::Global;
 use std::sync::Wait;
 
-/// A worker that has no thread: it ends its seat on each lane, and hears nothing. To wait for the ends
-/// of its channel would be to wait for ever: they come when each worker's seats have ended, and this
-/// thread ends those of the workers behind it.
+/// A producer that has no thread: it ends its seat on each lane, and hears nothing. To wait for the ends
+/// of its channel would be to wait for ever: they come when each producer's seats have ended, and this
+/// thread ends those of the producers behind it.
 pub(crate) fn stand_down<R: Wait, G: Gate, S: Summons>(
     rt: &R,
     alloc: Global,
@@ -35,7 +34,10 @@ pub(crate) fn stand_down<R: Wait, G: Gate, S: Summons>(
 ) -> Worked
     requires seats { AreSeats office.now.lanes.items post.desk.number post.desk.seats.items }
     requires room { (post.room.items ≡ []) × (length office.now.lanes.items ≤ vec_capacity post.room) }
-    ensures { (channel : ReplyChannel Noted) (connections : List (List ℕ)) → IsReceiver channel post.desk.receiver → IsWorked office.now channel post.desk.number connections result }
+    ensures seats { AreEnded office.now.lanes.items post.desk.number result.ended.items }
+    ensures receiver { result.receiver ≡ post.desk.receiver }
+    ensures log { result.log.seat ≡ post.desk.number }
+    ensures fate { result.fate ≡ Fate.NotBegun }
 {
     let Post { desk, room } = post;
     let Desk {
@@ -85,7 +87,7 @@ pub(crate) fn step_aside<R: Wait, G: Gate>(
     }
 }
 
-/// A worker that isn't to begin: it ends its seats on the first lanes, whose consumers run, and keeps
+/// A producer that isn't to begin: it ends its seats on the first lanes, whose consumers run, and keeps
 /// the others.
 pub(crate) fn end_first<R: Wait, G: Gate, S: Summons>(
     rt: &R,

@@ -6,11 +6,11 @@
 mod aside;
 mod consumers;
 mod parcels;
+mod producers;
 mod run;
 mod sessions;
-mod workers;
 
 pub use consumers::Serves;
+pub use producers::Produces;
 pub use run::{Ran, Started, run_threads};
-pub use sessions::Attends;
-pub use workers::Works;
+pub use sessions::most_of;

@@ -7,13 +7,13 @@ ghost use Rattle.std.specs.Mem.{manually_drop_value};
 use std::mem::ManuallyDrop;
 use std::sync::atomic::{AtomicU64, Ordering};
 
-/// The first shard, and the first worker, that has no thread. Those before them have one. A flag would
+/// The first shard, and the first producer, that has no thread. Those before them have one. A flag would
 /// not do: a consumer that was started and hadn't looked yet would step aside too, and whoever ends a
 /// seat on its full lane would wait for ever.
 #[derive(Drop)]
 pub(crate) struct Manned {
     pub(crate) shards: AtomicU64,
-    pub(crate) workers: AtomicU64,
+    pub(crate) producers: AtomicU64,
 }
 
 // Notes the first that has no thread. Only the thread that starts the others writes it.

@@ -5,16 +5,15 @@ ghost use Rattle.std.specs.Prelude.{◌≡◌, ◌≤◌, ◌<◌, ◌+◌, [], 
 ghost use Rattle.std.specs.Mem.{manually_drop_value};
 ghost use Rattle.std.specs.Thread.{IsSync};
 ghost use Rattle.house_floor.specs.Crew.{AllAt, AreVisits, IsCrew, IsHouse, IsPost};
-ghost use Rattle.house_threads.specs.Crew.{IsPostLeft, IsServiceOf, IsSpendable, IsVisitOf, IsWorkOf, LeavesAll};
+ghost use Rattle.house_threads.specs.Crew.{IsPostLeft, IsProduceOf, IsServiceOf, IsSpendable, LeavesAll};
 
 use crate::aside::end_first;
 use crate::consumers::{Kept, join_consumers, start_consumers};
 use crate::parcels::{Manned, packed};
-use crate::sessions::{Guest, join_sessions, start_sessions};
-use crate::workers::{Hired, join_workers, start_workers};
+use crate::producers::{Hired, actor_of, join_producers, start_producers};
 use house_floor::{Crew, Floor, Post, Stand, Visit};
 use lane_work::{Consumed, Worked};
-use pace::{Actor, Gate, Pace};
+use pace::{Gate, Pace};
 use std::alloc::{AllocError, Global};
 use std::mem::ManuallyDrop;
 use std::sync::Wait;
@@ -33,22 +32,23 @@ pub enum Started {
     NoMemory,
 }
 
-/// What the threads left, and what was never handed to one: consumers' stands, and workers' posts,
+/// What the threads left, and what was never handed to one: consumers' stands, and producers' posts,
 /// which may have ended their seats on some lanes.
 pub struct Ran {
+    /// What the workers left, and behind them the sessions.
     pub worked: Vec<Worked>,
     pub consumed: Vec<Consumed>,
-    pub said: Vec<Result<Vec<u8>, AllocError>>,
     pub stands: Vec<Stand>,
     pub posts: Vec<Post>,
     pub started: Started,
 }
 
-// No worker is to begin: ends their seats on the lanes whose consumers run.
+// No producer is to begin: ends their seats on the lanes whose consumers run.
 fn end_posts<R: Wait, G: Gate>(
     rt: &R,
     floor: &Floor,
     gate: &G,
+    workers: usize,
     mut posts: Vec<Post>,
     mut unmanned: Vec<Post>,
     manned: usize,
@@ -61,7 +61,7 @@ fn end_posts<R: Wait, G: Gate>(
 {
     for done in 0..posts.len() {
         let post = posts.remove(0);
-        let mut pace = Pace::new(gate, Actor::Worker(post.desk.number));
+        let mut pace = Pace::new(gate, actor_of(workers, post.desk.number));
         unmanned.push_reserved(end_first(rt, &mut pace, &floor.office, &floor.bells, post, manned));
     }
     posts.destroy_empty();
@@ -72,23 +72,19 @@ fn end_posts<R: Wait, G: Gate>(
 struct Handles<'a> {
     kept: Vec<Kept<'a>>,
     hired: Vec<Hired<'a>>,
-    guests: Vec<Guest<'a>>,
 }
 
 fn handles_for<'a>(
     alloc: Global,
     consumers: usize,
-    workers: usize,
-    sessions: usize,
+    producers: usize,
 ) -> Result<Handles<'a>, AllocError>
     ensures kept { IfOk result (λ h. (h.kept.items ≡ []) × (consumers ≤ vec_capacity h.kept)) }
-    ensures hired { IfOk result (λ h. (h.hired.items ≡ []) × (workers ≤ vec_capacity h.hired)) }
-    ensures guests { IfOk result (λ h. (h.guests.items ≡ []) × (sessions ≤ vec_capacity h.guests)) }
+    ensures hired { IfOk result (λ h. (h.hired.items ≡ []) × (producers ≤ vec_capacity h.hired)) }
 {
     Ok(Handles {
         kept: Vec::with_capacity(alloc, consumers)?,
-        hired: Vec::with_capacity(alloc, workers)?,
-        guests: Vec::with_capacity(alloc, sessions)?,
+        hired: Vec::with_capacity(alloc, producers)?,
     })
 }
 
@@ -104,14 +100,13 @@ fn in_scope<'s, E, R: Threads + Wait + Sync, G: Gate + Sync>(
     crew: ManuallyDrop<Crew>,
     manned: &'s Manned,
 ) -> Ran
-    requires house { IsHouse floor.now (length plans.now) }
+    requires house { IsHouse floor.now (length plans.now + length visits.now) }
     requires visits { AreVisits floor.now visits.now }
-    requires crew { IsCrew floor.now (length plans.now) visits.now (manually_drop_value crew) }
+    requires crew { IsCrew floor.now (length plans.now + length visits.now) (manually_drop_value crew) }
     ensures consumed { AllAt (IsServiceOf floor.now) 0 result.consumed.items }
-    ensures worked { AllAt (IsWorkOf floor.now plans.now) 0 result.worked.items }
-    ensures said { AllAt (IsVisitOf floor.now visits.now) 0 result.said.items }
+    ensures worked { AllAt (IsProduceOf floor.now plans.now visits.now) 0 result.worked.items }
     ensures all { result.started ≡ Started.All → LeavesAll floor.now plans.now visits.now result }
-    ensures left { IsSpendable floor.now (length plans.now) result }
+    ensures left { IsSpendable floor.now (length plans.now + length visits.now) result }
 {
     let alloc = floor.alloc;
     let shards = floor.office.lanes.len();
@@ -121,54 +116,40 @@ fn in_scope<'s, E, R: Threads + Wait + Sync, G: Gate + Sync>(
         consumed,
         worked,
         unmanned,
-        said,
     } = ManuallyDrop::into_inner(crew);
-    let Ok(handles) = handles_for(alloc, shards, plans.len(), visits.len()) else {
+    let Ok(handles) = handles_for(alloc, shards, plans.len() + visits.len()) else {
         unmanned.destroy_empty();
         let started = Started::NoMemory;
         return Ran {
             worked,
             consumed,
-            said,
             stands,
             posts,
             started,
         };
     };
-    let Handles {
-        kept,
-        hired,
-        guests,
-    } = handles;
+    let Handles { kept, hired } = handles;
     let (kept, first) = start_consumers(scope, rt, floor, gate, stands, kept, manned);
     let stands = Vec::new(alloc);
     if first < shards {
-        let posts = end_posts(rt, floor, gate, posts, unmanned, first);
+        let posts = end_posts(rt, floor, gate, plans.len(), posts, unmanned, first);
         let consumed = join_consumers(rt, floor, kept, consumed);
         let started = Started::Spawn;
         return Ran {
             worked,
             consumed,
-            said,
             stands,
             posts,
             started,
         };
     }
-    let (hired, all_work) = start_workers(scope, rt, floor, gate, plans, posts, hired, manned);
-    let (guests, all_visit) = start_sessions(scope, rt, floor, gate, visits, guests);
-    let said = join_sessions(rt, floor, visits, guests, said);
-    let worked = join_workers(rt, floor, plans, hired, worked);
+    let (hired, all) = start_producers(scope, rt, floor, gate, plans, visits, posts, hired, manned);
+    let worked = join_producers(rt, floor, plans, visits, hired, worked);
     let consumed = join_consumers(rt, floor, kept, consumed);
-    let started = if all_work && all_visit {
-        Started::All
-    } else {
-        Started::Spawn
-    };
+    let started = if all { Started::All } else { Started::Spawn };
     Ran {
         worked,
         consumed,
-        said,
         stands,
         posts: unmanned,
         started,
@@ -179,8 +160,8 @@ fn in_scope<'s, E, R: Threads + Wait + Sync, G: Gate + Sync>(
 /// sessions last, and joins them all. What the i-th of a kind left is what its life promises, of its own
 /// lane, of its own channel and connections, of its own user and steps.
 ///
-/// Where a thread can't be made `started` is `Spawn`: no worker begins behind a consumer that has none,
-/// none behind a worker that has none, and what is left is to be abandoned. `NoMemory` comes before
+/// Where a thread can't be made `started` is `Spawn`: no producer begins behind a consumer that has none,
+/// none behind a producer that has none, and what is left is to be abandoned. `NoMemory` comes before
 /// anything is started.
 pub fn run_threads<R: Threads + Wait + Sync, G: Gate + Sync>(
     rt: &R,
@@ -190,18 +171,17 @@ pub fn run_threads<R: Threads + Wait + Sync, G: Gate + Sync>(
     visits: &[Visit],
     crew: Crew,
 ) -> Ran
-    requires house { IsHouse floor.now (length plans.now) }
+    requires house { IsHouse floor.now (length plans.now + length visits.now) }
     requires visits { AreVisits floor.now visits.now }
-    requires crew { IsCrew floor.now (length plans.now) visits.now crew }
+    requires crew { IsCrew floor.now (length plans.now + length visits.now) crew }
     ensures consumed { AllAt (IsServiceOf floor.now) 0 result.consumed.items }
-    ensures worked { AllAt (IsWorkOf floor.now plans.now) 0 result.worked.items }
-    ensures said { AllAt (IsVisitOf floor.now visits.now) 0 result.said.items }
+    ensures worked { AllAt (IsProduceOf floor.now plans.now visits.now) 0 result.worked.items }
     ensures all { result.started ≡ Started.All → LeavesAll floor.now plans.now visits.now result }
-    ensures left { IsSpendable floor.now (length plans.now) result }
+    ensures left { IsSpendable floor.now (length plans.now + length visits.now) result }
 {
     let manned = Manned {
         shards: AtomicU64::new(u64::MAX),
-        workers: AtomicU64::new(u64::MAX),
+        producers: AtomicU64::new(u64::MAX),
     };
     let marks = &manned;
     let crew = packed(crew);
@@ -209,12 +189,11 @@ pub fn run_threads<R: Threads + Wait + Sync, G: Gate + Sync>(
         thread::scope_env(),
         rt,
         |scope| -> Ran
-            requires { IsSync R.row × IsSync G.row × IsHouse floor.now (length plans.now) × AreVisits floor.now visits.now × IsCrew floor.now (length plans.now) visits.now (manually_drop_value crew) }
+            requires { IsSync R.row × IsSync G.row × IsHouse floor.now (length plans.now + length visits.now) × AreVisits floor.now visits.now × IsCrew floor.now (length plans.now + length visits.now) (manually_drop_value crew) }
             ensures consumed { AllAt (IsServiceOf floor.entry.now) 0 result.consumed.items }
-            ensures worked { AllAt (IsWorkOf floor.entry.now plans.entry.now) 0 result.worked.items }
-            ensures said { AllAt (IsVisitOf floor.entry.now visits.entry.now) 0 result.said.items }
+            ensures worked { AllAt (IsProduceOf floor.entry.now plans.entry.now visits.entry.now) 0 result.worked.items }
             ensures all { result.started ≡ Started.All → LeavesAll floor.entry.now plans.entry.now visits.entry.now result }
-            ensures left { IsSpendable floor.entry.now (length plans.entry.now) result }
+            ensures left { IsSpendable floor.entry.now (length plans.entry.now + length visits.entry.now) result }
         { in_scope(scope, rt, floor, gate, plans, visits, crew, marks) },
     )
 }

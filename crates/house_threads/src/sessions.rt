@@ -1,149 +1,137 @@
-//! The sessions' threads: started in order, and joined. What a session does stands in `session_thread`.
+//! A session's whole life in a house with threads: its steps, over mailboxes behind locks, its messages by way of the lanes, and then
+//! the end of its seats. What it is answered stands in `session_thread`, who starts its thread in `producers`.
 
-ghost use Rattle.std.specs.Prelude.{ℕ, ◌≡◌, ◌≤◌, ◌<◌, [], true, IfSome, length, vec_len, vec_capacity};
-ghost use Rattle.house_floor.specs.Crew.{AllAt, AreVisits};
-ghost use Rattle.house_threads.specs.Crew.{IsVisitOf};
-ghost use Rattle.house_threads.specs.inner.Crew.{IsGuest};
+ghost use Rattle.std.specs.Prelude.{ℕ, ◌≡◌, ◌≢◌, ◌∷◌, ◌++◌, ◌≤◌, [], List, None, length, map};
+ghost use Rattle.courier.specs.Carried.{Carried};
+ghost use Rattle.shard_queue.specs.Reply.{IsReceiver};
+ghost use Rattle.house_floor.specs.Crew.{IsHouse, IsPost};
+ghost use Rattle.house_floor.specs.Users.{user_numbered};
+ghost use Rattle.house_threads.specs.Crew.{most_of};
+ghost use Rattle.lane_work.specs.Account.{notes_tell};
+ghost use Rattle.lane_work.specs.Couriers.{HasCarried, IsReady, IsSameDesk};
+ghost use Rattle.house_threads.specs.inner.Crew.{HasLived, IsAttended};
 
-use house_floor::{Floor, Visit, inbox_numbered};
+use courier::Lost;
+use crossbeam_utils::sync::Unparker;
+use delivery_token::{Noted, WorkerLog};
+use house_floor::{Floor, Post, Visit, inbox_numbered};
 use house_session::folders_of;
+use lane_work::{Fate, LaneCourier, Worked, finish};
 use pace::Gate;
 use session_thread::{LockedDesk, live};
-use std::alloc::AllocError;
+use shard_queue::ReplyChannel;
 use std::sync::Wait;
-use std::thread;
-use std::thread::{Promise, Threads};
 
-/// What the thread of this session is to return: what the session said, or that it wanted memory.
-#[derive(Clone, Copy)]
-pub struct Attends<'a> {
-    pub floor: &'a Floor,
-    pub visits: &'a [Visit],
-    pub number: u8,
+/// The most bytes of a message that a session's client may append: as many as one that a worker takes may have, as far as a session
+/// counts.
+pub fn most_of(max_message: usize) -> u32
+    ensures { result ≡ most_of max_message }
+{
+    if max_message > u32::MAX as usize {
+        u32::MAX
+    } else {
+        max_message as u32
+    }
 }
 
-impl<'a> Promise<Result<Vec<u8>, AllocError>> for Attends<'a> {
-    ghost use Rattle.house_threads.specs.Crew.{IsVisitOf};
-
-    ghost kept_by = { λ p r. IsVisitOf p.floor.now p.visits.now p.number r };
+// The session of the user with this name makes its steps. What it said is laid into `replies`, which is empty, unless memory is
+// refused before it begins.
+fn live_through<R: Wait, G: Gate>(
+    floor: &Floor,
+    user: &[u8],
+    visit: &Visit,
+    locked: &mut LockedDesk<'_, R, G>,
+    courier: &mut LaneCourier<'_, R, Vec<Unparker>, WorkerLog>,
+    replies: &mut Vec<Vec<u8>>,
+) -> Fate
+    requires ready { IsReady courier.old.office.now courier.old.channel.now courier.old.desk }
+    requires empty { replies.old.items ≡ [] }
+    ensures ready { IsReady courier.new.office.now courier.new.channel.now courier.new.desk }
+    ensures same { IsSameDesk courier.old.office.now courier.new.office.now courier.old.channel.now courier.new.channel.now courier.old.desk courier.new.desk }
+    ensures serial { courier.new.serial ≡ courier.old.serial }
+    ensures book { courier.new.book.seat ≡ courier.old.book.seat }
+    ensures began { result ≢ Fate.NotBegun }
+    ensures whole { result ≡ Fate.Whole → (carried : List Carried)
+        × ((done : List Carried) → HasCarried courier.old.office.now courier.old.desk courier.old.serial (notes_tell courier.old.book.notes) done
+        → HasCarried courier.new.office.now courier.new.desk courier.new.serial (notes_tell courier.new.book.notes) (done ++ carried))
+        × ((text : List ℕ) × HasLived floor.now user.now locked.old visit.now carried text × (map (λ b. b.items) replies.new.items ≡ text ∷ [])) }
+{
+    let Ok(()) = replies.reserve(1) else {
+        return Fate::NoMemory;
+    };
+    let Ok(folders) = folders_of(floor.alloc, &floor.office.directory, user) else {
+        return Fate::NoMemory;
+    };
+    let most = Some(most_of(floor.office.max_message));
+    let steps = visit.steps.as_slice();
+    let mut said = Vec::new(floor.alloc);
+    let (alloc, turns) = (floor.alloc, floor.turns);
+    let lived = live(
+        alloc, locked, courier, folders, most, steps, turns, &mut said,
+    );
+    replies.push_reserved(said);
+    match lived {
+        Ok(()) => Fate::Whole,
+        Err(Lost::NoMemory) => Fate::NoMemory,
+        Err(Lost::Torn) => Fate::Torn,
+    }
 }
 
-/// A session's thread.
-#[derive(Drop)]
-pub(crate) struct Guest<'a> {
-    thread: thread::PromisedHandle<Result<Vec<u8>, AllocError>, Attends<'a>>,
-}
-
-// A session's life, in a thread of its own.
-fn visit_there<R: Wait, G: Gate>(
+/// A session's whole life: its client is greeted, makes its steps, and leaves the mailbox that it is in; the messages that it appends
+/// go by way of the lanes, as a worker's do. Then comes the session's end on each lane, from shard 0 on, and it receives until each
+/// shard's end came on its reply channel. So it is too where it stops early, by `Fate`.
+///
+/// `session` is its number among the sessions, from 0, and `channel` is that of its post.
+pub(crate) fn attend<R: Wait, G: Gate>(
     rt: &R,
     floor: &Floor,
     gate: &G,
-    visits: &[Visit],
-    number: u8,
-) -> Result<Vec<u8>, AllocError>
-    requires number { number < length visits.now }
-    requires visits { AreVisits floor.now visits.now }
-    ensures { IsVisitOf floor.now visits.now number result }
+    channel: &ReplyChannel<Noted>,
+    visit: &Visit,
+    session: u8,
+    post: Post,
+) -> Worked
+    requires house { (producers : ℕ) × IsHouse floor.now producers }
+    requires post { IsPost floor.now post.desk.number post }
+    requires channel { IsReceiver channel.now post.desk.receiver }
+    requires named { user_numbered visit.now.user floor.now.office.directory.homes ≢ None }
+    requires bells { length floor.now.office.directory.homes ≤ length floor.now.depot.sessions.items }
+    ensures { IsAttended floor.now channel.now post.desk.number visit.now result }
 {
-    let visit = &visits[usize::from(number)];
     let directory = &floor.office.directory;
     let Some(inbox) = inbox_numbered(directory, visit.user) else {
         unreachable!();
     };
-    let folders = folders_of(floor.alloc, directory, directory.user_of(inbox))?;
+    let Post { desk, room } = post;
+    let mailboxes = &floor.depot.mailboxes;
     let bells = &floor.depot.sessions[usize::from(inbox)];
-    let mut desk = LockedDesk::new(rt, gate, number, &floor.depot.mailboxes, bells);
-    let mut said = Vec::new(floor.alloc);
-    live(
-        floor.alloc,
-        &mut desk,
-        folders,
-        &visit.steps,
-        floor.turns,
-        &mut said,
-    )?;
-    Ok(said)
-}
-
-// Starts a session's thread. None where no thread can be made: nobody waits for a session.
-fn start_session<'s, E, R: Threads + Wait + Sync, G: Gate + Sync>(
-    scope: &thread::Scope<'s, E>,
-    rt: &'s R,
-    floor: &'s Floor,
-    gate: &'s G,
-    visits: &'s [Visit],
-    number: u8,
-) -> Option<Guest<'s>>
-    requires number { number < length visits.now }
-    requires visits { AreVisits floor.now visits.now }
-    ensures { IfSome result (IsGuest floor.now visits.now number) }
-{
-    let promise = Attends {
-        floor,
-        visits,
-        number,
+    let mut locked = LockedDesk::new(rt, gate, session, mailboxes, bells);
+    let mut courier = LaneCourier {
+        rt,
+        office: &floor.office,
+        summons: &floor.bells,
+        channel,
+        serial: 0,
+        book: WorkerLog::new(floor.alloc, desk.number),
+        desk,
+        is_torn: false,
     };
-    match scope.spawn_with(promise, move || {
-        visit_there(rt, floor, gate, visits, number)
-    }) {
-        Ok(thread) => Some(Guest { thread }),
-        Err(_) => None,
-    }
-}
-
-/// Starts a thread for each session, in their order, up to the first for which none can be made, and
-/// says whether all could.
-pub(crate) fn start_sessions<'s, E, R: Threads + Wait + Sync, G: Gate + Sync>(
-    scope: &thread::Scope<'s, E>,
-    rt: &'s R,
-    floor: &'s Floor,
-    gate: &'s G,
-    visits: &'s [Visit],
-    mut guests: Vec<Guest<'s>>,
-) -> (Vec<Guest<'s>>, bool)
-    requires visits { AreVisits floor.now visits.now }
-    requires room { (guests.items ≡ []) × (length visits.now ≤ vec_capacity guests) }
-    ensures guests { AllAt (IsGuest floor.now visits.now) 0 result.0.items }
-    ensures few { vec_len result.0 ≤ length visits.now }
-    ensures all { result.1 ≡ true → vec_len result.0 ≡ length visits.now }
-{
-    for place in 0..visits.len() {
-        match start_session(scope, rt, floor, gate, visits, place as u8) {
-            Some(guest) => guests.push_reserved(guest),
-            None => return (guests, false),
-        }
-    }
-    (guests, true)
-}
-
-fn join_session<R: Threads>(
-    rt: &R,
-    floor: &Floor,
-    visits: &[Visit],
-    guest: Guest<'_>,
-) -> Result<Vec<u8>, AllocError>
-    ensures { (n : ℕ) → IsGuest floor.now visits.now n guest.entry → IsVisitOf floor.now visits.now n result }
-{
-    let Guest { thread } = guest;
-    thread.join(rt)
-}
-
-/// Waits for each session's end.
-pub(crate) fn join_sessions<R: Threads>(
-    rt: &R,
-    floor: &Floor,
-    visits: &[Visit],
-    guests: Vec<Guest<'_>>,
-    mut said: Vec<Result<Vec<u8>, AllocError>>,
-) -> Vec<Result<Vec<u8>, AllocError>>
-    requires guests { AllAt (IsGuest floor.now visits.now) 0 guests.items }
-    requires room { (said.items ≡ []) × (vec_len guests ≤ vec_capacity said) }
-    ensures said { AllAt (IsVisitOf floor.now visits.now) 0 result.items }
-    ensures count { vec_len result ≡ vec_len guests.entry }
-{
-    for guest in guests {
-        said.push_reserved(join_session(rt, floor, visits, guest));
-    }
-    said
+    let user = directory.user_of(inbox);
+    let mut replies = Vec::new(floor.alloc);
+    let fate = live_through(floor, user, visit, &mut locked, &mut courier, &mut replies);
+    let LaneCourier {
+        rt: _,
+        office: _,
+        summons: _,
+        channel: _,
+        desk,
+        serial: _,
+        book: log,
+        is_torn: _,
+    } = courier;
+    let mut pace = locked.into_pace();
+    let (office, summons) = (&floor.office, &floor.bells);
+    finish(
+        rt, &mut pace, office, summons, channel, desk, room, log, replies, fate,
+    )
 }

@@ -1,5 +1,5 @@
 -- The floor of a plan's house.
-use Rattle.std.proofs.Common.{◌≡◌, ◌∙◌, ℕ, List, [], ◌∷◌, All, replicate, length, refl, sym, ap, ap₂, subst}
+use Rattle.std.proofs.Common.{◌≡◌, ◌+◌, ◌∙◌, ℕ, List, [], ◌∷◌, All, replicate, length, refl, sym, ap, ap₂, subst}
 use Rattle.std.proofs.lemmas.List.Elements.{All-head, All-tail, All-weaker}
 use Rattle.delivery_token.specs.declared.Job.{Job}
 use Rattle.envelope.specs.Directory.{Directory}
@@ -14,10 +14,11 @@ use Rattle.lane_work.specs.Copies.{Room, rooms_of}
 use Rattle.house_floor.specs.Crew.{IsHouse}
 use Rattle.house_floor.specs.Opening.{IsFloor, reply_room}
 use Rattle.house_floor.specs.declared.floor.Floor.{Floor}
+use Rattle.house_floor.specs.declared.floor.Visit.{Visit}
 use Rattle.house_floor.specs.declared.opening.Sizes.{Sizes}
 use Rattle.house_threads.specs.Crew.{Plans}
 use Rattle.running_house.specs.inner.Agree.{AreSizesFor, IsFloorFor}
-use Rattle.running_house.specs.Plan.{premises_for}
+use Rattle.running_house.specs.Plan.{premises_for, producers_in}
 use Rattle.running_house.specs.declared.plan.Plan.{Plan}
 
 -- lanes of one size have rooms of one size
@@ -32,15 +33,15 @@ same_rooms depth producers (q ∷ qs) all =
 
 pub floor_for : (plan : Plan) (directory : Directory) (sizes : Sizes) (floor : Floor) → directory ≡ (setup_of plan.config).directory → AreSizesFor plan sizes → IsFloor directory sizes floor → IsFloorFor plan floor
 floor_for plan directory sizes floor same are is =
-    let as_large = All-weaker (λ (q : ShardQueue Job). (capacity_of q ≡ sizes.depth) × (producers_of q ≡ sizes.workers)) (λ q. (capacity_of q ≡ plan.config.depth) × (producers_of q ≡ length plan.workers.items))
-    (λ q h. (h.0 ∙ are.depth, h.1 ∙ are.workers)) floor.office.lanes.items is.lanes in
+    let as_large = All-weaker (λ (q : ShardQueue Job). (capacity_of q ≡ sizes.depth) × (producers_of q ≡ sizes.producers)) (λ q. (capacity_of q ≡ plan.config.depth) × (producers_of q ≡ producers_in plan))
+    (λ q h. (h.0 ∙ are.depth, h.1 ∙ are.producers)) floor.office.lanes.items is.lanes in
     let shards : directory.shards ≡ plan.config.shards = ap (λ d. d.shards) same in
     let many : length floor.office.lanes.items ≡ plan.config.shards = sym is.house.shards ∙ ap (λ d. d.shards) is.is ∙ shards in
-    let rooms : rooms_of floor.office.lanes.items ≡ replicate plan.config.shards (record { producers = length plan.workers.items; places = plan.config.depth }) =
-    same_rooms plan.config.depth (length plan.workers.items) floor.office.lanes.items as_large
-    ∙ ap (λ n. let rs : List Room = replicate n (record { producers = length plan.workers.items; places = plan.config.depth }) in rs) many in
+    let rooms : rooms_of floor.office.lanes.items ≡ replicate plan.config.shards (record { producers = producers_in plan; places = plan.config.depth }) =
+    same_rooms plan.config.depth (producers_in plan) floor.office.lanes.items as_large
+    ∙ ap (λ n. let rs : List Room = replicate n (record { producers = producers_in plan; places = plan.config.depth }) in rs) many in
     record {
-      house = subst (IsHouse floor) are.workers is.house;
+      house = subst (IsHouse floor) are.producers is.house;
       premises =
           ap (λ d. let h : Premises = record { directory = d; rooms = rooms_of floor.office.lanes.items; host = floor.office.host.items; max_message = floor.office.max_message } in h) (is.is ∙ same)
           ∙ ap (λ rs. let h : Premises = record { directory = (setup_of plan.config).directory; rooms = rs; host = floor.office.host.items; max_message = floor.office.max_message } in h) rooms
@@ -53,6 +54,6 @@ floor_for plan directory sizes floor same are is =
           (λ c h. (h.0, h.1 ∙ shards)) floor.depot.channels.items is.channels;
     }
 
--- it has as many workers as there are of these
-pub house_of : (plan : Plan) (floor : Floor) → IsFloorFor plan floor → (plans : Plans) → plans ≡ plan.workers.items → IsHouse floor (length plans)
-house_of plan floor is plans same = subst (IsHouse floor) (sym (ap length same)) is.house
+-- it has as many producers as there are of these
+pub house_of : (plan : Plan) (floor : Floor) → IsFloorFor plan floor → (plans : Plans) (visits : List Visit) → plans ≡ plan.workers.items → visits ≡ plan.sessions.items → IsHouse floor (length plans + length visits)
+house_of plan floor is plans visits same as_well = subst (λ n. IsHouse floor (n + length visits)) (sym (ap length same)) (subst (λ n. IsHouse floor (length plan.workers.items + n)) (sym (ap length as_well)) is.house)

@@ -1,8 +1,7 @@
 -- A report of what the threads left, when all queues were closed and the lists agree.
-use Rattle.std.proofs.Common.{◌≡◌, ◌<◌, ◌+◌, ◌==◌, ◌∙◌, ℕ, Bool, List, [], All, Option, Some, Result, Ok, Vec, length, map, slice_get, slice_index_or, sym, ap, subst, arith}
+use Rattle.std.proofs.Common.{◌≡◌, ◌<◌, ◌+◌, ◌==◌, ◌∙◌, ℕ, Bool, List, [], ◌∷◌, All, Some, Vec, take, drop, length, map, slice_get, slice_index_or, sym, ap, subst, arith}
 use Rattle.std.specs.Global.{Global}
-use Rattle.std.specs.declared.alloc.AllocError.{AllocError}
-use Rattle.std.proofs.lemmas.List.{length-map}
+use Rattle.std.proofs.lemmas.List.{length-map, length-take-le}
 use Rattle.agreement.specs.Lists.{ListsAgree}
 use Rattle.shard_queue.specs.Closing.{IsWhole}
 use Rattle.shard_queue.specs.Lane.{of}
@@ -19,32 +18,39 @@ use Rattle.house_floor.specs.Crew.{AllAt}
 use Rattle.house_floor.specs.Opening.{reply_room}
 use Rattle.house_floor.specs.declared.floor.Floor.{Floor}
 use Rattle.house_floor.specs.declared.floor.Visit.{Visit}
-use Rattle.house_threads.specs.Crew.{IsServiceOf, IsVisitOf, IsWorkOf, WasVisited}
-use Rattle.reckoning.specs.Settling.{IsSettled, are_said}
-use Rattle.reckoning.specs.declared.gather.Fault.{Fault}
+use Rattle.house_threads.specs.Crew.{IsProduceOf, IsServiceOf, SessionAccount}
+use Rattle.reckoning.specs.Settling.{IsSettled}
 use Rattle.reckoning.specs.declared.settling.Books.{Books}
-use Rattle.reckoning.proofs.Accounts.{account_of, at_place, copies_taken, mapped_at}
+use Rattle.reckoning.proofs.Accounts.{account_of, copies_taken, mapped_at, session_account_of}
 use Rattle.reckoning.proofs.Parts.{seats_of, some_at}
 use Rattle.running_house.specs.Agree as report
 use Rattle.running_house.specs.Agree.{Agrees}
-use Rattle.running_house.specs.inner.Agree.{IsFloorFor}
-use Rattle.running_house.specs.Plan.{connections_of, premises_for}
+use Rattle.running_house.specs.inner.Agree.{AreTexts, IsFloorFor}
+use Rattle.running_house.specs.Plan.{connections_of, premises_for, producers_in}
 use Rattle.running_house.specs.declared.plan.Plan.{Plan}
 use Rattle.running_house.specs.declared.plan.Report.{Report}
-use Rattle.running_house.proofs.Moves.{below, get_mapped, map_twice, moved}
+use Rattle.running_house.proofs.Moves.{behind, below, first_at, get_mapped, map_twice, mapped_take, moved, text_at}
 
-module _ (plan : Plan) (floor : Floor) (is : IsFloorFor plan floor) (ws : List Worked) (cs : List Consumed) (said : List (Result (Vec ℕ Global) AllocError))
-    (worked : AllAt (IsWorkOf floor plan.workers.items) 0 ws) (services : AllAt (IsServiceOf floor) 0 cs) (visits : AllAt (IsVisitOf floor plan.sessions.items) 0 said)
-    (workers : length ws ≡ length plan.workers.items) (shards : length cs ≡ length floor.office.lanes.items) (sessions : length said ≡ length plan.sessions.items)
-    (before : Option Fault) (books : Books) (settled : IsSettled floor.office.lanes.items floor.depot.channels.items ws cs before books)
-    (r : Report) (replies_are : r.replies ≡ books.replies) (logs_are : r.logs ≡ books.logs) (closed_is : r.closed ≡ books.closed) (said_is : are_said r.sessions.items ≡ said) where
+module _ (plan : Plan) (floor : Floor) (is : IsFloorFor plan floor) (ws : List Worked) (cs : List Consumed)
+    (worked : AllAt (IsProduceOf floor plan.workers.items plan.sessions.items) 0 ws) (services : AllAt (IsServiceOf floor) 0 cs)
+    (producers : length ws ≡ producers_in plan) (shards : length cs ≡ length floor.office.lanes.items)
+    (books : Books) (settled : IsSettled floor.office.lanes.items floor.depot.channels.items ws cs books)
+    (r : Report) (replies_are : r.replies.items ≡ take (length plan.workers.items) books.replies.items) (logs_are : r.logs ≡ books.logs) (closed_is : r.closed ≡ books.closed)
+    (texts : AreTexts (drop (length plan.workers.items) books.replies.items) r.sessions.items) (count : length r.sessions.items ≡ length plan.sessions.items) where
   pub connections_count : length (connections_of plan) ≡ length plan.workers.items
   connections_count = length-map plan.workers.items (λ w. map (λ b. b.items) w.items)
 
-  pub replies_same : map (λ (w : Worked). map (λ b. b.items) w.replies.items) ws ≡ report.replies_of r
-  replies_same = sym (ap (λ v. map (λ (w : Vec (Vec ℕ Global) Global). map (λ b. b.items) w.items) v.items) replies_are
-      ∙ ap (λ vs. map (λ (w : Vec (Vec ℕ Global) Global). map (λ b. b.items) w.items) vs) settled.replies
-      ∙ map_twice (λ (w : Vec (Vec ℕ Global) Global). map (λ b. b.items) w.items) (λ (w : Worked). w.replies) ws)
+  abbrev all_replies : List (List (List ℕ))
+  all_replies = map (λ (w : Worked). map (λ b. b.items) w.replies.items) ws
+
+  replies_laid : map (λ (w : Vec (Vec ℕ Global) Global). map (λ b. b.items) w.items) books.replies.items ≡ all_replies
+  replies_laid = ap (λ vs. map (λ (w : Vec (Vec ℕ Global) Global). map (λ b. b.items) w.items) vs) settled.replies
+      ∙ map_twice (λ (w : Vec (Vec ℕ Global) Global). map (λ b. b.items) w.items) (λ (w : Worked). w.replies) ws
+
+  pub replies_same : report.replies_of r ≡ take (length plan.workers.items) all_replies
+  replies_same = ap (λ vs. map (λ (w : Vec (Vec ℕ Global) Global). map (λ b. b.items) w.items) vs) replies_are
+      ∙ mapped_take (λ (w : Vec (Vec ℕ Global) Global). map (λ b. b.items) w.items) (length plan.workers.items) books.replies.items
+      ∙ ap (λ vs. take (length plan.workers.items) vs) replies_laid
 
   pub notes_same : map (λ (w : Worked). w.log.notes) ws ≡ report.notes_of r
   notes_same = sym (ap (λ v. map (λ l. l.notes) v.items) logs_are ∙ ap (λ ls. map (λ l. l.notes) ls) settled.logs ∙ map_twice (λ l. l.notes) (λ (w : Worked). w.log) ws)
@@ -59,51 +65,63 @@ module _ (plan : Plan) (floor : Floor) (is : IsFloorFor plan floor) (ws : List W
       → Account (premises_for plan) p (slice_index_or (connections_of plan) p []) (slice_index_or (report.replies_of r) p []) (slice_index_or (report.notes_of r) p [])
       (slice_index_or (report.answers r) p []) (map (of p) (report.histories r))
   accounts p under =
-      moved p (slice_index_or (connections_of plan) p []) (premises_of floor.office) (premises_for plan) _ (report.replies_of r) _ (report.notes_of r) _ (report.answers r) _ (report.histories r)
-      is.premises replies_same notes_same answers_same histories_same
-      (account_of floor plan.workers.items is.house.channels ws worked workers settled.fates _ books.closed.lanes.items settled.lanes_closed _ books.closed.channels.items settled.channels_closed p
-      (omega (arith, under, connections_count)))
+      let within : p < length plan.workers.items = omega (arith, under, connections_count) in
+      let here : slice_index_or all_replies p [] ≡ slice_index_or (report.replies_of r) p [] =
+      sym (ap (λ (l : List (List (List ℕ))). slice_index_or l p []) replies_same ∙ first_at all_replies (length plan.workers.items) p [] within) in
+      moved (λ house replies notes answers histories. Account house p (slice_index_or (connections_of plan) p []) replies notes answers histories) p
+      (premises_of floor.office) (premises_for plan) _ (slice_index_or (report.replies_of r) p []) _ (report.notes_of r) _ (report.answers r) _ (report.histories r)
+      is.premises here notes_same answers_same histories_same
+      (account_of floor plan.workers.items plan.sessions.items ws worked producers settled.fates _ books.closed.lanes.items settled.lanes_closed _ books.closed.channels.items settled.channels_closed p within)
+
+  pub sessions : (n : ℕ) (visit : Visit) → slice_get plan.sessions.items n ≡ Some visit
+      → SessionAccount (premises_for plan) (length (premises_for plan).directory.homes) plan.turns (length plan.workers.items + n) visit (slice_index_or (report.said_of r) n [] ∷ [])
+      (slice_index_or (report.notes_of r) (length plan.workers.items + n) []) (slice_index_or (report.answers r) (length plan.workers.items + n) []) (map (of (length plan.workers.items + n)) (report.histories r))
+  sessions n visit at =
+      let p = length plan.workers.items + n in
+      let notes = slice_index_or (map (λ (w : Worked). w.log.notes) ws) p [] in
+      let heard = slice_index_or (map reply_history books.closed.channels.items) p [] in
+      let taken = map (of p) (map history books.closed.lanes.items) in
+      let under = below plan.sessions.items n visit at in
+      let account = session_account_of floor plan.workers.items plan.sessions.items ws worked producers settled.fates _ books.closed.lanes.items settled.lanes_closed _ books.closed.channels.items settled.channels_closed n visit at under in
+      let w = some_at ws p (omega (arith, under, producers)) in
+      let laid = ap (λ vs. slice_get vs p) settled.replies ∙ get_mapped (λ (v : Worked). v.replies) ws p w.0 w.1 in
+      let one = sym (mapped_at (λ (v : Worked). map (λ b. b.items) v.replies.items) ws p w.0 [] w.1) ∙ account.alone in
+      let text = text_at (drop (length plan.workers.items) books.replies.items) r.sessions.items n w.0.replies account.text texts (behind books.replies.items (length plan.workers.items) n w.0.replies laid) one in
+      let said : slice_index_or all_replies p [] ≡ slice_index_or (report.said_of r) n [] ∷ [] = account.alone ∙ ap (λ (t : List ℕ). t ∷ []) (sym text) in
+      moved (λ house replies notes answers histories. SessionAccount house (length (premises_for plan).directory.homes) plan.turns p visit replies notes answers histories) p
+      (premises_of floor.office) (premises_for plan) (slice_index_or all_replies p []) (slice_index_or (report.said_of r) n [] ∷ []) _ (report.notes_of r) _ (report.answers r) _ (report.histories r)
+      is.premises said notes_same answers_same histories_same
+      (subst (λ x. SessionAccount (premises_of floor.office) (length (premises_for plan).directory.homes) x p visit (slice_index_or all_replies p []) notes heard taken) is.turns
+      (subst (λ x. SessionAccount (premises_of floor.office) x floor.turns p visit (slice_index_or all_replies p []) notes heard taken) is.mailboxes account))
 
   pub copies_same : map (λ c. c.items) books.copies.items ≡ report.copies_taken r
   copies_same = ap (λ vs. map (λ v. v.items) vs) settled.copies ∙ map_twice (λ v. v.items) (λ (c : Consumed). c.copies) cs
       ∙ copies_taken floor cs books.closed.lanes.items _ services shards settled.services settled.lanes_closed ∙ ap (λ hs. map items_of hs) histories_same
 
-  pub was_said : (n : ℕ) (visit : Visit) → slice_get plan.sessions.items n ≡ Some visit
-      → WasVisited (premises_for plan).directory (length (premises_for plan).directory.homes) plan.turns visit (slice_index_or (map (λ b. b.items) r.sessions.items) n [])
-  was_said n visit at =
-      let under = below plan.sessions.items n visit at in
-      let many = ap length said_is in
-      let mapped = length-map {B = Result (Vec ℕ Global) AllocError} r.sessions.items (λ (b : Vec ℕ Global). Ok b) in
-      let one = some_at r.sessions.items n (omega (arith, under, many, mapped, sessions)) in
-      let there = subst (λ xs. slice_get xs n ≡ Some (Ok one.0)) said_is (get_mapped {B = Result (Vec ℕ Global) AllocError} (λ (b : Vec ℕ Global). Ok b) r.sessions.items n one.0 one.1) in
-      let here = at_place (IsVisitOf floor plan.sessions.items) 0 n said (Ok one.0) visits there in
-      let e : 0 + n ≡ n = omega arith in
-      let visited : IsVisitOf floor plan.sessions.items n (Ok one.0) = subst (λ i. IsVisitOf floor plan.sessions.items i (Ok one.0)) e here in
-      subst (λ x. WasVisited (premises_for plan).directory (length (premises_for plan).directory.homes) plan.turns visit x) (sym (mapped_at (λ b. b.items) r.sessions.items n one.0 [] one.1))
-      (subst (λ x. WasVisited (premises_for plan).directory (length (premises_for plan).directory.homes) x visit one.0.items) is.turns
-      (subst (λ x. WasVisited (premises_for plan).directory x floor.turns visit one.0.items) is.mailboxes
-      (subst (λ x. WasVisited x.directory (length floor.depot.mailboxes.items) floor.turns visit one.0.items) is.premises (visited.each visit at))))
-
-  pub seats_are : map (λ l. l.seat) r.logs.items ≡ numbers 0 (length (connections_of plan))
+  pub seats_are : map (λ l. l.seat) r.logs.items ≡ numbers 0 (producers_in plan)
   seats_are = ap (λ v. map (λ l. l.seat) v.items) logs_are ∙ ap (λ ls. map (λ l. l.seat) ls) settled.logs ∙ map_twice (λ l. l.seat) (λ (w : Worked). w.log) ws
-      ∙ seats_of floor plan.workers.items is.house.channels 0 ws worked (omega (arith, workers)) ∙ ap (λ n. numbers 0 n) (workers ∙ sym connections_count)
+      ∙ seats_of floor plan.workers.items plan.sessions.items 0 ws worked ∙ ap (λ n. numbers 0 n) producers
+
+  replies_count : length (report.replies_of r) ≡ length (connections_of plan)
+  replies_count =
+      let l = length-map ws (λ (w : Worked). map (λ b. b.items) w.replies.items) in
+      ap length replies_same ∙ length-take-le (length plan.workers.items) all_replies (omega (arith, l, producers)) ∙ sym connections_count
 
   pub agrees : (whole : Bool) → whole ≡ (length plan.sessions.items == 0)
       → ListsAgree floor.office.directory whole (report.notes_of r) (map (λ c. c.items) books.copies.items) (report.accepted_of r) (report.texts_of r) → Agrees plan r
   agrees whole all lists = record {
     accounts = accounts;
+    sessions = sessions;
     lists = subst (λ x. ListsAgree x.directory (length plan.sessions.items == 0) (report.notes_of r) (report.copies_taken r) (report.accepted_of r) (report.texts_of r)) is.premises
         (subst (λ x. ListsAgree floor.office.directory (length plan.sessions.items == 0) (report.notes_of r) x (report.accepted_of r) (report.texts_of r)) copies_same
         (subst (λ x. ListsAgree floor.office.directory x (report.notes_of r) (map (λ c. c.items) books.copies.items) (report.accepted_of r) (report.texts_of r)) all lists));
-    said = was_said;
     seats = seats_are;
-    replies = sym (ap length replies_same) ∙ length-map ws (λ (w : Worked). map (λ b. b.items) w.replies.items) ∙ workers ∙ sym connections_count;
-    sessions = sym (length-map {B = Result (Vec ℕ Global) AllocError} r.sessions.items (λ (b : Vec ℕ Global). Ok b)) ∙ ap length said_is ∙ sessions;
+    replies = replies_count;
+    said = count;
     shards = sym (ap length histories_same) ∙ length-map books.closed.lanes.items history ∙ lanes.closed_length settled.lanes_closed.2 ∙ sym is.house.shards ∙ ap (λ h. h.directory.shards) is.premises;
-    lanes = subst (λ c. All (λ d. IsWhole (length (connections_of plan)) plan.config.depth (history d)) c.lanes.items) (sym closed_is)
-        (subst (λ n. All (λ d. IsWhole n plan.config.depth (history d)) books.closed.lanes.items) (sym connections_count)
-        (lanes.all_whole settled.lanes_closed.2 (length plan.workers.items) plan.config.depth is.lanes));
-    workers = ap (λ c. length c.channels.items) closed_is ∙ channels.closed_length settled.channels_closed.2 ∙ is.house.channels ∙ sym connections_count;
+    lanes = subst (λ c. All (λ d. IsWhole (producers_in plan) plan.config.depth (history d)) c.lanes.items) (sym closed_is)
+        (lanes.all_whole settled.lanes_closed.2 (producers_in plan) plan.config.depth is.lanes);
+    producers = ap (λ c. length c.channels.items) closed_is ∙ channels.closed_length settled.channels_closed.2 ∙ is.house.channels;
     channels = subst (λ c. All (λ d. IsWhole plan.config.shards reply_room (reply_history d)) c.channels.items) (sym closed_is)
         (channels.all_whole settled.channels_closed.2 plan.config.shards reply_room is.channels);
   }

@@ -1,5 +1,5 @@
 -- What a report that agrees says of each worker and of each copy.
-use Rattle.std.proofs.Common.{◌≡◌, ◌⊎◌, inl, inr, ℕ, zero, suc, ◌<◌, ◌≤◌, ◌==◌, Bool, true, false, cond, if◌then◌else◌, List, [], ◌∷◌, ◌∙◌, Option, None, Some, length, map, slice_index_or, refl, sym, ap, subst, Contains, arith}
+use Rattle.std.proofs.Common.{◌≡◌, ◌⊎◌, inl, inr, ℕ, zero, suc, ◌+◌, ◌-◌, ◌<◌, ◌≤◌, ◌==◌, Bool, true, false, cond, if◌then◌else◌, List, [], ◌∷◌, ◌∙◌, Option, None, Some, length, map, slice_index_or, refl, sym, ap, subst, Contains, arith}
 use Rattle.std.specs.List.{cons_option, filter, filter_map}
 use Rattle.std.proofs.lemmas.List.Elements.{All-map}
 use Rattle.std.proofs.Math.Nat.{mod-lt}
@@ -18,9 +18,13 @@ use Rattle.shard_queue.specs.Closing.{IsWhole}
 use Rattle.shard_queue.specs.Lane.{of, producer}
 use Rattle.shard_queue.specs.Seats.{history, numbers}
 use Rattle.account_laws.proofs.ListLaws.{contains_cases, contains_none, first_of, later_of}
-use Rattle.account_laws.proofs.LogLaws.{account_is_of_lines}
+use Rattle.account_laws.proofs.LogLaws.{account_is_of_lines, stored_is_there}
+use Rattle.courier.specs.Carried.{judged_of}
+use Rattle.lane_work.specs.Account.{AreAccountedFor}
+use Rattle.lane_work.specs.Copies.{told}
+use Rattle.reckoning.proofs.Parts.{some_at}
 use Rattle.running_house.specs.Agree.{Agrees, accepted_of, answers, histories, notes_of, replies_of}
-use Rattle.running_house.specs.Plan.{connections_of, premises_for}
+use Rattle.running_house.specs.Plan.{connections_of, premises_for, producers_in}
 use Rattle.running_house.specs.Tells.{AccountOf, IsStored}
 use Rattle.running_house.specs.declared.plan.Plan.{Plan}
 use Rattle.running_house.specs.declared.plan.Report.{Report}
@@ -80,16 +84,36 @@ accounts_are_of_lines plan r agrees p under =
     account_is_of_lines (premises_for plan) p (slice_index_or (connections_of plan) p []) (slice_index_or (replies_of r) p []) (slice_index_or (notes_of r) p []) (slice_index_or (answers r) p [])
     (map (of p) (histories r)) (agrees.accounts p under)
 
-pub stored_was_accepted : (plan : Plan) (r : Report) → Agrees plan r → 0 < plan.config.shards → (p : ℕ) → p < length (connections_of plan)
+-- a producer is a worker or a session, and accounts for its copies
+accounted : (plan : Plan) (r : Report) → Agrees plan r → (p : ℕ) → p < producers_in plan
+    → (copies : List (Job × Verdict)) × AreAccountedFor (premises_for plan) p copies (slice_index_or (notes_of r) p []) (slice_index_or (answers r) p []) (map (of p) (histories r))
+accounted plan r agrees p under = elim (less_or_not p (length plan.workers.items)) [
+  | inl h ↦ (
+      let many = length-map plan.workers.items (λ w. map (λ b. b.items) w.items) in
+      let a = agrees.accounts p (omega (arith, h, many)) in
+      (told a.judged, record { noted = a.noted; lanes = a.lanes })
+      )
+  | inr h ↦ (
+      let n = p - length plan.workers.items in
+      let e : length plan.workers.items + n ≡ p = omega (arith, h) in
+      let visit = some_at plan.sessions.items n (omega (arith, h, under)) in
+      let a = agrees.sessions n visit.0 visit.1 in
+      subst (λ (i : ℕ). (copies : List (Job × Verdict)) × AreAccountedFor (premises_for plan) i copies (slice_index_or (notes_of r) i []) (slice_index_or (answers r) i []) (map (of i) (histories r))) e
+      (map (judged_of (length plan.workers.items + n) 0) a.carried, a.copies)
+      )
+]
+
+pub stored_was_accepted : (plan : Plan) (r : Report) → Agrees plan r → 0 < plan.config.shards → (p : ℕ) → p < producers_in plan
     → (noted : Noted) (uid : ℕ) → Contains (slice_index_or (notes_of r) p []) noted → noted.verdict ≡ Stored uid → noted.mailbox < length (premises_for plan).directory.homes
     → IsStored plan r p noted uid
 stored_was_accepted plan r agrees some p under noted uid there stored within =
-    let account = accounts_are_of_lines plan r agrees p under in
+    let account = accounted plan r agrees p under in
     let shard = mod-lt noted.mailbox {m = plan.config.shards} some in
     let many = agrees.shards in
     let mapped = length-map (histories r) (of p) in
-    let put = account.stored noted uid (shard_of (premises_for plan).directory noted.mailbox) there stored refl (omega (arith, shard, many, mapped)) in
-    let seats = ap length agrees.seats ∙ so_many 0 (length (connections_of plan)) in
+    let put = stored_is_there (premises_for plan) p account.0 (slice_index_or (notes_of r) p []) (slice_index_or (answers r) p []) (map (of p) (histories r)) account.1
+    noted uid (shard_of (premises_for plan).directory noted.mailbox) there stored refl (omega (arith, shard, many, mapped)) in
+    let seats = ap length agrees.seats ∙ so_many 0 (producers_in plan) in
     let numbered = length-map r.logs.items (λ l. l.seat) in
     let noted_by = length-map r.logs.items (λ l. l.notes) in
     let told = (agrees.lists.mailbox noted.mailbox within).told.told p (omega (arith, under, seats, numbered, noted_by)) in
@@ -106,13 +130,13 @@ stored_was_accepted plan r agrees some p under noted uid there stored within =
           (subst (λ ps. Contains ps (noted.key, uid)) (sym told.stored) (found_in (stored_for noted.mailbox) (slice_index_or (notes_of r) p []) noted (noted.key, uid) there pair));
     }
 
-pub taken_is_a_workers : (plan : Plan) (r : Report) → Agrees plan r → (lane p : ℕ) (copy : Job) → lane < length (histories r) → Contains (slice_index_or (histories r) lane []) (Item p copy)
-    → (p < length (connections_of plan)) × Contains (slice_index_or (map (of p) (histories r)) lane []) (Item p copy)
-taken_is_a_workers plan r agrees lane p copy under there = (elim (less_or_not p (length (connections_of plan))) [ inl h ↦ h | inr h ↦ absurd (nobodys h) ], subst (λ es. Contains es (Item p copy)) (sym (of_at p (histories r) lane)) own) where
+pub taken_is_a_producers : (plan : Plan) (r : Report) → Agrees plan r → (lane p : ℕ) (copy : Job) → lane < length (histories r) → Contains (slice_index_or (histories r) lane []) (Item p copy)
+    → (p < producers_in plan) × Contains (slice_index_or (map (of p) (histories r)) lane []) (Item p copy)
+taken_is_a_producers plan r agrees lane p copy under there = (elim (less_or_not p (producers_in plan)) [ inl h ↦ h | inr h ↦ absurd (nobodys h) ], subst (λ es. Contains es (Item p copy)) (sym (of_at p (histories r) lane)) own) where
   own : Contains (of p (slice_index_or (histories r) lane [])) (Item p copy)
   own = passes (λ e. producer e == p) (slice_index_or (histories r) lane []) (Item p copy) there ((Decides-eqb p p).1 refl)
 
-  nobodys : length (connections_of plan) ≤ p → ⊥
+  nobodys : producers_in plan ≤ p → ⊥
   nobodys past =
-      let whole = All-map (λ h. IsWhole (length (connections_of plan)) plan.config.depth h) history r.closed.lanes.items agrees.lanes lane [] under in
+      let whole = All-map (λ h. IsWhole (producers_in plan) plan.config.depth h) history r.closed.lanes.items agrees.lanes lane [] under in
       contains_none (subst (λ es. Contains es (Item p copy)) (whole.merge.known p past) own)

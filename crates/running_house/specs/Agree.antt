@@ -1,5 +1,5 @@
 -- What a report says of a run: how what the threads left agrees.
-use Rattle.std.specs.Prelude.{◌≡◌, ◌==◌, ℕ, ◌<◌, List, [], length, map, All, Some, slice_get, slice_index_or}
+use Rattle.std.specs.Prelude.{◌≡◌, ◌==◌, ◌+◌, ℕ, ◌<◌, List, [], ◌∷◌, length, map, All, Some, slice_get, slice_index_or}
 use Rattle.delivery_token.specs.declared.CopyKey.{CopyKey}
 use Rattle.delivery_token.specs.declared.Job.{Job}
 use Rattle.delivery_token.specs.declared.log.Noted.{Noted}
@@ -12,9 +12,9 @@ use Rattle.shard_queue.specs.Seats.{history, numbers}
 use Rattle.lane_work.specs.Account.{Account}
 use Rattle.lane_work.specs.Consuming.{items_of}
 use Rattle.house_floor.specs.Opening.{reply_room}
-use Rattle.house_threads.specs.Crew.{WasVisited}
+use Rattle.house_threads.specs.Crew.{SessionAccount}
 use Rattle.house_floor.specs.declared.floor.Visit.{Visit}
-use Rattle.running_house.specs.Plan.{connections_of, premises_for}
+use Rattle.running_house.specs.Plan.{connections_of, premises_for, producers_in}
 use Rattle.running_house.specs.declared.plan.Plan.{Plan}
 use Rattle.running_house.specs.declared.plan.Report.{Report}
 
@@ -24,9 +24,13 @@ use Rattle.running_house.specs.declared.plan.Report.{Report}
 abbrev pub replies_of : Report → List (List (List ℕ))
 replies_of r = map (λ w. map (λ b. b.items) w.items) r.replies.items
 
--- what each worker heard
+-- what each worker heard, and behind them each session
 abbrev pub notes_of : Report → List (List Noted)
 notes_of r = map (λ l. l.notes) r.logs.items
+
+-- what each session said
+abbrev pub said_of : Report → List (List ℕ)
+said_of r = map (λ b. b.items) r.sessions.items
 
 -- what each mailbox accepted
 abbrev pub accepted_of : Report → List (List (CopyKey × ℕ))
@@ -56,19 +60,19 @@ pub record Agrees (plan : Plan) (r : Report) : Type 0 where
   pub accounts : (p : ℕ) → p < length (connections_of plan)
       → Account (premises_for plan) p (slice_index_or (connections_of plan) p []) (slice_index_or (replies_of r) p []) (slice_index_or (notes_of r) p [])
       (slice_index_or (answers r) p []) (map (of p) (histories r))
-  -- What each mailbox accepted of each worker is what the worker's log has as stored there, and nothing else was accepted; each message that is there
+  -- So it is of each session, by its steps: what it said, hold by hold, its log, and what was taken of it from each lane are what these come to.
+  pub sessions : (n : ℕ) (visit : Visit) → slice_get plan.sessions.items n ≡ Some visit
+      → SessionAccount (premises_for plan) (length (premises_for plan).directory.homes) plan.turns (length plan.workers.items + n) visit (slice_index_or (said_of r) n [] ∷ [])
+      (slice_index_or (notes_of r) (length plan.workers.items + n) []) (slice_index_or (answers r) (length plan.workers.items + n) []) (map (of (length plan.workers.items + n)) (histories r))
+  -- What each mailbox accepted of each of them is what the log has as stored there, and nothing else was accepted; each message that is there
   -- has the text of its copy, and where no session could remove one, every accepted copy is there.
   pub lists : ListsAgree (premises_for plan).directory (length plan.sessions.items == 0) (notes_of r) (copies_taken r) (accepted_of r) (texts_of r)
-  -- Each session was greeted, and said what its steps come to, hold by hold.
-  pub said : (n : ℕ) (visit : Visit) → slice_get plan.sessions.items n ≡ Some visit
-      → WasVisited (premises_for plan).directory (length (premises_for plan).directory.homes) plan.turns visit
-      (slice_index_or (map (λ b. b.items) r.sessions.items) n [])
   -- There is one of each for each worker and session.
-  pub seats : map (λ l. l.seat) r.logs.items ≡ numbers 0 (length (connections_of plan))
+  pub seats : map (λ l. l.seat) r.logs.items ≡ numbers 0 (producers_in plan)
   pub replies : length (replies_of r) ≡ length (connections_of plan)
-  pub sessions : length r.sessions.items ≡ length plan.sessions.items
+  pub said : length r.sessions.items ≡ length plan.sessions.items
   -- Each lane and each reply channel was closed: all that was put was taken, and nobody else put anything.
   pub shards : length (histories r) ≡ plan.config.shards
-  pub lanes : All (λ c. IsWhole (length (connections_of plan)) plan.config.depth (history c)) r.closed.lanes.items
-  pub workers : length r.closed.channels.items ≡ length (connections_of plan)
+  pub lanes : All (λ c. IsWhole (producers_in plan) plan.config.depth (history c)) r.closed.lanes.items
+  pub producers : length r.closed.channels.items ≡ producers_in plan
   pub channels : All (λ c. IsWhole plan.config.shards reply_room (reply_history c)) r.closed.channels.items

@@ -1,5 +1,5 @@
 -- What a plan says: what each peer sends, and what may be wrong with it.
-use Rattle.std.specs.Prelude.{◌≡◌, ◌⊎◌, ◌==◌, ℕ, Bool, List, length, map, filter, replicate, nat_lt, Option, Some, None, is_none, if◌then◌else◌}
+use Rattle.std.specs.Prelude.{◌≡◌, ◌⊎◌, ◌==◌, ◌+◌, ℕ, Bool, List, length, map, filter, replicate, nat_lt, Option, Some, None, is_none, if◌then◌else◌}
 use Rattle.std.specs.List.{list_any}
 use Rattle.envelope.specs.Directory.{Home}
 use Rattle.house.specs.Settings.{config_fault, setup_of}
@@ -14,13 +14,17 @@ use Rattle.running_house.specs.declared.plan.Plan.{Plan}
 use Rattle.running_house.specs.declared.plan.WorkFault.{WorkFault}
 use Rattle.running_house.specs.declared.plan.WorkFault.TheVariants.{Config, NoMemory, Spawn, Torn}
 
+-- Who brings mail: each worker, and each session, whose client may append messages. The sessions' seats are those behind the workers'.
+abbrev pub producers_in : Plan → ℕ
+producers_in plan = length plan.workers.items + length plan.sessions.items
+
 -- what the connections of the house are told of it, and how much room its lanes have
 abbrev pub premises_for : Plan → Premises
 premises_for plan =
     let k = setup_of plan.config in
     record {
       directory = k.directory;
-      rooms = replicate plan.config.shards (record { producers = length plan.workers.items; places = plan.config.depth });
+      rooms = replicate plan.config.shards (record { producers = producers_in plan; places = plan.config.depth });
       host = k.host;
       max_message = k.max_message;
     }
@@ -33,9 +37,9 @@ connections_of plan = map (λ w. map (λ b. b.items) w.items) plan.workers.items
 abbrev pub most_workers : ℕ
 most_workers = 8
 
--- and so many sessions of all users: there are at most 64 mailboxes, a user has one at least, and at most 4 sessions
-abbrev pub most_sessions : ℕ
-most_sessions = 256
+-- and so many producers, workers and sessions together: a seat's number is below that
+abbrev pub most_producers : ℕ
+most_producers = 255
 
 -- ---- what may be wrong
 
@@ -55,12 +59,12 @@ abbrev pub after_settings : Plan → Option ConfigFault → Option ConfigFault
 after_settings plan (Some fault) = Some fault
 after_settings plan None =
     if nat_lt most_workers (length plan.workers.items) then Some settings.TooMany
-    else if nat_lt most_sessions (length plan.sessions.items) then Some settings.TooMany
+    else if nat_lt most_producers (producers_in plan) then Some settings.TooMany
     else if are_too_many plan.config.sessions plan.sessions.items then Some settings.TooMany
     else if is_someone_missing (setup_of plan.config).directory.homes plan.sessions.items then Some settings.BadName
     else None
 
--- what is wrong: with the settings; that there are too many workers, or sessions of one user; that a session's user isn't there
+-- what is wrong: with the settings; that there are too many workers, producers, or sessions of one user; that a session's user isn't there
 abbrev pub plan_fault : Plan → Option ConfigFault
 plan_fault plan = after_settings plan (config_fault plan.config)
 

@@ -3,7 +3,7 @@
 ghost use Rattle.std.specs.Prelude.{◌≡◌, ◌≢◌, ◌<◌, ◌≤◌, All, None, is_none, IfErr, IfOk, length};
 ghost use Rattle.house.specs.Settings.{IsInRange, setup_of};
 ghost use Rattle.house_floor.specs.Users.{user_numbered};
-ghost use Rattle.running_house.specs.Plan.{IsFaultOf, are_too_many, count_of, is_someone_missing, most_sessions, most_workers, of_config, of_reckoning, plan_fault};
+ghost use Rattle.running_house.specs.Plan.{IsFaultOf, are_too_many, count_of, is_someone_missing, most_producers, most_workers, of_config, of_reckoning, plan_fault, producers_in};
 
 use delivery_token::{CopyKey, Text, WorkerLog};
 use envelope::Directory;
@@ -16,8 +16,8 @@ use thiserror::Error;
 /// The most workers of a running house.
 const MOST_WORKERS: usize = 8;
 
-/// The most sessions of all users: 64 mailboxes have at most 64 users, who have at most 4 sessions.
-const MOST_SESSIONS: usize = 256;
+/// The most producers: workers, and behind them sessions, whose seats a lane tells apart by a byte.
+const MOST_PRODUCERS: usize = 255;
 
 /// What is to be run.
 #[derive(Drop)]
@@ -27,7 +27,8 @@ pub struct Plan {
     /// For each worker, 1 to 8, the connections that it serves one after another: of each the bytes
     /// that its peer sends before it goes.
     pub workers: Vec<Vec<Vec<u8>>>,
-    /// The sessions, at most `config.sessions` of one user.
+    /// The sessions, at most `config.sessions` of one user, and at most 255 with the workers. A session's
+    /// client may append messages as large as `config.max_message`.
     pub sessions: Vec<Visit>,
     /// So many turns a session has at most where it awaits changes.
     pub turns: u64,
@@ -38,7 +39,8 @@ pub struct Plan {
 pub struct Report {
     /// For each worker, for each of its connections, what was replied.
     pub replies: Vec<Vec<Vec<u8>>>,
-    /// For each worker, the verdicts on its copies, in the order in which they were submitted.
+    /// For each worker, and behind them for each session, the verdicts on its copies, in the order in
+    /// which they were submitted.
     pub logs: Vec<WorkerLog>,
     /// For each mailbox, the copies that it accepted, with their UIDs.
     pub accepted: Vec<Vec<(CopyKey, u32)>>,
@@ -134,15 +136,15 @@ fn is_someone_missing(directory: &Directory, visits: &[Visit]) -> bool
 /// The directory that the house of this plan goes by.
 ///
 /// Errors: `Config` of the first fault: those of the settings, in the order of `House::new`; `TooMany`
-/// for more than 8 workers, more sessions of one user than `config.sessions`, or more than 256 in all; `BadName` for a session
-/// whose user isn't there. In place of any of them, and where nothing is wrong, `NoMemory` if memory is
+/// for more than 8 workers, more than 255 workers and sessions together, or more sessions of one user than `config.sessions`; `BadName`
+/// for a session whose user isn't there. In place of any of them, and where nothing is wrong, `NoMemory` if memory is
 /// refused.
 pub(crate) fn directory_for(alloc: Global, plan: &Plan) -> Result<Directory, WorkFault>
     requires range { IsInRange plan.now.config }
     ensures directory { IfOk result (λ d. d ≡ (setup_of plan.now.config).directory) }
     ensures host { IfOk result (λ d. length plan.now.config.host.items < 256) }
     ensures right { IfOk result (λ d. plan_fault plan.now ≡ None) }
-    ensures few { IfOk result (λ d. (length plan.now.workers.items ≤ most_workers) × (length plan.now.sessions.items ≤ most_sessions)) }
+    ensures few { IfOk result (λ d. (length plan.now.workers.items ≤ most_workers) × (producers_in plan.now ≤ most_producers)) }
     ensures visits { IfOk result (λ d. All (λ v. user_numbered v.user d.homes ≢ None) plan.now.sessions.items) }
     ensures fault { IfErr result (IsFaultOf plan.now) }
 {
@@ -150,7 +152,7 @@ pub(crate) fn directory_for(alloc: Global, plan: &Plan) -> Result<Directory, Wor
     if MOST_WORKERS < plan.workers.len() {
         return Err(WorkFault::Config(ConfigFault::TooMany));
     }
-    if MOST_SESSIONS < plan.sessions.len() {
+    if MOST_PRODUCERS < plan.workers.len() + plan.sessions.len() {
         return Err(WorkFault::Config(ConfigFault::TooMany));
     }
     if are_too_many(&plan.sessions, plan.config.sessions) {

@@ -1,34 +1,51 @@
 //! What the threads left is closed, compared and put together. Nothing runs any more.
 
-ghost use Rattle.std.specs.Prelude.{◌≡◌, ◌⊎◌, ◌≤◌, ◌==◌, Some, None, IfErr, IfOk, if◌then◌else◌, length, map, vec_len};
+ghost use Rattle.std.specs.Global.{Global};
+ghost use Rattle.std.specs.Prelude.{◌≡◌, ◌⊎◌, ◌≤◌, ◌+◌, ◌∷◌, ℕ, [], IfErr, IfOk, OnOk, Vec, drop, length, map, take, vec_len};
 ghost use Rattle.agreement.specs.Lists.{ListsAgree};
 ghost use Rattle.house_floor.specs.Crew.{AllAt};
 ghost use Rattle.house_floor.specs.Opening.{AreBaskets};
-ghost use Rattle.house_threads.specs.Crew.{IsServiceOf, IsVisitOf, IsWorkOf, LeavesAll};
-ghost use Rattle.reckoning.specs.Settling.{wants};
+ghost use Rattle.house_threads.specs.Crew.{IsProduceOf, IsServiceOf, LeavesAll};
 ghost use Rattle.running_house.specs.Agree.{Agrees, accepted_of, notes_of, texts_of};
-ghost use Rattle.running_house.specs.inner.Agree.{IsFloorFor};
-ghost use Rattle.running_house.specs.Plan.{of_reckoning};
+ghost use Rattle.running_house.specs.inner.Agree.{AreTexts, IsFloorFor};
+ghost use Rattle.running_house.specs.Plan.{of_reckoning, producers_in};
 
 use crate::plan::{Plan, Report, WorkFault};
 use agreement::lists_agree;
 use envelope::Directory;
 use house_floor::{Baskets, Floor};
 use house_threads::Ran;
-use reckoning::{
-    Books, Fault, Remains, Shelves, is_wanting, remains_of, said_by_all, settle, take_out,
-};
+use reckoning::{Books, Fault, Remains, Shelves, remains_of, settle, take_out};
 use std::alloc::{AllocError, Global};
 
-// A session that wanted memory.
-fn fault_of_sessions(said: &[Result<Vec<u8>, AllocError>]) -> Option<Fault>
-    ensures { result ≡ (if wants said.now then Some Fault.NoMemory else None) }
+// What a session said, where it said one text.
+fn text_of(mut said: Vec<Vec<u8>>) -> Vec<u8>
+    ensures { (text : Vec ℕ Global) → said.items ≡ text ∷ [] → result ≡ text }
 {
-    if is_wanting(said) {
-        Some(Fault::NoMemory)
-    } else {
-        None
+    let alloc = *said.allocator();
+    match said.pop() {
+        Some(text) => text,
+        None => Vec::new(alloc),
     }
+}
+
+// Parts what the sessions said, who stand behind so many workers, from what the workers did, which stays in `replies`. The only error is
+// that memory is refused.
+fn part_sessions(
+    alloc: Global,
+    replies: &mut Vec<Vec<Vec<u8>>>,
+    workers: usize,
+) -> Result<Vec<Vec<u8>>, AllocError>
+    requires { workers ≤ vec_len replies.old }
+    ensures workers { OnOk result (replies.new.items ≡ take workers replies.old.items) }
+    ensures count { IfOk result (λ sessions. workers + vec_len sessions ≡ vec_len replies.old) }
+    ensures sessions { IfOk result (λ sessions. AreTexts (drop workers replies.old.items) sessions.items) }
+{
+    let mut sessions = Vec::with_capacity(alloc, replies.len() - workers)?;
+    for _session in workers..replies.len() {
+        sessions.push_reserved(text_of(replies.remove(workers)));
+    }
+    Ok(sessions)
 }
 
 // Compares what the threads said with what the mailboxes hold, and puts the report together.
@@ -87,10 +104,9 @@ pub(crate) fn report_of(
 ) -> Result<Report, WorkFault>
     requires floor { IsFloorFor plan.now floor }
     requires consumed { AllAt (IsServiceOf floor) 0 ran.consumed.items }
-    requires worked { AllAt (IsWorkOf floor plan.now.workers.items) 0 ran.worked.items }
-    requires said { AllAt (IsVisitOf floor plan.now.sessions.items) 0 ran.said.items }
+    requires worked { AllAt (IsProduceOf floor plan.now.workers.items plan.now.sessions.items) 0 ran.worked.items }
     requires all { LeavesAll floor plan.now.workers.items plan.now.sessions.items ran }
-    requires baskets { AreBaskets (length plan.now.workers.items) plan.now.config.shards baskets }
+    requires baskets { AreBaskets (producers_in plan.now) plan.now.config.shards baskets }
     ensures agrees { IfOk result (Agrees plan.now) }
     ensures fault { IfErr result (λ fault. (known : Fault) × (fault ≡ of_reckoning known)) }
 {
@@ -103,16 +119,14 @@ pub(crate) fn report_of(
     let Ran {
         worked,
         consumed,
-        said,
         stands,
         posts,
         started: _,
     } = ran;
     stands.destroy_empty();
     posts.destroy_empty();
-    let before = fault_of_sessions(said.as_slice());
-    let books = settle(alloc, lanes, channels, worked, consumed, baskets, before)?;
-    let sessions = said_by_all(alloc, said)?;
+    let mut books = settle(alloc, lanes, channels, worked, consumed, baskets)?;
+    let sessions = part_sessions(alloc, &mut books.replies, plan.workers.len())?;
     let shelves = take_out(alloc, mailboxes)?;
     compare(
         alloc,

@@ -4,7 +4,7 @@ ghost use Rattle.std.specs.Prelude.{◌≡◌, ◌<◌, ◌≤◌, None, IfErr, 
 ghost use Rattle.house.specs.Settings.{IsInRange};
 ghost use Rattle.running_house.specs.Agree.{Agrees};
 ghost use Rattle.running_house.specs.inner.Agree.{AreSizesFor};
-ghost use Rattle.running_house.specs.Plan.{IsFault, most_workers, plan_fault};
+ghost use Rattle.running_house.specs.Plan.{IsFault, most_producers, plan_fault, producers_in};
 
 use crate::plan::{Plan, Report, WorkFault, directory_for};
 use crate::report::report_of;
@@ -20,14 +20,14 @@ use std::thread::Threads;
 // How large the parts of this plan's house are.
 fn sizes_of(plan: &Plan) -> Sizes<'_>
     requires range { IsInRange plan.now.config }
-    requires few { length plan.now.workers.items ≤ most_workers }
+    requires few { producers_in plan.now ≤ most_producers }
     ensures { AreSizesFor plan.now result }
 {
     let config = &plan.config;
     Sizes {
         host: &config.host,
         max_message: config.max_message,
-        workers: plan.workers.len() as u8,
+        producers: (plan.workers.len() + plan.sessions.len()) as u8,
         depth: config.depth,
         uidvalidity: config.uidvalidity,
         first_uid: config.first_uid,
@@ -48,11 +48,12 @@ fn sizes_of(plan: &Plan) -> Sizes<'_>
 /// joins, when each queue is closed.
 ///
 /// Errors, the first that holds: `Config`, before anything runs, of the first fault of the settings, in
-/// the order of `House::new`; `TooMany` for more than 8 workers, more sessions of one user than
-/// `config.sessions`, or more than 256 in all; `BadName` for a session whose user isn't there. `Spawn`
+/// the order of `House::new`; `TooMany` for more than 8 workers, more than 255 workers and sessions
+/// together, or more sessions of one user than `config.sessions`; `BadName` for a session whose user
+/// isn't there. `Spawn`
 /// where a thread can't be made: no actor behind it begins. `NoMemory` where memory is refused, to an
 /// actor too: it stops, and the others go on. `Torn` where a worker heard a verdict that it didn't
-/// await, an end is missing, or what the threads left doesn't agree.
+/// await, or a session did, an end is missing, or what the threads left doesn't agree.
 pub fn run_house<R: Threads + Wait + Sync, G: Gate + Sync>(
     rt: &R,
     alloc: Global,

@@ -2,6 +2,8 @@
 #![tactic(auto)]
 
 #[cfg(test)]
+mod appends;
+#[cfg(test)]
 mod crowds;
 #[cfg(test)]
 mod cuts;

@@ -57,7 +57,9 @@ fn unlike(
     if report.accepted.len() != 2 || report.texts.len() != 2 {
         return Ok(Some("mailboxes"));
     }
-    if report.replies.len() != 2 || report.logs.len() != 2 {
+    // Behind the workers' logs stand those of the sessions.
+    let logs = said.len().saturating_add(2);
+    if report.replies.len() != 2 || report.logs.len() != logs {
         return Ok(Some("workers"));
     }
     if !have_said(report, said) {

@@ -1,34 +1,57 @@
 -- What bodies and proofs say besides: what each thread of a house leaves.
-use Rattle.std.specs.Prelude.{◌≡◌, ℕ, List}
+use Rattle.std.specs.Prelude.{◌≡◌, ℕ, List, Some, length, map}
 use Rattle.std.specs.Mem.{manually_drop_value}
 use Rattle.house_floor.specs.declared.floor.Floor.{Floor}
 use Rattle.house_floor.specs.declared.floor.Visit.{Visit}
-use Rattle.house_threads.specs.declared.workers.Works.{Works}
-use Rattle.house_threads.specs.declared.workers.Hired.{Hired}
-use Rattle.house_threads.specs.declared.workers.Hired.TheVariants.{There, Here}
+use Rattle.house_threads.specs.declared.producers.Produces.{Produces}
+use Rattle.house_threads.specs.declared.producers.Hired.{Hired}
+use Rattle.house_threads.specs.declared.producers.Hired.TheVariants.{There, Here}
 use Rattle.house_threads.specs.declared.consumers.Serves.{Serves}
 use Rattle.house_threads.specs.declared.consumers.Kept.{Kept}
 use Rattle.house_threads.specs.declared.consumers.Kept.TheVariants as kept
-use Rattle.house_threads.specs.declared.sessions.Guest.{Guest}
-use Rattle.house_threads.specs.Crew.{Plans, IsWorkOf, IsServiceOf}
+use Rattle.courier.specs.Carried.{Carried}
+use Rattle.imap_session.specs.Commands.{greeting}
+use Rattle.session_thread.specs.Life.{Lives, Moment, greeted_at}
+use Rattle.session_thread.specs.Locks.{Place}
+use Rattle.house_session.specs.Folders.{folders_of}
+use Rattle.delivery_token.specs.declared.log.Noted.{Noted}
+use Rattle.lane_work.specs.declared.worker.Fate.TheVariants.{Whole}
+use Rattle.lane_work.specs.declared.worker.Worked.{Worked}
+use Rattle.lane_work.specs.Seats.{AreEnded}
+use Rattle.lane_work.specs.Speaking.{premises_of}
+use Rattle.shard_queue.specs.declared.ends.ReplyChannel.{ReplyChannel}
+use Rattle.shard_queue.specs.Reply.{IsReceiver, received}
+use Rattle.shard_queue.specs.Seats.{said}
+use Rattle.house_threads.specs.Crew.{Plans, IsProduceOf, IsServiceOf, SessionAccount, most_of}
 
 -- ---- promises
 
--- this promise is worker n's, consumer n's, session n's
-abbrev pub IsWorks : Floor → Plans → ℕ → Works → Type 0
-IsWorks floor plans n p = (p.floor.now ≡ floor) × (p.plans.now ≡ plans) × (p.number ≡ n)
+-- this promise is producer n's, consumer n's
+abbrev pub IsProduces : Floor → Plans → List Visit → ℕ → Produces → Type 0
+IsProduces floor plans visits n p = (p.floor.now ≡ floor) × (p.plans.now ≡ plans) × (p.visits.now ≡ visits) × (p.number ≡ n)
 
 abbrev pub IsServes : Floor → ℕ → Serves → Type 0
 IsServes floor n p = (p.floor.now ≡ floor) × (p.shard ≡ n)
 
-abbrev pub IsGuest : Floor → List Visit → ℕ → Guest → Type 0
-IsGuest floor visits n g = let p = g.thread.promise in (p.floor.now ≡ floor) × (p.visits.now ≡ visits) × (p.number ≡ n)
-
--- its thread will leave what worker n is to leave, or that is there
-abbrev pub IsHired : Floor → Plans → ℕ → Hired → Type 0
-IsHired floor plans n (There h) = IsWorks floor plans n h.promise
-IsHired floor plans n (Here w) = IsWorkOf floor plans n (manually_drop_value w)
+-- its thread will leave what producer n is to leave, or that is there
+abbrev pub IsHired : Floor → Plans → List Visit → ℕ → Hired → Type 0
+IsHired floor plans visits n (There h) = IsProduces floor plans visits n h.promise
+IsHired floor plans visits n (Here w) = IsProduceOf floor plans visits n (manually_drop_value w)
 
 abbrev pub IsKept : Floor → ℕ → Kept → Type 0
 IsKept floor n (kept.There h) = IsServes floor n h.promise
 IsKept floor n (kept.Here c) = IsServiceOf floor n (manually_drop_value c)
+
+-- ---- a session
+
+-- the session that was at this place, of a user with this name, lived through these steps, and said this
+pub record HasLived (floor : Floor) (user : List ℕ) (place : Place) (visit : Visit) (carried : List Carried) (text : List ℕ) : Type 0 where
+  pub last : Moment
+  pub lives : Lives floor.turns (greeted_at (Some (most_of floor.office.max_message)) (folders_of floor.office.directory user) place greeting) visit.steps.items carried last
+  pub wrote : text ≡ last.text
+
+-- What a session leaves: its ended seats are its own on each lane, its receiver is of its channel, and where it made all its steps, this is its account of them.
+abbrev pub IsAttended : Floor → ReplyChannel Noted → ℕ → Visit → Worked → Type 0
+IsAttended floor channel seat visit w =
+    AreEnded floor.office.lanes.items seat w.ended.items × IsReceiver channel w.receiver × (w.log.seat ≡ seat)
+    × (w.fate ≡ Whole → SessionAccount (premises_of floor.office) (length floor.depot.mailboxes.items) floor.turns seat visit (map (λ b. b.items) w.replies.items) w.log.notes (received w.receiver) (map said w.ended.items))

@@ -1,5 +1,6 @@
 -- What bodies and proofs say besides: what a report says of a run: how what the threads left agrees.
-use Rattle.std.specs.Prelude.{◌≡◌, ◌<◌, length, All}
+use Rattle.std.specs.Prelude.{◌≡◌, ◌<◌, ℕ, List, [], ◌∷◌, length, All, Vec}
+use Rattle.std.specs.Global.{Global}
 use Rattle.shard_queue.specs.Lane.{of}
 use Rattle.shard_queue.specs.Reply.{room_of, senders_of}
 use Rattle.shard_queue.specs.Seats.{capacity_of, history, producers_of}
@@ -9,7 +10,7 @@ use Rattle.house_floor.specs.Crew.{IsHouse}
 use Rattle.house_floor.specs.Opening.{reply_room}
 use Rattle.house_floor.specs.declared.floor.Floor.{Floor}
 use Rattle.house_floor.specs.declared.opening.Sizes.{Sizes}
-use Rattle.running_house.specs.Plan.{premises_for}
+use Rattle.running_house.specs.Plan.{premises_for, producers_in}
 use Rattle.running_house.specs.declared.plan.Plan.{Plan}
 
 -- ---- the house
@@ -18,7 +19,7 @@ use Rattle.running_house.specs.declared.plan.Plan.{Plan}
 pub record AreSizesFor (plan : Plan) (sizes : Sizes) : Type 0 where
   pub host : sizes.host.now ≡ plan.config.host.items
   pub max_message : sizes.max_message ≡ plan.config.max_message
-  pub workers : sizes.workers ≡ length plan.workers.items
+  pub producers : sizes.producers ≡ producers_in plan
   pub depth : sizes.depth ≡ plan.config.depth
   pub ring : 0 < sizes.limits.ring
   -- what was accepted is compared, so it is kept
@@ -27,9 +28,18 @@ pub record AreSizesFor (plan : Plan) (sizes : Sizes) : Type 0 where
 
 -- this is the floor of this plan's house
 pub record IsFloorFor (plan : Plan) (floor : Floor) : Type 0 where
-  pub house : IsHouse floor (length plan.workers.items)
+  pub house : IsHouse floor (producers_in plan)
   pub premises : premises_of floor.office ≡ premises_for plan
   pub mailboxes : length floor.depot.mailboxes.items ≡ length (premises_for plan).directory.homes
   pub turns : floor.turns ≡ plan.turns
-  pub lanes : All (λ q. (capacity_of q ≡ plan.config.depth) × (producers_of q ≡ length plan.workers.items)) floor.office.lanes.items
+  pub lanes : All (λ q. (capacity_of q ≡ plan.config.depth) × (producers_of q ≡ producers_in plan)) floor.office.lanes.items
   pub channels : All (λ c. (room_of c ≡ reply_room) × (senders_of c ≡ plan.config.shards)) floor.depot.channels.items
+
+-- ---- what the sessions said
+
+-- these are the texts of those that said one
+abbrev pub AreTexts : List (Vec (Vec ℕ Global) Global) → List (Vec ℕ Global) → Type 0
+AreTexts [] [] = Unit {0}
+AreTexts [] (t ∷ ts) = ⊥
+AreTexts (s ∷ ss) [] = ⊥
+AreTexts (s ∷ ss) (t ∷ ts) = ((text : Vec ℕ Global) → s.items ≡ text ∷ [] → t ≡ text) × AreTexts ss ts

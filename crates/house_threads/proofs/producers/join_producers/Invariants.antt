@@ -1,12 +1,12 @@
 use Rattle.std.proofs.Common.{◌≡◌, ◌≤◌, ◌+◌, vec_len, vec_capacity}
 use Rattle.std.specs.Vec.Iter.{into_iter_items, into_iter_len}
 use Rattle.house_floor.specs.Crew.{AllAt}
-use Rattle.house_threads.specs.Crew.{IsWorkOf}
+use Rattle.house_threads.specs.Crew.{IsProduceOf}
 use Rattle.house_threads.specs.inner.Crew.{IsHired}
-use Rattle.house_threads.proofs.workers.join_workers.Given as goal
+use Rattle.house_threads.proofs.producers.join_producers.Given as goal
 
 abbrev pub invariant-loop-one : goal.invariant-loop-one
 invariant-loop-one g l =
-    AllAt (IsHired l.floor l.plans) (vec_len l.worked) (into_iter_items l.one-iterator)
+    AllAt (IsHired l.floor l.plans l.visits) (vec_len l.worked) (into_iter_items l.one-iterator)
     × (into_iter_len l.one-iterator + vec_len l.worked ≡ vec_len l.fn.hired) × (vec_len l.fn.hired ≤ vec_capacity l.worked)
-    × AllAt (IsWorkOf l.floor l.plans) 0 l.worked.items
+    × AllAt (IsProduceOf l.floor l.plans l.visits) 0 l.worked.items

@@ -1,0 +1,58 @@
+-- A session's account, of what its life and the end of its seats tell.
+use Rattle.std.proofs.Common.{◌≡◌, ◌++◌, ◌∷◌, ◌∙◌, ℕ, List, [], Some, None, length, map, refl, sym, ap, subst}
+use Rattle.courier.specs.Carried.{Carried, judged_of}
+use Rattle.delivery_token.specs.declared.Job.{Job}
+use Rattle.delivery_token.specs.declared.Verdict.{Verdict}
+use Rattle.delivery_token.specs.declared.log.Noted.{Noted}
+use Rattle.house_floor.specs.Users.{user_numbered}
+use Rattle.house_floor.specs.declared.floor.Floor.{Floor}
+use Rattle.house_floor.specs.declared.floor.Visit.{Visit}
+use Rattle.house_session.specs.Folders.{folders_of}
+use Rattle.imap_session.specs.Commands.{greeting}
+use Rattle.lane_work.specs.Account.{AreAccountedFor, AreBooksOf, HaveEnded, notes_tell}
+use Rattle.lane_work.specs.Copies.{rooms_of}
+use Rattle.lane_work.specs.Couriers.{HasCarried}
+use Rattle.lane_work.specs.Speaking.{premises_of}
+use Rattle.lane_work.specs.declared.desk.Desk.{Desk}
+use Rattle.lane_work.specs.declared.desk.Office.{Office}
+use Rattle.lane_work.proofs.ServedLaws.{accounted_of}
+use Rattle.session_thread.specs.Life.{Lives, greeted_at}
+use Rattle.session_thread.specs.Locks.{Place}
+use Rattle.shard_queue.specs.Reply.{received}
+use Rattle.shard_queue.specs.Seats.{sent}
+use Rattle.shard_queue.specs.Shared.{IsStartOf}
+use Rattle.shard_queue.specs.declared.lane.Entry.{Entry}
+use Rattle.house_threads.specs.Crew.{SessionAccount, most_of}
+use Rattle.house_threads.specs.inner.Crew.{HasLived}
+
+-- books of the same desk, by its own number and serial
+same_books : (office now : Office) (desk : Desk) (seat serial : ℕ) (notes : List Noted) (carried : List Carried) → now ≡ office → desk.number ≡ seat → serial ≡ 0
+    → HasCarried now desk serial (notes_tell notes) carried
+    → AreBooksOf office.directory (rooms_of office.lanes.items) seat (map (judged_of seat 0) carried) (notes_tell notes) (received desk.receiver) (map sent desk.seats.items)
+same_books office now desk seat serial notes carried there own first books =
+    subst (λ (o : Office). AreBooksOf o.directory (rooms_of o.lanes.items) seat (map (judged_of seat 0) carried) (notes_tell notes) (received desk.receiver) (map sent desk.seats.items)) there
+    (subst (λ (n : ℕ). AreBooksOf now.directory (rooms_of now.lanes.items) n (map (judged_of n 0) carried) (notes_tell notes) (received desk.receiver) (map sent desk.seats.items)) own
+    (subst (λ (s : ℕ). AreBooksOf now.directory (rooms_of now.lanes.items) desk.number (map (judged_of desk.number s) carried) (notes_tell notes) (received desk.receiver) (map sent desk.seats.items)) first books))
+
+pub session_account : (floor : Floor) (now : Office) (desk : Desk) (seat serial : ℕ) (visit : Visit) (user : List ℕ) (place : Place) (carried : List Carried) (text : List ℕ) (replies : List (List ℕ)) (notes kept : List Noted)
+    (hears : List (Entry Noted)) (after : List (List (Entry Job)))
+    → now ≡ floor.office → desk.number ≡ seat → serial ≡ 0 → kept ≡ notes
+    → user_numbered visit.user floor.office.directory.homes ≡ Some user → place ≡ record { mailboxes = length floor.depot.mailboxes.items; entered = None }
+    → HasLived floor user place visit carried text → replies ≡ text ∷ []
+    → HasCarried now desk serial (notes_tell notes) carried → IsStartOf (received desk.receiver) hears → HaveEnded desk.number (map sent desk.seats.items) after
+    → SessionAccount (premises_of floor.office) (length floor.depot.mailboxes.items) floor.turns seat visit replies kept hears after
+session_account floor now desk seat serial visit user place carried text replies notes kept hears after there own first same named outside lived one books grew ended = record {
+  carried = carried;
+  text = text;
+  visited = record {
+    user = user;
+    named = named;
+    last = lived.last;
+    lives = subst (λ (p : Place). Lives floor.turns (greeted_at (Some (most_of floor.office.max_message)) (folders_of floor.office.directory user) p greeting) visit.steps.items carried lived.last) outside lived.lives;
+    wrote = lived.wrote;
+  };
+  alone = one;
+  copies = subst (λ (ns : List Noted). AreAccountedFor (premises_of floor.office) seat (map (judged_of seat 0) carried) ns hears after) (sym same)
+      (accounted_of (premises_of floor.office) seat (map (judged_of seat 0) carried) notes (received desk.receiver) hears (map sent desk.seats.items) after grew
+      (subst (λ (n : ℕ). HaveEnded n (map sent desk.seats.items) after) own ended) (same_books floor.office now desk seat serial notes carried there own first books));
+}

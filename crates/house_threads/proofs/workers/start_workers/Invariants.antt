@@ -1,9 +1,0 @@
-use Rattle.std.proofs.Common.{◌≡◌, ◌≤◌, ◌+◌, length, vec_len, vec_capacity}
-use Rattle.house_floor.specs.Crew.{AllAt, IsPost}
-use Rattle.house_threads.specs.inner.Crew.{IsHired}
-use Rattle.house_threads.proofs.workers.start_workers.Given as goal
-
-abbrev pub invariant-loop-place : goal.invariant-loop-place
-invariant-loop-place g l =
-    AllAt (IsPost l.floor) l.place l.posts.items × (vec_len l.posts + l.place ≡ length l.plans)
-    × AllAt (IsHired l.floor l.plans) 0 l.hired.items × (vec_len l.hired ≡ l.place) × (length l.plans ≤ vec_capacity l.hired)

@@ -1,0 +1,248 @@
+//! The producers' threads, first the workers' and then the sessions': started in order, and joined. What a worker does stands in
+//! `lane_work`, what a session does in `sessions`.
+
+ghost use Rattle.std.specs.Prelude.{ℕ, ◌≡◌, ◌≤◌, ◌<◌, ◌+◌, [], length, vec_len, vec_capacity};
+ghost use Rattle.std.specs.Mem.{manually_drop_value};
+ghost use Rattle.house_floor.specs.Crew.{AllAt, AreVisits, IsHouse, IsPost};
+ghost use Rattle.house_threads.specs.Crew.{IsProduceOf};
+ghost use Rattle.house_threads.specs.inner.Crew.{IsHired};
+
+use crate::aside::stand_down;
+use crate::parcels::{Manned, mark, packed};
+use crate::sessions::attend;
+use house_floor::{Floor, Post, Visit};
+use lane_work::{Worked, work};
+use pace::{Actor, Gate, Pace};
+use std::mem::ManuallyDrop;
+use std::sync::Wait;
+use std::sync::atomic::Ordering;
+use std::thread;
+use std::thread::{Promise, Threads};
+
+/// What the thread of this producer is to return: what a worker's life with its connections leaves, or, behind the workers, what a
+/// session's life with its steps does.
+#[derive(Clone, Copy)]
+pub struct Produces<'a> {
+    pub floor: &'a Floor,
+    pub plans: &'a [Vec<Vec<u8>>],
+    pub visits: &'a [Visit],
+    pub number: u8,
+}
+
+impl<'a> Promise<ManuallyDrop<Worked>> for Produces<'a> {
+    ghost use Rattle.std.specs.Mem.{manually_drop_value};
+    ghost use Rattle.house_threads.specs.Crew.{IsProduceOf};
+
+    ghost kept_by = { λ p r. IsProduceOf p.floor.now p.plans.now p.visits.now p.number (manually_drop_value r) };
+}
+
+/// A producer's thread, or what came of it where there is none.
+#[derive(Drop)]
+pub(crate) enum Hired<'a> {
+    There(thread::PromisedHandle<ManuallyDrop<Worked>, Produces<'a>>),
+    Here(ManuallyDrop<Worked>),
+}
+
+/// Who a producer is at the gate, behind so many workers.
+pub(crate) fn actor_of(workers: usize, number: u8) -> Actor {
+    let place = usize::from(number);
+    if place < workers {
+        Actor::Worker(number)
+    } else {
+        Actor::Session((place - workers) as u8)
+    }
+}
+
+// A worker's life.
+fn work_at<R: Wait, G: Gate>(
+    rt: &R,
+    floor: &Floor,
+    gate: &G,
+    plans: &[Vec<Vec<u8>>],
+    visits: &[Visit],
+    number: u8,
+    post: Post,
+) -> Worked
+    requires house { IsHouse floor.now (length plans.now + length visits.now) }
+    requires number { number < length plans.now }
+    requires post { IsPost floor.now number post }
+    ensures { IsProduceOf floor.now plans.now visits.now number result }
+{
+    let place = usize::from(number);
+    let mut pace = Pace::new(gate, Actor::Worker(number));
+    let Post { desk, room } = post;
+    work(
+        rt,
+        floor.alloc,
+        &mut pace,
+        &floor.office,
+        &floor.bells,
+        &floor.depot.channels[place],
+        desk,
+        room,
+        plans[place].as_slice(),
+    )
+}
+
+// A session's life.
+fn attend_at<R: Wait, G: Gate>(
+    rt: &R,
+    floor: &Floor,
+    gate: &G,
+    plans: &[Vec<Vec<u8>>],
+    visits: &[Visit],
+    number: u8,
+    post: Post,
+) -> Worked
+    requires house { IsHouse floor.now (length plans.now + length visits.now) }
+    requires visits { AreVisits floor.now visits.now }
+    requires behind { length plans.now ≤ number }
+    requires number { number < length plans.now + length visits.now }
+    requires post { IsPost floor.now number post }
+    ensures { IsProduceOf floor.now plans.now visits.now number result }
+{
+    let session = usize::from(number) - plans.len();
+    let channel = &floor.depot.channels[usize::from(number)];
+    attend(
+        rt,
+        floor,
+        gate,
+        channel,
+        &visits[session],
+        session as u8,
+        post,
+    )
+}
+
+// A producer's life, in a thread of its own; where no thread is to be had it stands down.
+fn produce_there<R: Wait, G: Gate>(
+    rt: &R,
+    floor: &Floor,
+    gate: &G,
+    plans: &[Vec<Vec<u8>>],
+    visits: &[Visit],
+    number: u8,
+    post: ManuallyDrop<Post>,
+    manned: &Manned,
+) -> ManuallyDrop<Worked>
+    requires house { IsHouse floor.now (length plans.now + length visits.now) }
+    requires visits { AreVisits floor.now visits.now }
+    requires number { number < length plans.now + length visits.now }
+    requires post { IsPost floor.now number (manually_drop_value post) }
+    ensures { IsProduceOf floor.now plans.now visits.now number (manually_drop_value result) }
+{
+    let post = ManuallyDrop::into_inner(post);
+    if manned.producers.load(Ordering::SeqCst) <= u64::from(number) {
+        let mut pace = Pace::new(gate, actor_of(plans.len(), number));
+        let (office, bells) = (&floor.office, &floor.bells);
+        return packed(stand_down(rt, floor.alloc, &mut pace, office, bells, post));
+    }
+    if usize::from(number) < plans.len() {
+        packed(work_at(rt, floor, gate, plans, visits, number, post))
+    } else {
+        packed(attend_at(rt, floor, gate, plans, visits, number, post))
+    }
+}
+
+// Starts a producer's thread. Where none can be made, no producer from here on begins, and its seats are
+// ended here.
+fn start_producer<'s, E, R: Threads + Wait + Sync, G: Gate + Sync>(
+    scope: &thread::Scope<'s, E>,
+    rt: &'s R,
+    floor: &'s Floor,
+    gate: &'s G,
+    plans: &'s [Vec<Vec<u8>>],
+    visits: &'s [Visit],
+    number: u8,
+    post: Post,
+    manned: &'s Manned,
+) -> Hired<'s>
+    requires house { IsHouse floor.now (length plans.now + length visits.now) }
+    requires visits { AreVisits floor.now visits.now }
+    requires number { number < length plans.now + length visits.now }
+    requires post { IsPost floor.now number post }
+    ensures { IsHired floor.now plans.now visits.now number result }
+{
+    let parcel = packed(post);
+    let promise = Produces {
+        floor,
+        plans,
+        visits,
+        number,
+    };
+    match scope.spawn_with(promise, move || {
+        produce_there(rt, floor, gate, plans, visits, number, parcel, manned)
+    }) {
+        Ok(child) => Hired::There(child),
+        Err(refused) => {
+            mark(&manned.producers, number);
+            Hired::Here((refused.value)())
+        }
+    }
+}
+
+/// Starts a thread for each producer, in their order, and says whether all could be made.
+pub(crate) fn start_producers<'s, E, R: Threads + Wait + Sync, G: Gate + Sync>(
+    scope: &thread::Scope<'s, E>,
+    rt: &'s R,
+    floor: &'s Floor,
+    gate: &'s G,
+    plans: &'s [Vec<Vec<u8>>],
+    visits: &'s [Visit],
+    mut posts: Vec<Post>,
+    mut hired: Vec<Hired<'s>>,
+    manned: &'s Manned,
+) -> (Vec<Hired<'s>>, bool)
+    requires house { IsHouse floor.now (length plans.now + length visits.now) }
+    requires visits { AreVisits floor.now visits.now }
+    requires posts { AllAt (IsPost floor.now) 0 posts.items × (vec_len posts ≡ length plans.now + length visits.now) }
+    requires room { (hired.items ≡ []) × (length plans.now + length visits.now ≤ vec_capacity hired) }
+    ensures hired { AllAt (IsHired floor.now plans.now visits.now) 0 result.0.items }
+    ensures count { vec_len result.0 ≡ length plans.now + length visits.now }
+{
+    let mut all = true;
+    for place in 0..plans.len() + visits.len() {
+        let post = posts.remove(0);
+        let number = place as u8;
+        let one = start_producer(scope, rt, floor, gate, plans, visits, number, post, manned);
+        all = all && matches!(one, Hired::There(_));
+        hired.push_reserved(one);
+    }
+    posts.destroy_empty();
+    (hired, all)
+}
+
+fn join_producer<R: Threads>(
+    rt: &R,
+    floor: &Floor,
+    plans: &[Vec<Vec<u8>>],
+    visits: &[Visit],
+    hired: Hired<'_>,
+) -> Worked
+    ensures { (n : ℕ) → IsHired floor.now plans.now visits.now n hired.entry → IsProduceOf floor.now plans.now visits.now n result }
+{
+    match hired {
+        Hired::There(child) => ManuallyDrop::into_inner(child.join(rt)),
+        Hired::Here(worked) => ManuallyDrop::into_inner(worked),
+    }
+}
+
+/// Waits for each producer's end.
+pub(crate) fn join_producers<R: Threads>(
+    rt: &R,
+    floor: &Floor,
+    plans: &[Vec<Vec<u8>>],
+    visits: &[Visit],
+    hired: Vec<Hired<'_>>,
+    mut worked: Vec<Worked>,
+) -> Vec<Worked>
+    requires hired { AllAt (IsHired floor.now plans.now visits.now) 0 hired.items }
+    requires room { (worked.items ≡ []) × (vec_len hired ≤ vec_capacity worked) }
+    ensures worked { AllAt (IsProduceOf floor.now plans.now visits.now) 0 result.items }
+    ensures count { vec_len result ≡ vec_len hired.entry }
+{
+    for one in hired {
+        worked.push_reserved(join_producer(rt, floor, plans, visits, one));
+    }
+    worked
+}
