@@ -1,2 +1,3 @@
 mod AnnouncingLaws
 mod Serving
+mod Users

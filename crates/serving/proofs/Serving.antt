@@ -1,5 +1,5 @@
 -- What is told of the listeners, by how the sending went.
-use Rattle.std.proofs.Common.{◌≡◌, ◌∙◌, ℕ, Bool, true, false, List, [], ◌∷◌, length, take, zero, suc, ap, sym, refl, subst, Option, Result, Ok, Err}
+use Rattle.std.proofs.Common.{◌≡◌, ◌∙◌, ℕ, Bool, true, false, List, [], ◌∷◌, length, take, ap, sym, refl, subst, Option, Result, Ok, Err}
 use Rattle.std.specs.Prelude.{IfErr, OnOk, is_err}
 use Rattle.std.specs.Io.KnownBytes.{Appends}
 use Rattle.line_io.specs.declared.sink.SendFault.{SendFault}

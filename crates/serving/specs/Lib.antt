@@ -1,3 +1,4 @@
 pub mod Announcing
 pub mod Faults
 pub mod inner
+pub mod Producers

@@ -116,23 +116,23 @@ fn shared_places<'a, R: Wait>(
     Ok(all)
 }
 
-/// Room for the workers' threads, and the places.
+/// Room for the producers' threads, and the places.
 #[derive(Drop)]
 pub(crate) struct Crowd<'a, R: Wait> {
     pub(crate) hired: Vec<Hired<'a>>,
     pub(crate) places: Vec<SharedPlace<'a, R>>,
 }
 
-/// Room for so many workers' threads, and a place for each of these bells. An error where memory is refused.
+/// Room for so many producers' threads, and a place for each of these bells. An error where memory is refused.
 pub(crate) fn crowd_for<'a, R: Wait>(
     alloc: Global,
-    workers: usize,
+    producers: usize,
     bells: &[Sleeper],
 ) -> Result<Crowd<'a, R>, AllocError>
-    ensures hired { IfOk result (λ c. (c.hired.items ≡ []) × (workers ≤ vec_capacity c.hired)) }
+    ensures hired { IfOk result (λ c. (c.hired.items ≡ []) × (producers ≤ vec_capacity c.hired)) }
     ensures places { IfOk result (λ c. vec_len c.places ≡ length bells.now) }
 {
-    let hired = Vec::with_capacity(alloc, workers)?;
+    let hired = Vec::with_capacity(alloc, producers)?;
     let places = shared_places(alloc, bells)?;
     Ok(Crowd { hired, places })
 }

@@ -6,6 +6,7 @@
 mod announcing;
 mod equipment;
 mod fault;
+mod parcels;
 mod places;
 mod run;
 mod server;

@@ -1,8 +1,9 @@
 //! The places of a server: for each user so many sessions at a time. Who serves them stands in `sessions`.
 
-ghost use Rattle.std.specs.Prelude.{ℕ, ◌≡◌, ◌≢◌, ◌≤◌, ◌+◌, ◌*◌, All, IfOk, List, None, OnOk, is_none, vec_len};
+ghost use Rattle.std.specs.Prelude.{ℕ, ◌≡◌, ◌≢◌, ◌≤◌, ◌+◌, ◌*◌, All, IfOk, List, None, OnOk, is_none, length, vec_len};
 ghost use Rattle.envelope.specs.Directory.{Home};
 ghost use Rattle.house_floor.specs.Users.{user_numbered};
+ghost use Rattle.serving.specs.Announcing.{users_of};
 
 use envelope::Directory;
 use house_floor::{Visit, inbox_numbered};
@@ -44,9 +45,11 @@ pub(crate) fn places_for(
     requires { count ≤ 4 }
     ensures named { IfOk result (λ vs. All (λ v. user_numbered v.user directory.now.homes ≢ None) vs.items) }
     ensures few { IfOk result (λ vs. vec_len vs ≤ 256) }
+    ensures count { IfOk result (λ vs. vec_len vs ≡ count * length (users_of directory.now.homes)) }
 {
     let mut visits = Vec::new(alloc);
-    for user in 0..MOST_USERS {
+    // Each user has an INBOX, so there are no more users than mailboxes.
+    for user in 0..directory.mailboxes() as u8 {
         if is_nobody(directory, user) {
             return Ok(visits);
         }

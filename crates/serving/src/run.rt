@@ -1,7 +1,7 @@
 //! The threads of a server: workers first, then two for each place of a session; it is waited for the end, all are stopped and joined, and
 //! the house is closed. What the threads do stands in `serving_workers` and `sessions`.
 
-ghost use Rattle.std.specs.Prelude.{◌≡◌, ◌≢◌, ◌≤◌, ◌<◌, All, Err, Ok, Some, IfOk, [], false, true, length, vec_len, vec_capacity};
+ghost use Rattle.std.specs.Prelude.{◌≡◌, ◌≢◌, ◌≤◌, ◌<◌, ◌+◌, All, Err, Ok, Some, IfOk, [], false, true, length, vec_len, vec_capacity};
 ghost use Rattle.house.specs.declared.config.ConfigFault.{ConfigFault};
 ghost use Rattle.house_threads.specs.Crew.{IsPostLeft, IsStandLeft};
 ghost use Rattle.std.specs.Mem.{manually_drop_value};
@@ -13,7 +13,8 @@ ghost use Rattle.serving_workers.specs.Leaving.{IsServed};
 
 use crate::equipment::{Crowd, Equipment, crowd_for, equip};
 use crate::fault::ServeFault;
-use crate::sessions::start_places;
+use crate::parcels::packed;
+use crate::sessions::{Furnishings, start_places};
 use crate::sockets::Sockets;
 use crate::stopping::{await_end, stop_all};
 use clerks::{Clerk, Hall, Staff, Unhindered, dismiss_all, hire_all, stand_down};
@@ -22,7 +23,7 @@ use house_threads::{Ran, Started};
 use lane_work::{Consumed, Worked};
 use loopback::Slot;
 use reckoning::abandon;
-use serving_workers::{Buffers, Served, close_house, join_workers, start_workers};
+use serving_workers::{Begun, Buffers, Served, close_house, join_producers, start_workers};
 use session_bells::Sleeper;
 use std::alloc::{AllocError, Global};
 use std::io::Read;
@@ -32,7 +33,7 @@ use std::sync::{Mutex, Wait};
 use std::thread;
 use std::thread::Threads;
 
-// What the threads of the workers leave; or their posts, where there was no memory to note the threads in and none was started.
+// What the threads of the producers leave; or their posts, where there was no memory to note the threads in and none was started.
 struct Over {
     served: Vec<Served>,
     posts: Vec<Post>,
@@ -42,14 +43,7 @@ struct Over {
     short: bool,
 }
 
-// A value for a closure to hold.
-fn packed<T>(value: T) -> ManuallyDrop<T>
-    ensures { manually_drop_value result ≡ value }
-{
-    unsafe { ManuallyDrop::new_unchecked(value) }
-}
-
-// All that is done in the scope: the threads are started, the end is awaited, all are stopped, and the workers are joined.
+// All that is done in the scope: the threads are started, the end is awaited, all are stopped, and the producers are joined.
 fn in_scope<'s, E, H: Hall + Send, R: Threads + Wait + Sync, I: Read + Drop>(
     scope: &thread::Scope<'s, E>,
     rt: &'s R,
@@ -71,11 +65,10 @@ fn in_scope<'s, E, H: Hall + Send, R: Threads + Wait + Sync, I: Read + Drop>(
     requires lanes { H.lanes ≡ Some floor.now.office.lanes.items }
     requires depot { H.depot ≡ Some floor.now.depot }
     requires house { IsHouse floor.now (length floor.now.depot.channels.items) }
-    requires slots { length mail_slots.now ≡ length floor.now.depot.channels.items }
+    requires slots { length mail_slots.now + length visits.now ≡ length floor.now.depot.channels.items }
     requires posts { AllAt (IsPost floor.now) 0 (manually_drop_value posts).items × (vec_len (manually_drop_value posts) ≡ length floor.now.depot.channels.items) }
     requires served { ((manually_drop_value served).items ≡ []) × (length floor.now.depot.channels.items ≤ vec_capacity (manually_drop_value served)) }
-    requires buffers { All (λ b. 0 < length b.input.items) buffers.items × (vec_len buffers ≡ length floor.now.depot.channels.items) }
-    requires few { length visits.now ≤ 256 }
+    requires buffers { All (λ b. 0 < length b.input.items) buffers.items × (vec_len buffers ≡ length mail_slots.now) }
     requires client_slots { length client_slots.now ≡ length visits.now }
     requires bells { (vec_len bells ≡ length visits.now) × (vec_len client_buffers ≡ length visits.now) }
     ensures served { result.short ≡ false → AllAt (IsServed floor.now) 0 result.served.items × (vec_len result.served ≡ length floor.now.depot.channels.items) × (result.posts.items ≡ []) }
@@ -85,7 +78,8 @@ fn in_scope<'s, E, H: Hall + Send, R: Threads + Wait + Sync, I: Read + Drop>(
         ManuallyDrop::into_inner(posts),
         ManuallyDrop::into_inner(served),
     );
-    let Ok(Crowd { hired, places }) = crowd_for(floor.alloc, mail_slots.len(), &bells) else {
+    let producers = floor.depot.channels.len();
+    let Ok(Crowd { hired, places }) = crowd_for(floor.alloc, producers, &bells) else {
         return Over {
             served,
             posts,
@@ -93,7 +87,11 @@ fn in_scope<'s, E, H: Hall + Send, R: Threads + Wait + Sync, I: Read + Drop>(
             short: true,
         };
     };
-    let (hired, all_work) = start_workers::<E, H, R>(
+    let Begun {
+        hired,
+        posts,
+        all: all_work,
+    } = start_workers::<E, H, R>(
         scope,
         rt,
         floor,
@@ -106,20 +104,26 @@ fn in_scope<'s, E, H: Hall + Send, R: Threads + Wait + Sync, I: Read + Drop>(
         buffers,
         hired,
     );
-    let all = all_work
-        && start_places(
-            scope,
-            rt,
-            floor,
-            gate,
-            places,
-            visits,
-            sockets,
-            mark,
-            client_slots,
-            bells,
-            client_buffers,
-        );
+    let furnishings = Furnishings {
+        places,
+        bells,
+        buffers: client_buffers,
+    };
+    let (hired, all_attend) = start_places::<E, H, R>(
+        scope,
+        rt,
+        floor,
+        clerks,
+        gate,
+        visits,
+        sockets,
+        mark,
+        client_slots,
+        furnishings,
+        posts,
+        hired,
+    );
+    let all = all_work && all_attend;
     if all {
         await_end(rt, stop);
     }
@@ -132,7 +136,7 @@ fn in_scope<'s, E, H: Hall + Send, R: Threads + Wait + Sync, I: Read + Drop>(
         &floor.depot.sessions,
     );
     Over {
-        served: join_workers(rt, floor, hired, served),
+        served: join_producers(rt, floor, hired, served),
         posts: Vec::new(floor.alloc),
         all,
         short: false,
@@ -157,9 +161,8 @@ fn serve_in_threads<H: Hall + Send, R: Threads + Wait + Sync, I: Read + Drop>(
     requires house { IsHouse floor.now (length floor.now.depot.channels.items) }
     requires posts { AllAt (IsPost floor.now) 0 posts.items × (vec_len posts ≡ length floor.now.depot.channels.items) }
     requires served { (served.items ≡ []) × (length floor.now.depot.channels.items ≤ vec_capacity served) }
-    requires buffers { All (λ b. 0 < length b.input.items) equipment.buffers.items × (vec_len equipment.buffers ≡ length floor.now.depot.channels.items) }
-    requires slots { (vec_len equipment.mail_slots ≡ length floor.now.depot.channels.items) × (vec_len equipment.client_slots ≡ length visits.now) }
-    requires few { length visits.now ≤ 256 }
+    requires buffers { All (λ b. 0 < length b.input.items) equipment.buffers.items × (vec_len equipment.buffers ≡ vec_len equipment.mail_slots) }
+    requires slots { (vec_len equipment.mail_slots + length visits.now ≡ length floor.now.depot.channels.items) × (vec_len equipment.client_slots ≡ length visits.now) }
     requires bells { (vec_len bells ≡ length visits.now) × (vec_len equipment.client_buffers ≡ length visits.now) }
     ensures served { result.short ≡ false → AllAt (IsServed floor.now) 0 result.served.items × (vec_len result.served ≡ length floor.now.depot.channels.items) × (result.posts.items ≡ []) }
     ensures short { result.short ≡ true → AllAt (IsPost floor.now) 0 result.posts.items × (vec_len result.posts ≡ length floor.now.depot.channels.items) × (result.served.items ≡ []) }
@@ -179,11 +182,10 @@ fn serve_in_threads<H: Hall + Send, R: Threads + Wait + Sync, I: Read + Drop>(
         rt,
         |scope| -> Over
             requires hall { IsSync R.row × (H.lanes ≡ Some floor.now.office.lanes.items) × (H.depot ≡ Some floor.now.depot) }
-            requires house { IsHouse floor.now (length floor.now.depot.channels.items) × (length mail_slots.now ≡ length floor.now.depot.channels.items) }
+            requires house { IsHouse floor.now (length floor.now.depot.channels.items) × (length mail_slots.now + length visits.now ≡ length floor.now.depot.channels.items) }
             requires posts { AllAt (IsPost floor.now) 0 (manually_drop_value posts).items × (vec_len (manually_drop_value posts) ≡ length floor.now.depot.channels.items) }
             requires served { ((manually_drop_value served).items ≡ []) × (length floor.now.depot.channels.items ≤ vec_capacity (manually_drop_value served)) }
-            requires buffers { All (λ b. 0 < length b.input.items) buffers.items × (vec_len buffers ≡ length floor.now.depot.channels.items) }
-            requires few { length visits.now ≤ 256 }
+            requires buffers { All (λ b. 0 < length b.input.items) buffers.items × (vec_len buffers ≡ length mail_slots.now) }
             requires client_slots { length client_slots.now ≡ length visits.now }
             requires bells { (vec_len bells ≡ length visits.now) × (vec_len client_buffers ≡ length visits.now) }
             ensures served { result.short ≡ false → AllAt (IsServed floor.entry.now) 0 result.served.items × (vec_len result.served ≡ length floor.entry.now.depot.channels.items) × (result.posts.items ≡ []) }
@@ -224,16 +226,17 @@ fn make_rooms<H: Hall>(
     workers: usize,
     places: usize,
 ) -> Result<Rooms<H>, AllocError>
+    requires few { workers + places < 256 }
     ensures buffers { IfOk result (λ r. All (λ b. 0 < length b.input.items) r.equipment.buffers.items × (vec_len r.equipment.buffers ≡ workers)) }
     ensures slots { IfOk result (λ r. (vec_len r.equipment.mail_slots ≡ workers) × (vec_len r.equipment.client_slots ≡ places)) }
     ensures clients { IfOk result (λ r. vec_len r.equipment.client_buffers ≡ places) }
-    ensures served { IfOk result (λ r. (r.served.items ≡ []) × (workers ≤ vec_capacity r.served)) }
+    ensures served { IfOk result (λ r. (r.served.items ≡ []) × (workers + places ≤ vec_capacity r.served)) }
     ensures clerks { IfOk result (λ r. (r.staff.clerks.items ≡ []) × (shards ≤ vec_capacity r.staff.clerks)) }
     ensures rooms { IfOk result (λ r. (r.staff.rooms.items ≡ []) × (shards ≤ vec_capacity r.staff.rooms)) }
     ensures stands { IfOk result (λ r. (r.staff.stands.items ≡ []) × (shards ≤ vec_capacity r.staff.stands)) }
 {
     let equipment = equip(alloc, workers, places)?;
-    let served = Vec::with_capacity(alloc, workers)?;
+    let served = Vec::with_capacity(alloc, workers + places)?;
     let Ok(staff) = Staff::with_room(alloc, shards) else {
         served.destroy_empty();
         return Err(AllocError);
@@ -265,7 +268,6 @@ fn give_up(
     let ran = Ran {
         worked,
         consumed,
-        said: Vec::new(alloc),
         stands,
         posts,
         started: Started::NoMemory,
@@ -330,14 +332,15 @@ fn close_or_spend<H: Hall, R: Wait>(
     told(all, whole)
 }
 
-/// Serves the house until `stop` is at its end, and closes it. The places of sessions are those of `visits`, each with its own end of its
-/// bell.
+/// Serves the house until `stop` is at its end, and closes it. The first of its producers are so many workers; the others are the places
+/// of sessions, those of `visits`, each with its own end of its bell.
 ///
 /// Errors, the first that holds: `NoMemory` where memory is refused before the first thread; `Spawn` where a thread can't be made;
 /// `Torn` where somebody met what he didn't await, or a queue could not be closed.
 pub(crate) fn run_house_in<H: Hall + Send, R: Threads + Wait + Sync, I: Read + Drop>(
     rt: &R,
     floor: Floor,
+    workers: usize,
     crew: Crew,
     baskets: Baskets,
     bells: Vec<Sleeper>,
@@ -349,8 +352,9 @@ pub(crate) fn run_house_in<H: Hall + Send, R: Threads + Wait + Sync, I: Read + D
     requires depot { H.depot ≡ Some floor.depot }
     requires house { IsHouse floor (length floor.depot.channels.items) }
     requires some { (0 < length floor.depot.channels.items) × (0 < length floor.office.lanes.items) }
-    requires visits { (length visits.now ≤ 256) × (vec_len bells ≡ length visits.now) }
-    requires crew { IsCrew floor (length floor.depot.channels.items) visits.now crew }
+    requires producers { workers + length visits.now ≡ length floor.depot.channels.items }
+    requires visits { vec_len bells ≡ length visits.now }
+    requires crew { IsCrew floor (length floor.depot.channels.items) crew }
     requires baskets { AreBaskets (length floor.depot.channels.items) (length floor.office.lanes.items) baskets }
     ensures { (fault : ConfigFault) → result ≢ Err (ServeFault.Config fault) }
 {
@@ -360,11 +364,10 @@ pub(crate) fn run_house_in<H: Hall + Send, R: Threads + Wait + Sync, I: Read + D
         consumed,
         worked,
         unmanned,
-        said: _,
     } = crew;
     unmanned.destroy_empty();
-    let (shards, workers) = (floor.office.lanes.len(), floor.depot.channels.len());
-    let Ok(rooms) = make_rooms::<H>(floor.alloc, shards, workers, visits.len()) else {
+    let (shards, places) = (floor.office.lanes.len(), visits.len());
+    let Ok(rooms) = make_rooms::<H>(floor.alloc, shards, workers, places) else {
         return Err(give_up(floor, worked, consumed, stands, posts, baskets));
     };
     let Rooms {

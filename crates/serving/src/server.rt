@@ -1,8 +1,9 @@
 //! The whole of a server: settings, sockets, what is said of them, the house, and the end. What runs in between stands in `run`.
 
-ghost use Rattle.std.specs.Prelude.{ℕ, ◌≡◌, ◌≤◌, ◌<◌, Err, None, OnOk, Some, false, length, take};
+ghost use Rattle.std.specs.Prelude.{ℕ, ◌≡◌, ◌≤◌, ◌<◌, ◌+◌, Err, None, OnOk, Some, false, length, take};
 ghost use Rattle.std.specs.Io.KnownBytes.{Appends};
-ghost use Rattle.house.specs.Settings.{IsInRange, config_fault, setup_of};
+ghost use Rattle.house.specs.Settings.{IsInRange, setup_of};
+ghost use Rattle.serving.specs.Producers.{server_fault};
 ghost use Rattle.mailbox.specs.declared.history.History.{History};
 ghost use Rattle.house.specs.declared.config.ConfigFault.{ConfigFault};
 ghost use Rattle.serving.specs.Announcing.{announcement};
@@ -12,7 +13,7 @@ use crate::fault::ServeFault;
 use crate::places::{count_users, places_for};
 use crate::run::run_house_in;
 use crate::sockets::open_sockets;
-use house::{Config, directory_of};
+use house::{Config, ConfigFault, directory_of};
 use house_floor::{Opened, Sizes, open};
 use line_io::{Sink, send};
 use mailbox::{History, Limits};
@@ -31,18 +32,22 @@ pub enum Uidvalidity {
     Standing,
 }
 
-// How large the parts of a house of these settings are.
-fn sizes_of(config: &Config) -> Sizes<'_>
+/// The most producers of a server: workers, and behind them places, whose seats a lane tells apart by a byte.
+const MOST_PRODUCERS: usize = 255;
+
+// How large the parts of a house of these settings are, which has so many places.
+fn sizes_of(config: &Config, places: usize) -> Sizes<'_>
+    requires few { config.now.workers + places ≤ 255 }
     ensures host { result.host.now ≡ config.now.host.items }
     ensures depth { result.depth ≡ config.now.depth }
     ensures ring { result.limits.ring ≡ config.now.ring }
-    ensures workers { result.workers ≡ config.now.workers }
+    ensures producers { result.producers ≡ config.now.workers + places }
     ensures history { result.history ≡ History.Unkept }
 {
     Sizes {
         host: &config.host,
         max_message: config.max_message,
-        workers: config.workers,
+        producers: (usize::from(config.workers) + places) as u8,
         depth: config.depth,
         uidvalidity: config.uidvalidity,
         first_uid: config.first_uid,
@@ -65,9 +70,10 @@ fn sizes_of(config: &Config) -> Sizes<'_>
 /// data is closed and no copy of it is made, one that awaits verdicts is told these first; a session is told `* BYE Shutting down`.
 /// What is not through five seconds later is cut. What fails on one connection ends that connection alone.
 ///
-/// Errors, the first that holds: `Config`, of the first fault of the settings in the order of `House::new`; `Device` where a listener
+/// Errors, the first that holds: `Config`, of the first fault of the settings in the order of `House::new`, then `TooMany` where workers
+/// and places together are more than 255; `Device` where a listener
 /// can't be made or the lines can't be written; `Spawn` where a thread can't be made; `NoMemory` where memory is refused before the first
-/// thread runs; `Torn` where a worker heard a verdict that it didn't await, or a queue could not be closed.
+/// thread runs; `Torn` where a worker or a place heard a verdict that it didn't await, or a queue could not be closed.
 pub fn serve<
     R: Net<Listener = TcpListener, Stream = TcpStream> + Threads + Wait + Sync,
     I: Read,
@@ -82,15 +88,18 @@ pub fn serve<
 ) -> Result<(), ServeFault>
     requires range { IsInRange config.now }
     requires live { W.failed output.old ≡ false }
-    ensures wrong { (fault : ConfigFault) → result ≡ Err (ServeFault.Config fault) → config_fault config.now ≡ Some fault }
+    ensures wrong { (fault : ConfigFault) → result ≡ Err (ServeFault.Config fault) → server_fault config.now ≡ Some fault }
     ensures not_set { (fault : ConfigFault) → result ≡ Err (ServeFault.Config fault) → output.new ≡ output.old }
-    ensures right { OnOk result (config_fault config.now ≡ None) }
+    ensures right { OnOk result (server_fault config.now ≡ None) }
     // Nothing but a beginning of the lines was written, and all of them where it served.
     ensures told { (n : ℕ) × Appends (W.taken output.old) (W.taken output.new) (take n (announcement config.now.lmtp_port config.now.imap_port (setup_of config.now).directory.homes uidvalidity)) }
     ensures all { OnOk result (Appends (W.taken output.old) (W.taken output.new) (announcement config.now.lmtp_port config.now.imap_port (setup_of config.now).directory.homes uidvalidity)) }
 {
     let directory = directory_of(alloc, config)?;
     let visits = places_for(alloc, &directory, config.sessions)?;
+    if MOST_PRODUCERS < usize::from(config.workers) + visits.len() {
+        return Err(ServeFault::Config(ConfigFault::TooMany));
+    }
     let users = count_users(&directory);
     let lines = announce(
         alloc,
@@ -108,6 +117,14 @@ pub fn serve<
         crew,
         baskets,
         sleepers,
-    } = open(alloc, directory, sizes_of(config), visits.as_slice())?;
-    run_house_in::<Brand, R, &mut I>(rt, floor, crew, baskets, sleepers, &visits, &sockets, stop)
+    } = open(
+        alloc,
+        directory,
+        sizes_of(config, visits.len()),
+        visits.as_slice(),
+    )?;
+    let workers = usize::from(config.workers);
+    run_house_in::<Brand, R, &mut I>(
+        rt, floor, workers, crew, baskets, sleepers, &visits, &sockets, stop,
+    )
 }

@@ -1,22 +1,32 @@
-//! The threads of a place: one accepts a user's clients, one at a time, and answers them; the other sleeps until a change was logged.
-//! What is answered stands in `imap_stream`.
+//! The threads of a place: one accepts a user's clients, one at a time, and answers them, and what they append goes by way of the lanes;
+//! the other sleeps until a change was logged. What is answered stands in `imap_stream`.
 
-ghost use Rattle.std.specs.Prelude.{◌≡◌, ◌≤◌, length, vec_len, None};
+ghost use Rattle.std.specs.Prelude.{◌≡◌, ◌≤◌, ◌<◌, ◌+◌, Some, length, vec_len, vec_capacity};
+ghost use Rattle.std.specs.Mem.{manually_drop_value};
+ghost use Rattle.house_floor.specs.Crew.{AllAt, IsHouse, IsPost};
+ghost use Rattle.lane_work.specs.Couriers.{IsReady, IsSameDesk};
+ghost use Rattle.serving_workers.specs.Leaving.{IsHired, IsServed};
 
 use crate::equipment::SharedPlace;
+use crate::parcels::packed;
 use crate::sockets::Sockets;
-use clerks::Unhindered;
-use house_floor::{Floor, Visit, inbox_numbered};
+use clerks::{Clerk, Clerks, Hall, Unhindered};
+use courier::Courier;
+use house_floor::{Floor, Post, Visit, inbox_numbered};
 use house_session::folders_of;
+use house_threads::most_of;
 use imap_stream::{Hush, Place, Visit as ClientVisit};
+use lane_work::{Desk, LaneCourier, Summons, Unkept, end_all};
 use line_io::Watched;
-use loopback::{Listening, Patience, Pause, Slot, prepare};
-use serving_workers::Door;
+use loopback::{Patience, Slot, prepare};
+use pace::{Actor, Pace};
+use serving_workers::{Door, Hired, Served, Serves};
 use session_bells::Sleeper;
 use session_thread::LockedDesk;
+use std::mem::ManuallyDrop;
 use std::net::TcpStream;
-use std::sync::Wait;
-use std::sync::atomic::AtomicBool;
+use std::sync::atomic::{AtomicBool, Ordering};
+use std::sync::{Arc, Mutex, Wait};
 use std::thread;
 use std::thread::Threads;
 
@@ -36,12 +46,26 @@ impl Hush for AtHand<'_> {
     }
 }
 
-// Opens the visit of a client of this user, who is greeted. None where memory or a handle is refused, or the client has gone.
+/// Where a place's clients come in, and which place it is.
+#[derive(Clone, Copy)]
+pub(crate) struct Gateway<'s> {
+    pub(crate) sockets: &'s Sockets,
+    /// Set once the house stops.
+    pub(crate) stop: &'s AtomicBool,
+    /// For the connection that the place's thread has at hand.
+    pub(crate) slot: &'s Slot,
+    /// The place's number among all of the house, from 0.
+    pub(crate) session: u8,
+    /// The number of its user.
+    pub(crate) user: u8,
+}
+
+// Opens the visit of a client of this place's user, who is greeted. None where memory or a handle is refused, or the client has gone.
 fn open_visit<'a, R: Wait>(
     rt: &'a R,
     floor: &'a Floor,
     gate: &'a Unhindered,
-    number: u8,
+    session: u8,
     user: u8,
     stream: &TcpStream,
 ) -> Option<ClientVisit<'a, R, Unhindered, Watched<TcpStream>>> {
@@ -50,64 +74,175 @@ fn open_visit<'a, R: Wait>(
     let bells = floor.depot.sessions.get(usize::from(inbox))?;
     let folders = folders_of(floor.alloc, directory, directory.user_of(inbox)).ok()?;
     let output = Watched::new(stream.try_clone().ok()?);
-    let desk = LockedDesk::new(rt, gate, number, &floor.depot.mailboxes, bells);
-    ClientVisit::open(rt, floor.alloc, desk, folders, output).ok()
+    let desk = LockedDesk::new(rt, gate, session, &floor.depot.mailboxes, bells);
+    let most = Some(most_of(floor.office.max_message));
+    ClientVisit::open(rt, floor.alloc, desk, folders, most, output).ok()
 }
 
 // One client, from the greeting to its end.
-fn serve_client<'a, R: Wait>(
+fn serve_client<'a, R: Wait, C: Courier>(
     rt: &'a R,
     floor: &'a Floor,
     gate: &'a Unhindered,
     place: &ClientPlace<'a, R>,
-    number: u8,
-    user: u8,
-    door: &Door<'_>,
+    courier: &mut C,
+    gateway: Gateway<'_>,
     stream: &TcpStream,
     buffer: &mut [u8],
-) {
+)
+    requires ready { C.ready courier.old }
+    ensures ready { C.ready courier.new }
+    ensures kept { (first : C) → C.kept first courier.old → C.kept first courier.new }
+{
     if prepare(stream, Patience::Endless).is_err() {
         return;
     }
-    let Some(visit) = open_visit(rt, floor, gate, number, user, stream) else {
+    let (session, user) = (gateway.session, gateway.user);
+    let Some(visit) = open_visit(rt, floor, gate, session, user, stream) else {
         return;
     };
     let mut input = stream;
     // The place has no other client: this thread alone brings them here.
-    let _ = place.attend(rt, floor.alloc, visit, &mut input, buffer, door.stop);
+    let _ = place.attend(
+        rt,
+        floor.alloc,
+        visit,
+        courier,
+        &mut input,
+        buffer,
+        gateway.stop,
+    );
 }
 
-// The life of the thread that answers: one client after another, until the house stops.
-fn answer_clients<'a, R: Wait>(
+// The client that was accepted is at hand while it is served. Whoever stops the house sets its mark first and then looks for what is at
+// hand, so the mark is looked at behind that.
+fn receive<'a, R: Wait, C: Courier>(
     rt: &'a R,
     floor: &'a Floor,
     gate: &'a Unhindered,
     place: &ClientPlace<'a, R>,
-    number: u8,
-    user: u8,
-    listening: &Listening,
-    stop: &AtomicBool,
-    pause: &Pause,
-    slot: &Slot,
+    courier: &mut C,
+    gateway: Gateway<'_>,
+    door: &Door<'_>,
+    stream: &TcpStream,
+    buffer: &mut [u8],
+)
+    requires ready { C.ready courier.old }
+    ensures ready { C.ready courier.new }
+    ensures kept { (first : C) → C.kept first courier.old → C.kept first courier.new }
+{
+    if gateway.slot.hold(rt, stream) && !door.is_shut() {
+        serve_client(rt, floor, gate, place, courier, gateway, stream, buffer);
+        door.part(stream, buffer);
+    }
+    gateway.slot.clear(rt);
+}
+
+// One client after another, until the house stops, or something came that wasn't the verdict on a message: then nobody is served any more.
+fn answer_clients<'a, R: Wait, S: Summons>(
+    rt: &'a R,
+    floor: &'a Floor,
+    gate: &'a Unhindered,
+    place: &ClientPlace<'a, R>,
+    courier: &mut LaneCourier<'_, R, S, Unkept>,
+    gateway: Gateway<'_>,
     mut buffer: Vec<u8>,
-) {
+)
+    requires ready { IsReady courier.old.office.now courier.old.channel.now courier.old.desk }
+    ensures ready { IsReady courier.new.office.now courier.new.channel.now courier.new.desk }
+    ensures same { IsSameDesk courier.old.office.now courier.new.office.now courier.old.channel.now courier.new.channel.now courier.old.desk courier.new.desk }
+{
+    let Some(listening) = gateway.sockets.imap.get(usize::from(gateway.user)) else {
+        return;
+    };
     let door = Door {
         listening,
-        stop,
-        pause,
+        stop: gateway.stop,
+        pause: &gateway.sockets.pause,
     };
     for _ in rt.forever() {
+        if courier.is_torn {
+            return;
+        }
         let Some(stream) = door.next(rt) else {
             return;
         };
-        // Whoever stops the house sets its mark first and then looks for what is at hand, so the mark is looked at behind that.
-        if slot.hold(rt, &stream) && !door.is_shut() {
-            let buffer = buffer.as_mut_slice();
-            serve_client(rt, floor, gate, place, number, user, &door, &stream, buffer);
-            door.part(&stream, buffer);
-        }
-        slot.clear(rt);
+        let buffer = buffer.as_mut_slice();
+        receive(
+            rt, floor, gate, place, courier, gateway, &door, &stream, buffer,
+        );
+        courier.serial = courier.serial.saturating_add(1);
     }
+}
+
+// The life of the thread that answers: its clients, who append by way of the lanes, and then the end of its seats. It hears no end of its
+// channel: those come when all have ended.
+fn attend_there<'a, 'g, H: Hall, R: Wait>(
+    rt: &'a R,
+    floor: &'a Floor,
+    clerks: &'a [Mutex<Clerk<H>>],
+    gate: &'a Unhindered,
+    place: Arc<ClientPlace<'a, R>>,
+    number: u8,
+    sockets: &'g Sockets,
+    stop: &'g AtomicBool,
+    slot: &'g Slot,
+    session: u8,
+    user: u8,
+    post: ManuallyDrop<Post>,
+    buffer: Vec<u8>,
+) -> ManuallyDrop<Served>
+    requires lanes { H.lanes ≡ Some floor.now.office.lanes.items }
+    requires depot { H.depot ≡ Some floor.now.depot }
+    requires house { IsHouse floor.now (length floor.now.depot.channels.items) }
+    requires number { number < length floor.now.depot.channels.items }
+    requires post { IsPost floor.now number (manually_drop_value post) }
+    ensures { IsServed floor.now number (manually_drop_value result) }
+{
+    let gateway = Gateway {
+        sockets,
+        stop,
+        slot,
+        session,
+        user,
+    };
+    let Post { desk, room } = ManuallyDrop::into_inner(post);
+    let summons = Clerks::new(clerks, &floor.office.lanes, &floor.depot, gate);
+    let mut courier = LaneCourier {
+        rt,
+        office: &floor.office,
+        summons: &summons,
+        channel: &floor.depot.channels[usize::from(number)],
+        desk,
+        serial: 0,
+        book: Unkept,
+        is_torn: false,
+    };
+    answer_clients(rt, floor, gate, &place, &mut courier, gateway, buffer);
+    let LaneCourier {
+        rt: _,
+        office: _,
+        summons: _,
+        channel: _,
+        desk,
+        serial: _,
+        book: _,
+        is_torn: torn,
+    } = courier;
+    let Desk {
+        number,
+        seats,
+        receiver,
+        ends,
+    } = desk;
+    let mut pace = Pace::new(gate, Actor::Session(session));
+    let ended = end_all(rt, &mut pace, &floor.office, &summons, number, seats, room);
+    packed(Served {
+        ended,
+        receiver,
+        ends,
+        torn,
+    })
 }
 
 // The life of the thread that shows a client what there is, until the house stops.
@@ -121,79 +256,121 @@ fn watch_clients<'a, R: Wait>(
     place.keep_watch(rt, bell, stop, &AtHand { slot });
 }
 
-// Starts the two threads of a place, and says whether both could be made. Where the first can't be, the second isn't either; where the
-// second can't be, the first ends as the house stops.
-fn start_place<'s, E, R: Threads + Wait + Sync>(
+// Starts the thread of a place that answers. Where none can be made the house's mark has to be set before what came of it can be had: so
+// nobody is served there, and its seats are ended here.
+fn start_answering<'s, E, H: Hall + Send, R: Threads + Wait + Sync>(
     scope: &thread::Scope<'s, E>,
     rt: &'s R,
     floor: &'s Floor,
+    clerks: &'s [Mutex<Clerk<H>>],
     gate: &'s Unhindered,
-    place: SharedPlace<'s, R>,
+    place: Arc<ClientPlace<'s, R>>,
     number: u8,
-    user: u8,
-    sockets: &'s Sockets,
-    stop: &'s AtomicBool,
-    slot: &'s Slot,
-    bell: Sleeper,
+    gateway: Gateway<'s>,
+    post: Post,
     buffer: Vec<u8>,
-) -> bool {
-    let Some(listening) = sockets.imap.get(usize::from(user)) else {
-        return false;
-    };
-    let pause = &sockets.pause;
-    let SharedPlace { reader, watch } = place;
-    let answers = scope.spawn(move || {
-        answer_clients(
-            rt, floor, gate, &reader, number, user, listening, stop, pause, slot, buffer,
+) -> Hired<'s>
+    requires lanes { H.lanes ≡ Some floor.now.office.lanes.items }
+    requires depot { H.depot ≡ Some floor.now.depot }
+    requires house { IsHouse floor.now (length floor.now.depot.channels.items) }
+    requires number { number < length floor.now.depot.channels.items }
+    requires post { IsPost floor.now number post }
+    ensures { IsHired floor.now number result }
+{
+    let parcel = packed(post);
+    let Gateway {
+        sockets,
+        stop,
+        slot,
+        session,
+        user,
+    } = gateway;
+    match scope.spawn_with(Serves { floor, number }, move || {
+        attend_there::<H, R>(
+            rt, floor, clerks, gate, place, number, sockets, stop, slot, session, user, parcel,
+            buffer,
         )
-    });
-    if answers.is_err() {
-        return false;
+    }) {
+        Ok(child) => Hired::There(child),
+        Err(refused) => {
+            stop.store(true, Ordering::SeqCst);
+            Hired::Here((refused.value)())
+        }
     }
-    let watches = scope.spawn(move || watch_clients(rt, &watch, &bell, stop, slot));
+}
+
+// Starts the thread of a place that watches, and says whether it could be made. Where it can't be, the one that answers ends as the house
+// stops.
+fn start_watching<'s, E, R: Threads + Wait + Sync>(
+    scope: &thread::Scope<'s, E>,
+    rt: &'s R,
+    place: Arc<ClientPlace<'s, R>>,
+    gateway: Gateway<'s>,
+    bell: Sleeper,
+) -> bool {
+    let (stop, slot) = (gateway.stop, gateway.slot);
+    let watches = scope.spawn(move || watch_clients(rt, &place, &bell, stop, slot));
     watches.is_ok()
 }
 
-/// Starts two threads for each place, and says whether all could be made.
-pub(crate) fn start_places<'s, E, R: Threads + Wait + Sync>(
+/// What the places' threads are given, for each place one of each.
+#[derive(Drop)]
+pub(crate) struct Furnishings<'s, R: Wait> {
+    pub(crate) places: Vec<SharedPlace<'s, R>>,
+    pub(crate) bells: Vec<Sleeper>,
+    pub(crate) buffers: Vec<Vec<u8>>,
+}
+
+/// Starts two threads for each place, with these posts, which are those behind the workers', and says whether all could be made. The
+/// threads that answer go behind those in `hired`, which has room for them.
+pub(crate) fn start_places<'s, E, H: Hall + Send, R: Threads + Wait + Sync>(
     scope: &thread::Scope<'s, E>,
     rt: &'s R,
     floor: &'s Floor,
+    clerks: &'s [Mutex<Clerk<H>>],
     gate: &'s Unhindered,
-    mut places: Vec<SharedPlace<'s, R>>,
     visits: &'s [Visit],
     sockets: &'s Sockets,
     stop: &'s AtomicBool,
     slots: &'s [Slot],
-    mut bells: Vec<Sleeper>,
-    mut buffers: Vec<Vec<u8>>,
-) -> bool
-    requires few { length visits.now ≤ 256 }
-    requires places { vec_len places ≡ length visits.now }
+    mut furnishings: Furnishings<'s, R>,
+    mut posts: Vec<Post>,
+    mut hired: Vec<Hired<'s>>,
+) -> (Vec<Hired<'s>>, bool)
+    requires lanes { H.lanes ≡ Some floor.now.office.lanes.items }
+    requires depot { H.depot ≡ Some floor.now.depot }
+    requires house { IsHouse floor.now (length floor.now.depot.channels.items) }
+    requires places { vec_len furnishings.places ≡ length visits.now }
     requires slots { length slots.now ≡ length visits.now }
-    requires bells { vec_len bells ≡ length visits.now }
-    requires buffers { vec_len buffers ≡ length visits.now }
+    requires bells { vec_len furnishings.bells ≡ length visits.now }
+    requires buffers { vec_len furnishings.buffers ≡ length visits.now }
+    requires posts { AllAt (IsPost floor.now) (vec_len hired) posts.items × (vec_len posts ≡ length visits.now) }
+    requires all { vec_len hired + length visits.now ≡ length floor.now.depot.channels.items }
+    requires hired { AllAt (IsHired floor.now) 0 hired.items × (length floor.now.depot.channels.items ≤ vec_capacity hired) }
+    ensures hired { AllAt (IsHired floor.now) 0 result.0.items }
+    ensures count { vec_len result.0 ≡ length floor.now.depot.channels.items }
 {
-    for number in 0..visits.len() {
-        let user = visits[number].user;
-        let slot = &slots[number];
-        let (place, bell, buffer) = (places.remove(0), bells.remove(0), buffers.remove(0));
-        if !start_place(
-            scope,
-            rt,
-            floor,
-            gate,
-            place,
-            number as u8,
-            user,
+    let mut all = true;
+    for place in 0..visits.len() {
+        let gateway = Gateway {
             sockets,
             stop,
-            slot,
-            bell,
-            buffer,
-        ) {
-            return false;
-        }
+            slot: &slots[place],
+            session: place as u8,
+            user: visits[place].user,
+        };
+        let SharedPlace { reader, watch } = furnishings.places.remove(0);
+        let (bell, buffer) = (furnishings.bells.remove(0), furnishings.buffers.remove(0));
+        let number = hired.len() as u8;
+        let post = posts.remove(0);
+        let one = start_answering::<E, H, R>(
+            scope, rt, floor, clerks, gate, reader, number, gateway, post, buffer,
+        );
+        all = all && matches!(one, Hired::There(_));
+        hired.push_reserved(one);
+        let is_watched = start_watching(scope, rt, watch, gateway, bell);
+        all = all && is_watched;
     }
-    true
+    posts.destroy_empty();
+    (hired, all)
 }

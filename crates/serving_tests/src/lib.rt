@@ -3,6 +3,8 @@
 #![tactic(auto)]
 
 #[cfg(test)]
+mod appends;
+#[cfg(test)]
 mod faults;
 #[cfg(test)]
 mod houses;

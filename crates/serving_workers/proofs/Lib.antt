@@ -1,2 +1,2 @@
-mod Lives
+pub mod Lives
 mod Heard

@@ -1,4 +1,4 @@
--- What the workers of a server leave.
+-- What the producers of a server leave.
 use Rattle.std.specs.Prelude.{◌≡◌, ℕ, Some, slice_get}
 use Rattle.std.specs.Mem.{manually_drop_value}
 use Rattle.delivery_token.specs.declared.log.Noted.{Noted}
@@ -10,7 +10,7 @@ use Rattle.serving_workers.specs.declared.accepting.Served.{Served}
 use Rattle.serving_workers.specs.declared.threads.Hired.{Hired}
 use Rattle.serving_workers.specs.declared.threads.Hired.TheVariants.{There, Here}
 
--- what worker n leaves: its ended seats on all lanes, and its end of its own channel
+-- what producer n leaves: its ended seats on all lanes, and its end of its own channel
 pub record IsServed (floor : Floor) (n : ℕ) (s : Served) : Type 0 where
   pub ended : AreEnded floor.office.lanes.items n s.ended.items
   pub receiver : (channel : ReplyChannel Noted) → slice_get floor.depot.channels.items n ≡ Some channel → IsReceiver channel s.receiver

@@ -20,7 +20,7 @@ use std::alloc::Global;
 use std::net::TcpStream;
 use std::sync::Wait;
 
-/// What a worker of a server leaves.
+/// What a producer of a server leaves: a worker, or whoever else has a post.
 pub struct Served {
     /// What is left of its seat on each lane.
     pub ended: Vec<Ended<Job>>,

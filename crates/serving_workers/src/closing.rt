@@ -1,4 +1,4 @@
-//! The house that the workers of a server leave: the shards' ends are heard, and each queue is closed with what all workers and clerks
+//! The house that the producers of a server leave: the shards' ends are heard, and each queue is closed with what all producers and clerks
 //! left. No thread runs any more.
 
 ghost use Rattle.std.specs.Prelude.{◌≡◌, ◌<◌, ◌≤◌, [], All, Some, length, map, true, vec_len, vec_capacity};
@@ -24,7 +24,7 @@ use shard_queue::{ReplyChannel, ShardQueue};
 use std::alloc::Global;
 use std::sync::Wait;
 
-// Whether all went well for a worker.
+// Whether all went well for a producer.
 fn fate_of(torn: bool, quiet: bool) -> Fate {
     if torn || !quiet {
         return Fate::Torn;
@@ -32,7 +32,7 @@ fn fate_of(torn: bool, quiet: bool) -> Fate {
     Fate::Whole
 }
 
-// A worker hears the end of each shard, which each clerk has sent it. Of its replies and verdicts nothing was kept.
+// A producer hears the end of each shard, which each clerk has sent it. Of its replies and verdicts nothing was kept.
 fn hear_out<R: Wait>(rt: &R, floor: &Floor, number: u8, served: Served) -> Worked
     requires there { number < length floor.now.depot.channels.items }
     requires served { IsServed floor.now number served }
@@ -58,7 +58,7 @@ fn hear_out<R: Wait>(rt: &R, floor: &Floor, number: u8, served: Served) -> Worke
     }
 }
 
-// The same of all workers. `worked`, which is empty, has room for all.
+// The same of all producers. `worked`, which is empty, has room for all.
 fn hear_all_out<R: Wait>(
     rt: &R,
     floor: &Floor,
@@ -132,10 +132,10 @@ fn is_torn(worked: &[Worked], consumed: &[Consumed]) -> bool {
     worked.iter().any(|one| one.fate == Fate::Torn) || consumed.iter().any(|one| one.torn)
 }
 
-/// Closes the house that the workers and the clerks have left: each worker hears the end of each shard, and each queue is closed with what
+/// Closes the house that the producers and the clerks have left: each producer hears the end of each shard, and each queue is closed with what
 /// is left of all seats. Answers whether all went well: nobody met what he didn't await, and each queue could be closed.
 ///
-/// `worked`, which is empty, has room for all workers.
+/// `worked`, which is empty, has room for all producers.
 pub fn close_house<R: Wait>(
     rt: &R,
     floor: Floor,
@@ -161,7 +161,6 @@ pub fn close_house<R: Wait>(
         let ran = Ran {
             worked,
             consumed,
-            said: Vec::new(alloc),
             stands: Vec::new(alloc),
             posts: Vec::new(alloc),
             started: Started::All,

@@ -11,4 +11,4 @@ mod threads;
 pub use accepting::{Buffers, Served};
 pub use closing::close_house;
 pub use door::Door;
-pub use threads::{Hired, join_workers, start_workers};
+pub use threads::{Begun, Hired, Serves, join_producers, start_workers};

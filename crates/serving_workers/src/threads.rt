@@ -1,4 +1,5 @@
-//! The workers' threads: started in order, and joined. What a worker does stands in `accepting`.
+//! The workers' threads, started in order, and the producers' joined: the workers, and behind them whoever else has a post. What a worker
+//! does stands in `accepting`.
 
 ghost use Rattle.std.specs.Prelude.{ℕ, ◌≡◌, ◌≤◌, ◌<◌, ◌+◌, All, Some, List, [], length, vec_len, vec_capacity};
 ghost use Rattle.std.specs.Mem.{manually_drop_value};
@@ -18,7 +19,7 @@ use std::sync::{Mutex, Wait};
 use std::thread;
 use std::thread::{Promise, Threads};
 
-/// What the thread of this worker is to return: what is left of its seats.
+/// What the thread of this producer is to return: what is left of its seats.
 #[derive(Clone, Copy)]
 pub struct Serves<'a> {
     pub floor: &'a Floor,
@@ -32,7 +33,7 @@ impl<'a> Promise<ManuallyDrop<Served>> for Serves<'a> {
     ghost kept_by = { λ p r. IsServed p.floor.now p.number (manually_drop_value r) };
 }
 
-/// A worker's thread, or what came of its worker where there is none.
+/// A producer's thread, or what came of it where there is none.
 #[derive(Drop)]
 pub enum Hired<'a> {
     There(thread::PromisedHandle<ManuallyDrop<Served>, Serves<'a>>),
@@ -121,8 +122,16 @@ fn start_worker<'s, E, H: Hall + Send, R: Threads + Wait + Sync>(
     }
 }
 
-/// Starts a thread for each worker, in their order, and says whether all could be made. Where one can't be made the house's mark is set,
-/// and no worker from there on serves anybody.
+/// The workers' threads, what is left of the posts, and whether each thread could be made.
+pub struct Begun<'a> {
+    pub hired: Vec<Hired<'a>>,
+    pub posts: Vec<Post>,
+    pub all: bool,
+}
+
+/// Starts a thread for each worker, a slot for each, in their order, with the first of these posts. The others are given back, and so is
+/// the list of threads, in which there is room for all posts. Where a thread can't be made the house's mark is set, and no worker from
+/// there on serves anybody.
 pub fn start_workers<'s, E, H: Hall + Send, R: Threads + Wait + Sync>(
     scope: &thread::Scope<'s, E>,
     rt: &'s R,
@@ -135,16 +144,19 @@ pub fn start_workers<'s, E, H: Hall + Send, R: Threads + Wait + Sync>(
     mut posts: Vec<Post>,
     mut buffers: Vec<Buffers>,
     mut hired: Vec<Hired<'s>>,
-) -> (Vec<Hired<'s>>, bool)
+) -> Begun<'s>
     requires lanes { H.lanes ≡ Some floor.now.office.lanes.items }
     requires depot { H.depot ≡ Some floor.now.depot }
     requires house { IsHouse floor.now (length floor.now.depot.channels.items) }
-    requires slots { length slots.now ≡ length floor.now.depot.channels.items }
+    requires slots { length slots.now ≤ length floor.now.depot.channels.items }
     requires posts { AllAt (IsPost floor.now) 0 posts.items × (vec_len posts ≡ length floor.now.depot.channels.items) }
-    requires buffers { All (λ b. 0 < length b.input.items) buffers.items × (vec_len buffers ≡ length floor.now.depot.channels.items) }
+    requires buffers { All (λ b. 0 < length b.input.items) buffers.items × (vec_len buffers ≡ length slots.now) }
     requires room { (hired.items ≡ []) × (length floor.now.depot.channels.items ≤ vec_capacity hired) }
-    ensures hired { AllAt (IsHired floor.now) 0 result.0.items }
-    ensures count { vec_len result.0 ≡ length floor.now.depot.channels.items }
+    ensures hired { AllAt (IsHired floor.now) 0 result.hired.items }
+    ensures count { vec_len result.hired ≡ length slots.now }
+    ensures room { length floor.now.depot.channels.items ≤ vec_capacity result.hired }
+    ensures posts { AllAt (IsPost floor.now) (length slots.now) result.posts.items }
+    ensures others { vec_len result.posts + length slots.now ≡ length floor.now.depot.channels.items }
 {
     let mut all = true;
     for place in 0..slots.len() {
@@ -167,11 +179,10 @@ pub fn start_workers<'s, E, H: Hall + Send, R: Threads + Wait + Sync>(
         all = all && matches!(one, Hired::There(_));
         hired.push_reserved(one);
     }
-    posts.destroy_empty();
-    (hired, all)
+    Begun { hired, posts, all }
 }
 
-fn join_worker<R: Threads>(rt: &R, floor: &Floor, hired: Hired<'_>) -> Served
+fn join_producer<R: Threads>(rt: &R, floor: &Floor, hired: Hired<'_>) -> Served
     ensures { (n : ℕ) → IsHired floor.now n hired.entry → IsServed floor.now n result }
 {
     match hired {
@@ -180,8 +191,8 @@ fn join_worker<R: Threads>(rt: &R, floor: &Floor, hired: Hired<'_>) -> Served
     }
 }
 
-/// Waits for each worker's end. `served`, which is empty, has room for all.
-pub fn join_workers<R: Threads>(
+/// Waits for each producer's end. `served`, which is empty, has room for all.
+pub fn join_producers<R: Threads>(
     rt: &R,
     floor: &Floor,
     hired: Vec<Hired<'_>>,
@@ -193,7 +204,7 @@ pub fn join_workers<R: Threads>(
     ensures count { vec_len result ≡ vec_len hired.entry }
 {
     for one in hired {
-        served.push_reserved(join_worker(rt, floor, one));
+        served.push_reserved(join_producer(rt, floor, one));
     }
     served
 }

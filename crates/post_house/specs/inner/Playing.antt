@@ -16,6 +16,7 @@ use Rattle.script.specs.Script.{ScriptLine, script_of}
 use Rattle.script.specs.Leaving.{IsLeft, IsLeftWanting, Writes, WritesBeginning, WritesFirst}
 use Rattle.serving.specs.Announcing.{announcement}
 use Rattle.serving.specs.declared.server.Uidvalidity.{Uidvalidity}
+use Rattle.serving.specs.Producers.{server_fault}
 use Rattle.serving.specs.declared.fault.ServeFault.{ServeFault}
 use Rattle.serving.specs.declared.fault.ServeFault.TheVariants as serve_faults
 
@@ -49,8 +50,8 @@ lines_of config uidvalidity = announcement config.lmtp_port config.imap_port (se
 pub record HasServed (config : Config) (uidvalidity : Uidvalidity) (status : ℕ) (old new : Option (List ℕ)) : Type 0 where
   pub result : Result (Unit {0}) ServeFault
   pub status_is : status ≡ status_served result
-  pub wrong : (fault : ConfigFault) → result ≡ Err (serve_faults.Config fault) → config_fault config ≡ Some fault
-  pub right : OnOk result (config_fault config ≡ None)
+  pub wrong : (fault : ConfigFault) → result ≡ Err (serve_faults.Config fault) → server_fault config ≡ Some fault
+  pub right : OnOk result (server_fault config ≡ None)
   pub told : (n : ℕ) × Appends old new (take n (lines_of config uidvalidity))
   pub all : OnOk result (Appends old new (lines_of config uidvalidity))
 

@@ -1,4 +1,4 @@
--- What bodies and proofs say besides: what the workers of a server leave.
+-- What bodies and proofs say besides: what the producers of a server leave.
 use Rattle.std.specs.Prelude.{◌≡◌, ℕ, Some, slice_get}
 use Rattle.delivery_token.specs.declared.log.Noted.{Noted}
 use Rattle.shard_queue.specs.declared.ends.ReplyChannel.{ReplyChannel}
@@ -7,7 +7,7 @@ use Rattle.lane_work.specs.Seats.{AreEnded}
 use Rattle.lane_work.specs.declared.worker.Worked.{Worked}
 use Rattle.house_floor.specs.declared.floor.Floor.{Floor}
 
--- what worker n leaves once it has heard the end of each shard: the same, and no more is asked of it
+-- what producer n leaves once it has heard the end of each shard: the same, and no more is asked of it
 pub record HasHeard (floor : Floor) (n : ℕ) (w : Worked) : Type 0 where
   pub ended : AreEnded floor.office.lanes.items n w.ended.items
   pub receiver : (channel : ReplyChannel Noted) → slice_get floor.depot.channels.items n ≡ Some channel → IsReceiver channel w.receiver

@@ -8,4 +8,4 @@ give_up-requires-clause-stands g c =
     (crew.each_lane, stands_left c.args.floor (length c.args.floor.depot.channels.items) refl 0 c.args.crew.stands.items crew.stands)
 
 pub give_up-requires-clause-posts : goal.give_up-requires-clause-posts
-give_up-requires-clause-posts g c = (c.requires.crew.each_worker, posts_left c.args.floor 0 c.args.crew.posts.items c.requires.crew.posts)
+give_up-requires-clause-posts g c = (c.requires.crew.each_post, posts_left c.args.floor 0 c.args.crew.posts.items c.requires.crew.posts)

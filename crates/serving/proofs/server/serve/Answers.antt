@@ -1,6 +1,5 @@
-use Rattle.std.proofs.Common.{rules, ◌≡◌, ◌∙◌, ap, List, ℕ, true, false}
+use Rattle.std.proofs.Common.{rules}
 use Rattle.std.specs.Io.KnownBytes.{Appends}
-use Rattle.envelope.specs.declared.directory.Directory.{Directory}
 use Rattle.house.specs.Settings.{setup_of}
 use Rattle.serving.specs.Announcing.{announcement}
 use Rattle.serving.proofs.Serving.{all_told, beginning_told, no_setting, where_ok, whole_told}

@@ -1,5 +1,12 @@
-use Rattle.std.proofs.Common.{◌≡◌, ◌+◌, length, vec_len}
+use Rattle.std.proofs.Common.{◌≡◌, ◌≤◌, ◌+◌, length, vec_len, vec_capacity}
+use Rattle.house_floor.specs.Crew.{AllAt, IsPost}
+use Rattle.serving_workers.specs.Leaving.{IsHired}
 use Rattle.serving.proofs.sessions.start_places.Given as goal
 
-abbrev pub invariant-loop-number : goal.invariant-loop-number
-invariant-loop-number g l = (vec_len l.places + l.number ≡ length l.visits) × (vec_len l.bells + l.number ≡ length l.visits) × (vec_len l.buffers + l.number ≡ length l.visits)
+abbrev pub invariant-loop-place : goal.invariant-loop-place
+invariant-loop-place g l =
+    AllAt (IsPost l.floor) (vec_len l.hired) l.posts.items × (vec_len l.posts + l.place ≡ length l.visits)
+    × (vec_len l.hired + vec_len l.posts ≡ length l.floor.depot.channels.items)
+    × (vec_len l.furnishings.places + l.place ≡ length l.visits) × (vec_len l.furnishings.bells + l.place ≡ length l.visits)
+    × (vec_len l.furnishings.buffers + l.place ≡ length l.visits) × AllAt (IsHired l.floor) 0 l.hired.items
+    × (length l.floor.depot.channels.items ≤ vec_capacity l.hired)

@@ -2,7 +2,7 @@ use Rattle.std.proofs.Common.{◌≡◌, ◌≤◌, ◌+◌, vec_len, vec_capaci
 use Rattle.std.specs.Vec.Iter.{into_iter_items, into_iter_len}
 use Rattle.house_floor.specs.Crew.{AllAt}
 use Rattle.serving_workers.specs.Leaving.{IsHired, IsServed}
-use Rattle.serving_workers.proofs.threads.join_workers.Given as goal
+use Rattle.serving_workers.proofs.threads.join_producers.Given as goal
 
 abbrev pub invariant-loop-one : goal.invariant-loop-one
 invariant-loop-one g l =

@@ -3,7 +3,7 @@ use Rattle.std.specs.Vec.Iter.{into_iter_items}
 use Rattle.house_floor.specs.Crew.{AllAt}
 use Rattle.house_floor.proofs.Places.{head_at, more_at}
 use Rattle.serving_workers.specs.Leaving.{IsHired, IsServed}
-use Rattle.serving_workers.proofs.threads.join_workers.Goals as goal
+use Rattle.serving_workers.proofs.threads.join_producers.Goals as goal
 
 pub loop-one-preserved : goal.loop-one-preserved
 loop-one-preserved g c =
@@ -14,5 +14,5 @@ loop-one-preserved g c =
       subst (λ n. AllAt (IsHired floor) n (into_iter_items c.next.new.self)) (sym c.push_reserved.ensures.len) f.1,
       search rules,
       search rules,
-      more_at (IsServed floor) 0 c.loop-one.served.items c.push_reserved.new.self.items c.join_worker.result (vec_len c.loop-one.served) c.push_reserved.ensures.items v.3 (omega (arith, c.loop-one.served.ok.0)) (c.join_worker.ensures (vec_len c.loop-one.served) f.0),
+      more_at (IsServed floor) 0 c.loop-one.served.items c.push_reserved.new.self.items c.join_producer.result (vec_len c.loop-one.served) c.push_reserved.ensures.items v.3 (omega (arith, c.loop-one.served.ok.0)) (c.join_producer.ensures (vec_len c.loop-one.served) f.0),
     )

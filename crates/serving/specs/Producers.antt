@@ -1,0 +1,23 @@
+-- Who brings mail to a server, and what may be wrong with its settings beside what a house has against them.
+use Rattle.std.specs.Prelude.{ℕ, ◌+◌, ◌*◌, length, nat_lt, Option, Some, None, if◌then◌else◌}
+use Rattle.house.specs.Settings.{config_fault, setup_of}
+use Rattle.house.specs.declared.config.Config.{Config}
+use Rattle.house.specs.declared.config.ConfigFault.{ConfigFault}
+use Rattle.house.specs.declared.config.ConfigFault.TheVariants as settings
+use Rattle.serving.specs.Announcing.{users_of}
+
+-- the places of sessions: for each user so many as may be open at a time
+abbrev pub places_in : Config → ℕ
+places_in c = c.sessions * length (users_of (setup_of c).directory.homes)
+
+-- each worker, and each place, whose clients may append messages
+abbrev pub producers_in : Config → ℕ
+producers_in c = c.workers + places_in c
+
+abbrev pub after_settings : Config → Option ConfigFault → Option ConfigFault
+after_settings c (Some fault) = Some fault
+after_settings c None = if nat_lt 255 (producers_in c) then Some settings.TooMany else None
+
+-- The first fault of the settings, if there is one: what a house has against them, or that there would be more producers than a seat's number tells apart.
+abbrev pub server_fault : Config → Option ConfigFault
+server_fault c = after_settings c (config_fault c)
