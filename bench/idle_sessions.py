@@ -1,7 +1,7 @@
 #!/usr/bin/env python3
 """What a server takes while all its sessions idle and nothing comes.
 
-    idle_sessions.py PROGRAM [--users 64] [--sessions 4] [--seconds 10]
+    idle_sessions.py PROGRAM [--users 62] [--sessions 4] [--seconds 10]
 
 Printed are how many sessions there are, the ticks of processor time in the seconds (100 a second), the same in microseconds by the process's own clock, and the
 memory that it has at the end, in MB (1,000,000 bytes). Afterwards each user is sent a message, and each session must be told of it.
@@ -54,7 +54,7 @@ def are_told(sessions):
 def main():
     reader = argparse.ArgumentParser(description="What a server takes while all its sessions idle.")
     reader.add_argument("program")
-    reader.add_argument("--users", type=int, default=64)
+    reader.add_argument("--users", type=int, default=62)
     reader.add_argument("--sessions", type=int, default=4)
     reader.add_argument("--seconds", type=float, default=10)
     words = reader.parse_args()

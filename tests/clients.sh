@@ -1,5 +1,5 @@
 #!/bin/sh
-# A server and the clients that people use: mail is brought by Postfix's lmtp(8), by swaks and by msmtp; curl reads messages and sets flags, and mbsync
+# A server and the clients that people use: mail is brought by Postfix's lmtp(8), by swaks and by msmtp; curl reads messages, sets flags and appends, and mbsync
 # pulls a mailbox, twice, with messages gone and come in between. What each of them reads is what was brought, byte for byte.
 #
 #     tests/clients.sh PROGRAM
@@ -357,11 +357,18 @@ sets_flags() {
         printf '* 2 FETCH (UID 2 FLAGS (\\Flagged \\Seen))\n* 3 FETCH (UID 3 FLAGS ())\n' | answers 'UID FETCH 2:* FLAGS'
 }
 
+# Whether bob's message of UID 4, behind those that were brought, is what curl appends.
+appends() {
+    message appended >"$room/appended.mail" && sed 's/$/\r/' "$room/appended.mail" >"$room/appended.text" &&
+        curl -sS -m 20 -T "$room/appended.text" "imap://127.0.0.1:$((imap_port + 1))/INBOX" && stands 1 4 "$room/appended.text"
+}
+
 check_curl() {
     check 'curl lists the mailbox' lists
     check 'curl is told the sizes' tells_sizes
     check 'curl reads a header and a text' gives_parts
     check 'curl sets flags and takes them away' sets_flags
+    check 'curl appends a message' appends
 }
 
 # Removes the message of UID 2 and brings a new one.

@@ -8,7 +8,7 @@ shift
 tests=$(CDPATH= cd -- "$(dirname -- "$0")" && pwd)
 cases=$tests/worked_cases
 if [ $# -eq 0 ]; then
-    set -- dots bare-cr-and-lf paths-and-folders noop-lf-quit expunge
+    set -- dots bare-cr-and-lf paths-and-folders noop-lf-quit expunge append append-with-flags
 fi
 room=$(mktemp -d)
 trap 'rm -rf "$room"' EXIT

@@ -5,7 +5,7 @@
 # - with status 0, and what was written is that up to a first line `451 4.3.0 Out of memory` of a connection, or `NO Out of memory` under a
 #   tag of a session, behind which the script goes on;
 # - with status 0 and the whole output, where the program could do without that memory.
-# And where a copy was answered `Delivered` and the script came to its TAIL, the mailbox has it. Each case ends with a TAIL for that.
+# And where a copy was answered `Delivered`, or `OK` with APPENDUID, and the script came to its TAIL, the mailbox has it. Each case ends with a TAIL for that.
 # With no argument it builds the program; else the argument is the program.
 set -eu
 top=$(CDPATH= cd -- "$(dirname -- "$0")/.." && pwd)
@@ -50,10 +50,10 @@ is_right() {
     esac
 }
 
-# Whether a copy that was answered as delivered stands in the mailbox, where the script came that far.
+# Whether a copy that was answered as delivered, or as appended, stands in the mailbox, where the script came that far.
 is_kept() {
     grep -q '^T alice total' "$room/out" || return 0
-    delivered=$(grep -c '^L1 250 2\.1\.5 Delivered$' "$room/out" || true)
+    delivered=$(grep -cE '^(L1 250 2\.1\.5 Delivered|I1 [^ ]+ OK \[APPENDUID 7 [0-9]+\] .*)$' "$room/out" || true)
     added=$(grep -c '^T alice add ' "$room/out" || true)
     test "$delivered" -le "$added"
 }
@@ -89,7 +89,7 @@ try_case() {
 }
 
 passed=0 failed=0
-for case in first-message two-recipients-one-unknown select-and-list expunge partial-and-seen idle; do
+for case in first-message two-recipients-one-unknown select-and-list expunge partial-and-seen idle append; do
     input=$top/tests/cases/$case.stdin want=$top/tests/cases/$case.stdout
     # The first message is what the program's stored run reads.
     if test "$case" = first-message; then

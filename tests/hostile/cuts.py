@@ -35,6 +35,18 @@ IS_TOLD_ANSWERS = b"\r\n".join(
     + [b"a4 OK UID FETCH completed", b"* BYE Logging out", b"a5 OK LOGOUT completed", b""]
 )
 
+# A session appends two messages, the first with its bytes unasked for, and reads them.
+APPENDS = (
+    b"b1 APPEND INBOX (\\Seen) {5+}\r\nhel\r\n\r\nb2 NOOP\r\nb3 APPEND INBOX {3}\r\nabc\r\n"
+    b"b4 SELECT INBOX\r\nb5 UID FETCH 1:* (FLAGS BODY.PEEK[])\r\nb6 LOGOUT\r\n"
+)
+APPENDS_ANSWERS = b"\r\n".join(
+    [PREAUTH, b"b1 OK [APPENDUID 7 1] APPEND completed", b"b2 OK NOOP completed", b"+ ready", b"b3 OK [APPENDUID 7 2] APPEND completed"]
+    + [*opening(2, 3), b"b4 OK [READ-WRITE] SELECT completed"]
+    + [b"* 1 FETCH (UID 1 FLAGS (\\Seen) BODY[] {5}\r\nhel\r\n)", b"* 2 FETCH (UID 2 FLAGS () BODY[] {3}\r\nabc)"]
+    + [b"b5 OK UID FETCH completed", b"* BYE Logging out", b"b6 OK LOGOUT completed", b""]
+)
+
 # So many users of a server have a mailbox for one case each.
 USERS = 50
 
@@ -126,7 +138,26 @@ def cut_sessions(tally, program, is_quick):
     print(f"cuts: what two sessions say, {len(REMOVES)} and {len(IS_TOLD)} bytes, in {len(cuts)} ways, each with a mailbox of its own")
 
 
+def cut_appends(tally, program, is_quick):
+    """What a session says that appends, cut at every place. Each run has a mailbox of its own."""
+    cuts = cut_places(APPENDS, is_quick)
+    for first in range(0, len(cuts), USERS):
+        house = None
+        with tally.case(f"cuts: a server for the messages from {first} on"):
+            house = House(program, [f"u{number}" for number in range(USERS)], ["--uidvalidity", "7"])
+        for user, cut in enumerate(cuts[first : first + USERS]):
+            with tally.case(f"cuts: a session that appends, cut at {cut}"):
+                talk = ImapTalk(house.connect_imap(user))
+                say_in_pieces(talk, pieces(APPENDS, cut))
+                expect_same(talk.rest(), APPENDS_ANSWERS, None)
+                talk.close()
+        with tally.case(f"cuts: the end of the server for the messages from {first} on"):
+            end(house)
+    print(f"cuts: what a session says that appends, {len(APPENDS)} bytes, in {len(cuts)} ways, each with a mailbox of its own")
+
+
 def cut_all(tally, program, is_quick):
-    """Mail and sessions."""
+    """Mail, sessions, and sessions that append."""
     cut_mail(tally, program, is_quick)
     cut_sessions(tally, program, is_quick)
+    cut_appends(tally, program, is_quick)
