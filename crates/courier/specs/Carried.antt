@@ -1,7 +1,6 @@
 -- A message that was carried to its mailbox.
 use Rattle.std.specs.Prelude.{ℕ, List}
 use Rattle.change_ring.specs.declared.change.Flags.{Flags}
-use Rattle.delivery_token.specs.declared.CopyKey.{CopyKey}
 use Rattle.delivery_token.specs.declared.Job.{Job}
 use Rattle.delivery_token.specs.declared.Verdict.{Verdict}
 
