@@ -116,43 +116,47 @@ def open_mailboxes(house):
         yield watching
 
 
-def cut_sessions(tally, program, is_quick):
-    """What two sessions say, cut at every place: one removes messages, the other is told. Each run has a mailbox of its own, of fifty on a server."""
-    cuts = cut_places(max(REMOVES, IS_TOLD, key=len), is_quick)
+def cut_in_mailboxes(tally, program, cuts, what, prepare, run):
+    """Runs each cut over a mailbox of its own, of fifty on a server. `prepare` gives what each run on a server begins with."""
     for first in range(0, len(cuts), USERS):
-        house, watching = None, ()
-        with tally.case(f"cuts: a server for the runs from {first} on"):
+        house, begun = None, ()
+        with tally.case(f"cuts: a server for {what} from {first} on"):
             house = House(program, [f"u{number}" for number in range(USERS)], ["--uidvalidity", "7"])
-            watching = list(open_mailboxes(house))
-        for user, (cut, told) in enumerate(zip(cuts[first:], watching)):
-            with tally.case(f"cuts: sessions, cut at {cut}"):
-                removing = ImapTalk(house.connect_imap(user))
-                say_in_pieces(removing, pieces(REMOVES, cut))
-                expect_same(removing.rest(), REMOVES_ANSWERS, None)
-                removing.close()
-                say_in_pieces(told, pieces(IS_TOLD, cut))
-                expect_same(told.rest(), IS_TOLD_ANSWERS, None)
-                told.close()
-        with tally.case(f"cuts: the end of the server for the runs from {first} on"):
+            begun = list(prepare(house))
+        for user, (cut, told) in enumerate(zip(cuts[first:], begun)):
+            with tally.case(f"cuts: {what}, cut at {cut}"):
+                run(house, user, cut, told)
+        with tally.case(f"cuts: the end of the server for {what} from {first} on"):
             end(house)
+
+
+def hear_all(talk, said, cut, answers):
+    """Says all of it in pieces, and expects these answers."""
+    say_in_pieces(talk, pieces(said, cut))
+    expect_same(talk.rest(), answers, None)
+    talk.close()
+
+
+def cut_sessions(tally, program, is_quick):
+    """What two sessions say, cut at every place: one removes messages, the other is told."""
+
+    def remove(house, user, cut, told):
+        hear_all(ImapTalk(house.connect_imap(user)), REMOVES, cut, REMOVES_ANSWERS)
+        hear_all(told, IS_TOLD, cut, IS_TOLD_ANSWERS)
+
+    cuts = cut_places(max(REMOVES, IS_TOLD, key=len), is_quick)
+    cut_in_mailboxes(tally, program, cuts, "sessions", open_mailboxes, remove)
     print(f"cuts: what two sessions say, {len(REMOVES)} and {len(IS_TOLD)} bytes, in {len(cuts)} ways, each with a mailbox of its own")
 
 
 def cut_appends(tally, program, is_quick):
-    """What a session says that appends, cut at every place. Each run has a mailbox of its own."""
+    """What a session says that appends, cut at every place."""
+
+    def append(house, user, cut, _):
+        hear_all(ImapTalk(house.connect_imap(user)), APPENDS, cut, APPENDS_ANSWERS)
+
     cuts = cut_places(APPENDS, is_quick)
-    for first in range(0, len(cuts), USERS):
-        house = None
-        with tally.case(f"cuts: a server for the messages from {first} on"):
-            house = House(program, [f"u{number}" for number in range(USERS)], ["--uidvalidity", "7"])
-        for user, cut in enumerate(cuts[first : first + USERS]):
-            with tally.case(f"cuts: a session that appends, cut at {cut}"):
-                talk = ImapTalk(house.connect_imap(user))
-                say_in_pieces(talk, pieces(APPENDS, cut))
-                expect_same(talk.rest(), APPENDS_ANSWERS, None)
-                talk.close()
-        with tally.case(f"cuts: the end of the server for the messages from {first} on"):
-            end(house)
+    cut_in_mailboxes(tally, program, cuts, "a session that appends", lambda house: house.users, append)
     print(f"cuts: what a session says that appends, {len(APPENDS)} bytes, in {len(cuts)} ways, each with a mailbox of its own")
 
 
