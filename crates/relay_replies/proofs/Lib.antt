@@ -1,0 +1,3 @@
+mod Cuts
+mod Counts
+mod Fronts
