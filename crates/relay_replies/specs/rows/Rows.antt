@@ -1,7 +1,10 @@
 -- What a relay reads of the replies of worked cases.
 use Rattle.std.specs.Prelude.{◌≡◌, ℕ, true, false, List, [], ◌∷◌, ◌++◌, codes}
 use Rattle.std.proofs.Common.{refl}
+use Rattle.lmtp_machine.specs.declared.reply.Reply.TheVariants.{Greeting, Extensions, SenderOk}
+use Rattle.lmtp_machine.specs.Replies.{wire}
 use Rattle.relay_replies.specs.Relay.{is_code, replies_of}
+use Rattle.relay_replies.specs.Laws.{IsInLine}
 
 -- up to the reply to MAIL: that to LHLO has four lines, and is one reply
 abbrev pub begun : List ℕ
@@ -40,3 +43,11 @@ mailbox_full = refl
 
 no_digits : is_code (codes "250") (codes "25") ≡ false
 no_digits = refl
+
+-- a name that servers have
+a_name : IsInLine (codes "mx.example.org")
+a_name = refl
+
+-- these are the bytes that a server of this name writes
+written : wire (codes "mx.example.org") (Greeting ∷ Extensions ∷ SenderOk ∷ []) ≡ begun
+written = refl
