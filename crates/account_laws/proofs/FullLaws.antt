@@ -23,7 +23,7 @@ woven_verdicts setting directory (woven.line l event is may quiet h) = woven_ver
 woven_verdicts setting directory (woven.submits {judged = js} l event message verdicts is may one many h) =
     All-cons HasVerdicts (record { message = message; verdicts = verdicts }) js many (woven_verdicts setting directory h)
 
-messages_full : (setting : Setting) (directory : Directory) (first last : ℕ) (js : List Judged) → AreMessages setting directory first (map (λ (j : Judged). j.message) js) last
+messages_full : (setting : Setting) (directory : Directory) (first last : ℕ) (js : List Judged) → AreMessages setting (length directory.homes) first (map (λ (j : Judged). j.message) js) last
     → All HasVerdicts js → All IsFull js
 messages_full setting directory first last [] are verdicts = All-nil IsFull
 messages_full setting directory first last (j ∷ js) are verdicts =
@@ -32,11 +32,11 @@ messages_full setting directory first last (j ∷ js) are verdicts =
 
 -- the messages of one connection, by number
 pub messages_are : (setting : Setting) (directory : Directory) (bytes : List ℕ) (said : List Reply) (judged : List Judged) → (d : IsWholeDialogue setting directory bytes said judged)
-    → AreMessages setting directory 0 (map (λ (j : Judged). j.message) judged) (dialogue setting directory fresh d.events).standing.submitted
+    → AreMessages setting (length directory.homes) 0 (map (λ (j : Judged). j.message) judged) (dialogue setting directory fresh d.events).standing.submitted
 messages_are setting directory bytes said judged d =
     let last : ℕ = (dialogue setting directory fresh d.events).standing.submitted in
     let kept = dialogue_keeps setting directory fresh d.events (fresh_kept directory) in
-    subst (λ (ms : List Submission). AreMessages setting directory 0 ms last) (sym d.messages) kept.numbered.are
+    subst (λ (ms : List Submission). AreMessages setting (length directory.homes) 0 ms last) (sym d.messages) kept.numbered.are
 
 dialogue_full : (setting : Setting) (directory : Directory) (bytes : List ℕ) (said : List Reply) (judged : List Judged) → IsWholeDialogue setting directory bytes said judged → All IsFull judged
 dialogue_full setting directory bytes said judged d =
@@ -45,4 +45,4 @@ dialogue_full setting directory bytes said judged d =
 -- those of all
 pub all_full : (house : Premises) (seat : ℕ) {connections replies : List (List ℕ)} {judged : List Judged} → HaveConversed house seat connections replies judged → All IsFull judged
 all_full house seat none = All-nil IsFull
-all_full house seat (next {judged = judged} bytes said more h d) = All-append IsFull judged more (all_full house seat h) (dialogue_full _ house.directory bytes said more d)
+all_full house seat (next {judged = judged} bytes own said more h marked d) = All-append IsFull judged more (all_full house seat h) (dialogue_full _ own bytes said more d)

@@ -68,7 +68,7 @@ record Rise (seat serial first : ℕ) (keys : List CopyKey) : Type 0 where
   rising : Rising keys
   own : All (OfMessages seat serial first) keys
 
-messages_rise : (setting : Setting) (directory : Directory) (first last : ℕ) (js : List Judged) → AreMessages setting directory first (map (λ (j : Judged). j.message) js) last
+messages_rise : (setting : Setting) (directory : Directory) (first last : ℕ) (js : List Judged) → AreMessages setting (length directory.homes) first (map (λ (j : Judged). j.message) js) last
     → Rise setting.seat setting.serial first (keys_of js)
 messages_rise setting directory first last [] are = record { rising = tt; own = All-nil (OfMessages setting.seat setting.serial first) }
 messages_rise setting directory first last (j ∷ js) are =
@@ -107,9 +107,9 @@ one_more seat count xs ys h k = record {
 rise_so_far : (house : Premises) (seat : ℕ) {connections replies : List (List ℕ)} {judged : List Judged} → HaveConversed house seat connections replies judged
     → RiseSoFar seat (length connections) (keys_of judged)
 rise_so_far house seat none = record { rising = tt; own = All-nil (OfConnections seat 0) }
-rise_so_far house seat (next {connections = connections} {judged = judged} bytes said more h d) =
+rise_so_far house seat (next {connections = connections} {judged = judged} bytes own said more h marked d) =
     let setting : Setting = setting_at house seat (length connections) in
-    let here = messages_rise setting house.directory 0 _ more (messages_are setting house.directory bytes said more d) in
+    let here = messages_rise setting own 0 _ more (messages_are setting own bytes said more d) in
     let both = one_more seat (length connections) (keys_of judged) (keys_of more) (rise_so_far house seat h) here in
     subst (RiseSoFar seat (length (connections ++ bytes ∷ []))) (sym (flat_map-append (λ (j : Judged). j.message.keys) judged more))
     (subst (λ (n : ℕ). RiseSoFar seat n (keys_of judged ++ keys_of more)) (sym (length-append connections (bytes ∷ []))) both)

@@ -9,3 +9,4 @@ mod Connections
 mod FullLaws
 mod KeyLaws
 pub mod LogLaws
+pub mod ClosedLaws

@@ -1,17 +1,18 @@
 -- What holds of every connection and of every worker's account.
-use Rattle.std.specs.Prelude.{◌≡◌, ℕ, ◌<◌, List, [], Contains, length, slice_index_or}
+use Rattle.std.specs.Prelude.{◌≡◌, ℕ, ◌<◌, false, List, [], All, Contains, length, slice_index_or}
+use Rattle.std.specs.List.{list_any}
 use Rattle.delivery_token.specs.declared.Job.{Job}
 use Rattle.delivery_token.specs.declared.Verdict.TheVariants.{Stored}
 use Rattle.delivery_token.specs.declared.log.Noted.{Noted}
 use Rattle.envelope.specs.Directory.{Directory, shard_of}
-use Rattle.lane_work.specs.Account.{Account, Premises, HaveTalked}
+use Rattle.lane_work.specs.Account.{Account, Premises, HaveTalked, closings_of, is_closed_by}
 use Rattle.lane_work.specs.Talk.{Judged, WholeTalk}
 use Rattle.lmtp_machine.specs.declared.reply.Reply.{Reply}
 use Rattle.lmtp_machine.specs.Dialogue.{Event, Setting, Standing}
 use Rattle.shard_queue.specs.declared.lane.Entry.{Entry}
 use Rattle.shard_queue.specs.declared.lane.Entry.TheVariants.{Item}
 use Rattle.account_laws.specs.Accounting.{AccountOfLines}
-use Rattle.account_laws.specs.Conversing.{HaveConversed, AreDialogues}
+use Rattle.account_laws.specs.Conversing.{HaveConversed, AreDialogues, IsConnection}
 use Rattle.account_laws.specs.Storing.{WasPut, WasSubmitted, AreVerdicts}
 use Rattle.account_laws.specs.Woven.{AreTold, IsWholeDialogue, AreFirstLines, Woven}
 
@@ -48,6 +49,12 @@ ConnectionsHaveTalked = (house : Premises) (seat : ℕ) (connections replies : L
 abbrev pub EachIsADialogue : Type 0
 EachIsADialogue = (house : Premises) (seat : ℕ) (connections replies : List (List ℕ)) (judged : List Judged)
     → HaveConversed house seat connections replies judged → AreDialogues house seat connections replies judged
+
+-- no message of a connection is for a mailbox of a shard that the worker has closed by then
+abbrev pub ClosedGetNothing : Type 0
+ClosedGetNothing = (house : Premises) (seat serial : ℕ) (bytes replied : List ℕ) (judged : List Judged)
+    → IsConnection house seat serial bytes replied judged → 0 < house.directory.shards
+    → All (λ (j : Judged). All (λ mailbox. list_any (is_closed_by serial (shard_of house.directory mailbox)) (closings_of house seat) ≡ false) j.message.mailboxes) judged
 
 -- a copy that the log has as stored was put on its mailbox's lane, and its verdict was heard
 abbrev pub StoredIsOnItsLane : Type 0

@@ -1,12 +1,13 @@
 //! Laws of the definitions, as functions that do nothing: what a worker's account says of its
 //! connections and of its log.
 
-ghost use Rattle.account_laws.specs.Laws.{AccountIsOfLines, ConnectionsHaveTalked, EachIsADialogue, LinesAreATalk, LinesAreTold, HeardAreFirst, LogHasEachVerdict, PutWasSubmitted, StoredIsOnItsLane, TalkIsOfLines, TalksAreOfLines};
+ghost use Rattle.account_laws.specs.Laws.{AccountIsOfLines, ClosedGetNothing, ConnectionsHaveTalked, EachIsADialogue, LinesAreATalk, LinesAreTold, HeardAreFirst, LogHasEachVerdict, PutWasSubmitted, StoredIsOnItsLane, TalkIsOfLines, TalksAreOfLines};
 
 /// A connection that was heard piece by piece is one dialogue over the whole lines of all its bytes, each
 /// line heard in its place and each message answered before the next line, and the other way round. The bytes
 /// begin with those lines, and all their whole lines are among them, or the dialogue ended before. And so is
-/// each connection of a worker, one after the other.
+/// each connection of a worker, one after the other; none of its messages is for a mailbox of a shard that
+/// the worker closed before it.
 pub fn connections_are_of_lines()
     ensures lines { TalkIsOfLines }
     ensures back { LinesAreATalk }
@@ -14,6 +15,7 @@ pub fn connections_are_of_lines()
     ensures talks { TalksAreOfLines }
     ensures talks_back { ConnectionsHaveTalked }
     ensures each { EachIsADialogue }
+    ensures closed { ClosedGetNothing }
 {}
 
 /// Of lines that were heard none was dropped, and nothing else happened but the answers: each stands behind

@@ -6,7 +6,7 @@ ghost use Rattle.std.specs.Mem.{manually_drop_value};
 ghost use Rattle.std.specs.Thread.{IsSync};
 ghost use Rattle.shard_queue.specs.Reply.{IsReceiver};
 ghost use Rattle.shard_queue.specs.Seats.{IsProducer, number_of};
-ghost use Rattle.lane_work.specs.Seats.{AreEnded, AreSeats};
+ghost use Rattle.lane_work.specs.Seats.{AreEnded, AreSeats, IsSeat, seat_number};
 ghost use Rattle.lane_seats.specs.Rooms.{AreRooms};
 ghost use Rattle.lane_seats.specs.rows.Rows.{AreConsumers, EndedRows};
 ghost use Rattle.house_floor.specs.Crew.{AllAt, IsCrew, IsPost, IsStand};
@@ -20,7 +20,7 @@ use delivery_token::{CopyKey, Job, Noted, Text, Verdict};
 use envelope::Directory;
 use house_floor::{Baskets, Crew, Floor, Opened, Post, Sizes, Stand, open};
 use lane_seats::{close_lanes, collect, spend_lists};
-use lane_work::{Consumed, Depot, Desk, Office, end_all};
+use lane_work::{Closing, Consumed, Depot, Desk, LaneSeat, Office, end_all};
 use mailbox::{History, Limits, Mailbox};
 use pace::{Actor, Pace};
 use shard_queue::{
@@ -81,11 +81,22 @@ fn put_on<R: Wait>(rt: &R, lane: &ShardQueue<Job>, seat: &mut ProducerSeat<Job>,
     }
 }
 
+// The same at a seat that may be over: then nothing is put.
+fn put_at<R: Wait>(rt: &R, lane: &ShardQueue<Job>, seat: &mut LaneSeat, job: Job) -> bool
+    requires { IsSeat lane.now seat.old }
+    ensures { IsSeat lane.now seat.new × (seat_number seat.new ≡ seat_number seat.old) }
+{
+    match seat {
+        LaneSeat::Live(live) => put_on(rt, lane, live, job),
+        LaneSeat::Over(_) => false,
+    }
+}
+
 // The same, on the lane of the copy's mailbox. The number of its shard, where there was room.
 fn put_copy<R: Wait>(
     rt: &R,
     office: &Office,
-    seats: &mut Vec<ProducerSeat<Job>>,
+    seats: &mut Vec<LaneSeat>,
     number: u8,
     job: Job,
 ) -> Option<usize>
@@ -94,7 +105,7 @@ fn put_copy<R: Wait>(
     ensures { AreSeats office.now.lanes.items number seats.new.items }
 {
     let shard = office.directory.shard_of(job.mailbox);
-    let was_put = put_on(rt, &office.lanes[shard], &mut seats[shard], job);
+    let was_put = put_at(rt, &office.lanes[shard], &mut seats[shard], job);
     if was_put { Some(shard) } else { None }
 }
 
@@ -102,7 +113,7 @@ fn put_copy<R: Wait>(
 fn put_next<R: Wait>(
     rt: &R,
     floor: &Floor,
-    seats: &mut Vec<ProducerSeat<Job>>,
+    seats: &mut Vec<LaneSeat>,
     number: u8,
     serial: u8,
 ) -> Option<usize>
@@ -399,6 +410,7 @@ fn run_in<H: Hall + Send, T: Threads + Wait + Sync + Abort>(
         host: _,
         max_message: _,
         lanes,
+        closings: _,
     } = office;
     let Depot {
         mailboxes,
@@ -431,17 +443,24 @@ const LIMITS: Limits = Limits {
     ring_max: 0,
 };
 
-const SIZES: Sizes<'static> = Sizes {
-    host: b"mx.example.org",
-    max_message: 1000,
-    producers: WORKERS,
-    depth: 4,
-    uidvalidity: 7,
-    first_uid: 1,
-    limits: LIMITS,
-    history: History::Kept,
-    turns: 10,
-};
+// How large its parts are. Nobody closes a shard before the end.
+fn sizes<'a>(closings: &'a [Vec<Closing>]) -> Sizes<'a>
+    ensures host { length result.host.now < 256 }
+    ensures sizes { (result.producers ≡ 3) × (result.depth ≡ 4) × (0 < result.limits.ring) }
+{
+    Sizes {
+        host: b"mx.example.org",
+        max_message: 1000,
+        producers: WORKERS,
+        depth: 4,
+        uidvalidity: 7,
+        first_uid: 1,
+        limits: LIMITS,
+        history: History::Kept,
+        turns: 10,
+        closings,
+    }
+}
 
 // Three mailboxes on two shards.
 fn directory(alloc: Global) -> Result<Directory, Fail>
@@ -471,7 +490,7 @@ fn each_copy_is_stored_once_and_all_lanes_close(rt: HostRuntime) -> Result<(), F
         crew,
         baskets,
         sleepers: _,
-    } = open(alloc, directory, SIZES, &[])?;
+    } = open(alloc, directory, sizes(&[]), &[])?;
     let round = run_in::<Brand, HostRuntime>(&rt, floor, crew, baskets);
     let copies = usize::from(WORKERS) * usize::from(COPIES);
     assert!(&rt; round.closed);
@@ -556,7 +575,7 @@ fn clerks_with_nothing_to_do_are_stood_down(rt: HostRuntime) -> Result<(), Fail>
         crew,
         baskets,
         sleepers: _,
-    } = open(alloc, directory, SIZES, &[])?;
+    } = open(alloc, directory, sizes(&[]), &[])?;
     let Crew {
         stands,
         posts,

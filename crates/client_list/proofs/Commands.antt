@@ -15,7 +15,7 @@ use Rattle.imap_grammar.specs.declared.command.Command.{Command}
 use Rattle.imap_grammar.specs.declared.command.Command.TheVariants as commands
 use Rattle.delivery_token.specs.declared.Verdict.{Verdict}
 use Rattle.delivery_token.specs.declared.Verdict.TheVariants as verdicts
-use Rattle.delivery_token.specs.declared.Refusal.TheVariants.{Full, MailboxFull, NoMemory, UidSpent}
+use Rattle.delivery_token.specs.declared.Refusal.TheVariants.{Full, MailboxFull, NoMemory, UidSpent, Shut}
 use Rattle.imap_grammar.specs.declared.command.Append.{Append}
 use Rattle.imap_grammar.specs.declared.command.Fetch.{Fetch}
 use Rattle.imap_grammar.specs.declared.command.Store.{Store}
@@ -240,6 +240,7 @@ verdict_says tag view selected mailbox (verdicts.Refused Full) t u = last tag vi
 verdict_says tag view selected mailbox (verdicts.Refused MailboxFull) t u = last tag view (codes "NO Mailbox ful") 108 t (plain_words (codes "NO Mailbox ful") 108 refl refl)
 verdict_says tag view selected mailbox (verdicts.Refused NoMemory) t u = last tag view (codes "NO Out of memor") 121 t (plain_words (codes "NO Out of memor") 121 refl refl)
 verdict_says tag view selected mailbox (verdicts.Refused UidSpent) t u = last tag view (codes "NO No UID lef") 116 t (plain_words (codes "NO No UID lef") 116 refl refl)
+verdict_says tag view selected mailbox (verdicts.Refused Shut) t u = last tag view (codes "NO Shard close") 100 t (plain_words (codes "NO Shard close") 100 refl refl)
 
 -- ---- all of them
 

@@ -1,5 +1,5 @@
 -- A mailbox's delivery is the world's.
-use Rattle.std.proofs.Common.{◌≡◌, ℕ, ◌+◌, ◌-◌, ◌<◌, ◌≤◌, ◌⊎◌, inl, inr, Bool, true, false, ◌||◌, nat_le, nat_lt, [], ◌∷◌, ◌++◌, length, map, refl, sym, ap, ◌∙◌, arith, subst, Result, Ok, Err, OnOk, OnErr, IfOk, ◌≢◌, get_or, set, length-set, get_or-set_same, get_or-set_other, List}
+use Rattle.std.proofs.Common.{◌≡◌, ℕ, ◌+◌, ◌<◌, ◌≤◌, ◌⊎◌, inl, inr, Bool, true, false, ◌||◌, nat_le, nat_lt, [], ◌∷◌, ◌++◌, length, map, refl, sym, ap, ◌∙◌, arith, subst, Result, Ok, Err, OnOk, OnErr, IfOk, ◌≢◌, get_or, set, length-set, get_or-set_same, get_or-set_other, List}
 use Rattle.std.specs.Prelude.{◌↔◌}
 use Rattle.std.proofs.lemmas.Bool.{cases_eq, leb-true, leb-false}
 use Rattle.std.proofs.lemmas.Bool.Decides.{nat_tests}
@@ -8,7 +8,7 @@ use Rattle.std.proofs.lemmas.List.{length-map, map-append}
 use Rattle.delivery_token.specs.declared.Job.{Job}
 use Rattle.delivery_token.specs.declared.Verdict.TheVariants.{Stored}
 use Rattle.delivery_token.specs.declared.Refusal.{Refusal}
-use Rattle.delivery_token.specs.declared.Refusal.TheVariants.{Full, MailboxFull, NoMemory, UidSpent}
+use Rattle.delivery_token.specs.declared.Refusal.TheVariants.{Full, MailboxFull, NoMemory, Shut, UidSpent}
 use Rattle.change_ring.specs.declared.change.Change.{Change}
 use Rattle.change_ring.specs.declared.change.Flags.{Flags}
 use Rattle.change_ring.specs.Log.{rows_of}
@@ -116,18 +116,19 @@ stored k old new w c uid S room logs accepts messages drops stays is =
     })
 
 pub box_delivers : (k : Config) (old new : Mail) (w : Box) (c : Job) (r : Result Receipt Refusal) → StandsForBox k old w
-    → (r ≡ Err UidSpent) ↔ (is_spent c.flags old ≡ true) → (r ≡ Err MailboxFull) ↔ ((is_spent c.flags old ≡ false) × (mail_full old ≡ true)) → (r ≡ Err Full → ⊥)
+    → (r ≡ Err UidSpent) ↔ (is_spent c.flags old ≡ true) → (r ≡ Err MailboxFull) ↔ ((is_spent c.flags old ≡ false) × (mail_full old ≡ true)) → (r ≡ Err Full → ⊥) → (r ≡ Err Shut → ⊥)
     → OnErr r (new ≡ old) → OnOk r (MailLogs old new (arrival (mail_uid old) c.flags)) → OnOk r (new.accepted ≡ old.accepted ++ (c.key, mail_uid old) ∷ [])
     → OnOk r (new.messages ≡ old.messages ++ record { uid = mail_uid old; flags = c.flags; text = c.text } ∷ [])
     → OnOk r (Moves old.cursors old.window new.window (arrival (mail_uid old) c.flags)) → OnOk r (SameMailbox old new) → IfOk r (λ x. x ≡ record { mailbox = old.number; key = c.key; uid = mail_uid old; place = length old.accepted })
     → BoxDelivers k w c (verdict_of r) new
-box_delivers k old new w c (Ok x) S spends fills queued same logs accepts messages drops stays uid = stored k old new w c x.uid S (open_of c.flags old _ _ (λ e. cc) (λ e. cc) spends fills) logs accepts messages drops stays (ap (λ y. y.uid) uid)
-box_delivers k old new w c (Err UidSpent) S spends fills queued same logs accepts messages drops stays uid = has_no_uid (spent k c.flags old w S (spends.0 refl)) refl (rw same S)
-box_delivers k old new w c (Err MailboxFull) S spends fills queued same logs accepts messages drops stays uid = has_no_place (has_uid k c.flags old w S (fills.0 refl).0) (full k old w S (fills.0 refl).1) refl (rw same S)
-box_delivers k old new w c (Err NoMemory) S spends fills queued same logs accepts messages drops stays uid =
+box_delivers k old new w c (Ok x) S spends fills queued shut same logs accepts messages drops stays uid = stored k old new w c x.uid S (open_of c.flags old _ _ (λ e. cc) (λ e. cc) spends fills) logs accepts messages drops stays (ap (λ y. y.uid) uid)
+box_delivers k old new w c (Err UidSpent) S spends fills queued shut same logs accepts messages drops stays uid = has_no_uid (spent k c.flags old w S (spends.0 refl)) refl (rw same S)
+box_delivers k old new w c (Err MailboxFull) S spends fills queued shut same logs accepts messages drops stays uid = has_no_place (has_uid k c.flags old w S (fills.0 refl).0) (full k old w S (fills.0 refl).1) refl (rw same S)
+box_delivers k old new w c (Err NoMemory) S spends fills queued shut same logs accepts messages drops stays uid =
     let room : (is_spent c.flags old ≡ false) × (mail_full old ≡ false) = open_of c.flags old _ _ (λ e. cc) (λ e. cc) spends fills in
     has_no_memory (has_uid k c.flags old w S room.0) (has_place k old w S room.1) refl (rw same S)
-box_delivers k old new w c (Err Full) S spends fills queued same logs accepts messages drops stays uid = absurd (queued refl)
+box_delivers k old new w c (Err Full) S spends fills queued shut same logs accepts messages drops stays uid = absurd (queued refl)
+box_delivers k old new w c (Err Shut) S spends fills queued shut same logs accepts messages drops stays uid = absurd (shut refl)
 
 pub same_mailbox : (r : Result Receipt Refusal) (old new : Mail) → OnOk r (SameMailbox old new) → OnErr r (new ≡ old) → SameMailbox old new
 same_mailbox (Ok x) old new same err = same

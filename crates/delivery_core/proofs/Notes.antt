@@ -11,7 +11,7 @@ use Rattle.shard_queue.specs.declared.lane.Entry.TheVariants.{Item}
 use Rattle.delivery_core.specs.Held.{Held}
 use Rattle.delivery_core.specs.Changes.{Hears}
 use Rattle.delivery_core.specs.Load.{entry_load, lane_load}
-use Rattle.delivery_core.specs.inner.Puts.{LanePuts, joins, has_no_room, has_no_memory}
+use Rattle.delivery_core.specs.inner.Puts.{LanePuts, joins, has_no_room, has_no_memory, is_over}
 
 abbrev notes : List Book → List (List Noted)
 notes books = map (λ (b : Book). b.notes) books
@@ -62,9 +62,10 @@ hears_more old new p book0 book1 book2 book3 more l first kept second noted chan
 -- a copy that joined a lane is the work of four steps
 pub put_load : (lanes : List (Waits Job)) (s p : ℕ) (c : Job) (l l2 : Waits Job) → s < length lanes → l ≡ get_or lanes s l → LanePuts l p c l2 None
     → sum_by lane_load (set lanes s l2) ≤ sum_by lane_load lanes + 4
-put_load lanes s p c l l2 ins there (has_no_room full e same) = absurd (cc)
-put_load lanes s p c l l2 ins there (has_no_memory room e same) = absurd (cc)
-put_load lanes s p c l l2 ins there (joins room e put_it) =
-    let more : lane_load l2 ≡ lane_load l + 4 = ap lane_load put_it ∙ sum_by-append entry_load l.waiting (Item p c ∷ []) in
+put_load lanes s p c l l2 ins there (has_no_room live full e same) = absurd (cc)
+put_load lanes s p c l l2 ins there (has_no_memory live room e same) = absurd (cc)
+put_load lanes s p c l l2 ins there (is_over over e same) = absurd (cc)
+put_load lanes s p c l l2 ins there (joins live room e put_it) =
+    let more : lane_load l2 ≡ lane_load l + 4 = let a = ap lane_load put_it in let b = sum_by-append entry_load l.waiting (Item p c ∷ []) in omega (arith, a, b) in
     let all : sum_by lane_load (set lanes s l2) + lane_load (get_or lanes s l) ≡ sum_by lane_load lanes + lane_load l2 = sum_by-set lane_load lanes s l2 l ins in
     omega (arith, more, all, ap lane_load there)

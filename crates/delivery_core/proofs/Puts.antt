@@ -1,25 +1,26 @@
 -- A put is a put of the world.
-use Rattle.std.proofs.Common.{◌≡◌, inl, inr, true, false, not, ℕ, ◌%◌, ◌<◌, List, [], ◌∷◌, ◌++◌, length, get_or, set, refl, sym, ap, subst, ◌∙◌, arith, length-set, Some, None, All}
+use Rattle.std.proofs.Common.{◌≡◌, inl, inr, Bool, true, false, not, ℕ, ◌%◌, ◌<◌, List, [], ◌∷◌, ◌++◌, length, get_or, set, refl, sym, ap, subst, ◌∙◌, arith, length-set, Option, Some, None, All}
 use Rattle.std.proofs.lemmas.List.Elements.{All-push, All-weaker}
-use Rattle.shard_queue.specs.Lane.{put}
+use Rattle.std.specs.Prelude.{◌↔◌}
+use Rattle.shard_queue.specs.Lane.{put, IsLive}
 use Rattle.delivery_token.specs.Keys.{Below, AtLeast, past}
 use Rattle.shard_queue.proofs.AtLaws.{at_cases}
 use Rattle.delivery_token.specs.declared.CopyKey.{CopyKey}
 use Rattle.delivery_token.specs.declared.Job.{Job}
 use Rattle.delivery_token.specs.declared.Refusal.{Refusal}
-use Rattle.delivery_token.specs.declared.Refusal.TheVariants.{Full, NoMemory}
+use Rattle.delivery_token.specs.declared.Refusal.TheVariants.{Full, NoMemory, Shut}
 use Rattle.delivery_token.specs.declared.Verdict.TheVariants.{Refused}
 use Rattle.delivery_token.specs.declared.log.Noted.{Noted}
 use Rattle.delivery_token.specs.Book.{Book}
 use Rattle.shard_queue.specs.Waits.{Waits}
 use Rattle.shard_queue.specs.declared.lane.Entry.{Entry}
 use Rattle.shard_queue.specs.declared.lane.Entry.TheVariants.{Item, End}
-use Rattle.world.specs.World.{Config, World, Steps, Put, PutStep, MayPut, put_joins, put_full, put_no_memory, puts, hears, reply_to, EntryBelow}
-use Rattle.delivery_core.specs.Held.{Held}
+use Rattle.world.specs.World.{Config, World, Steps, Put, PutStep, MayPut, put_joins, put_full, put_no_memory, put_shut, puts, hears, reply_to, EntryBelow}
+use Rattle.delivery_core.specs.Held.{Held, is_ended, lane_of}
 use Rattle.delivery_core.specs.Stands.{EachAt, StandsFor, IsNext}
 use Rattle.shard_queue.specs.Plain.{StandsForLane}
-use Rattle.delivery_core.specs.inner.Puts.{LanePuts, joins, has_no_room, has_no_memory}
-use Rattle.delivery_core.proofs.Follow.{each_here, each_set, each_but, reached_step, set_back}
+use Rattle.delivery_core.specs.inner.Puts.{LanePuts, joins, has_no_room, has_no_memory, is_over}
+use Rattle.delivery_core.proofs.Follow.{each_here, each_set, each_but, get_or-any, reached_step, set_back}
 use Rattle.shard_queue.proofs.PlainLaws.{lane_put}
 
 below_trans : (x y z : CopyKey) → Below x y → Below y z → Below x z
@@ -46,20 +47,22 @@ least_past : (y key : CopyKey) → AtLeast y key → AtLeast y (past key)
 least_past y key (inl e) = inr (subst (λ x. Below x (past key)) (sym e) (past_above key))
 least_past y key (inr b) = inr (below_trans y key (past key) b (past_above key))
 
-pub may_put : (k : Config) (w : World) (old : Held) (s : ℕ) (c : Job) (l : Waits Job) → StandsFor k old w
-    → s < length old.lanes → l ≡ get_or old.lanes s l → get_or l.live c.key.seat false ≡ true → c.key.seat < length old.replies
+-- where it is not over for the seat on a lane, neither is it in the world
+live_there : (k : Config) (w : World) (s p : ℕ) (l : Waits Job) → StandsForLane k.seats k.depth l (w.lane s) → p < k.seats → get_or l.live p false ≡ true → IsLive (w.lane s) p
+live_there k w s p l was inp live = was.live p false (omega (arith, was.producers)) ∙ ap not live
+
+pub may_put : (k : Config) (w : World) (old : Held) (s : ℕ) (c : Job) → StandsFor k old w
+    → s < length old.lanes → c.key.seat < length old.replies
     → AtLeast (get_or old.next c.key.seat c.key) c.key → c.mailbox < length old.boxes → s ≡ c.mailbox % length old.lanes → MayPut k w c.key.seat s c
-may_put k w old s c l S ins there live inp least box shard =
+may_put k w old s c S ins inp least box shard =
     let p : ℕ = c.key.seat in
     let y : CopyKey = get_or old.next p c.key in
     let n : IsNext w p y = S.next p c.key (omega (arith, S.nexts, S.seats)) in
-    let was : StandsForLane k.seats k.depth l (w.lane s) = rw there (S.lanes s l ins) in
     record {
       seat = omega (arith, S.seats);
       own = refl;
       mailbox = omega (arith, S.mailboxes);
       shard = (omega (arith, S.shards), sym (shard ∙ ap (λ m. c.mailbox % m) S.shards));
-      live = was.live p false (omega (arith, was.producers, S.seats)) ∙ ap not live;
       above_sent = λ t. All-weaker (EntryBelow y) (EntryBelow c.key) (entry_least y c.key least) ((w.lane t).sent p) (n.sent t);
       above_heard = All-weaker (λ r. Below r.key y) (λ r. Below r.key c.key) (λ r h. below_least r.key y c.key h least) (w.heard p) n.heard;
     }
@@ -126,19 +129,20 @@ next_hears w c r ys own all inp least = each_but (λ p y. IsNext w p y) (λ p y.
 
 -- The copy joined.
 pub put_follows : (k : Config) (w : World) (old new : Held) (s : ℕ) (c : Job) (l l2 : Waits Job) (book0 book1 : Book) → StandsFor k old w
-    → s < length old.lanes → l ≡ get_or old.lanes s l → get_or l.live c.key.seat false ≡ true → c.key.seat < length old.replies
+    → s < length old.lanes → l ≡ get_or old.lanes s l → c.key.seat < length old.replies
     → AtLeast (get_or old.next c.key.seat c.key) c.key → c.mailbox < length old.boxes → s ≡ c.mailbox % length old.lanes
     → book0 ≡ get_or old.heard c.key.seat book0 → book1.notes ≡ book0.notes → LanePuts l c.key.seat c l2 None
     → new.lanes ≡ set old.lanes s l2 → new.heard ≡ set old.heard c.key.seat book1 → new.next ≡ set old.next c.key.seat (past c.key)
     → new.hands ≡ old.hands → new.replies ≡ old.replies → new.boxes ≡ old.boxes → new.clients ≡ old.clients
     → (v : World) × Steps k w (Put c.key.seat s c ∷ []) v × StandsFor k new v
-put_follows k w old new s c l l2 book0 book1 S ins there live inp least box shard first kept (has_no_room h e same) lanes heard next hands replies boxes clients = absurd (cc)
-put_follows k w old new s c l l2 book0 book1 S ins there live inp least box shard first kept (has_no_memory room e same) lanes heard next hands replies boxes clients = absurd (cc)
-put_follows k w old new s c l l2 book0 book1 S ins there live inp least box shard first kept (joins room e put_it) lanes heard next hands replies boxes clients =
+put_follows k w old new s c l l2 book0 book1 S ins there inp least box shard first kept (has_no_room live h e same) lanes heard next hands replies boxes clients = absurd (cc)
+put_follows k w old new s c l l2 book0 book1 S ins there inp least box shard first kept (has_no_memory live room e same) lanes heard next hands replies boxes clients = absurd (cc)
+put_follows k w old new s c l l2 book0 book1 S ins there inp least box shard first kept (is_over over e same) lanes heard next hands replies boxes clients = absurd (cc)
+put_follows k w old new s c l l2 book0 book1 S ins there inp least box shard first kept (joins live room e put_it) lanes heard next hands replies boxes clients =
     let p : ℕ = c.key.seat in
     let was : StandsForLane k.seats k.depth l (w.lane s) = rw there (S.lanes s l ins) in
-    let may : MayPut k w p s c = may_put k w old s c l S ins there live inp least box shard in
-    let step : PutStep k w p s c (puts w s (Item p c)) = put_joins may (omega (arith, room, was.capacity, ap length was.waiting)) refl in (
+    let may : MayPut k w p s c = may_put k w old s c S ins inp least box shard in
+    let step : PutStep k w p s c (puts w s (Item p c)) = put_joins may (live_there k w s p l was may.seat live) (omega (arith, room, was.capacity, ap length was.waiting)) refl in (
       puts w s (Item p c),
       (puts w s (Item p c), step, refl),
       record {
@@ -164,14 +168,14 @@ put_follows k w old new s c l l2 book0 book1 S ins there live inp least box shar
 
 -- It was refused, and the seat heard so.
 pub refused_follows : (k : Config) (w : World) (old new : Held) (s : ℕ) (c : Job) (why : Refusal) (l l2 : Waits Job) (book0 book1 book2 book3 : Book) → StandsFor k old w
-    → s < length old.lanes → l ≡ get_or old.lanes s l → get_or l.live c.key.seat false ≡ true → c.key.seat < length old.replies
+    → s < length old.lanes → l ≡ get_or old.lanes s l → c.key.seat < length old.replies
     → AtLeast (get_or old.next c.key.seat c.key) c.key → c.mailbox < length old.boxes → s ≡ c.mailbox % length old.lanes
     → book0 ≡ get_or old.heard c.key.seat book0 → book1.notes ≡ book0.notes → book2 ≡ get_or (set old.heard c.key.seat book1) c.key.seat book2 → book3.notes ≡ book2.notes ++ reply_to c (Refused why) ∷ []
     → LanePuts l c.key.seat c l2 (Some why)
     → new.lanes ≡ set old.lanes s l2 → new.heard ≡ set (set old.heard c.key.seat book1) c.key.seat book3 → new.next ≡ set old.next c.key.seat (past c.key)
     → new.hands ≡ old.hands → new.replies ≡ old.replies → new.boxes ≡ old.boxes → new.clients ≡ old.clients
     → (v : World) × Steps k w (Put c.key.seat s c ∷ []) v × StandsFor k new v
-refused_follows k w old new s c why l l2 book0 book1 book2 book3 S ins there live inp least box shard first kept second noted does lanes heard next hands replies boxes clients = go does
+refused_follows k w old new s c why l l2 book0 book1 book2 book3 S ins there inp least box shard first kept second noted does lanes heard next hands replies boxes clients = go does
   where
     p : ℕ
     p = c.key.seat
@@ -183,7 +187,7 @@ refused_follows k w old new s c why l l2 book0 book1 book2 book3 S ins there liv
     was = rw there (S.lanes s l ins)
 
     may : MayPut k w c.key.seat s c
-    may = may_put k w old s c l S ins there live inp least box shard
+    may = may_put k w old s c S ins inp least box shard
 
     inh : c.key.seat < length old.heard
     inh = omega (arith, S.hearing, S.seats)
@@ -220,6 +224,22 @@ refused_follows k w old new s c why l l2 book0 book1 book2 book3 S ins there liv
     some_same a b e = cc
 
     go : LanePuts l c.key.seat c l2 (Some why) → (v : World) × Steps k w (Put c.key.seat s c ∷ []) v × StandsFor k new v
-    go (joins room e put_it) = absurd (cc)
-    go (has_no_room full e same) = done same (subst (λ x. PutStep k w c.key.seat s c (hears w c.key.seat (reply_to c (Refused x)))) (sym (some_same why Full e)) (put_full may (omega (arith, full, was.capacity, ap length was.waiting)) refl))
-    go (has_no_memory room e same) = done same (subst (λ x. PutStep k w c.key.seat s c (hears w c.key.seat (reply_to c (Refused x)))) (sym (some_same why NoMemory e)) (put_no_memory may (omega (arith, room, was.capacity, ap length was.waiting)) refl))
+    go (joins live room e put_it) = absurd (cc)
+    go (has_no_room live full e same) = done same (subst (λ x. PutStep k w c.key.seat s c (hears w c.key.seat (reply_to c (Refused x)))) (sym (some_same why Full e)) (put_full may (live_there k w s c.key.seat l was may.seat live) (omega (arith, full, was.capacity, ap length was.waiting)) refl))
+    go (has_no_memory live room e same) = done same (subst (λ x. PutStep k w c.key.seat s c (hears w c.key.seat (reply_to c (Refused x)))) (sym (some_same why NoMemory e)) (put_no_memory may (live_there k w s c.key.seat l was may.seat live) (omega (arith, room, was.capacity, ap length was.waiting)) refl))
+    go (is_over over e same) = done same (subst (λ x. PutStep k w c.key.seat s c (hears w c.key.seat (reply_to c (Refused x)))) (sym (some_same why Shut e)) (put_shut may (was.live c.key.seat false (omega (arith, was.producers, may.seat)) ∙ ap not over) refl))
+
+-- It is told as shut exactly where the seat has ended.
+pub shut_tells : (h : Held) (seat s : ℕ) (c : Job) (l l2 : Waits Job) (why : Option Refusal) → s < length h.lanes → l ≡ get_or h.lanes s l → LanePuts l seat c l2 why
+    → (why ≡ Some Shut) ↔ (is_ended seat (lane_of h s) ≡ true)
+shut_tells h seat s c l l2 why ins there does = subst (λ (x : Waits Job). (why ≡ Some Shut) ↔ (is_ended seat x ≡ true)) (there ∙ get_or-any h.lanes s _ _ ins) (go does)
+  where
+    not_both : (b : Bool) → b ≡ true → not b ≡ true → ⊥
+    not_both true live over = cc
+    not_both false live over = cc
+
+    go : LanePuts l seat c l2 why → (why ≡ Some Shut) ↔ (is_ended seat l ≡ true)
+    go (joins live room e put_it) = ((λ f. absurd (cc)), (λ over. absurd (not_both _ live over)))
+    go (has_no_room live full e same) = ((λ f. absurd (cc)), (λ over. absurd (not_both _ live over)))
+    go (has_no_memory live room e same) = ((λ f. absurd (cc)), (λ over. absurd (not_both _ live over)))
+    go (is_over over e same) = ((λ f. ap not over), (λ f. e))

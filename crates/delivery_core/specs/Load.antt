@@ -1,5 +1,5 @@
--- How much is left to do: each take, delivery, answer and hearing makes it less, so that they come to an end.
-use Rattle.std.specs.Prelude.{ℕ, ◌+◌, length, sum_by}
+-- How much is left to do: each take, delivery, answer, hearing and end makes it less, so that they come to an end.
+use Rattle.std.specs.Prelude.{ℕ, ◌+◌, Bool, true, false, length, sum_by}
 use Rattle.delivery_token.specs.declared.Job.{Job}
 use Rattle.delivery_token.specs.declared.log.Noted.{Noted}
 use Rattle.shard_queue.specs.Waits.{Waits}
@@ -20,8 +20,13 @@ hand_load Empty = 0
 hand_load (Taken c) = 3
 hand_load (Done r) = 2
 
+-- a seat that may still put its end into a lane is to put it, and then it is to be taken
+abbrev pub end_load : Bool → ℕ
+end_load true = 2
+end_load false = 0
+
 abbrev pub lane_load : Waits Job → ℕ
-lane_load l = sum_by entry_load l.waiting
+lane_load l = sum_by entry_load l.waiting + sum_by end_load l.live
 
 -- a verdict that waits is to be heard
 abbrev pub reply_load : Waits Noted → ℕ

@@ -1,12 +1,12 @@
 //! Lanes, hands, reply lanes, heard verdicts and mailboxes, on one thread. Each call is one event of
 //! the world. No connection, no session and no output stands here.
 
-ghost use Rattle.std.specs.Prelude.{max, replicate, None, ◌≡◌, ℕ, ◌⊎◌, ◌%◌, ◌+◌, ◌++◌, ◌<◌, ◌≤◌, ◌↔◌, [], ◌∷◌, length, OnOk, OnErr, Err, IfOk, IfSome, IsSome, IsTrue, option_map, slice_index_or, slice_set};
+ghost use Rattle.std.specs.Prelude.{max, replicate, Some, None, true, ◌≡◌, ℕ, ◌⊎◌, ◌%◌, ◌+◌, ◌++◌, ◌<◌, ◌≤◌, ◌↔◌, [], ◌∷◌, length, OnOk, OnErr, Err, IfOk, IfSome, IsSome, IsTrue, option_map, slice_index_or, slice_set};
 ghost use Rattle.world.specs.World.{Answer, Box, Config, Deliver, Hear, Put, PutEnd, Take, empty_world, in_hand};
-ghost use Rattle.shard_queue.specs.Plain.{MayPutMore, taken_entry};
+ghost use Rattle.shard_queue.specs.Plain.{taken_entry};
 ghost use Rattle.delivery_core.specs.Changes.{CannotEnd, Ends, Hears, SameCounts};
 ghost use Rattle.delivery_token.specs.Log.{heard_at_once};
-ghost use Rattle.delivery_core.specs.Held.{has_ended, is_ended};
+ghost use Rattle.delivery_core.specs.Held.{has_ended, is_ended, lane_of};
 ghost use Rattle.delivery_core.specs.Load.{load};
 ghost use Rattle.delivery_core.specs.Seated.{cursors_of};
 ghost use Rattle.delivery_core.specs.Puts.{IsNextKey};
@@ -108,7 +108,8 @@ fn hand_of(taken: Taken<Job>) -> Option<Hand>
     }
 }
 
-// Puts a copy of its own into a lane. No copy is made for a lane that is full.
+// Puts a copy of its own into a lane. None is made for a lane into which its seat has put its end, nor
+// for one that is full.
 fn put_in(
     lane: &mut PlainLane<Job>,
     key: CopyKey,
@@ -116,9 +117,11 @@ fn put_in(
     text: &Text,
     flags: Flags,
 ) -> Option<Refusal>
-    requires { MayPutMore lane.old.live key.seat }
     ensures { LanePuts lane.old key.seat (record { key = key; mailbox = mailbox; text = text.now; flags = flags }) lane.new result }
 {
+    if !lane.is_live(key.seat) {
+        return Some(Refusal::Shut);
+    }
     if lane.is_full() {
         return Some(Refusal::Full);
     }
@@ -206,11 +209,11 @@ impl DeliveryCore {
     }
 
     /// A seat puts a copy with these flags, and with a text of its own, into the lane of its mailbox's shard: None where
-    /// it joined. Where it was refused, as Full or for want of memory, the seat has heard so, and it
-    /// is told why. Either way the key is used up.
+    /// it joined. Where it was refused, the seat has heard so, the lane is as it was, and it is told
+    /// why: as Shut where the seat has put its end into that lane, or else as Full where the lane is,
+    /// or for want of memory. Either way the key is used up.
     ///
-    /// Nothing where the seat has put its end into that lane, and NoMemory where its log has no room
-    /// for the note of a refusal and gets none.
+    /// NoMemory where its log has no room for the note of a refusal and gets none.
     pub fn put(
         &mut self,
         key: CopyKey,
@@ -227,7 +230,8 @@ impl DeliveryCore {
         ensures next { OnOk result (self.new.next ≡ slice_set self.old.next key.seat (past key)) }
         ensures somebody { result ≡ Err Fault.Nobody → ⊥ }
         ensures memory { result ≡ Err Fault.NoMemory → (d : Book) → (slice_index_or self.old.heard key.seat d).spare ≡ 0 }
-        ensures idle { result ≡ Err Fault.Nothing → (k : Config) → Idle k self.old (Put key.seat (mailbox % length self.old.lanes) (record { key = key; mailbox = mailbox; text = text.now; flags = flags })) }
+        ensures nothing_left { result ≡ Err Fault.Nothing → ⊥ }
+        ensures shut { IfOk result (λ why. (why ≡ Some Refusal.Shut) ↔ (is_ended key.seat (lane_of self.old (mailbox % length self.old.lanes)) ≡ true)) }
         ensures heard { IfOk result (λ why. Hears self.old self.new key.seat (heard_at_once key mailbox why)) }
         ensures boxes { self.new.boxes ≡ self.old.boxes }
         ensures clients { self.new.clients ≡ self.old.clients }
@@ -237,9 +241,6 @@ impl DeliveryCore {
     {
         let seat = usize::from(key.seat);
         let shard = usize::from(mailbox) % self.lanes.len();
-        if !self.lanes[shard].is_live(key.seat) {
-            return Err(Fault::Nothing);
-        }
         if self.heard[seat].reserve(1).is_err() {
             return Err(Fault::NoMemory);
         }
@@ -286,7 +287,7 @@ impl DeliveryCore {
         ensures boxes { self.new.boxes ≡ self.old.boxes }
         ensures clients { self.new.clients ≡ self.old.clients }
         ensures counts { SameCounts self.old self.new }
-        ensures load { OnOk result (load self.new ≡ load self.old + 1) }
+        ensures load { OnOk result (load self.new < load self.old) }
         ensures refused { OnErr result (self.new ≡ self.old) }
     {
         let at = usize::from(shard);

@@ -57,10 +57,15 @@ const KEY: CopyKey = CopyKey {
     recipient: 0,
 };
 
+// The other seat's key.
+const OTHER: CopyKey = CopyKey { seat: 1, ..KEY };
+
 // A call, and what it is to answer.
 enum Act {
-    // The copy of "hi" for this recipient goes to this mailbox's lane.
-    Put(u8, u8, Result<Option<Refusal>, Fault>),
+    // This seat's copy of "hi" for this recipient goes to this mailbox's lane.
+    Put(u8, u8, u8, Result<Option<Refusal>, Fault>),
+    // Whether it may.
+    MayPut(u8, u8, u8, bool),
     // The shard of this number does so.
     Take(u8, Result<(), Fault>),
     Deliver(u8, Result<(), Fault>),
@@ -91,15 +96,22 @@ enum Act {
     Lines(&'static [u8]),
 }
 
+fn key_of(seat: u8, recipient: u8) -> CopyKey {
+    CopyKey {
+        seat,
+        recipient,
+        ..KEY
+    }
+}
+
 fn puts(
     alloc: Global,
     core: &mut DeliveryCore,
-    recipient: u8,
+    key: CopyKey,
     mailbox: u8,
     wanted: Result<Option<Refusal>, Fault>,
 ) -> Result<bool, AllocError> {
     let text = Text::new(Vec::from_slice(alloc, b"hi\r\n")?)?;
-    let key = CopyKey { recipient, ..KEY };
     Ok(core.may_put(key, mailbox) && core.put(key, mailbox, &text, NO_FLAGS) == wanted)
 }
 
@@ -110,7 +122,7 @@ fn arrives(
     recipient: u8,
     mailbox: u8,
 ) -> Result<bool, AllocError> {
-    let put = puts(alloc, core, recipient, mailbox, Ok(None))?;
+    let put = puts(alloc, core, key_of(0, recipient), mailbox, Ok(None))?;
     let taken = core.take(0).is_ok();
     let delivered = core.deliver(0).is_ok();
     let answered = core.answer(0).is_ok();
@@ -135,7 +147,12 @@ fn has_accepted(core: &DeliveryCore, mailbox: u8, wanted: Option<&[(CopyKey, u32
 // Whether a call of a lane or of a mailbox answers as it should.
 fn moves(alloc: Global, core: &mut DeliveryCore, act: &Act) -> Result<bool, AllocError> {
     match act {
-        Act::Put(recipient, mailbox, wanted) => puts(alloc, core, *recipient, *mailbox, *wanted),
+        Act::Put(seat, recipient, mailbox, wanted) => {
+            puts(alloc, core, key_of(*seat, *recipient), *mailbox, *wanted)
+        }
+        Act::MayPut(seat, recipient, mailbox, wanted) => {
+            Ok(core.may_put(key_of(*seat, *recipient), *mailbox) == *wanted)
+        }
         Act::Take(shard, wanted) => Ok(core.take(*shard) == *wanted),
         Act::Deliver(shard, wanted) => Ok(core.deliver(*shard) == *wanted),
         Act::Answer(shard, wanted) => Ok(core.answer(*shard) == *wanted),
@@ -217,7 +234,7 @@ fn play(alloc: Global, settings: Settings, acts: &[Act]) -> Result<Option<usize>
 }
 
 const ONE_COPY: &[Act] = &[
-    Act::Put(0, 1, Ok(None)),
+    Act::Put(0, 0, 1, Ok(None)),
     Act::Hear(0, Err(Fault::Nothing)),
     Act::Deliver(0, Err(Fault::Nothing)),
     Act::Take(0, Ok(())),
@@ -247,13 +264,75 @@ const ENDED: &[Act] = &[
     Act::Take(1, Err(Fault::Nobody)),
     Act::End(0, 0, Ok(())),
     Act::End(0, 0, Err(Fault::Nothing)),
-    Act::Put(0, 1, Err(Fault::Nothing)),
+    Act::Put(0, 0, 1, Ok(Some(Refusal::Shut))),
+    Act::MayPut(0, 0, 1, false),
+    Act::MayPut(0, 1, 1, true),
     Act::Take(0, Ok(())),
+    // Its end was taken: it has ended all the same.
+    Act::Put(0, 1, 1, Ok(Some(Refusal::Shut))),
+    Act::Take(0, Err(Fault::Nothing)),
 ];
 
 #[test]
 fn a_seat_that_ended_puts_nothing_more(rt: HostRuntime) -> Result<(), AllocError> {
     assert_eq!(rt; play(rt.alloc(), TWO_SEATS, ENDED)?, None);
+    Ok(())
+}
+
+const CLOSING: &[Act] = &[
+    Act::Put(0, 0, 1, Ok(None)),
+    Act::End(0, 0, Ok(())),
+    // The lane is full as well: whose end is there hears of that first, and the other hears that it is full.
+    Act::Put(0, 1, 1, Ok(Some(Refusal::Shut))),
+    Act::Put(1, 0, 1, Ok(Some(Refusal::Full))),
+    Act::Take(0, Ok(())),
+    Act::Put(0, 2, 1, Ok(Some(Refusal::Shut))),
+    Act::Put(1, 1, 1, Ok(None)),
+    Act::Deliver(0, Ok(())),
+    Act::Answer(0, Ok(())),
+    Act::Hear(
+        0,
+        Ok(Noted {
+            key: KEY,
+            mailbox: 1,
+            verdict: Verdict::Stored { uid: 1 },
+        }),
+    ),
+    // Its end.
+    Act::Take(0, Ok(())),
+    Act::Deliver(0, Err(Fault::Nothing)),
+    Act::Take(0, Ok(())),
+    Act::Deliver(0, Ok(())),
+    Act::Answer(0, Ok(())),
+    Act::Hear(
+        1,
+        Ok(Noted {
+            key: CopyKey {
+                recipient: 1,
+                ..OTHER
+            },
+            mailbox: 1,
+            verdict: Verdict::Stored { uid: 2 },
+        }),
+    ),
+    Act::Accepted(
+        1,
+        Some(&[
+            (KEY, 1),
+            (
+                CopyKey {
+                    recipient: 1,
+                    ..OTHER
+                },
+                2,
+            ),
+        ]),
+    ),
+];
+
+#[test]
+fn a_lane_that_one_seat_shut_delivers_what_waits(rt: HostRuntime) -> Result<(), AllocError> {
+    assert_eq!(rt; play(rt.alloc(), TWO_SEATS, CLOSING)?, None);
     Ok(())
 }
 

@@ -169,6 +169,11 @@ const DIALOGUES: &[Dialogue] = &[
         replied: b"250 2.1.0 Sender OK\r\n250 2.1.5 Recipient OK\r\n354 Start mail input\r\n554 5.2.0 No UID left\r\n",
         ..FULL
     },
+    Dialogue {
+        first: Verdict::Refused(Refusal::Shut),
+        replied: b"250 2.1.0 Sender OK\r\n250 2.1.5 Recipient OK\r\n354 Start mail input\r\n450 4.2.1 Shard closed\r\n",
+        ..FULL
+    },
 ];
 
 // Whether the replies are those wanted, no byte less or more.

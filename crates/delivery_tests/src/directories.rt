@@ -1,12 +1,16 @@
 //! A directory by its worked cases: which mailbox a path names, the numbers of words, and the fault of
 //! each directory that isn't one.
 
+ghost use Rattle.std.specs.Prelude.{◌≡◌, IfOk};
+
 use envelope::{Directory, DirectoryFault, ForwardPath, Mailbox, NoSuch, is_name};
 use std::alloc::Global;
 
 const DOMAINS: &[&[u8]] = &[b"example.org"];
 
-fn house(alloc: Global) -> Result<Directory, DirectoryFault> {
+fn house(alloc: Global) -> Result<Directory, DirectoryFault>
+    ensures shards { IfOk result (λ d. d.shards ≡ 2) }
+{
     let words = [
         b"alice".as_slice(),
         b"alice/Work".as_slice(),
@@ -45,6 +49,32 @@ fn paths_are_looked_up(rt: HostRuntime) -> Result<(), DirectoryFault> {
         assert_eq!(rt; found, [*want, Err(NoSuch::System)]);
     }
     assert_eq!(rt; directory.lookup(ForwardPath::Postmaster), Ok(2));
+    Ok(())
+}
+
+#[test]
+fn a_shard_is_shut_for_good(rt: HostRuntime) -> Result<(), DirectoryFault> {
+    let mut directory = house(rt.alloc())?;
+    assert!(rt; !directory.is_shut(0) && !directory.is_shut(1));
+    directory.shut(1);
+    assert!(rt; !directory.is_shut(0) && directory.is_shut(1) && !directory.is_shut(2));
+    directory.shut(1);
+    assert!(rt; directory.is_shut(1));
+    assert_eq!(rt; at(&directory, b"alice+work", b"example.org"), Ok(1));
+    assert_eq!(rt; directory.shard_of(1), 1);
+    Ok(())
+}
+
+#[test]
+fn a_copy_has_marks_of_its_own(rt: HostRuntime) -> Result<(), DirectoryFault> {
+    let mut directory = house(rt.alloc())?;
+    directory.shut(0);
+    let mut copy = directory.copy(rt.alloc())?;
+    copy.shut(1);
+    assert!(rt; directory.is_shut(0) && !directory.is_shut(1));
+    assert!(rt; copy.is_shut(0) && copy.is_shut(1));
+    assert_eq!(rt; at(&copy, b"alice+work", b"EXAMPLE.org"), Ok(1));
+    assert_eq!(rt; (copy.mailboxes(), copy.shards()), (3, 2));
     Ok(())
 }
 

@@ -96,6 +96,8 @@ pub enum Refusal {
     NoMemory,
     /// The mailbox has no UID left.
     UidSpent,
+    /// Its seat has put its end into the queue of the shard, which is being closed.
+    Shut,
 }
 
 /// What became of a copy.

@@ -1,5 +1,5 @@
 -- Which mailbox a path names.
-use Rattle.std.specs.Prelude.{ℕ, Bool, true, false, codes, List, [], ◌∷◌, drop, Option, Some, None, Result, Err, ◌==◌, ◌&&◌, ◌%◌, if◌then◌else◌, position}
+use Rattle.std.specs.Prelude.{ℕ, Bool, true, false, codes, List, [], ◌∷◌, drop, Option, Some, None, Result, Err, ◌==◌, ◌&&◌, ◌%◌, if◌then◌else◌, position, replicate, slice_index_or}
 use Rattle.std.specs.List.{list_any, before_first, after_first}
 use Rattle.std.specs.Option.{ok_or}
 use Rattle.std.specs.Str.{str_eq_ignore_ascii_case as is_same}
@@ -12,11 +12,12 @@ pub record Home : Type 0 where
   pub user : List ℕ
   pub folder : Option (List ℕ)
 
--- mailboxes are numbered in their order
+-- Mailboxes are numbered in their order. Of each shard there is a mark whether it is shut: mail for its mailboxes is taken no more.
 pub record Directory : Type 0 where
   pub domains : List (List ℕ)
   pub homes : List Home
   pub shards : ℕ
+  pub shut : List Bool
 
 -- ---- what a local part says
 
@@ -74,3 +75,17 @@ lookup directory (To address) =
 
 abbrev pub shard_of : Directory → ℕ → ℕ
 shard_of directory mailbox = mailbox % directory.shards
+
+-- ---- shards that are shut
+
+-- whether the shard is marked as shut; one that isn't there is not
+abbrev pub is_shut : Directory → ℕ → Bool
+is_shut directory shard = slice_index_or directory.shut shard false
+
+-- the directory with these marks, and as it was else
+abbrev pub marked : List Bool → Directory → Directory
+marked shut directory = record directory { shut = shut }
+
+-- no shard is shut
+abbrev pub none_shut : ℕ → List Bool
+none_shut shards = replicate shards false

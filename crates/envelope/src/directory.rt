@@ -1,13 +1,13 @@
-//! The directory of mailboxes: which mailbox a path names, and which shard keeps it.
-//! It is made once, from words, and only read afterwards.
+//! The directory of mailboxes: which mailbox a path names, which shard keeps it, and which shards are shut.
+//! It is made once, from words. Only the marks of its shards change afterwards.
 
-ghost use Rattle.std.specs.Prelude.{◌≡◌, ◌<◌, ◌≤◌, ℕ, map, length, IfOk, IfErr, IfSome, IsOk, IsOkUnless, List, Ok, Err, position, slice_get};
+ghost use Rattle.std.specs.Prelude.{◌≡◌, ◌<◌, ◌≤◌, ℕ, map, length, IfOk, IfErr, IfSome, IsOk, IsOkUnless, List, Ok, Err, position, slice_get, slice_set, true};
 ghost use Rattle.std.specs.Option.{option_copied};
 ghost use Rattle.std.specs.List.{list_any, list_all};
 ghost use Rattle.std.specs.Result.{result_err};
 ghost use Rattle.std.specs.Str.{str_eq_ignore_ascii_case as is_same};
 ghost use Rattle.envelope.specs.Values.{forward_path};
-ghost use Rattle.envelope.specs.Directory.{is_home, wanted, numbered, lookup, shard_of};
+ghost use Rattle.envelope.specs.Directory.{is_home, is_shut, marked, none_shut, wanted, numbered, lookup, shard_of};
 ghost use Rattle.envelope.specs.Names.{is_name, texts, home_of, is_exactly, words_read, number_of};
 ghost use Rattle.envelope.specs.LocalPart.{value_left};
 ghost use Rattle.envelope.specs.Word.{word_home};
@@ -82,6 +82,12 @@ impl StoredName {
     {
         self.bytes.as_slice()
     }
+
+    fn copy(&self, alloc: Global) -> Result<StoredName, AllocError>
+        ensures { IfOk result (λ n. n ≡ self.now) }
+    {
+        StoredName::new(alloc, self.as_bytes())
+    }
 }
 
 /// A mailbox: a user's folder, or with none the user's INBOX.
@@ -108,6 +114,17 @@ impl StoredHome {
         let folder = match word.folder {
             None => None,
             Some(folder) => Some(StoredName::new(alloc, folder)?),
+        };
+        Ok(StoredHome { user, folder })
+    }
+
+    fn copy(&self, alloc: Global) -> Result<StoredHome, AllocError>
+        ensures { IfOk result (λ home. home ≡ self.now) }
+    {
+        let user = self.user.copy(alloc)?;
+        let folder = match &self.folder {
+            None => None,
+            Some(folder) => Some(folder.copy(alloc)?),
         };
         Ok(StoredHome { user, folder })
     }
@@ -184,6 +201,26 @@ fn stored_homes(alloc: Global, words: &[&[u8]]) -> Result<Vec<StoredHome>, Alloc
     Ok(stored)
 }
 
+fn copied_names(alloc: Global, names: &[StoredName]) -> Result<Vec<StoredName>, AllocError>
+    ensures { IfOk result (λ v. v.items ≡ names.now) }
+{
+    let mut copied = Vec::new(alloc);
+    for name in names {
+        copied.push(name.copy(alloc)?)?;
+    }
+    Ok(copied)
+}
+
+fn copied_homes(alloc: Global, homes: &[StoredHome]) -> Result<Vec<StoredHome>, AllocError>
+    ensures { IfOk result (λ v. v.items ≡ homes.now) }
+{
+    let mut copied = Vec::new(alloc);
+    for home in homes {
+        copied.push(home.copy(alloc)?)?;
+    }
+    Ok(copied)
+}
+
 fn place_of_wanted(homes: &[StoredHome], value: LocalValue<'_>) -> Option<usize>
     ensures value { result ≡ position (is_home (wanted (value_left value.entry))) homes.now }
     ensures within { IfSome result (λ n. n < length homes.now) }
@@ -205,17 +242,19 @@ pub struct Directory {
     domains: Vec<StoredName>,
     homes: Vec<StoredHome>,
     shards: u8,
+    // Of each shard, whether it is shut.
+    shut: Vec<bool>,
 }
 
 impl Model for Directory {
-    ghost use Rattle.std.specs.Prelude.{◌<◌, ◌≤◌, vec_len};
+    ghost use Rattle.std.specs.Prelude.{◌≡◌, ◌<◌, ◌≤◌, vec_len};
     ghost use Rattle.envelope.specs.Directory.{Directory};
 
     ghost Value = { Directory };
 
-    ghost view = { λ d. record { domains = d.domains.items; homes = d.homes.items; shards = d.shards } };
+    ghost view = { λ d. record { domains = d.domains.items; homes = d.homes.items; shards = d.shards; shut = d.shut.items } };
 
-    ghost invariant = { λ d. (0 < d.shards) × (vec_len d.homes ≤ 64) };
+    ghost invariant = { λ d. (0 < d.shards) × (vec_len d.homes ≤ 64) × (vec_len d.shut ≡ d.shards) };
 }
 
 impl Directory {
@@ -236,6 +275,7 @@ impl Directory {
         ensures homes { IfOk result (λ d. words_read (texts domains.now) (texts mailboxes.now) ≡ Ok d.homes) }
         ensures domains { IfOk result (λ d. d.domains ≡ texts domains.now) }
         ensures shards { IfOk result (λ d. d.shards ≡ shards) }
+        ensures shut { IfOk result (λ d. d.shut ≡ none_shut shards) }
         ensures fault { IfErr (words_read (texts domains.now) (texts mailboxes.now)) (λ fault. result ≡ Err fault) }
         // Where nothing is wrong with the names.
         ensures made { IsOk (words_read (texts domains.now) (texts mailboxes.now)) → IsOkUnless result DirectoryFault.NoMemory }
@@ -245,10 +285,12 @@ impl Directory {
         }
         let domains = stored_names(alloc, domains)?;
         let homes = stored_homes(alloc, mailboxes)?;
+        let shut = Vec::from_elem(alloc, false, usize::from(shards))?;
         Ok(Directory {
             domains,
             homes,
             shards,
+            shut,
         })
     }
 
@@ -346,5 +388,42 @@ impl Directory {
         ensures within { result < self.now.shards }
     {
         usize::from(mailbox % self.shards)
+    }
+
+    /// A directory of its own with the same mailboxes and the same marks: a mark that is made in one of
+    /// them later is none in the other. The only error is that memory is refused.
+    pub fn copy(&self, alloc: Global) -> Result<Directory, AllocError>
+        ensures same { IfOk result (λ d. d ≡ self.now) }
+        // Each of its shards has a mark.
+        ensures marks { IfOk result (λ d. length d.shut ≡ d.shards) }
+    {
+        let domains = copied_names(alloc, &self.domains)?;
+        let homes = copied_homes(alloc, &self.homes)?;
+        let shut = Vec::from_slice(alloc, &self.shut)?;
+        Ok(Directory {
+            domains,
+            homes,
+            shards: self.shards,
+            shut,
+        })
+    }
+
+    /// Marks a shard as shut, for good: mail for its mailboxes is to be taken no more. Takes no
+    /// memory, and all else stays as it is.
+    pub fn shut(&mut self, shard: u8)
+        requires { shard < self.old.shards }
+        ensures { self.new ≡ marked (slice_set self.old.shut shard true) self.old }
+    {
+        self.shut[usize::from(shard)] = true;
+    }
+
+    /// Whether a shard is marked as shut; one that isn't there is not.
+    pub fn is_shut(&self, shard: usize) -> bool
+        ensures { result ≡ is_shut self.now shard }
+    {
+        match self.shut.get(shard) {
+            Some(shut) => *shut,
+            None => false,
+        }
     }
 }

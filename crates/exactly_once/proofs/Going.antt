@@ -30,9 +30,9 @@ use Rattle.imap_session.specs.Exchange as calls
 use Rattle.imap_session.specs.Store.{Met}
 use Rattle.session_store.specs.Meets.{Meets}
 use Rattle.house.specs.declared.event.Event.{Event}
-use Rattle.house.specs.declared.event.Event.TheVariants.{Bytes, Vanish, Put, Take, Deliver, Answer, Hear, End, Enter, Say, Idle, Leave}
+use Rattle.house.specs.declared.event.Event.TheVariants.{Bytes, Vanish, Put, Take, Deliver, Answer, Hear, End, Close, Enter, Say, Idle, Leave}
 use Rattle.house.specs.Scene as scene
-use Rattle.house.specs.Scene.{BytesPlay, ConnectionHears, ConnectionPuts, EnterPlay, HearPlay, IdlePlay, LeavePlay, LeavesMailbox, Lingers, Moves, Parts, Plays, PutPlay, SayPlay, Scene, SessionGoes, SessionHears, SessionPuts, SessionTalks, VanishPlay, connection_hears, connection_puts, empty_scene, fades, goes_on, opens, parts, place_of, remains, seat_of, session_hears, session_puts, waits}
+use Rattle.house.specs.Scene.{BytesPlay, ClosePlay, ConnectionHears, ConnectionPuts, EnterPlay, HearPlay, IdlePlay, LeavePlay, LeavesMailbox, Lingers, Moves, Parts, Plays, PutPlay, SayPlay, Scene, SessionGoes, SessionHears, SessionPuts, SessionTalks, VanishPlay, connection_hears, connection_puts, empty_scene, fades, goes_on, opens, parts, place_of, remains, seat_of, session_hears, session_puts, waits}
 use Rattle.house.specs.Settling.{Happened}
 use Rattle.imap_session.specs.Commands.{greeting}
 use Rattle.exactly_once.specs.Promise.{HearsItsOwn, HearsLines, PutsLines, serial_of, Said, Piece, Replies, Lines, Silence, text_of, IsOwn, Entry, IsRecord, told_in, verdicts_of, TellsOnce, NoneTwice, ExactlyOnce}
@@ -89,7 +89,7 @@ seat_stays k told s v seat next ok r l =
 -- the connection at a seat went on in a world that may have moved
 caller_did : (k : Setup) (told : ℕ → List Noted) (s : Scene) (e : Event) (v : World) (seat : ℕ) (o : Option HouseConnection) (next : ℕ → ℕ) (printed : List ℕ) → SceneOk k told s → Reached k.config s.world v
     → ((t : Scene) (said : List Said) → HearsItsOwn s seat said → IsOwn k s e t (Replies seat said)) → ((j : ℕ) → s.next j ≤ next j) → (serial : ℕ) → serial ≡ serial_of (s.next seat) (s.caller seat) → Spoke k seat serial (v.heard seat) (next seat) (told seat) o printed
-    → Did k told s e (record { world = v; caller = set_at s.caller seat o; next = next; visitor = s.visitor; entered = s.entered }) printed
+    → Did k told s e (record { world = v; caller = set_at s.caller seat o; next = next; visitor = s.visitor; entered = s.entered; shut = s.shut }) printed
 caller_did k told s e v seat o next printed ok r own l serial here spoke = record {
   piece = Replies seat spoke.said;
   is = spoke.is;
@@ -105,7 +105,7 @@ caller_did k told s e v seat o next printed ok r own l serial here spoke = recor
 -- the same of who stands at a seat, where it prints nothing
 seat_did : (k : Setup) (told : ℕ → List Noted) (s : Scene) (e : Event) (seat : ℕ) (o : Option HouseConnection) (printed : List ℕ) → SceneOk k told s
     → ConnectionOk k seat (s.world.heard seat) (s.next seat) (told seat) o → printed ≡ []
-    → Did k told s e (record { world = s.world; caller = set_at s.caller seat o; next = s.next; visitor = s.visitor; entered = s.entered }) printed
+    → Did k told s e (record { world = s.world; caller = set_at s.caller seat o; next = s.next; visitor = s.visitor; entered = s.entered; shut = s.shut }) printed
 seat_did k told s e seat o printed ok here is = record {
   piece = Silence;
   is = is;
@@ -130,24 +130,24 @@ one_later f i j = at_cases (λ n. f j ≤ n) f i (f i + 1) j (λ same. rw same (
 
 bytes_did : (k : Setup) (told : ℕ → List Noted) (s : Scene) (e : Event) (seat : ℕ) (piece : List ℕ) (t : Scene) (printed : List ℕ) → ((t : Scene) (said : List Said) → HearsItsOwn s seat said → IsOwn k s e t (Replies seat said))
     → SceneOk k told s → BytesPlay k false s seat piece t printed → Did k told s e t printed
-bytes_did k told s e seat piece t printed own ok (opens there free more not o g after) =
+bytes_did k told s e seat piece t printed own ok (opens there free more o g after) =
     let next = set_at s.next seat (s.next seat + 1) in
     let later : s.next seat + 1 ≡ next seat = sym (set_at-same s.next seat (s.next seat + 1)) in
     let fresh : ConnectionOk k seat (s.world.heard seat) (s.next seat) (told seat) None = subst (ConnectionOk k seat (s.world.heard seat) (s.next seat) (told seat)) free (ok.callers seat) in
     rw after (caller_did k told s e s.world seat o next printed ok (stays k.config s.world s.world refl) own (one_later s.next seat) (s.next seat) (ap (serial_of (s.next seat)) (sym free))
-    (proceeds_spoke k false seat (s.world.heard seat) (next seat) (told seat) (more_waits (greeted (terms_of k) seat (s.next seat)) piece) o printed
-    (greeted_talking k seat (s.next seat) (s.world.heard seat) (told seat) (next seat) (omega (arith, later)) fresh) g))
+    (proceeds_spoke k s.shut false seat (s.world.heard seat) (next seat) (told seat) (more_waits (greeted (terms_of k s.shut) seat (s.next seat)) piece) o printed
+    (greeted_talking k s.shut seat (s.next seat) (s.world.heard seat) (told seat) (next seat) (omega (arith, later)) fresh) g))
 bytes_did k told s e seat piece t printed own ok (goes_on b there read o g after) =
     let r = stays k.config s.world s.world refl in
     rw after (caller_did k told s e s.world seat o s.next printed ok r own (λ j. omega arith) b.serial (ap (serial_of (s.next seat)) (sym there))
-    (proceeds_spoke k false seat (s.world.heard seat) (s.next seat) (told seat) (more_waits b piece) o printed (at_seat k told s s.world seat b ok r there) g))
+    (proceeds_spoke k s.shut false seat (s.world.heard seat) (s.next seat) (told seat) (more_waits b piece) o printed (at_seat k told s s.world seat b ok r there) g))
 
 connection_put_did : (k : Setup) (told : ℕ → List Noted) (s : Scene) (e : Event) (seat : ℕ) (t : Scene) (printed : List ℕ) → ((t : Scene) (said : List Said) → HearsItsOwn s seat said → IsOwn k s e t (Replies seat said))
     → SceneOk k told s → ConnectionPuts k false s seat t printed → Did k told s e t printed
 connection_put_did k told s e seat t printed own ok p =
     let r = moves k.config s.world p.moved (world.Put seat (world.shard_of k.config p.copy.mailbox) p.copy) p.step in
     rw p.after (caller_did k told s e p.moved seat p.left s.next printed ok r own (λ j. omega arith) p.caller.serial (ap (serial_of (s.next seat)) (sym p.there))
-    (proceeds_spoke k false seat (p.moved.heard seat) (s.next seat) (told seat) (record { serial = p.caller.serial; gone = p.caller.gone; talk = p.caller.talk; to_put = p.others }) p.left printed
+    (proceeds_spoke k s.shut false seat (p.moved.heard seat) (s.next seat) (told seat) (record { serial = p.caller.serial; gone = p.caller.gone; talk = p.caller.talk; to_put = p.others }) p.left printed
     (at_seat k told s p.moved seat p.caller ok r p.there) p.goes))
 
 connection_hear_did : (k : Setup) (told : ℕ → List Noted) (s : Scene) (e : Event) (seat : ℕ) (t : Scene) (printed : List ℕ) → ((t : Scene) (said : List Said) → HearsItsOwn s seat said → IsOwn k s e t (Replies seat said))
@@ -155,20 +155,20 @@ connection_hear_did : (k : Setup) (told : ℕ → List Noted) (s : Scene) (e : E
 connection_hear_did k told s e seat t printed own ok p =
     let r = moves k.config s.world p.moved (world.Hear seat) p.step in
     rw p.after (caller_did k told s e p.moved seat p.left s.next printed ok r own (λ j. omega arith) p.caller.serial (ap (serial_of (s.next seat)) (sym p.there))
-    (proceeds_spoke k false seat (p.moved.heard seat) (s.next seat) (told seat) p.caller p.left printed (at_seat k told s p.moved seat p.caller ok r p.there) p.goes))
+    (proceeds_spoke k s.shut false seat (p.moved.heard seat) (s.next seat) (told seat) p.caller p.left printed (at_seat k told s p.moved seat p.caller ok r p.there) p.goes))
 
 vanish_did : (k : Setup) (told : ℕ → List Noted) (s : Scene) (e : Event) (seat : ℕ) (t : Scene) (printed : List ℕ)
     → SceneOk k told s → VanishPlay k false s seat t printed → Did k told s e t printed
 vanish_did k told s e seat t printed ok p =
     let here = at_seat k told s s.world seat p.caller ok (stays k.config s.world s.world refl) p.there in
-    let u = unread_silent k false seat (s.world.heard seat) (s.next seat) (told seat) p.caller p.left printed here p.goes in
+    let u = unread_silent k s.shut false seat (s.world.heard seat) (s.next seat) (told seat) p.caller p.left printed here p.goes in
     rw p.after (seat_did k told s e seat p.left printed ok u.0 u.1)
 
 -- ---- what no connection says
 
 -- what is left of the callers where none of them did anything, and of the visitors
 nobody_spoke : (k : Setup) (told : ℕ → List Noted) (s : Scene) (v : World) (visitor : ℕ → Option SeatedSession) (entered : ℕ → ℕ) → SceneOk k told s → Reached k.config s.world v → ((place : ℕ) → SessionOk (visitor place))
-    → SceneOk k (λ p. told p ++ []) (record { world = v; caller = s.caller; next = s.next; visitor = visitor; entered = entered })
+    → SceneOk k (λ p. told p ++ []) (record { world = v; caller = s.caller; next = s.next; visitor = visitor; entered = entered; shut = s.shut })
 nobody_spoke k told s v visitor entered ok r visitors = record { callers = λ j. seat_stays k told s v j (s.next j) ok r (omega arith); visitors = visitors }
 
 moves_did : (k : Setup) (told : ℕ → List Noted) (s : Scene) (e : Event) (event : world.Event) (t : Scene) (printed : List ℕ) → SceneOk k told s
@@ -176,6 +176,12 @@ moves_did : (k : Setup) (told : ℕ → List Noted) (s : Scene) (e : Event) (eve
 moves_did k told s e event t printed ok m =
     let r = moves k.config s.world m.moved event m.step in
     rw m.after (record { piece = Silence; is = m.silent; own = tt; ok = nobody_spoke k told s m.moved s.visitor s.entered ok r ok.visitors; reached = r })
+
+-- a shard is shut, and nobody says a word
+close_did : (k : Setup) (told : ℕ → List Noted) (s : Scene) (shard : ℕ) (t : Scene) (printed : List ℕ) → SceneOk k told s → ClosePlay k s shard t printed → Did k told s (Close shard) t printed
+close_did k told s shard t printed ok p =
+    let r = stays k.config s.world s.world refl in
+    rw p.after (record { piece = Silence; is = p.silent; own = tt; ok = record { callers = λ j. seat_stays k told s s.world j (s.next j) ok r (omega arith); visitors = ok.visitors }; reached = r })
 
 -- ---- sessions
 
@@ -228,7 +234,7 @@ at_place k told s place b ok there = subst SessionOk there (ok.visitors place)
 
 -- a session went on, and may have left
 visited : (k : Setup) (told : ℕ → List Noted) (s : Scene) (v : World) (place : ℕ) (o : Option SeatedSession) (entered : ℕ → ℕ) → SceneOk k told s → Reached k.config s.world v → SessionOk o
-    → SceneOk k (λ p. told p ++ []) (record { world = v; caller = s.caller; next = s.next; visitor = set_at s.visitor place o; entered = entered })
+    → SceneOk k (λ p. told p ++ []) (record { world = v; caller = s.caller; next = s.next; visitor = set_at s.visitor place o; entered = entered; shut = s.shut })
 visited k told s v place o entered ok r here = nobody_spoke k told s v (set_at s.visitor place o) entered ok r (at_each (λ j x. SessionOk x) s.visitor place o ok.visitors here)
 
 -- what a session's bytes and its place came to
@@ -240,7 +246,7 @@ record Visited (k : Setup) (told : ℕ → List Noted) (s t : Scene) (n : ℕ) (
 -- from a world that the scene's has come to
 goes_visited : (k : Setup) (told : ℕ → List Noted) (s : Scene) (w : World) (place : ℕ) (heard : List Noted) (b : SeatedSession) (v : World) (o : Option SeatedSession) (printed : List ℕ) (entered : ℕ → ℕ) → SceneOk k told s → Reached k.config s.world w
     → IsWhole b.session.unsaid → (g : SessionTalks k false place heard w b v o printed)
-    → Visited k told s (record { world = v; caller = s.caller; next = s.next; visitor = set_at s.visitor place o; entered = entered }) (place + 1) (b.session.unsaid ++ g.speaks.said) printed
+    → Visited k told s (record { world = v; caller = s.caller; next = s.next; visitor = set_at s.visitor place o; entered = entered; shut = s.shut }) (place + 1) (b.session.unsaid ++ g.speaks.said) printed
 goes_visited k told s w place heard b v o printed entered ok came whole g =
     let bytes = b.session.unsaid ++ g.speaks.said in
     let all = whole_append b.session.unsaid g.speaks.said whole (goes_whole (Meets k.config place) false (session_seat k place) heard b w g.mid g.speaks.spoken g.speaks.said g.speaks.goes) in
@@ -333,7 +339,7 @@ leave_did k told s e place t printed ok p =
 
 -- one whose client is gone says nothing
 gone_did : (k : Setup) (told : ℕ → List Noted) (s : Scene) (e : Event) (w : World) (place : ℕ) (b : SeatedSession) (o : Option SeatedSession) (t : Scene) (printed : List ℕ) → SceneOk k told s → Reached k.config s.world w → IsWhole b.session.unsaid
-    → (heard : List Noted) → Lingers (session_seat k place) heard b o → printed ≡ [] → t ≡ record { world = w; caller = s.caller; next = s.next; visitor = set_at s.visitor place o; entered = s.entered } → Did k told s e t printed
+    → (heard : List Noted) → Lingers (session_seat k place) heard b o → printed ≡ [] → t ≡ record { world = w; caller = s.caller; next = s.next; visitor = set_at s.visitor place o; entered = s.entered; shut = s.shut } → Did k told s e t printed
 gone_did k told s e w place b o t printed ok came whole heard l silent after =
     rw after (record { piece = Silence; is = silent; own = tt; ok = visited k told s w place o s.entered ok came (lingers_whole (session_seat k place) heard b o whole l); reached = came })
 
@@ -410,7 +416,8 @@ plays_did k told s (Take shard) t printed ok p = moves_did k told s (Take shard)
 plays_did k told s (Deliver shard) t printed ok p = moves_did k told s (Deliver shard) (world.Deliver shard) t printed ok p
 plays_did k told s (Answer shard) t printed ok p = moves_did k told s (Answer shard) (world.Answer shard) t printed ok p
 plays_did k told s (Hear number) t printed ok p = hear_did k told s number t printed ok p
-plays_did k told s (End connection shard) t printed ok p = moves_did k told s (End connection shard) (world.PutEnd (seat_of connection) shard) t printed ok p.1
+plays_did k told s (End connection shard) t printed ok p = moves_did k told s (End connection shard) (world.PutEnd (seat_of connection) shard) t printed ok p
+plays_did k told s (Close shard) t printed ok p = close_did k told s shard t printed ok p
 plays_did k told s (Enter session user) t printed ok p = enter_did k told s session user t printed ok p
 plays_did k told s (Say session piece) t printed ok p = say_did k told s session piece t printed ok p
 plays_did k told s (Idle session) t printed ok p = idle_did k told s session t printed ok p
@@ -475,7 +482,7 @@ happened_went k told (e ∷ es) s t printed ok (m, one, two, p, more, q) =
 abbrev pub none_yet : ℕ → List Noted
 none_yet p = []
 
-pub nobody_ok : (k : Setup) → SceneOk k none_yet empty_scene
+pub nobody_ok : (k : Setup) → SceneOk k none_yet (empty_scene k)
 nobody_ok k = record { callers = λ seat. none_told seat [] 0 0; visitors = λ place. tt }
 
 -- ---- what follows of it
@@ -511,9 +518,9 @@ none_twice w entries h = record {
       ∙ All-contains (λ n. n.key.seat ≡ q) (verdicts_of q entries) b (h.at_own_seat q) there);
 }
 
-pub happened_once : (k : Setup) (es : List Event) (t : Scene) (printed : List ℕ) → Happened k es empty_scene t printed → ExactlyOnce k es t printed
+pub happened_once : (k : Setup) (es : List Event) (t : Scene) (printed : List ℕ) → Happened k es (empty_scene k) t printed → ExactlyOnce k es t printed
 happened_once k es t printed x =
-    let by = happened_went k none_yet es empty_scene t printed (nobody_ok k) x in
+    let by = happened_went k none_yet es (empty_scene k) t printed (nobody_ok k) x in
     let g = by.went in
     let h = always k.config g.reached.0 t.world g.reached.1 in
     record {

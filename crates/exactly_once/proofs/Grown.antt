@@ -7,7 +7,7 @@ use Rattle.mailbox.specs.Events.{in_set}
 use Rattle.mailbox.specs.declared.clients.MailFault.{MailFault}
 use Rattle.mailbox.specs.declared.clients.MailFault.TheVariants.{Stranger, Lapped, Spent, NoMemory}
 use Rattle.world.specs.World as world
-use Rattle.world.specs.World.{Config, World, Event, Put, PutEnd, Take, Deliver, Answer, Hear, Enter, Status, Read, Store, Expunge, Feed, Leave, Step, Steps, put_joins, put_full, put_no_memory, hears_one}
+use Rattle.world.specs.World.{Config, World, Event, Put, PutEnd, Take, Deliver, Answer, Hear, Enter, Status, Read, Store, Expunge, Feed, Leave, Step, Steps, put_joins, put_full, put_no_memory, put_shut, hears_one}
 use Rattle.world.proofs.Heard.{heard_stays}
 use Rattle.world.proofs.Always.{steps_join}
 use Rattle.imap_session.specs.Exchange as calls
@@ -22,9 +22,10 @@ heard_more w q p r n c = at_cases (λ rs. Contains rs n) w.heard q (w.heard q ++
     (λ same. Contains-append_left (w.heard q) (r ∷ []) n (subst (λ (i : ℕ). Contains (w.heard i) n) same c)) (λ other. c)
 
 heard_step : (k : Config) (w : World) (e : Event) (v : World) (p : ℕ) (n : Noted) → Step k w e v → Contains (w.heard p) n → Contains (v.heard p) n
-heard_step k w (Put q s job) v p n (put_joins may room e) c = rw e c
-heard_step k w (Put q s job) v p n (put_full may room e) c = rw e (heard_more w q p _ n c)
-heard_step k w (Put q s job) v p n (put_no_memory may room e) c = rw e (heard_more w q p _ n c)
+heard_step k w (Put q s job) v p n (put_joins may live room e) c = rw e c
+heard_step k w (Put q s job) v p n (put_full may live room e) c = rw e (heard_more w q p _ n c)
+heard_step k w (Put q s job) v p n (put_no_memory may live room e) c = rw e (heard_more w q p _ n c)
+heard_step k w (Put q s job) v p n (put_shut may ended e) c = rw e (heard_more w q p _ n c)
 heard_step k w (Hear q) v p n (hears_one s r others front e) c = rw e (heard_more w q p r n c)
 heard_step k w (PutEnd q s) v p n step c = subst (λ (rs : List Noted). Contains rs n) (sym (heard_stays k w (PutEnd q s) v p tt step)) c
 heard_step k w (Take s) v p n step c = subst (λ (rs : List Noted). Contains rs n) (sym (heard_stays k w (Take s) v p tt step)) c

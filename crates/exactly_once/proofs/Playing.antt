@@ -48,7 +48,7 @@ happened_both k s h h1 old mid new a b = record {
   out = b.out ∙ ap (λ (x : List ℕ). x ++ b.printed) a.out ∙ append_assoc old a.printed b.printed;
 }
 
-pub came_once : (k : Setup) (h : State) (old new : List ℕ) → HappenedFrom k empty_scene h old new → CameOnce k h old new
+pub came_once : (k : Setup) (h : State) (old new : List ℕ) → HappenedFrom k (empty_scene k) h old new → CameOnce k h old new
 came_once k h old new a = record { events = a.events; after = a.after; printed = a.printed; stands = a.stands; out = a.out; once = happened_once k a.events a.after a.printed a.happened }
 
 -- ---- one event that was tried

@@ -1,5 +1,5 @@
 -- What a connection has said and not printed yet, and what it prints: verdicts that its seat has heard, in order, and replies that say nothing of a copy.
-use Rattle.std.proofs.Common.{◌≡◌, ℕ, ◌+◌, ◌<◌, ◌≤◌, Bool, false, true, List, [], ◌∷◌, ◌++◌, map, filter_map, Contains, refl, sym, ap, ◌∙◌, subst, arith, append-nil, append_assoc, Option, Some, None}
+use Rattle.std.proofs.Common.{◌≡◌, ℕ, ◌+◌, ◌<◌, ◌≤◌, Bool, false, true, List, [], ◌∷◌, ◌++◌, length, map, filter_map, Contains, refl, sym, ap, ◌∙◌, subst, arith, append-nil, append_assoc, Option, Some, None}
 use Rattle.std.proofs.lemmas.List.{map-append}
 use Rattle.std.proofs.lemmas.Grind.{flat_map-append}
 use Rattle.std.proofs.lemmas.List.Elements.{filter_map-append}
@@ -13,7 +13,8 @@ use Rattle.lmtp_machine.specs.Dialogue.{Phase, Start, Ready, Transaction, Data, 
 use Rattle.lmtp_machine.specs.Conversation.{Conversation, Leads}
 use Rattle.lmtp_machine.specs.Kept.{AreMessages, Kept}
 use Rattle.lmtp_machine.proofs.Kept.{event_keeps, fresh_kept, leads_keeps}
-use Rattle.house_connection.specs.HouseConnection.{HouseConnection, GoesOn, Proceeds, IsAnswered, Works, with_unsaid, works, waits, answers, stalls, talks, lingers, fades, greeted, keys_of, meets, setting_of, unread}
+use Rattle.envelope.specs.Directory.{marked}
+use Rattle.house_connection.specs.HouseConnection.{HouseConnection, Terms, GoesOn, Proceeds, IsAnswered, Works, with_unsaid, works, waits, answers, stalls, talks, lingers, fades, greeted, keys_of, meets, setting_of, unread}
 use Rattle.house.specs.Printing.{ConnectionGoes, Leaves, Prints, goes, marked_connection, of_connection as mark_of_connection, prints_all, prints_none, stays}
 use Rattle.house.proofs.Places.{does_serial}
 use Rattle.house.specs.Setup.{Setup, terms_of}
@@ -74,8 +75,8 @@ pub record IsTalking (k : Setup) (seat serial : ℕ) (heard : List Noted) (next 
   pub is : unsaid ≡ bytes_of k said
   pub message : ℕ
   pub in_order : AreTold seat heard serial message (told ++ verdicts said)
-  pub numbered : AreMessages (setting_of (terms_of k) seat serial) k.directory message pending standing.submitted
-  pub kept : Kept k.directory standing
+  pub numbered : AreMessages (setting_of (terms_of k k.directory.shut) seat serial) (length k.directory.homes) message pending standing.submitted
+  pub kept : Kept (length k.directory.homes) standing
   pub older : serial < next
   pub own : AreOf serial said
 
@@ -153,13 +154,13 @@ silent : (k : Setup) (seat serial : ℕ) (heard : List Noted) (next : ℕ) (told
 silent k seat serial heard next told o printed c e = record { said = []; is = e; own = tt; left = subst (λ (x : List Noted). ConnectionOk k seat heard next x o) (sym (append-nil told)) c }
 
 -- The dialogue went on from where nothing is awaited.
-went_on : (k : Setup) (seat serial : ℕ) (heard : List Noted) (next : ℕ) (told : List Noted) (at after : Conversation) (unsaid taken : List ℕ) (turn : Turn)
-    → IsTalking k seat serial heard next told at.standing unsaid [] → Leads (setting_of (terms_of k) seat serial) k.directory at taken turn after
+went_on : (k : Setup) (shut : List Bool) (seat serial : ℕ) (heard : List Noted) (next : ℕ) (told : List Noted) (at after : Conversation) (unsaid taken : List ℕ) (turn : Turn)
+    → IsTalking k seat serial heard next told at.standing unsaid [] → Leads (setting_of (terms_of k shut) seat serial) (marked shut k.directory) at taken turn after
     → IsTalking k seat serial heard next told after.standing (unsaid ++ wire k.host turn.replies) turn.submissions
-went_on k seat serial heard next told at after unsaid taken turn t l =
-    let quiet : Quiet turn.replies = subst (λ (x : Turn). Quiet x.replies) (sym l.turns) (lines_quiet (setting_of (terms_of k) seat serial) k.directory at.standing l.heard) in
+went_on k shut seat serial heard next told at after unsaid taken turn t l =
+    let quiet : Quiet turn.replies = subst (λ (x : Turn). Quiet x.replies) (sym l.turns) (lines_quiet (setting_of (terms_of k shut) seat serial) (marked shut k.directory) at.standing l.heard) in
     let more = others turn.replies quiet in
-    let keeps = leads_keeps (setting_of (terms_of k) seat serial) k.directory at taken turn after l t.kept in
+    let keeps = leads_keeps (setting_of (terms_of k shut) seat serial) (marked shut k.directory) at taken turn after l t.kept in
     let here : t.message ≡ at.standing.submitted = t.numbered in
     record {
       said = t.said ++ more.said;
@@ -196,10 +197,10 @@ prints_spoke k whole seat heard next told what after still o printed t (prints_n
     (subst (λ (x : List ℕ). IsTalking k seat after.serial heard next told after.talk.at.standing x after.talk.pending) (sym e) t) l) p
 
 -- it took what waited
-works_ok : (k : Setup) (whole : Bool) (seat : ℕ) (heard : List Noted) (next : ℕ) (told : List Noted) (b : HouseConnection) (what : What) (after : HouseConnection)
-    → IsTalking k seat b.serial heard next told b.talk.at.standing b.talk.unsaid [] → Works (terms_of k) whole seat b what after → ConnectionOk k seat heard next told (Some after)
-works_ok k whole seat heard next told b what after s w =
-    let t = went_on k seat b.serial heard next told b.talk.at w.talk.at b.talk.unsaid w.works.taken w.turn s w.works.leads in
+works_ok : (k : Setup) (shut : List Bool) (whole : Bool) (seat : ℕ) (heard : List Noted) (next : ℕ) (told : List Noted) (b : HouseConnection) (what : What) (after : HouseConnection)
+    → IsTalking k seat b.serial heard next told b.talk.at.standing b.talk.unsaid [] → Works (terms_of k shut) whole seat b what after → ConnectionOk k seat heard next told (Some after)
+works_ok k shut whole seat heard next told b what after s w =
+    let t = went_on k shut seat b.serial heard next told b.talk.at w.talk.at b.talk.unsaid w.works.taken w.turn s w.works.leads in
     let u = subst (λ (x : List ℕ). IsTalking k seat b.serial heard next told w.talk.at.standing x w.turn.submissions) (sym w.said) t in
     rw w.is (subst (IsTalking k seat b.serial heard next told w.talk.at.standing w.talk.unsaid) (sym w.works.submits) u)
 
@@ -214,12 +215,12 @@ pub record Says (heard : List Noted) (pending : List Submission) (vs : List Verd
 
 -- none of them, or all
 verdicts_said : (k : Setup) (seat serial : ℕ) (heard told : List Noted) (first : ℕ) (pending : List Submission) (vs : List Verdict) (phase : Phase) (n : ℕ)
-    → AreMessages (setting_of (terms_of k) seat serial) k.directory first pending n → (h : Heard heard (keys_of pending) vs) → AreTold seat heard serial first told
+    → AreMessages (setting_of (terms_of k k.directory.shut) seat serial) (length k.directory.homes) first pending n → (h : Heard heard (keys_of pending) vs) → AreTold seat heard serial first told
     → Says heard pending vs (on_verdicts phase n vs).replies told seat serial n
 verdicts_said k seat serial heard told first pending vs phase n messages h t = by_phase phase
   where
     all : AreTold seat heard serial n (told ++ h.notes)
-    all = told_more seat serial heard (setting_of (terms_of k) seat serial) k.directory first n pending vs told refl refl messages h t
+    all = told_more seat serial heard (setting_of (terms_of k k.directory.shut) seat serial) (length k.directory.homes) first n pending vs told refl refl messages h t
 
     none_said : Says heard pending vs [] told seat serial n
     none_said = record { said = []; is = refl; in_order = subst (AreTold seat heard serial n) (sym (append-nil told)) (told_front seat heard serial n told h.notes all); own = tt }
@@ -229,7 +230,7 @@ verdicts_said k seat serial heard told first pending vs phase n messages h t = b
       said = map promise.Verdict h.notes;
       is = notes_replies h.notes ∙ ap (λ (x : List Verdict). map verdict_reply x) h.verdicts_are;
       in_order = subst (λ (x : List Noted). AreTold seat heard serial n (told ++ x)) (sym (notes_said h.notes)) all;
-      own = subst (Every (λ n. n.key.serial ≡ serial)) (sym (notes_said h.notes)) (of_connection heard (setting_of (terms_of k) seat serial) k.directory first n pending vs messages h);
+      own = subst (Every (λ n. n.key.serial ≡ serial)) (sym (notes_said h.notes)) (of_connection heard (setting_of (terms_of k k.directory.shut) seat serial) (length k.directory.homes) first n pending vs messages h);
     }
     by_phase Start = none_said
     by_phase Ready = none_said
@@ -245,15 +246,15 @@ same_number (Transaction sender recipients) n vs = refl
 same_number (Data sender recipients lines) n vs = refl
 same_number Ended n vs = refl
 
-answers_talking : (k : Setup) (seat : ℕ) (heard : List Noted) (next : ℕ) (told : List Noted) (b : HouseConnection) (vs : List Verdict)
+answers_talking : (k : Setup) (shut : List Bool) (seat : ℕ) (heard : List Noted) (next : ℕ) (told : List Noted) (b : HouseConnection) (vs : List Verdict)
     → IsTalking k seat b.serial heard next told b.talk.at.standing b.talk.unsaid b.talk.pending → IsAnswered heard b vs
-    → IsTalking k seat b.serial heard next told (meets (terms_of k) seat b (Answered vs)).talk.at.standing (meets (terms_of k) seat b (Answered vs)).talk.unsaid []
-answers_talking k seat heard next told b vs t is =
+    → IsTalking k seat b.serial heard next told (meets (terms_of k shut) seat b (Answered vs)).talk.at.standing (meets (terms_of k shut) seat b (Answered vs)).talk.unsaid []
+answers_talking k shut seat heard next told b vs t is =
     let at = b.talk.at.standing in
     let phase = at.phase in
     let n = at.submitted in
     let says = verdicts_said k seat b.serial heard (told ++ verdicts t.said) t.message b.talk.pending vs phase n t.numbered (heard_for heard (keys_of b.talk.pending) vs is.each) t.in_order in
-    let keeps = event_keeps (setting_of (terms_of k) seat b.serial) k.directory at (Answered vs) t.kept in
+    let keeps = event_keeps (setting_of (terms_of k shut) seat b.serial) (marked shut k.directory) at (Answered vs) t.kept in
     record {
       said = t.said ++ says.said;
       is = ap (λ (x : List ℕ). x ++ wire k.host (on_verdicts phase n vs).replies) t.is ∙ ap (λ (x : List Reply). bytes_of k t.said ++ wire k.host x) (sym says.is) ∙ joins k t.said says.said;
@@ -268,28 +269,28 @@ answers_talking k seat heard next told b vs t is =
 
 -- ---- going on
 
-goes_ok : (k : Setup) (whole : Bool) (seat : ℕ) (heard : List Noted) (next : ℕ) (told : List Noted) (b : HouseConnection) (what : What) (after : HouseConnection)
-    → ConnectionOk k seat heard next told (Some b) → GoesOn (terms_of k) whole seat heard b what after → ConnectionOk k seat heard next told (Some after)
-goes_ok k whole seat heard next told b what after s (works none w) =
-    works_ok k whole seat heard next told b what after (subst (IsTalking k seat b.serial heard next told b.talk.at.standing b.talk.unsaid) none s) w
-goes_ok k whole seat heard next told b what after s (waits some not q e) = rw e s
-goes_ok k whole seat heard next told b what after s (answers vs some is w) = works_ok k whole seat heard next told (meets (terms_of k) seat b (Answered vs)) what after (answers_talking k seat heard next told b vs s is) w
-goes_ok k whole seat heard next told b what after s (stalls f q e) = rw e s
+goes_ok : (k : Setup) (shut : List Bool) (whole : Bool) (seat : ℕ) (heard : List Noted) (next : ℕ) (told : List Noted) (b : HouseConnection) (what : What) (after : HouseConnection)
+    → ConnectionOk k seat heard next told (Some b) → GoesOn (terms_of k shut) whole seat heard b what after → ConnectionOk k seat heard next told (Some after)
+goes_ok k shut whole seat heard next told b what after s (works none w) =
+    works_ok k shut whole seat heard next told b what after (subst (IsTalking k seat b.serial heard next told b.talk.at.standing b.talk.unsaid) none s) w
+goes_ok k shut whole seat heard next told b what after s (waits some not q e) = rw e s
+goes_ok k shut whole seat heard next told b what after s (answers vs some is w) = works_ok k shut whole seat heard next told (meets (terms_of k shut) seat b (Answered vs)) what after (answers_talking k shut seat heard next told b vs s is) w
+goes_ok k shut whole seat heard next told b what after s (stalls f q e) = rw e s
 
-does_ok : (k : Setup) (whole : Bool) (seat : ℕ) (heard : List Noted) (next : ℕ) (told : List Noted) (b : HouseConnection) (what : What) (after : HouseConnection)
-    → ConnectionOk k seat heard next told (Some b) → Proceeds (terms_of k) whole seat heard b what after → ConnectionOk k seat heard next told (Some after)
-does_ok k whole seat heard next told b what after s (talks there g) = goes_ok k whole seat heard next told b what after s g
-does_ok k whole seat heard next told b what after s (lingers gone none not q e) = rw e s
-does_ok k whole seat heard next told b what after s (fades vs gone none is q e) = rw e s
+does_ok : (k : Setup) (shut : List Bool) (whole : Bool) (seat : ℕ) (heard : List Noted) (next : ℕ) (told : List Noted) (b : HouseConnection) (what : What) (after : HouseConnection)
+    → ConnectionOk k seat heard next told (Some b) → Proceeds (terms_of k shut) whole seat heard b what after → ConnectionOk k seat heard next told (Some after)
+does_ok k shut whole seat heard next told b what after s (talks there g) = goes_ok k shut whole seat heard next told b what after s g
+does_ok k shut whole seat heard next told b what after s (lingers gone none not q e) = rw e s
+does_ok k shut whole seat heard next told b what after s (fades vs gone none is q e) = rw e s
 
-pub proceeds_spoke : (k : Setup) (whole : Bool) (seat : ℕ) (heard : List Noted) (next : ℕ) (told : List Noted) (b : HouseConnection) (o : Option HouseConnection) (printed : List ℕ)
-    → ConnectionOk k seat heard next told (Some b) → ConnectionGoes k whole seat heard b o printed → Spoke k seat b.serial heard next told o printed
-proceeds_spoke k whole seat heard next told b o printed s g =
-    subst (λ (n : ℕ). Spoke k seat n heard next told o printed) (does_serial (terms_of k) whole seat heard b g.what g.after g.proceeds)
-    (prints_spoke k whole seat heard next told g.what g.after g.still o printed (does_ok k whole seat heard next told b g.what g.after s g.proceeds) g.prints g.leaves)
+pub proceeds_spoke : (k : Setup) (shut : List Bool) (whole : Bool) (seat : ℕ) (heard : List Noted) (next : ℕ) (told : List Noted) (b : HouseConnection) (o : Option HouseConnection) (printed : List ℕ)
+    → ConnectionOk k seat heard next told (Some b) → ConnectionGoes (terms_of k shut) whole seat heard b o printed → Spoke k seat b.serial heard next told o printed
+proceeds_spoke k shut whole seat heard next told b o printed s g =
+    subst (λ (n : ℕ). Spoke k seat n heard next told o printed) (does_serial (terms_of k shut) whole seat heard b g.what g.after g.proceeds)
+    (prints_spoke k whole seat heard next told g.what g.after g.still o printed (does_ok k shut whole seat heard next told b g.what g.after s g.proceeds) g.prints g.leaves)
 
 -- one whose peer is gone has nothing to say, and is as it was
-unread_same : (k : Setup) (whole : Bool) (seat : ℕ) (heard : List Noted) (b : HouseConnection) (what : What) (after : HouseConnection) → Proceeds (terms_of k) whole seat heard (unread b) what after → after ≡ unread b
+unread_same : (k : Terms) (whole : Bool) (seat : ℕ) (heard : List Noted) (b : HouseConnection) (what : What) (after : HouseConnection) → Proceeds k whole seat heard (unread b) what after → after ≡ unread b
 unread_same k whole seat heard b what after (talks there g) = absurd (let x : true ≡ false = there in cc)
 unread_same k whole seat heard b what after (lingers gone none not q e) = e
 unread_same k whole seat heard b what after (fades vs gone none is q e) = e
@@ -298,10 +299,10 @@ prints_nothing : (n : ℕ) (unsaid still printed : List ℕ) → unsaid ≡ [] �
 prints_nothing n unsaid still printed none (prints_all e p) = (e, p ∙ ap (λ (x : List ℕ). marked_connection n x) none)
 prints_nothing n unsaid still printed none (prints_none e p) = (e ∙ none, p)
 
-pub unread_silent : (k : Setup) (whole : Bool) (seat : ℕ) (heard : List Noted) (next : ℕ) (told : List Noted) (b : HouseConnection) (o : Option HouseConnection) (printed : List ℕ)
-    → ConnectionOk k seat heard next told (Some b) → ConnectionGoes k whole seat heard (unread b) o printed → ConnectionOk k seat heard next told o × (printed ≡ [])
-unread_silent k whole seat heard next told b o printed s g =
-    let same = unread_same k whole seat heard b g.what g.after g.proceeds in
+pub unread_silent : (k : Setup) (shut : List Bool) (whole : Bool) (seat : ℕ) (heard : List Noted) (next : ℕ) (told : List Noted) (b : HouseConnection) (o : Option HouseConnection) (printed : List ℕ)
+    → ConnectionOk k seat heard next told (Some b) → ConnectionGoes (terms_of k shut) whole seat heard (unread b) o printed → ConnectionOk k seat heard next told o × (printed ≡ [])
+unread_silent k shut whole seat heard next told b o printed s g =
+    let same = unread_same (terms_of k shut) whole seat heard b g.what g.after g.proceeds in
     let quiet = prints_nothing (seat + 1) g.after.talk.unsaid g.still printed (ap (λ (x : HouseConnection). x.talk.unsaid) same) g.prints in
     let silent_b : ConnectionOk k seat heard next told (Some (unread b)) = falls_silent k seat b.serial heard next told b.talk.at.standing b.talk.unsaid b.talk.pending s in (
       left_ok k whole seat heard next told g.what (with_unsaid g.still g.after) o
@@ -310,9 +311,9 @@ unread_silent k whole seat heard next told b o printed s g =
     )
 
 -- a connection that was just opened has said its greeting
-pub greeted_talking : (k : Setup) (seat serial : ℕ) (heard told : List Noted) (next : ℕ) → serial < next → AreTold seat heard serial 0 told → ConnectionOk k seat heard next told (Some (greeted (terms_of k) seat serial))
-greeted_talking k seat serial heard told next l t =
-    let more = others (on_event (setting_of (terms_of k) seat serial) k.directory fresh Opened).replies (tt, tt) in
+pub greeted_talking : (k : Setup) (shut : List Bool) (seat serial : ℕ) (heard told : List Noted) (next : ℕ) → serial < next → AreTold seat heard serial 0 told → ConnectionOk k seat heard next told (Some (greeted (terms_of k shut) seat serial))
+greeted_talking k shut seat serial heard told next l t =
+    let more = others (on_event (setting_of (terms_of k shut) seat serial) (marked shut k.directory) fresh Opened).replies (tt, tt) in
     record {
       said = more.said;
       is = ap (λ (x : List Reply). wire k.host x) (sym more.is);

@@ -105,30 +105,30 @@ from_rising setting message i (m ∷ ms) = (
   from_rising setting message (i + 1) ms,
 )
 
-never_falls : (setting : Setting) (directory : Directory) (first : ℕ) (pending : List Submission) (number : ℕ) → AreMessages setting directory first pending number → first ≤ number
-never_falls setting directory first [] number h = omega (arith, h)
-never_falls setting directory first (s ∷ ss) number h = let l = never_falls setting directory (first + 1) ss number h.1 in omega (arith, l)
+never_falls : (setting : Setting) (mailboxes : ℕ) (first : ℕ) (pending : List Submission) (number : ℕ) → AreMessages setting mailboxes first pending number → first ≤ number
+never_falls setting mailboxes first [] number h = omega (arith, h)
+never_falls setting mailboxes first (s ∷ ss) number h = let l = never_falls setting mailboxes (first + 1) ss number h.1 in omega (arith, l)
 
-pub pending_within : (setting : Setting) (directory : Directory) (first : ℕ) (pending : List Submission) (number : ℕ) → AreMessages setting directory first pending number
+pub pending_within : (setting : Setting) (mailboxes : ℕ) (first : ℕ) (pending : List Submission) (number : ℕ) → AreMessages setting mailboxes first pending number
     → Every (IsWithin setting first number) (keys_of pending)
-pending_within setting directory first [] number h = tt
-pending_within setting directory first (s ∷ ss) number h =
-    let more = never_falls setting directory (first + 1) ss number h.1 in
+pending_within setting mailboxes first [] number h = tt
+pending_within setting mailboxes first (s ∷ ss) number h =
+    let more = never_falls setting mailboxes (first + 1) ss number h.1 in
     let here : Every (IsWithin setting first number) s.keys = subst (Every (IsWithin setting first number)) (sym h.0.keys)
     (every_weaker _ (IsWithin setting first number) (λ key x. (x.0, x.1, let e = x.2 in omega (arith, e), let e = x.2 in omega (arith, e, more)))
     (keys_from setting first 0 s.mailboxes) (from_first setting first 0 s.mailboxes)) in
     every_append (IsWithin setting first number) s.keys (keys_of ss) here
     (every_weaker (IsWithin setting (first + 1) number) (IsWithin setting first number) (λ key x. (x.0, x.1, let l = x.2 in omega (arith, l), x.3)) (keys_of ss)
-    (pending_within setting directory (first + 1) ss number h.1))
+    (pending_within setting mailboxes (first + 1) ss number h.1))
 
-pub pending_rising : (setting : Setting) (directory : Directory) (first : ℕ) (pending : List Submission) (number : ℕ) → AreMessages setting directory first pending number → Rising Below (keys_of pending)
-pending_rising setting directory first [] number h = tt
-pending_rising setting directory first (s ∷ ss) number h =
-    rising_append Below s.keys (keys_of ss) (subst (Rising Below) (sym h.0.keys) (from_rising setting first 0 s.mailboxes)) (pending_rising setting directory (first + 1) ss number h.1)
+pub pending_rising : (setting : Setting) (mailboxes : ℕ) (first : ℕ) (pending : List Submission) (number : ℕ) → AreMessages setting mailboxes first pending number → Rising Below (keys_of pending)
+pending_rising setting mailboxes first [] number h = tt
+pending_rising setting mailboxes first (s ∷ ss) number h =
+    rising_append Below s.keys (keys_of ss) (subst (Rising Below) (sym h.0.keys) (from_rising setting first 0 s.mailboxes)) (pending_rising setting mailboxes (first + 1) ss number h.1)
     (subst (Every (λ a. Every (Below a) (keys_of ss))) (sym h.0.keys)
     (every_weaker _ (λ a. Every (Below a) (keys_of ss))
     (λ a x. every_weaker (IsWithin setting (first + 1) number) (Below a) (λ b y. inr (x.1 ∙ sym y.1, inl (let e = x.2 in let l = y.2 in omega (arith, e, l)))) (keys_of ss)
-    (pending_within setting directory (first + 1) ss number h.1))
+    (pending_within setting mailboxes (first + 1) ss number h.1))
     (keys_from setting first 0 s.mailboxes) (from_first setting first 0 s.mailboxes)))
 
 -- ---- the verdicts on them
@@ -154,15 +154,15 @@ heard_for heard (key ∷ keys) (v ∷ vs) h =
     }
 
 -- the verdicts on the messages that were awaited are told after all others
-pub told_more : (seat serial : ℕ) (heard : List Noted) (setting : Setting) (directory : Directory) (first number : ℕ) (pending : List Submission) (vs : List Verdict) (told : List Noted)
-    → setting.seat ≡ seat → setting.serial ≡ serial → AreMessages setting directory first pending number → (h : Heard heard (keys_of pending) vs) → AreTold seat heard serial first told
+pub told_more : (seat serial : ℕ) (heard : List Noted) (setting : Setting) (mailboxes : ℕ) (first number : ℕ) (pending : List Submission) (vs : List Verdict) (told : List Noted)
+    → setting.seat ≡ seat → setting.serial ≡ serial → AreMessages setting mailboxes first pending number → (h : Heard heard (keys_of pending) vs) → AreTold seat heard serial first told
     → AreTold seat heard serial number (told ++ h.notes)
-told_more seat serial heard setting directory first number pending vs told at_seat of_serial messages h t =
+told_more seat serial heard setting mailboxes first number pending vs told at_seat of_serial messages h t =
     let within : Every (λ n. IsWithin setting first number n.key) h.notes = every_of_map (IsWithin setting first number) (λ n. n.key) h.notes
-    (subst (Every (IsWithin setting first number)) (sym h.keys_are) (pending_within setting directory first pending number messages)) in
-    let l = never_falls setting directory first pending number messages in
+    (subst (Every (IsWithin setting first number)) (sym h.keys_are) (pending_within setting mailboxes first pending number messages)) in
+    let l = never_falls setting mailboxes first pending number messages in
     record {
-      rising = rising_append InOrder told h.notes t.rising (rising_of_map Below (λ n. n.key) h.notes (subst (Rising Below) (sym h.keys_are) (pending_rising setting directory first pending number messages)))
+      rising = rising_append InOrder told h.notes t.rising (rising_of_map Below (λ n. n.key) h.notes (subst (Rising Below) (sym h.keys_are) (pending_rising setting mailboxes first pending number messages)))
           (every_weaker (IsTold seat heard serial first) (λ a. Every (InOrder a) h.notes)
           (λ a x. every_weaker (λ n. IsWithin setting first number n.key) (InOrder a) (λ b y. below a b x.2 (y.1 ∙ of_serial) y.2) h.notes within) told t.each);
       each = every_append (IsTold seat heard serial number) told h.notes
@@ -176,9 +176,9 @@ told_more seat serial heard setting directory first number pending vs told at_se
     below a b (inr x) e l = inr (x.0 ∙ sym e, inl (let y = x.1 in omega (arith, y, l)))
 
 -- they are on the connection's own copies
-pub of_connection : (heard : List Noted) (setting : Setting) (directory : Directory) (first number : ℕ) (pending : List Submission) (vs : List Verdict) → AreMessages setting directory first pending number
+pub of_connection : (heard : List Noted) (setting : Setting) (mailboxes : ℕ) (first number : ℕ) (pending : List Submission) (vs : List Verdict) → AreMessages setting mailboxes first pending number
     → (h : Heard heard (keys_of pending) vs) → Every (λ n. n.key.serial ≡ setting.serial) h.notes
-of_connection heard setting directory first number pending vs messages h =
+of_connection heard setting mailboxes first number pending vs messages h =
     every_of_map (λ key. key.serial ≡ setting.serial) (λ n. n.key) h.notes
     (subst (Every (λ key. key.serial ≡ setting.serial)) (sym h.keys_are)
-    (every_weaker (IsWithin setting first number) (λ key. key.serial ≡ setting.serial) (λ key x. x.1) (keys_of pending) (pending_within setting directory first pending number messages)))
+    (every_weaker (IsWithin setting first number) (λ key. key.serial ≡ setting.serial) (λ key x. x.1) (keys_of pending) (pending_within setting mailboxes first pending number messages)))

@@ -138,7 +138,7 @@ pub record ExactlyOnce (k : Setup) (events : List house.Event) (after : Scene) (
   -- what was printed, event by event
   pub entries : List Entry
   pub happened : map (λ entry. entry.event) entries ≡ events
-  pub leads : IsRecord k entries empty_scene after
+  pub leads : IsRecord k entries (empty_scene k) after
   pub whole : printed ≡ flat_map (λ entry. text_of k entry.piece) entries
   -- the world came from the empty one by these steps, so each promise of every world holds of it
   pub steps : List Event

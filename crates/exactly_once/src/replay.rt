@@ -35,7 +35,7 @@ fn try_event(house: &mut House, event: Event<'_>, out: &mut Vec<u8>) -> Result<(
 /// Errors: `AllocError` where memory was wanting; what happened by then stands, and the events that were left weren't tried.
 pub fn play(house: &mut House, events: &[Event<'_>], out: &mut Vec<u8>) -> Result<(), AllocError>
     ensures tried { OnOk result ((k : Setup) (s : Scene) → StandsFor k house.old s → TriedFrom k events.now house.old s house.new out.old.items out.new.items) }
-    ensures once { (k : Setup) → StandsFor k house.old empty_scene → CameOnce k house.new out.old.items out.new.items }
+    ensures once { (k : Setup) → StandsFor k house.old (empty_scene k) → CameOnce k house.new out.old.items out.new.items }
 {
     for event in events {
         let Ok(()) = try_event(house, *event, out) else {

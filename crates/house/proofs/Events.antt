@@ -21,18 +21,16 @@ use Rattle.house.specs.Steps.{is_unread}
 use Rattle.house.specs.inner.Steps.{PlaceWentOn, StandsForMaybe}
 use Rattle.house_connection.proofs.Arrivals.{more_stands}
 use Rattle.house_connection.proofs.Connections.{unread_stands}
-use Rattle.house.proofs.Ended.{ended_nowhere}
 use Rattle.house.proofs.Places.{after_going, at_there}
-use Rattle.delivery_core.specs.Held.{has_ended}
 
 -- where a line stands at a seat, so does a caller of the scene
 pub record IsAt (k : Setup) (s : Scene) (seat : ℕ) (next : CopyKey) (h : Line) : Type 0 where
   pub caller : HouseConnection
   pub here : s.caller seat ≡ Some caller
-  pub stands : StandsForConnection (terms_of k) seat next (s.world.heard seat) h caller
+  pub stands : StandsForConnection (terms_of k s.shut) seat next (s.world.heard seat) h caller
   pub serial : caller.serial < s.next seat
 
-is_at : (k : Setup) (s : Scene) (seat : ℕ) (next : CopyKey) (h : Line) (o : Option HouseConnection) → s.caller seat ≡ o → StandsForOne k seat next (s.world.heard seat) (s.next seat) (Some h) o → IsAt k s seat next h
+is_at : (k : Setup) (s : Scene) (seat : ℕ) (next : CopyKey) (h : Line) (o : Option HouseConnection) → s.caller seat ≡ o → StandsForOne (terms_of k s.shut) seat next (s.world.heard seat) (s.next seat) (Some h) o → IsAt k s seat next h
 is_at k s seat next h None e w = absurd w
 is_at k s seat next h (Some b) e w = record { caller = b; here = e; stands = w.0; serial = w.1 }
 
@@ -40,7 +38,7 @@ is_at k s seat next h (Some b) e w = record { caller = b; here = e; stands = w.0
 pub at_seat : (k : Setup) (h : State) (s : Scene) (seat : ℕ) (y : CopyKey) (g : Line) → StandsFor k h s → seat < length h.callers → get_or h.callers seat None ≡ Some g → IsAt k s seat (get_or h.core.next seat y) g
 at_seat k h s seat y g st lt e =
     let w = (st.each seat y 0 None lt).who in
-    is_at k s seat (get_or h.core.next seat y) g (s.caller seat) refl (subst (λ (x : Option Line). StandsForOne k seat (get_or h.core.next seat y) (s.world.heard seat) (s.next seat) x (s.caller seat)) e w)
+    is_at k s seat (get_or h.core.next seat y) g (s.caller seat) refl (subst (λ (x : Option Line). StandsForOne (terms_of k s.shut) seat (get_or h.core.next seat y) (s.world.heard seat) (s.next seat) x (s.caller seat)) e w)
 
 -- somebody is a line
 pub some_line : (o : Option Line) → IsSome o → (g : Line) × (o ≡ Some g)
@@ -48,12 +46,12 @@ some_line None h = absurd (let e : false ≡ true = h in cc)
 some_line (Some g) h = (g, refl)
 
 -- a peer is there where the seat isn't waiting for the verdicts of one that is gone
-peer_there : (k : Setup) (seat : ℕ) (next : CopyKey) (heard : List Noted) (o : Option Line) (g : Line) (b : HouseConnection) → o ≡ Some g → is_unread o ≡ false → StandsForConnection (terms_of k) seat next heard g b → b.gone ≡ false
+peer_there : (k : Terms) (seat : ℕ) (next : CopyKey) (heard : List Noted) (o : Option Line) (g : Line) (b : HouseConnection) → o ≡ Some g → is_unread o ≡ false → StandsForConnection k seat next heard g b → b.gone ≡ false
 peer_there k seat next heard o g b e u s = sym s.gone ∙ subst (λ (x : Option Line). is_unread x ≡ false) e u
 
 pub received : (k : Setup) (h : State) (s : Scene) (number seat : ℕ) (piece : List ℕ) (directory : Directory) (l : Option Line) (place : Option Line) (whole : Bool) (old new : List ℕ)
     → StandsFor k h s → number ≡ seat + 1 → directory ≡ h.directory → seat < length h.callers → IsSome (get_or h.callers seat None) → is_unread (get_or h.callers seat None) ≡ false → place ≡ option_map (with_more piece) (get_or h.callers seat None)
-    → ((x : Setup) (p : ℕ) (next : CopyKey) (heard : List Noted) (b : HouseConnection) → IsOf x number p directory → StandsForMaybe x p next heard place (Some b) → PlaceWentOn x whole p next heard b l old new)
+    → ((x : Terms) (p : ℕ) (next : CopyKey) (heard : List Noted) (b : HouseConnection) → IsOf x number p directory → StandsForMaybe x p next heard place (Some b) → PlaceWentOn x whole p next heard b l old new)
     → (t : Scene) × (printed : List ℕ) × BytesPlay k whole s seat piece t printed
     × StandsFor k (record { core = h.core; callers = set h.callers seat l; serials = h.serials; visitors = h.visitors; entered = h.entered; directory = h.directory; host = h.host; max_message = h.max_message }) t
     × (new ≡ old ++ printed)
@@ -62,13 +60,13 @@ received k h s number seat piece directory l place whole old new st e dir lt som
     let y = first_key seat in
     let a = at_seat k h s seat y g.0 st lt g.1 in
     let b = more_waits a.caller piece in
-    let m = more_stands (terms_of k) seat (get_or h.core.next seat y) (s.world.heard seat) g.0 a.caller piece a.stands in
+    let m = more_stands (terms_of k s.shut) seat (get_or h.core.next seat y) (s.world.heard seat) g.0 a.caller piece a.stands in
     let at = is ∙ ap (option_map (with_more piece)) g.1 in
-    let w = f k seat (get_or h.core.next seat y) (s.world.heard seat) b (record { numbered = e; looks_up = dir ∙ st.directory })
-    (subst (λ (x : Option Line). StandsForMaybe k seat (get_or h.core.next seat y) (s.world.heard seat) x (Some b)) (sym at) m) in (
+    let w = f (terms_of k s.shut) seat (get_or h.core.next seat y) (s.world.heard seat) b (record { numbered = e; looks_up = dir ∙ st.directory })
+    (subst (λ (x : Option Line). StandsForMaybe (terms_of k s.shut) seat (get_or h.core.next seat y) (s.world.heard seat) x (Some b)) (sym at) m) in (
       with_caller s seat w.left,
       w.printed,
-      goes_on a.caller a.here (peer_there k seat (get_or h.core.next seat y) (s.world.heard seat) (get_or h.callers seat None) g.0 a.caller g.1 read a.stands) w.left w.goes refl,
+      goes_on a.caller a.here (peer_there (terms_of k s.shut) seat (get_or h.core.next seat y) (s.world.heard seat) (get_or h.callers seat None) g.0 a.caller g.1 read a.stands) w.left w.goes refl,
       after_going k h h.core h.serials s s.world s.next seat y l (with_more piece g.0) b whole old new st st.core lt (λ q ne. refl) (λ q z ne. refl) refl
           (λ n. (st.each seat y n None lt).counted) (λ q n ne. refl) (λ q ne. refl) m a.serial w,
       w.out,
@@ -76,7 +74,7 @@ received k h s number seat piece directory l place whole old new st e dir lt som
 
 pub vanished : (k : Setup) (h : State) (s : Scene) (number seat : ℕ) (directory : Directory) (l : Option Line) (place : Option Line) (whole : Bool) (old new : List ℕ)
     → StandsFor k h s → number ≡ seat + 1 → directory ≡ h.directory → seat < length h.callers → IsSome (get_or h.callers seat None) → is_unread (get_or h.callers seat None) ≡ false → place ≡ option_map with_nobody_there (get_or h.callers seat None)
-    → ((x : Setup) (p : ℕ) (next : CopyKey) (heard : List Noted) (b : HouseConnection) → IsOf x number p directory → StandsForMaybe x p next heard place (Some b) → PlaceWentOn x whole p next heard b l old new)
+    → ((x : Terms) (p : ℕ) (next : CopyKey) (heard : List Noted) (b : HouseConnection) → IsOf x number p directory → StandsForMaybe x p next heard place (Some b) → PlaceWentOn x whole p next heard b l old new)
     → (t : Scene) × (printed : List ℕ) × VanishPlay k whole s seat t printed
     × StandsFor k (record { core = h.core; callers = set h.callers seat l; serials = h.serials; visitors = h.visitors; entered = h.entered; directory = h.directory; host = h.host; max_message = h.max_message }) t
     × (new ≡ old ++ printed)
@@ -85,16 +83,16 @@ vanished k h s number seat directory l place whole old new st e dir lt some read
     let y = first_key seat in
     let a = at_seat k h s seat y g.0 st lt g.1 in
     let b = unread a.caller in
-    let m = unread_stands (terms_of k) seat (get_or h.core.next seat y) (s.world.heard seat) g.0 a.caller a.stands in
+    let m = unread_stands (terms_of k s.shut) seat (get_or h.core.next seat y) (s.world.heard seat) g.0 a.caller a.stands in
     let at = is ∙ ap (option_map with_nobody_there) g.1 in
-    let w = f k seat (get_or h.core.next seat y) (s.world.heard seat) b (record { numbered = e; looks_up = dir ∙ st.directory })
-    (subst (λ (x : Option Line). StandsForMaybe k seat (get_or h.core.next seat y) (s.world.heard seat) x (Some b)) (sym at) m) in (
+    let w = f (terms_of k s.shut) seat (get_or h.core.next seat y) (s.world.heard seat) b (record { numbered = e; looks_up = dir ∙ st.directory })
+    (subst (λ (x : Option Line). StandsForMaybe (terms_of k s.shut) seat (get_or h.core.next seat y) (s.world.heard seat) x (Some b)) (sym at) m) in (
       with_caller s seat w.left,
       w.printed,
       record {
         caller = a.caller;
         there = a.here;
-        was_read = peer_there k seat (get_or h.core.next seat y) (s.world.heard seat) (get_or h.callers seat None) g.0 a.caller g.1 read a.stands;
+        was_read = peer_there (terms_of k s.shut) seat (get_or h.core.next seat y) (s.world.heard seat) (get_or h.callers seat None) g.0 a.caller g.1 read a.stands;
         left = w.left;
         goes = w.goes;
         after = refl;
@@ -105,34 +103,34 @@ vanished k h s number seat directory l place whole old new st e dir lt some read
     )
 
 -- where nobody stands, the seat's next key is no later than that of its next connection
-vacant : (k : Setup) (s : Scene) (seat : ℕ) (next : CopyKey) (o : Option HouseConnection) → s.caller seat ≡ o → StandsForOne k seat next (s.world.heard seat) (s.next seat) None o
+vacant : (k : Setup) (s : Scene) (seat : ℕ) (next : CopyKey) (o : Option HouseConnection) → s.caller seat ≡ o → StandsForOne (terms_of k s.shut) seat next (s.world.heard seat) (s.next seat) None o
     → (s.caller seat ≡ None) × AtLeast next (record { seat = seat; serial = s.next seat; message = 0; recipient = 0 })
 vacant k s seat next None e w = (e, w)
 vacant k s seat next (Some b) e w = absurd w
 
 pub welcomed : (k : Setup) (h : State) (s : Scene) (number seat : ℕ) (piece : List ℕ) (directory : Directory) (l : Option Line) (g : Line) (whole : Bool) (old new : List ℕ)
-    → StandsFor k h s → number ≡ seat + 1 → directory ≡ h.directory → seat < length h.callers → get_or h.callers seat None ≡ None → get_or h.serials seat 0 < most_serials → has_ended h.core seat ≡ false
+    → StandsFor k h s → number ≡ seat + 1 → directory ≡ h.directory → seat < length h.callers → get_or h.callers seat None ≡ None → get_or h.serials seat 0 < most_serials
     → ((x : Terms) (next : CopyKey) (heard : List Noted) → x.host ≡ h.host → x.max_message ≡ h.max_message → AtLeast next (record { seat = seat; serial = get_or h.serials seat 0; message = 0; recipient = 0 }) → StandsForConnection x seat next heard g (more_waits (greeted x seat (get_or h.serials seat 0)) piece))
-    → ((x : Setup) (p : ℕ) (next : CopyKey) (heard : List Noted) (b : HouseConnection) → IsOf x number p directory → StandsForMaybe x p next heard (Some g) (Some b) → PlaceWentOn x whole p next heard b l old new)
+    → ((x : Terms) (p : ℕ) (next : CopyKey) (heard : List Noted) (b : HouseConnection) → IsOf x number p directory → StandsForMaybe x p next heard (Some g) (Some b) → PlaceWentOn x whole p next heard b l old new)
     → (t : Scene) × (printed : List ℕ) × BytesPlay k whole s seat piece t printed
     × StandsFor k (record { core = h.core; callers = set h.callers seat l; serials = set h.serials seat (get_or h.serials seat 0 + 1); visitors = h.visitors; entered = h.entered; directory = h.directory; host = h.host; max_message = h.max_message }) t
     × (new ≡ old ++ printed)
-welcomed k h s number seat piece directory l g whole old new st e dir lt none less live opened f =
+welcomed k h s number seat piece directory l g whole old new st e dir lt none less opened f =
     let y = first_key seat in
     let n = get_or h.serials seat 0 in
     let each = st.each seat y 0 None lt in
     let same : n ≡ s.next seat = each.counted in
-    let o = vacant k s seat (get_or h.core.next seat y) (s.caller seat) refl (subst (λ (x : Option Line). StandsForOne k seat (get_or h.core.next seat y) (s.world.heard seat) (s.next seat) x (s.caller seat)) none each.who) in
-    let b = more_waits (greeted (terms_of k) seat (s.next seat)) piece in
-    let m : StandsForConnection (terms_of k) seat (get_or h.core.next seat y) (s.world.heard seat) g b
-    = subst (λ (z : ℕ). StandsForConnection (terms_of k) seat (get_or h.core.next seat y) (s.world.heard seat) g (more_waits (greeted (terms_of k) seat z) piece)) same
-    (opened (terms_of k) (get_or h.core.next seat y) (s.world.heard seat) (sym st.host) (sym st.max_message) (subst (λ (z : ℕ). AtLeast (get_or h.core.next seat y) (record { seat = seat; serial = z; message = 0; recipient = 0 })) (sym same) o.1)) in
-    let w = f k seat (get_or h.core.next seat y) (s.world.heard seat) b (record { numbered = e; looks_up = dir ∙ st.directory }) m in
+    let o = vacant k s seat (get_or h.core.next seat y) (s.caller seat) refl (subst (λ (x : Option Line). StandsForOne (terms_of k s.shut) seat (get_or h.core.next seat y) (s.world.heard seat) (s.next seat) x (s.caller seat)) none each.who) in
+    let b = more_waits (greeted (terms_of k s.shut) seat (s.next seat)) piece in
+    let m : StandsForConnection (terms_of k s.shut) seat (get_or h.core.next seat y) (s.world.heard seat) g b
+    = subst (λ (z : ℕ). StandsForConnection (terms_of k s.shut) seat (get_or h.core.next seat y) (s.world.heard seat) g (more_waits (greeted (terms_of k s.shut) seat z) piece)) same
+    (opened (terms_of k s.shut) (get_or h.core.next seat y) (s.world.heard seat) (sym st.host) (sym st.max_message) (subst (λ (z : ℕ). AtLeast (get_or h.core.next seat y) (record { seat = seat; serial = z; message = 0; recipient = 0 })) (sym same) o.1)) in
+    let w = f (terms_of k s.shut) seat (get_or h.core.next seat y) (s.world.heard seat) b (record { numbered = e; looks_up = dir ∙ st.directory }) m in
     let ls : seat < length h.serials = let p = st.seats in let q = st.numbers in omega (arith, p, q, lt) in
     let here : set_at s.next seat (s.next seat + 1) seat ≡ s.next seat + 1 = set_at-same s.next seat (s.next seat + 1) in (
-      record { world = s.world; caller = set_at s.caller seat w.left; next = set_at s.next seat (s.next seat + 1); visitor = s.visitor; entered = s.entered },
+      record { world = s.world; caller = set_at s.caller seat w.left; next = set_at s.next seat (s.next seat + 1); visitor = s.visitor; entered = s.entered; shut = s.shut },
       w.printed,
-      opens (let p = st.connections in omega (arith, p, lt)) o.0 (omega (arith, less, same)) (ended_nowhere k.config h.core s.world seat st.core (let p = st.seats in omega (arith, p, lt)) live) w.left w.goes refl,
+      opens (let p = st.connections in omega (arith, p, lt)) o.0 (omega (arith, less, same)) w.left w.goes refl,
       after_going k h h.core (set h.serials seat (n + 1)) s s.world (set_at s.next seat (s.next seat + 1)) seat y l g b whole old new st st.core lt (λ q ne. refl) (λ q z ne. refl)
           (length-set h.serials seat (n + 1)) (λ i. get_or-set_same h.serials seat (n + 1) i ls ∙ ap (λ (z : ℕ). z + 1) same ∙ sym here)
           (λ q i ne. get_or-set_other h.serials seat q (n + 1) i ne) (λ q ne. at_there s.next seat (s.next seat + 1) q ne) m (omega (arith, here)) w,

@@ -7,6 +7,7 @@ pub mod Ended
 pub mod TailLaws
 pub mod NewHouse
 pub mod Settlement
+pub mod Closing
 pub mod Visiting
 pub mod SessionEvents
 pub mod IdleTurn

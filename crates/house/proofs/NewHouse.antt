@@ -2,11 +2,11 @@
 use Rattle.std.proofs.Common.{refl, ◌≡◌, ℕ, ◌+◌, ◌<◌, Bool, true, false, List, [], ◌∷◌, length, map, sym, ap, ◌∙◌, arith, inl, subst, Option, Some, None, Ok, Err, get_or, replicate}
 use Rattle.std.specs.Prelude.{nat_lt, not, if◌then◌else◌}
 use Rattle.std.specs.List.{list_all}
-use Rattle.std.proofs.lemmas.List.{length-map, get_or-replicate}
+use Rattle.std.proofs.lemmas.List.{length-map, length-replicate, get_or-replicate}
 use Rattle.delivery_token.specs.declared.CopyKey.{CopyKey}
 use Rattle.delivery_core.specs.New.{first_key}
 use Rattle.delivery_core.specs.Stands as core
-use Rattle.envelope.specs.Directory.{Directory, Home}
+use Rattle.envelope.specs.Directory.{Directory, Home, none_shut}
 use Rattle.envelope.specs.Names.{is_name, home_of, words_read, first_fault, homes_unless}
 use Rattle.envelope.specs.declared.directory.DirectoryFault.{DirectoryFault}
 use Rattle.envelope.specs.declared.directory.DirectoryFault.TheVariants.{TooMany, BadName}
@@ -15,7 +15,7 @@ use Rattle.house_connection.specs.Line.{Line}
 use Rattle.house.specs.State.{State}
 use Rattle.house.specs.Scene.{empty_scene}
 use Rattle.house.specs.Settings.{connections, sessions, setup_of, words_of}
-use Rattle.house.specs.Setup.{session_seat}
+use Rattle.house.specs.Setup.{session_seat, terms_of}
 use Rattle.house.specs.Stands.{StandsFor, StandsForOne, StandsForVisit}
 use Rattle.house_session.specs.Seat.{Seat}
 
@@ -30,16 +30,17 @@ homes_are false true (Some fault) homes read e = absurd (cc)
 pub read_homes : (domains words : List (List ℕ)) (read : List Home) → words_read domains words ≡ Ok read → read ≡ map home_of words
 read_homes domains words read e = homes_are (nat_lt 64 (length words)) (list_all is_name domains) (first_fault [] (map home_of words)) (map home_of words) read e
 
-pub new_house : (c : Config) (h : State) → core.StandsFor (setup_of c).config h.core (empty_scene).world
+pub new_house : (c : Config) (h : State) → core.StandsFor (setup_of c).config h.core (empty_scene (setup_of c)).world
     → ((p : ℕ) (d : CopyKey) → p < connections + sessions → get_or h.core.next p d ≡ first_key p)
     → h.callers ≡ replicate connections None → h.serials ≡ replicate connections 0 → h.visitors ≡ replicate sessions None → h.entered ≡ replicate sessions 0 → h.directory ≡ (setup_of c).directory → h.host ≡ c.host.items → h.max_message ≡ c.max_message
     → 0 < c.shards
-    → StandsFor (setup_of c) h empty_scene
+    → StandsFor (setup_of c) h (empty_scene (setup_of c))
 new_house c h stands keys callers serials places entered directory host most some = record {
   core = stands;
   directory = directory;
   host = host;
   max_message = most;
+  marks = length-replicate c.shards false;
   shards = refl;
   some_shard = some;
   homes = length-map (words_of c) home_of;
@@ -51,7 +52,7 @@ new_house c h stands keys callers serials places entered directory host most som
       let nobody : get_or h.callers seat d ≡ None = ap (λ (xs : List (Option Line)). get_or xs seat d) callers ∙ get_or-replicate connections seat None d lt in
       record {
         counted = ap (λ (xs : List ℕ). get_or xs seat n) serials ∙ get_or-replicate connections seat 0 n lt;
-        who = subst (λ (o : Option Line). StandsForOne (setup_of c) seat (get_or h.core.next seat y) [] 0 o None) (sym nobody) (inl (keys seat y (omega (arith, lt))));
+        who = subst (λ (o : Option Line). StandsForOne (terms_of (setup_of c) (none_shut c.shards)) seat (get_or h.core.next seat y) [] 0 o None) (sym nobody) (inl (keys seat y (omega (arith, lt))));
       };
   places = ap length places;
   entries = ap length entered;
@@ -64,8 +65,9 @@ new_house c h stands keys callers serials places entered directory host most som
       };
 }
 
-pub directory_is : (c : Config) (d : Directory) → d.domains ≡ c.domain.items ∷ [] → d.homes ≡ map home_of (words_of c) → d.shards ≡ c.shards → d ≡ (setup_of c).directory
-directory_is c d domains homes shards =
-    ap (λ (x : List (List ℕ)). let r : Directory = record { domains = x; homes = d.homes; shards = d.shards } in r) domains
-    ∙ ap (λ (x : List Home). let r : Directory = record { domains = c.domain.items ∷ []; homes = x; shards = d.shards } in r) homes
-    ∙ ap (λ (x : ℕ). let r : Directory = record { domains = c.domain.items ∷ []; homes = map home_of (words_of c); shards = x } in r) shards
+pub directory_is : (c : Config) (d : Directory) → d.domains ≡ c.domain.items ∷ [] → d.homes ≡ map home_of (words_of c) → d.shards ≡ c.shards → d.shut ≡ none_shut c.shards → d ≡ (setup_of c).directory
+directory_is c d domains homes shards shut =
+    ap (λ (x : List (List ℕ)). let r : Directory = record { domains = x; homes = d.homes; shards = d.shards; shut = d.shut } in r) domains
+    ∙ ap (λ (x : List Home). let r : Directory = record { domains = c.domain.items ∷ []; homes = x; shards = d.shards; shut = d.shut } in r) homes
+    ∙ ap (λ (x : ℕ). let r : Directory = record { domains = c.domain.items ∷ []; homes = map home_of (words_of c); shards = x; shut = d.shut } in r) shards
+    ∙ ap (λ (x : List Bool). let r : Directory = record { domains = c.domain.items ∷ []; homes = map home_of (words_of c); shards = c.shards; shut = x } in r) shut

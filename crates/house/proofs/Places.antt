@@ -21,9 +21,7 @@ use Rattle.house.specs.Scene.{Scene}
 use Rattle.house_connection.specs.ConnectionStands.{StandsForConnection}
 use Rattle.house.specs.Stands.{StandsFor, StandsForOne, StandsForSeat}
 use Rattle.house.specs.inner.Steps.{PlaceWentOn, StandsForMaybe}
-use Rattle.house_session.specs.Seat.{Seat}
 use Rattle.house.specs.Setup.{session_seat}
-use Rattle.house.specs.Stands.{StandsForPlace}
 use Rattle.house.proofs.Seats.{heard_is, place_kept, seat_behind, seat_kept, seat_within}
 
 pub at_there : {A : Type 0} (f : ℕ → A) (i : ℕ) (x : A) (j : ℕ) → j ≢ i → set_at f i x j ≡ f j
@@ -52,8 +50,8 @@ leaves_serial : (whole : Bool) (what : What) (after : HouseConnection) (o : Opti
 leaves_serial whole what after o b (goes q u e) f = absurd (let x : None ≡ Some b = sym e ∙ f in cc)
 leaves_serial whole what after o b (stays q g e) f = same_serial b after (sym f ∙ e)
 
-proceeds_serial : (k : Setup) (whole : Bool) (seat : ℕ) (heard : List Noted) (a : HouseConnection) (o : Option HouseConnection) (printed : List ℕ) (b : HouseConnection) → ConnectionGoes k whole seat heard a o printed → o ≡ Some b → b.serial ≡ a.serial
-proceeds_serial k whole seat heard a o printed b g e = leaves_serial whole g.what (with_unsaid g.still g.after) o b g.leaves e ∙ does_serial (terms_of k) whole seat heard a g.what g.after g.proceeds
+proceeds_serial : (k : Terms) (whole : Bool) (seat : ℕ) (heard : List Noted) (a : HouseConnection) (o : Option HouseConnection) (printed : List ℕ) (b : HouseConnection) → ConnectionGoes k whole seat heard a o printed → o ≡ Some b → b.serial ≡ a.serial
+proceeds_serial k whole seat heard a o printed b g e = leaves_serial whole g.what (with_unsaid g.still g.after) o b g.leaves e ∙ does_serial k whole seat heard a g.what g.after g.proceeds
 
 -- ---- the place itself
 
@@ -66,8 +64,8 @@ pub later_connection : (y : CopyKey) (seat s m i n : ℕ) → AtLeast y (record 
 later_connection y seat s m i n (inl e) l = inr (subst (λ (z : CopyKey). Below z (record { seat = seat; serial = n; message = 0; recipient = 0 })) (sym e) (inl l))
 later_connection y seat s m i n (inr h) l = inr (earlier y seat s m i n h l)
 
-who_is_left : (k : Setup) (seat : ℕ) (next : CopyKey) (heard : List Noted) (serials : ℕ) (l : Option Line) (o : Option HouseConnection) (h : Line) (a : HouseConnection) → StandsForMaybe k seat next heard l o
-    → StandsForConnection (terms_of k) seat next heard h a → a.serial < serials → ((b : HouseConnection) → o ≡ Some b → b.serial ≡ a.serial) → StandsForOne k seat next heard serials l o
+who_is_left : (k : Terms) (seat : ℕ) (next : CopyKey) (heard : List Noted) (serials : ℕ) (l : Option Line) (o : Option HouseConnection) (h : Line) (a : HouseConnection) → StandsForMaybe k seat next heard l o
+    → StandsForConnection k seat next heard h a → a.serial < serials → ((b : HouseConnection) → o ≡ Some b → b.serial ≡ a.serial) → StandsForOne k seat next heard serials l o
 who_is_left k seat next heard serials None None h a m s lt same = later_connection next seat a.serial s.message (length h.verdicts) serials s.ahead lt
 who_is_left k seat next heard serials None (Some b) h a m s lt same = m
 who_is_left k seat next heard serials (Some g) None h a m s lt same = m
@@ -80,16 +78,17 @@ pub after_going : (k : Setup) (h : State) (c : Held) (serials : List ℕ) (s : S
     → StandsFor k h s → core.StandsFor k.config c v → seat < length h.callers
     → ((q : ℕ) → q ≢ seat → notes_of c q ≡ notes_of h.core q) → ((q : ℕ) (z : CopyKey) → q ≢ seat → get_or c.next q z ≡ get_or h.core.next q z)
     → length serials ≡ length h.serials → ((n : ℕ) → get_or serials seat n ≡ numbers seat) → ((q n : ℕ) → q ≢ seat → get_or serials q n ≡ get_or h.serials q n) → ((q : ℕ) → q ≢ seat → numbers q ≡ s.next q)
-    → StandsForConnection (terms_of k) seat (get_or c.next seat y) (v.heard seat) g a → a.serial < numbers seat
-    → (w : PlaceWentOn k whole seat (get_or c.next seat y) (v.heard seat) a l old new)
+    → StandsForConnection (terms_of k s.shut) seat (get_or c.next seat y) (v.heard seat) g a → a.serial < numbers seat
+    → (w : PlaceWentOn (terms_of k s.shut) whole seat (get_or c.next seat y) (v.heard seat) a l old new)
     → StandsFor k (record { core = c; callers = set h.callers seat l; serials = serials; visitors = h.visitors; entered = h.entered; directory = h.directory; host = h.host; max_message = h.max_message })
-    (record { world = v; caller = set_at s.caller seat w.left; next = numbers; visitor = s.visitor; entered = s.entered })
+    (record { world = v; caller = set_at s.caller seat w.left; next = numbers; visitor = s.visitor; entered = s.entered; shut = s.shut })
 after_going k h c serials s v numbers seat y l g a whole old new st cs lt notes nexts len here there other sa less w = record {
   core = cs;
   directory = st.directory;
   host = st.host;
   max_message = st.max_message;
   homes = st.homes;
+  marks = st.marks;
   shards = st.shards;
   some_shard = st.some_shard;
   seats = let e = length-set h.callers seat l in let f = st.seats in omega (arith, e, f);
@@ -101,7 +100,7 @@ after_going k h c serials s v numbers seat y l g a whole old new st cs lt notes 
   visitors = λ q z n d m.
       let away : session_seat k q ≢ seat = λ e. seat_behind k h s seat q st lt e in
       let lk : session_seat k q < k.config.seats = seat_within k h s q st m in
-      place_kept k s (record { world = v; caller = set_at s.caller seat w.left; next = numbers; visitor = s.visitor; entered = s.entered }) q (get_or h.core.next (session_seat k q) z) (get_or c.next (session_seat k q) z)
+      place_kept k s (record { world = v; caller = set_at s.caller seat w.left; next = numbers; visitor = s.visitor; entered = s.entered; shut = s.shut }) q (get_or h.core.next (session_seat k q) z) (get_or c.next (session_seat k q) z)
       (get_or h.entered q n) (get_or h.entered q n) (get_or h.visitors q d) (get_or h.visitors q d) (st.visitors q z n d m)
       (nexts (session_seat k q) z away) refl refl (sym (heard_is k.config c v cs (session_seat k q) lk) ∙ notes (session_seat k q) away ∙ heard_is k.config h.core s.world st.core (session_seat k q) lk) refl refl;
 }
@@ -109,25 +108,25 @@ after_going k h c serials s v numbers seat y l g a whole old new st cs lt notes 
     in_next : seat < length c.next
     in_next = let e = cs.nexts in let f = st.seats in omega (arith, e, f, lt)
 
-    one : StandsForOne k seat (get_or c.next seat y) (v.heard seat) (numbers seat) l w.left
-    one = who_is_left k seat (get_or c.next seat y) (v.heard seat) (numbers seat) l w.left g a w.there sa less (λ b e. proceeds_serial k whole seat (v.heard seat) a w.left w.printed b w.goes e)
+    one : StandsForOne (terms_of k s.shut) seat (get_or c.next seat y) (v.heard seat) (numbers seat) l w.left
+    one = who_is_left (terms_of k s.shut) seat (get_or c.next seat y) (v.heard seat) (numbers seat) l w.left g a w.there sa less (λ b e. proceeds_serial (terms_of k s.shut) whole seat (v.heard seat) a w.left w.printed b w.goes e)
 
-    at_seat : (z : CopyKey) (n : ℕ) (d : Option Line) → StandsForSeat k (record { world = v; caller = set_at s.caller seat w.left; next = numbers; visitor = s.visitor; entered = s.entered }) seat (get_or c.next seat z) (get_or serials seat n) (get_or (set h.callers seat l) seat d)
+    at_seat : (z : CopyKey) (n : ℕ) (d : Option Line) → StandsForSeat k (record { world = v; caller = set_at s.caller seat w.left; next = numbers; visitor = s.visitor; entered = s.entered; shut = s.shut }) seat (get_or c.next seat z) (get_or serials seat n) (get_or (set h.callers seat l) seat d)
     at_seat z n d = record {
       counted = here n;
-      who = subst (λ (x : CopyKey). StandsForOne k seat x (v.heard seat) (numbers seat) (get_or (set h.callers seat l) seat d) (set_at s.caller seat w.left seat)) (get_or-any c.next seat y z in_next)
-          (subst (λ (x : Option Line). StandsForOne k seat (get_or c.next seat y) (v.heard seat) (numbers seat) x (set_at s.caller seat w.left seat)) (sym (get_or-set_same h.callers seat l d lt))
-          (subst (λ (x : Option HouseConnection). StandsForOne k seat (get_or c.next seat y) (v.heard seat) (numbers seat) l x) (sym (set_at-same s.caller seat w.left)) one));
+      who = subst (λ (x : CopyKey). StandsForOne (terms_of k s.shut) seat x (v.heard seat) (numbers seat) (get_or (set h.callers seat l) seat d) (set_at s.caller seat w.left seat)) (get_or-any c.next seat y z in_next)
+          (subst (λ (x : Option Line). StandsForOne (terms_of k s.shut) seat (get_or c.next seat y) (v.heard seat) (numbers seat) x (set_at s.caller seat w.left seat)) (sym (get_or-set_same h.callers seat l d lt))
+          (subst (λ (x : Option HouseConnection). StandsForOne (terms_of k s.shut) seat (get_or c.next seat y) (v.heard seat) (numbers seat) l x) (sym (set_at-same s.caller seat w.left)) one));
     }
 
-    elsewhere : (q : ℕ) (z : CopyKey) (n : ℕ) (d : Option Line) → q < length h.callers → q ≢ seat → StandsForSeat k (record { world = v; caller = set_at s.caller seat w.left; next = numbers; visitor = s.visitor; entered = s.entered }) q (get_or c.next q z) (get_or serials q n) (get_or (set h.callers seat l) q d)
+    elsewhere : (q : ℕ) (z : CopyKey) (n : ℕ) (d : Option Line) → q < length h.callers → q ≢ seat → StandsForSeat k (record { world = v; caller = set_at s.caller seat w.left; next = numbers; visitor = s.visitor; entered = s.entered; shut = s.shut }) q (get_or c.next q z) (get_or serials q n) (get_or (set h.callers seat l) q d)
     elsewhere q z n d m ne =
         let lk : q < k.config.seats = let e = st.seats in omega (arith, m, e) in
-        seat_kept k s (record { world = v; caller = set_at s.caller seat w.left; next = numbers; visitor = s.visitor; entered = s.entered }) q (get_or h.core.next q z) (get_or c.next q z) (get_or h.serials q n) (get_or serials q n) (get_or h.callers q d) (get_or (set h.callers seat l) q d) (st.each q z n d m)
+        seat_kept k s (record { world = v; caller = set_at s.caller seat w.left; next = numbers; visitor = s.visitor; entered = s.entered; shut = s.shut }) q (get_or h.core.next q z) (get_or c.next q z) (get_or h.serials q n) (get_or serials q n) (get_or h.callers q d) (get_or (set h.callers seat l) q d) (st.each q z n d m)
         (nexts q z ne) (there q n ne) (get_or-set_other h.callers seat q l d ne)
-        (sym (heard_is k.config c v cs q lk) ∙ notes q ne ∙ heard_is k.config h.core s.world st.core q lk) (at_there s.caller seat w.left q ne) (other q ne)
+        (sym (heard_is k.config c v cs q lk) ∙ notes q ne ∙ heard_is k.config h.core s.world st.core q lk) (at_there s.caller seat w.left q ne) (other q ne) refl
 
     place : (q : ℕ) (z : CopyKey) (n : ℕ) (d : Option Line) → q < length (set h.callers seat l) → ((eqb q seat ≡ true) × (q ≡ seat)) ⊎ ((eqb q seat ≡ false) × (q ≢ seat))
-        → StandsForSeat k (record { world = v; caller = set_at s.caller seat w.left; next = numbers; visitor = s.visitor; entered = s.entered }) q (get_or c.next q z) (get_or serials q n) (get_or (set h.callers seat l) q d)
-    place q z n d m (inl (b, e)) = subst (λ (x : ℕ). StandsForSeat k (record { world = v; caller = set_at s.caller seat w.left; next = numbers; visitor = s.visitor; entered = s.entered }) x (get_or c.next x z) (get_or serials x n) (get_or (set h.callers seat l) x d)) (sym e) (at_seat z n d)
+        → StandsForSeat k (record { world = v; caller = set_at s.caller seat w.left; next = numbers; visitor = s.visitor; entered = s.entered; shut = s.shut }) q (get_or c.next q z) (get_or serials q n) (get_or (set h.callers seat l) q d)
+    place q z n d m (inl (b, e)) = subst (λ (x : ℕ). StandsForSeat k (record { world = v; caller = set_at s.caller seat w.left; next = numbers; visitor = s.visitor; entered = s.entered; shut = s.shut }) x (get_or c.next x z) (get_or serials x n) (get_or (set h.callers seat l) x d)) (sym e) (at_seat z n d)
     place q z n d m (inr (b, ne)) = elsewhere q z n d (let e = length-set h.callers seat l in omega (arith, e, m)) ne

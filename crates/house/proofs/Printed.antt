@@ -1,6 +1,6 @@
 -- What connections and sessions did, and what the house printed of it.
 use Rattle.std.specs.declared.alloc.AllocError.{AllocError}
-use Rattle.std.proofs.Common.{Result, Ok, Err, OnOk, OnErr, ◌≡◌, ℕ, ◌+◌, ◌<◌, ◌⊎◌, inl, inr, Bool, true, false, List, [], ◌++◌, refl, sym, ap, ◌∙◌, subst, append-nil, Option, Some, None}
+use Rattle.std.proofs.Common.{Result, Ok, Err, OnOk, OnErr, ◌≡◌, ℕ, ◌+◌, Bool, true, false, List, [], ◌++◌, refl, sym, ap, ◌∙◌, subst, append-nil, Some, None}
 use Rattle.delivery_token.specs.declared.CopyKey.{CopyKey}
 use Rattle.delivery_token.specs.declared.log.Noted.{Noted}
 use Rattle.line_io.specs.Marks.{marked}
@@ -18,7 +18,6 @@ use Rattle.house_session.specs.Seated as seated
 use Rattle.house_session.specs.Seated.{SeatedSession}
 use Rattle.house.specs.Printing.{goes, of_connection, of_session, prints_all, prints_none, stays, still_unsaid, with_session}
 use Rattle.house.specs.inner.Printing.{Idled, WentOn}
-use Rattle.house.specs.Setup.{Setup, terms_of}
 use Rattle.house.specs.inner.Steps.{ConnectionWent}
 
 -- ---- what a whole turn does, one that is cut short may do as well
@@ -39,12 +38,12 @@ proceeds_part k seat heard b what after (fades vs g u a e f) = fades vs g u a e 
 
 -- ---- connections
 
-module _ (k : Setup) (seat : ℕ) (next : CopyKey) (heard : List Noted) where
+module _ (k : Terms) (seat : ℕ) (next : CopyKey) (heard : List Noted) where
   marks : (number : ℕ) (h : Line) (after : HouseConnection) → number ≡ seat + 1 → h.unsaid ≡ after.talk.unsaid → marked of_connection number h.unsaid ≡ marked of_connection (seat + 1) after.talk.unsaid
   marks number h after e f = ap (λ (n : ℕ). marked of_connection n h.unsaid) e ∙ ap (marked of_connection (seat + 1)) f
 
   -- all was done, and all is printed
-  pub went : (number : ℕ) (b : HouseConnection) (what : What) (h : Line) (old new : List ℕ) → number ≡ seat + 1 → Proceeded (terms_of k) true seat next heard b what h → new ≡ old ++ marked of_connection number h.unsaid
+  pub went : (number : ℕ) (b : HouseConnection) (what : What) (h : Line) (old new : List ℕ) → number ≡ seat + 1 → Proceeded k true seat next heard b what h → new ≡ old ++ marked of_connection number h.unsaid
       → ConnectionWent k true seat next heard b what (with_all_said h) old new
   went number b Quit h old new e p o = record {
     left = None;
@@ -65,7 +64,7 @@ module _ (k : Setup) (seat : ℕ) (next : CopyKey) (heard : List Noted) where
       all = λ w. refl;
       leaves = stays (λ q w. let x : More ≡ Quit = q in cc) (λ q g. let x : More ≡ Quit = q in cc) refl;
     };
-    there = ((λ q. let x : More ≡ Quit = q in cc), printed_stands (terms_of k) seat next heard h p.after p.stands);
+    there = ((λ q. let x : More ≡ Quit = q in cc), printed_stands k seat next heard h p.after p.stands);
     out = o;
   }
   went number b Submit h old new e p o = record {
@@ -80,12 +79,12 @@ module _ (k : Setup) (seat : ℕ) (next : CopyKey) (heard : List Noted) where
       all = λ w. refl;
       leaves = stays (λ q w. let x : Submit ≡ Quit = q in cc) (λ q g. let x : Submit ≡ Quit = q in cc) refl;
     };
-    there = ((λ q. let x : Submit ≡ Quit = q in cc), printed_stands (terms_of k) seat next heard h p.after p.stands);
+    there = ((λ q. let x : Submit ≡ Quit = q in cc), printed_stands k seat next heard h p.after p.stands);
     out = o;
   }
 
   -- memory was wanting, and what was said is printed
-  pub went_in_part : (number : ℕ) (b : HouseConnection) (what : What) (h : Line) (old new : List ℕ) → number ≡ seat + 1 → Proceeded (terms_of k) false seat next heard b what h → (h.gone ≡ true → ⊥)
+  pub went_in_part : (number : ℕ) (b : HouseConnection) (what : What) (h : Line) (old new : List ℕ) → number ≡ seat + 1 → Proceeded k false seat next heard b what h → (h.gone ≡ true → ⊥)
       → new ≡ old ++ marked of_connection number h.unsaid → ConnectionWent k false seat next heard b More (with_all_said h) old new
   went_in_part number b what h old new e p live o = record {
     left = Some (with_unsaid [] p.after);
@@ -99,12 +98,12 @@ module _ (k : Setup) (seat : ℕ) (next : CopyKey) (heard : List Noted) where
       all = λ w. refl;
       leaves = stays (λ q w. let x : false ≡ true = w in cc) (λ q g. live (p.stands.gone ∙ g)) refl;
     };
-    there = ((λ q. let x : More ≡ Quit = q in cc), printed_stands (terms_of k) seat next heard h p.after p.stands);
+    there = ((λ q. let x : More ≡ Quit = q in cc), printed_stands k seat next heard h p.after p.stands);
     out = o;
   }
 
   -- printing was refused
-  pub went_unprinted : (b : HouseConnection) (what : What) (h : Line) (old new : List ℕ) → Proceeded (terms_of k) false seat next heard b what h → (h.gone ≡ true → ⊥) → new ≡ old
+  pub went_unprinted : (b : HouseConnection) (what : What) (h : Line) (old new : List ℕ) → Proceeded k false seat next heard b what h → (h.gone ≡ true → ⊥) → new ≡ old
       → ConnectionWent k false seat next heard b More h old new
   went_unprinted b what h old new p live o = record {
     left = Some p.after;
@@ -123,13 +122,13 @@ module _ (k : Setup) (seat : ℕ) (next : CopyKey) (heard : List Noted) where
   }
 
   -- the same, whatever came of printing
-  pub part_printed : (number : ℕ) (b : HouseConnection) (what : What) (h g : Line) (old new : List ℕ) → number ≡ seat + 1 → Proceeded (terms_of k) false seat next heard b what h → h.gone ≡ false
+  pub part_printed : (number : ℕ) (b : HouseConnection) (what : What) (h g : Line) (old new : List ℕ) → number ≡ seat + 1 → Proceeded k false seat next heard b what h → h.gone ≡ false
       → (r : Result Unit AllocError) → OnOk r ((g ≡ with_all_said h) × (new ≡ old ++ marked of_connection number h.unsaid)) → OnErr r ((g ≡ h) × (new ≡ old)) → ConnectionWent k false seat next heard b More g old new
   part_printed number b what h g old new e p live (Ok tt) ok err = subst (λ (x : Line). ConnectionWent k false seat next heard b More x old new) (sym ok.0) (went_in_part number b what h old new e p (λ x. let y : true ≡ false = sym x ∙ live in cc) ok.1)
   part_printed number b what h g old new e p live (Err fault) ok err = subst (λ (x : Line). ConnectionWent k false seat next heard b More x old new) (sym err.0) (went_unprinted b what h old new p (λ x. let y : true ≡ false = sym x ∙ live in cc) err.1)
 
-  pub in_part : (b : HouseConnection) (what : What) (h : Line) → Proceeded (terms_of k) true seat next heard b what h → Proceeded (terms_of k) false seat next heard b what h
-  in_part b what h p = record { after = p.after; proceeds = proceeds_part (terms_of k) seat heard b what p.after p.proceeds; stands = p.stands }
+  pub in_part : (b : HouseConnection) (what : What) (h : Line) → Proceeded k true seat next heard b what h → Proceeded k false seat next heard b what h
+  in_part b what h p = record { after = p.after; proceeds = proceeds_part k seat heard b what p.after p.proceeds; stands = p.stands }
 
 -- ---- sessions
 

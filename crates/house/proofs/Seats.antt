@@ -1,5 +1,5 @@
 -- A house after a change: the seats that were not touched stand as they stood.
-use Rattle.std.proofs.Common.{◌≡◌, ℕ, ◌+◌, ◌<◌, List, [], ◌∷◌, length, map, refl, ap, sym, ◌∙◌, subst, arith, Option, get_or}
+use Rattle.std.proofs.Common.{◌≡◌, ℕ, ◌<◌, Bool, List, [], ◌∷◌, length, map, refl, ap, sym, ◌∙◌, subst, arith, Option, get_or}
 use Rattle.std.proofs.lemmas.List.{get_or-map}
 use Rattle.delivery_token.specs.declared.CopyKey.{CopyKey}
 use Rattle.delivery_token.specs.declared.log.Noted.{Noted}
@@ -13,7 +13,7 @@ use Rattle.house.specs.State.{State}
 use Rattle.house_connection.specs.HouseConnection.{HouseConnection}
 use Rattle.house_session.specs.Seated.{SeatedSession}
 use Rattle.house_session.specs.Seat.{Seat}
-use Rattle.house.specs.Setup.{Setup, session_seat}
+use Rattle.house.specs.Setup.{Setup, session_seat, terms_of}
 use Rattle.house.specs.Scene.{Scene, with_world}
 use Rattle.house.specs.Stands.{StandsFor, StandsForOne, StandsForPlace, StandsForSeat, StandsForVisit}
 
@@ -26,14 +26,15 @@ heard_is k h w s p l =
 
 -- a seat stands as it stood, where all that is said of it is the same
 pub seat_kept : (k : Setup) (s t : Scene) (q : ℕ) (y z : CopyKey) (n m : ℕ) (l o : Option Line) → StandsForSeat k s q y n l
-    → z ≡ y → m ≡ n → o ≡ l → t.world.heard q ≡ s.world.heard q → t.caller q ≡ s.caller q → t.next q ≡ s.next q → StandsForSeat k t q z m o
-seat_kept k s t q y z n m l o h ey en el eh ec ex = record {
+    → z ≡ y → m ≡ n → o ≡ l → t.world.heard q ≡ s.world.heard q → t.caller q ≡ s.caller q → t.next q ≡ s.next q → t.shut ≡ s.shut → StandsForSeat k t q z m o
+seat_kept k s t q y z n m l o h ey en el eh ec ex es = record {
   counted = en ∙ h.counted ∙ sym ex;
-  who = subst (λ (v : CopyKey). StandsForOne k q v (t.world.heard q) (t.next q) o (t.caller q)) (sym ey)
-      (subst (λ (v : List Noted). StandsForOne k q y v (t.next q) o (t.caller q)) (sym eh)
-      (subst (λ (v : ℕ). StandsForOne k q y (s.world.heard q) v o (t.caller q)) (sym ex)
-      (subst (λ (v : Option Line). StandsForOne k q y (s.world.heard q) (s.next q) v (t.caller q)) (sym el)
-      (subst (λ (v : Option HouseConnection). StandsForOne k q y (s.world.heard q) (s.next q) l v) (sym ec) h.who))));
+  who = subst (λ (v : List Bool). StandsForOne (terms_of k v) q z (t.world.heard q) (t.next q) o (t.caller q)) (sym es)
+      (subst (λ (v : CopyKey). StandsForOne (terms_of k s.shut) q v (t.world.heard q) (t.next q) o (t.caller q)) (sym ey)
+      (subst (λ (v : List Noted). StandsForOne (terms_of k s.shut) q y v (t.next q) o (t.caller q)) (sym eh)
+      (subst (λ (v : ℕ). StandsForOne (terms_of k s.shut) q y (s.world.heard q) v o (t.caller q)) (sym ex)
+      (subst (λ (v : Option Line). StandsForOne (terms_of k s.shut) q y (s.world.heard q) (s.next q) v (t.caller q)) (sym el)
+      (subst (λ (v : Option HouseConnection). StandsForOne (terms_of k s.shut) q y (s.world.heard q) (s.next q) l v) (sym ec) h.who)))));
 }
 
 -- so does a session's place
@@ -68,6 +69,7 @@ moved k h c s v st cs eh en = record {
   host = st.host;
   max_message = st.max_message;
   homes = st.homes;
+  marks = st.marks;
   shards = st.shards;
   some_shard = st.some_shard;
   seats = st.seats;
@@ -77,7 +79,7 @@ moved k h c s v st cs eh en = record {
       let lt : q < k.config.seats = let e = st.seats in omega (arith, l, e) in
       seat_kept k s (with_world s v) q (get_or h.core.next q y) (get_or c.next q y) (get_or h.serials q n) (get_or h.serials q n) (get_or h.callers q d) (get_or h.callers q d) (st.each q y n d l)
       (ap (λ (ks : List CopyKey). get_or ks q y) en) refl refl
-      (sym (heard_is k.config c v cs q lt) ∙ ap (λ (bs : List Book). get_or (map (λ (b : Book). b.notes) bs) q []) eh ∙ heard_is k.config h.core s.world st.core q lt) refl refl;
+      (sym (heard_is k.config c v cs q lt) ∙ ap (λ (bs : List Book). get_or (map (λ (b : Book). b.notes) bs) q []) eh ∙ heard_is k.config h.core s.world st.core q lt) refl refl refl;
   places = st.places;
   entries = st.entries;
   visitors = λ q y n d l.

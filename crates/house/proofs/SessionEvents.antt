@@ -1,5 +1,5 @@
 -- What happens to sessions, over the whole house: who enters, what is said, who leaves, and the copies that are put and heard of.
-use Rattle.std.proofs.Common.{◌≡◌, ◌≢◌, ℕ, ◌+◌, ◌%◌, ◌<◌, ◌⊎◌, inl, inr, Bool, true, false, List, [], ◌∷◌, ◌++◌, length, refl, ap, sym, ◌∙◌, subst, arith, append-nil, append_assoc, Option, Some, None, get_or, set, get_or-set_other, get_or-set_same, length-set, IsSome}
+use Rattle.std.proofs.Common.{◌≡◌, ◌≢◌, ℕ, ◌+◌, ◌%◌, ◌<◌, ◌⊎◌, inl, inr, Bool, true, false, List, [], ◌∷◌, ◌++◌, length, refl, ap, sym, ◌∙◌, subst, arith, append_assoc, Option, Some, None, get_or, set, get_or-set_other, get_or-set_same, length-set, IsSome}
 use Rattle.std.specs.Prelude.{IsSomeAnd, MatchOption}
 use Rattle.delivery_token.specs.Keys.{AtLeast, Precedes, past}
 use Rattle.delivery_token.specs.Log.{heard_at_once}
@@ -14,19 +14,17 @@ use Rattle.submission.specs.inner.Verdicts.{heard_verdict}
 use Rattle.envelope.specs.Directory.{Directory}
 use Rattle.world.specs.World.{Config, PutStep, World, shard_of}
 use Rattle.world.specs.World as world
-use Rattle.delivery_core.specs.Held.{Held, has_ended, notes_of}
+use Rattle.delivery_core.specs.Held.{Held, notes_of}
 use Rattle.delivery_core.specs.Changes.{Hears, SameDelivery}
 use Rattle.delivery_core.specs.New.{first_key}
-use Rattle.delivery_core.specs.Puts.{IsNextKey}
 use Rattle.delivery_core.specs.Stands as core
 use Rattle.imap_session.specs.Exchange.{Answer, Sent}
 use Rattle.imap_session.specs.Exchange as calls
 use Rattle.session_store.specs.declared.desk.Desk.{Desk}
 use Rattle.session_store.specs.Desk.{Serves}
-use Rattle.session_store.proofs.Served.{IsServing, carries}
+use Rattle.session_store.proofs.Served.{carries}
 use Rattle.house_session.specs.Folders.{folders_of, has_user}
-use Rattle.house_session.specs.HouseSession.{HouseSession, more_waits}
-use Rattle.house_session.specs.Place as visit
+use Rattle.house_session.specs.HouseSession.{more_waits}
 use Rattle.house_session.specs.Seated.{SeatedSession, copies_of, seated_greeted, sent_by, unread}
 use Rattle.house_session.specs.Seat.{HearsVerdict, Seat, StandsForSeated, due, noted_put, submitted_at, with_nobody_there}
 use Rattle.house_session.proofs.Putting.{may_be_used, next_copy, put_stands}
@@ -38,10 +36,9 @@ use Rattle.house.specs.Scene.{EnterPlay, HearPlay, LeavePlay, PutPlay, SayPlay, 
 use Rattle.house.specs.Stands.{StandsFor, StandsForVisit, first_of}
 use Rattle.house.specs.Steps.{PutsNext, is_left}
 use Rattle.house.specs.inner.Steps.{HasLingered, MayNotPut, PlaceTalked, PlaceVisited, StandsForSomebody, with_more_came}
-use Rattle.house.proofs.Ended.{ended_nowhere, nobody_at_place}
 use Rattle.house.proofs.Places.{at_there}
 use Rattle.house.proofs.Seats.{heard_is, one_step, seat_within}
-use Rattle.house.proofs.Turns.{hear_moves, may_of, put_moves, step_of}
+use Rattle.house.proofs.Turns.{hear_moves, may_of, step_of}
 use Rattle.house.proofs.Visiting.{IsAtPlace, after_visiting, at_place, goes_serial, lingers_serial, talks_serial, visit_stands, visited_scene, who_stays, with_visits}
 
 -- where the serials stay
@@ -94,11 +91,11 @@ free_place k s place next None e w = (e, w)
 free_place k s place next (Some b) e w = absurd w
 
 pub entered : (k : Setup) (whole : Bool) (h : State) (s : Scene) (place seat serial most : ℕ) (user : List ℕ) (p : Seat) (q : Option Seat) (c : Held) (old new : List ℕ) → StandsFor k h s → place < length h.visitors → seat ≡ length h.callers + place
-    → get_or h.visitors place None ≡ None → has_user h.directory user ≡ true → serial ≡ get_or h.entered place 0 → serial < most_serials → most ≡ h.max_message → has_ended h.core seat ≡ false → SameDelivery h.core c
+    → get_or h.visitors place None ≡ None → has_user h.directory user ≡ true → serial ≡ get_or h.entered place 0 → serial < most_serials → most ≡ h.max_message → SameDelivery h.core c
     → ((next : CopyKey) (heard : List Noted) → AtLeast next (first_of seat serial) → StandsForSeated seat next heard p (seated_greeted serial (Some most) (folders_of h.directory user)))
     → ((next : CopyKey) (heard : List Noted) (w : World) (b : SeatedSession) → core.StandsFor k.config h.core w → StandsForSomebody (session_seat k place) next heard (Some p) (Some b) → PlaceTalked k whole place next heard w b q c old new)
     → (t : Scene) × (printed : List ℕ) × EnterPlay k whole s place user t printed × StandsFor k (with_visits h c place q (set h.entered place (serial + 1))) t × (new ≡ old ++ printed)
-entered k whole h s place seat serial most user p q c old new st within at free known of less size live rest opened goes =
+entered k whole h s place seat serial most user p q c old new st within at free known of less size rest opened goes =
     let y = first_key 0 in
     let each = st.visitors place y 0 None within in
     let mine : seat ≡ session_seat k place = at ∙ ap (λ (n : ℕ). n + place) st.connections in
@@ -124,7 +121,6 @@ entered k whole h s place seat serial most user p q c old new st within at free 
         free = o.0;
         known = sym (ap (λ (d : Directory). has_user d user) st.directory) ∙ known;
         more = omega (arith, less, same);
-        goes_on = ended_nowhere k.config h.core s.world (session_seat k place) st.core (seat_within k h s place st within) (subst (λ (n : ℕ). has_ended h.core n ≡ false) mine live);
         moved = m.moved;
         left = m.left;
         goes = m.goes;
@@ -243,7 +239,7 @@ put_idles k h s place g t printed st lt some why p =
 
     by : IsAtPlace k s place (get_or h.core.next (session_seat k place) (first_key 0)) g → due g ≡ p.copy ∷ p.others → MayNotPut h.core (due g) → ⊥
     by a front (inl none) = let x : [] ≡ p.copy ∷ p.others = sym none ∙ front in cc
-    by a front (inr (c, others, first, inl isnt)) =
+    by a front (inr (c, others, first, isnt)) =
         let seat = session_seat k place in
         let copy : p.copy ≡ c = front_is p.copy c p.others others (sym front ∙ first) in
         let n = next_copy seat (get_or h.core.next seat (first_key 0)) (s.world.heard seat) a.visitor g c others a.stands first in
@@ -263,15 +259,6 @@ put_idles k h s place g t printed st lt some why p =
           mailbox_there = let m = may.mailbox in let e = ap (λ (j : Job). j.mailbox) copy in let r = st.core.mailboxes in omega (arith, m, e, r);
           shard_there = let q = st.some_shard in let r = st.core.shards in omega (arith, q, r);
         })
-    by a front (inr (c, others, first, inr idle)) =
-        let seat = session_seat k place in
-        let copy : p.copy ≡ c = front_is p.copy c p.others others (sym front ∙ first) in
-        let n = next_copy seat (get_or h.core.next seat (first_key 0)) (s.world.heard seat) a.visitor g c others a.stands first in
-        let es : c.key.seat ≡ seat = ap (λ (j : Job). j.key.seat) n.is in
-        let step : PutStep k.config s.world seat (shard_of k.config c.mailbox) c p.moved = subst (λ (x : Job). PutStep k.config s.world seat (shard_of k.config x.mailbox) x p.moved) copy p.step in
-        let back : PutStep k.config s.world c.key.seat (c.mailbox % length h.core.lanes) c p.moved
-        = subst (λ (i : ℕ). PutStep k.config s.world i (c.mailbox % length h.core.lanes) c p.moved) (sym es) (subst (λ (i : ℕ). PutStep k.config s.world seat (c.mailbox % i) c p.moved) (sym st.core.shards) step) in
-        put_moves k.config s.world seat (shard_of k.config c.mailbox) c p.moved step (idle k.config s.world p.moved st.core back)
 
 -- ---- a hearing
 

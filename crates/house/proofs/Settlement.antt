@@ -8,13 +8,13 @@ use Rattle.std.proofs.lemmas.List.{append-nil, map-append}
 use Rattle.lmtp_machine.specs.declared.connection.What.{What}
 use Rattle.delivery_token.specs.declared.log.Noted.{Noted}
 use Rattle.house.specs.declared.event.Event.{Event}
-use Rattle.house.specs.declared.event.Event.TheVariants.{Bytes, Vanish, Put, Take, Deliver, Answer, Hear, End, Enter, Say, Idle, Leave}
-use Rattle.house_connection.specs.HouseConnection.{HouseConnection, unread, with_unsaid}
+use Rattle.house.specs.declared.event.Event.TheVariants.{Bytes, Vanish, Put, Take, Deliver, Answer, Hear, End, Close, Enter, Say, Idle, Leave}
+use Rattle.house_connection.specs.HouseConnection.{HouseConnection, Terms, unread, with_unsaid}
 use Rattle.house.specs.Printing.{ConnectionGoes, Leaves, Speaks, goes, stays, with_session}
 use Rattle.house.proofs.Printed.{proceeds_part, said_in_part}
 use Rattle.house.specs.Setup.{Setup, session_seat, terms_of}
 use Rattle.house.specs.Scene as scene
-use Rattle.house.specs.Scene.{BytesPlay, ConnectionHears, ConnectionPuts, HasNothing, HearPlay, IsFree, Parts, Plays, PutPlay, Scene, SessionGoes, SessionHears, SessionIdles, SessionPuts, SessionTalks, VanishPlay, connection_hears, connection_puts, goes_on, opens, parts, place_of, remains, seat_of, session_hears, session_puts}
+use Rattle.house.specs.Scene.{BytesPlay, ConnectionHears, ConnectionPuts, HasNothing, HearPlay, Parts, Plays, PutPlay, Scene, SessionGoes, SessionHears, SessionIdles, SessionPuts, SessionTalks, VanishPlay, connection_hears, connection_puts, goes_on, is_shut_in, opens, parts, place_of, remains, seat_of, session_hears, session_puts}
 use Rattle.imap_session.specs.Exchange.{Call, Answer as Told}
 use Rattle.session_store.specs.Meets.{Meets}
 use Rattle.house_session.specs.Folders.{folders_of}
@@ -25,16 +25,16 @@ use Rattle.house_session.specs.Seat.{Seat}
 use Rattle.house.specs.Settling.{GoesRounds, Happened, InTurn, Tries, Visit, Visits, happens, in_a_row, passes, round}
 use Rattle.house.specs.Settled.{HappenedFrom}
 use Rattle.house.specs.Stands.{StandsFor}
-use Rattle.house.specs.Steps.{Follows, FollowsInPart, IsBusy, IsFreePlace, IsLeft, IsNoNumber, IsNoPlace, IsNobody, IsVacant, Led, is_left}
-use Rattle.house.proofs.Ended.{nobody_at_place, vacant_free}
+use Rattle.house.specs.Steps.{Follows, FollowsInPart, IsBusy, IsFreePlace, IsLeft, IsNoNumber, IsNoPlace, IsNobody, IsVacant, KeepsMarks, Led, is_left}
+use Rattle.house.proofs.Ended.{IsFree, nobody_at_place, vacant_free}
 use Rattle.house.proofs.Visiting.{at_place}
-use Rattle.envelope.specs.Directory.{Directory}
+use Rattle.envelope.specs.Directory.{Directory, is_shut}
 use Rattle.delivery_core.specs.New.{first_key}
 use Rattle.std.proofs.lemmas.List.Elements.{All-append, All-cons, All-get_or, All-head, All-nil, All-tail, filter-append}
 use Rattle.std.proofs.Math.Seq.{take-suc}
 use Rattle.house.specs.State.{State}
 use Rattle.house.specs.Effort.{MakesLess, effort}
-use Rattle.house.specs.inner.Trying.{CameVisit, CameVisits, Did, DidVisits, IsAmong, IsOwn, Moved, Rests, Wants, Went, hears, puts, serve, serves}
+use Rattle.house.specs.inner.Trying.{CameVisit, CameVisits, Did, DidVisits, IsAmong, IsOwn, Moved, Rests, Wants, Went, closes, hears, puts, serve, serves}
 
 -- ---- what a whole event does, one that is cut short may do as well
 
@@ -42,11 +42,11 @@ leaves_part : (what : What) (after : HouseConnection) (o : Option HouseConnectio
 leaves_part what after o (goes q n e) = goes q n e
 leaves_part what after o (stays f g e) = stays (λ q x. let y : false ≡ true = x in cc) g e
 
-goes_in_part : (k : Setup) (seat : ℕ) (heard : List Noted) (b : HouseConnection) (o : Option HouseConnection) (printed : List ℕ) → ConnectionGoes k true seat heard b o printed → ConnectionGoes k false seat heard b o printed
+goes_in_part : (k : Terms) (seat : ℕ) (heard : List Noted) (b : HouseConnection) (o : Option HouseConnection) (printed : List ℕ) → ConnectionGoes k true seat heard b o printed → ConnectionGoes k false seat heard b o printed
 goes_in_part k seat heard b o printed g = record {
   what = g.what;
   after = g.after;
-  proceeds = proceeds_part (terms_of k) seat heard b g.what g.after g.proceeds;
+  proceeds = proceeds_part k seat heard b g.what g.after g.proceeds;
   still = g.still;
   prints = g.prints;
   all = λ x. let y : false ≡ true = x in cc;
@@ -54,8 +54,8 @@ goes_in_part k seat heard b o printed g = record {
 }
 
 bytes_part : (k : Setup) (s : Scene) (seat : ℕ) (piece : List ℕ) (t : Scene) (printed : List ℕ) → BytesPlay k true s seat piece t printed → BytesPlay k false s seat piece t printed
-bytes_part k s seat piece t printed (opens l n m f o g e) = opens l n m f o (goes_in_part k seat _ _ o printed g) e
-bytes_part k s seat piece t printed (goes_on b n l o g e) = goes_on b n l o (goes_in_part k seat _ _ o printed g) e
+bytes_part k s seat piece t printed (opens l n m o g e) = opens l n m o (goes_in_part (terms_of k s.shut) seat _ _ o printed g) e
+bytes_part k s seat piece t printed (goes_on b n l o g e) = goes_on b n l o (goes_in_part (terms_of k s.shut) seat _ _ o printed g) e
 
 vanish_part : (k : Setup) (s : Scene) (seat : ℕ) (t : Scene) (printed : List ℕ) → VanishPlay k true s seat t printed → VanishPlay k false s seat t printed
 vanish_part k s seat t printed p = record {
@@ -63,7 +63,7 @@ vanish_part k s seat t printed p = record {
   there = p.there;
   was_read = p.was_read;
   left = p.left;
-  goes = goes_in_part k seat (s.world.heard seat) (unread p.caller) p.left printed p.goes;
+  goes = goes_in_part (terms_of k s.shut) seat (s.world.heard seat) (unread p.caller) p.left printed p.goes;
   after = p.after;
 }
 
@@ -77,7 +77,7 @@ connection_put_part k s seat t printed p = record {
   moved = p.moved;
   step = p.step;
   left = p.left;
-  goes = goes_in_part k seat (p.moved.heard seat) (record { serial = p.caller.serial; gone = p.caller.gone; talk = p.caller.talk; to_put = p.others }) p.left printed p.goes;
+  goes = goes_in_part (terms_of k s.shut) seat (p.moved.heard seat) (record { serial = p.caller.serial; gone = p.caller.gone; talk = p.caller.talk; to_put = p.others }) p.left printed p.goes;
   after = p.after;
 }
 
@@ -88,7 +88,7 @@ connection_hear_part k s seat t printed p = record {
   moved = p.moved;
   step = p.step;
   left = p.left;
-  goes = goes_in_part k seat (p.moved.heard seat) p.caller p.left printed p.goes;
+  goes = goes_in_part (terms_of k s.shut) seat (p.moved.heard seat) p.caller p.left printed p.goes;
   after = p.after;
 }
 
@@ -170,12 +170,12 @@ plays_part k s (Deliver shard) t printed p = p
 plays_part k s (Answer shard) t printed p = p
 plays_part k s (Hear connection) t printed p = hear_part k s _ t printed p
 plays_part k s (End connection shard) t printed p = p
+plays_part k s (Close shard) t printed p = p
 plays_part k s (Enter session user) t printed p = record {
   there = p.there;
   free = p.free;
   known = p.known;
   more = p.more;
-  goes_on = p.goes_on;
   moved = p.moved;
   left = p.left;
   goes = talks_part k (place_of session) (s.world.heard (session_seat k (place_of session))) s.world (seated_greeted (s.entered (place_of session)) (Some k.max_message) (folders_of k.directory user.now)) p.moved p.left printed p.goes;
@@ -366,7 +366,10 @@ nobody_visits_there k h s n pos le st (inr e) =
 pub nobody_nothing : (k : Setup) (h : State) (s : Scene) (e : Event) → IsAmong k e → StandsFor k h s → IsNobody h e → HasNothing k s e
 nobody_nothing k h s (Bytes connection piece) q st n = absurd q
 nobody_nothing k h s (Vanish connection) q st n = absurd q
-nobody_nothing k h s (End connection shard) q st n = absurd q
+nobody_nothing k h s (Close shard) q st n = absurd q
+nobody_nothing k h s (End number shard) q st (inl (inl e)) = absurd (let a = q.0 in omega (arith, a, e))
+nobody_nothing k h s (End number shard) q st (inl (inr l)) = absurd (let a = q.1 in let e = st.seats in omega (arith, a, e, l))
+nobody_nothing k h s (End number shard) q st (inr l) = absurd (let a = q.2 in let e = st.core.shards in omega (arith, a, e, l))
 nobody_nothing k h s (Enter session user) q st n = absurd q
 nobody_nothing k h s (Say session piece) q st n = absurd q
 nobody_nothing k h s (Leave session) q st n = absurd q
@@ -394,7 +397,8 @@ left_nothing k h s session st l t printed p =
 pub own_less : (e : Event) (old new : State) → IsOwn e → MakesLess e old new → effort new < effort old
 own_less (Bytes connection piece) old new o l = absurd o
 own_less (Vanish connection) old new o l = absurd o
-own_less (End connection shard) old new o l = absurd o
+own_less (End connection shard) old new o l = l.1
+own_less (Close shard) old new o l = absurd o
 own_less (Enter session user) old new o l = absurd o
 own_less (Say session piece) old new o l = absurd o
 own_less (Leave session) old new o l = absurd o
@@ -414,11 +418,28 @@ own_not_busy (Take shard) h o b = b
 own_not_busy (Deliver shard) h o b = b
 own_not_busy (Answer shard) h o b = b
 own_not_busy (Hear connection) h o b = b
-own_not_busy (End connection shard) h o b = o
+own_not_busy (End connection shard) h o b = b
+own_not_busy (Close shard) h o b = o
 own_not_busy (Enter session user) h o b = o
 own_not_busy (Say session piece) h o b = o
 own_not_busy (Leave session) h o b = o
 own_not_busy (Idle session) h o b = o
+
+-- an own event opens and shuts no shard
+pub own_keeps : (e : Event) (old new : State) → IsOwn e → KeepsMarks e old new → new.directory ≡ old.directory
+own_keeps (Bytes connection piece) old new o m = absurd o
+own_keeps (Vanish connection) old new o m = absurd o
+own_keeps (Close shard) old new o m = absurd o
+own_keeps (Enter session user) old new o m = absurd o
+own_keeps (Say session piece) old new o m = absurd o
+own_keeps (Leave session) old new o m = absurd o
+own_keeps (Idle session) old new o m = absurd o
+own_keeps (Put connection) old new o m = m
+own_keeps (Take shard) old new o m = m
+own_keeps (Deliver shard) old new o m = m
+own_keeps (Answer shard) old new o m = m
+own_keeps (Hear connection) old new o m = m
+own_keeps (End connection shard) old new o m = m
 
 -- an event that happened is one that was tried
 pub tried : (e : Event) (h h1 : State) (o o1 : List ℕ) → IsOwn e → Follows h e h1 o o1 → MakesLess e h h1 → Moved (λ k. IsAmong k e) (λ k s t printed. Tries k s e t printed) h o h1 o1
@@ -624,68 +645,95 @@ served held n = one (held n) refl
 
 -- ---- rounds
 
-abbrev pub Rounds : Setup → (ℕ → Bool) → Scene → Scene → List ℕ → Type 0
-Rounds k held s t printed = (n : ℕ) × Visits k (in_a_row (replicate n (round k held))) s t printed
+abbrev pub Rounds : Setup → (held shut : ℕ → Bool) → Scene → Scene → List ℕ → Type 0
+Rounds k held shut s t printed = (n : ℕ) × Visits k (in_a_row (replicate n (round k held shut))) s t printed
 
-abbrev pub DidRound : (ℕ → Bool) → State → List ℕ → State → List ℕ → Bool → Type 0
-DidRound held h o h1 o1 moved = DidVisits (λ k. Unit {0}) (λ k. round k held) h o h1 o1 moved
+abbrev pub DidRound : (held shut : ℕ → Bool) → State → List ℕ → State → List ℕ → Bool → Type 0
+DidRound held shut h o h1 o1 moved = DidVisits (λ k. Unit {0}) (λ k. round k held shut) h o h1 o1 moved
 
-rounds_more : (k : Setup) (held : ℕ → Bool) (s m t : Scene) (one two : List ℕ) → Rounds k held s m one → Visits k (round k held) m t two → Rounds k held s t (one ++ two)
-rounds_more k held s m t one two (n, a) b =
-    (suc n, subst (λ (xs : List (List Event)). Visits k xs s t (one ++ two)) (row-more n (round k held)) (visits-append k (in_a_row (replicate n (round k held))) (round k held) s m t one two a b))
+-- which shards are shut in a scene for which the house stands
+pub same_marks : (k : Setup) (h : State) (s : Scene) → StandsFor k h s → is_shut h.directory ≡ is_shut_in s
+same_marks k h s st = ap (λ (d : Directory). is_shut d) st.directory
 
-rounds_some : (k : Setup) (held : ℕ → Bool) (s t : Scene) (printed : List ℕ) → Rounds k held s t printed → SomeHappened k s t printed
-rounds_some k held s t printed (n, a) = visits_happened k (in_a_row (replicate n (round k held))) s t printed a
+rounds_more : (k : Setup) (held shut : ℕ → Bool) (s m t : Scene) (one two : List ℕ) → Rounds k held shut s m one → Visits k (round k held shut) m t two → Rounds k held shut s t (one ++ two)
+rounds_more k held shut s m t one two (n, a) b =
+    (suc n, subst (λ (xs : List (List Event)). Visits k xs s t (one ++ two)) (row-more n (round k held shut)) (visits-append k (in_a_row (replicate n (round k held shut))) (round k held shut) s m t one two a b))
 
-pub no_round : (k : Setup) (held : ℕ → Bool) (s : Scene) (h : State) (o : List ℕ) → StandsFor k h s → Went (λ k s t printed. Rounds k held s t printed) k s h o o
-no_round k held s h o st = record { after = s; printed = []; goes = (0, (refl, refl)); stands = st; out = sym (append-nil o) }
+rounds_some : (k : Setup) (held shut : ℕ → Bool) (s t : Scene) (printed : List ℕ) → Rounds k held shut s t printed → SomeHappened k s t printed
+rounds_some k held shut s t printed (n, a) = visits_happened k (in_a_row (replicate n (round k held shut))) s t printed a
 
-pub round_again : (held : ℕ → Bool) (k : Setup) (s : Scene) (h1 h2 : State) (o o1 o2 : List ℕ) (b : Bool) → Went (λ k s t printed. Rounds k held s t printed) k s h1 o o1 → DidRound held h1 o1 h2 o2 b
-    → Went (λ k s t printed. Rounds k held s t printed) k s h2 o o2
-round_again held k s h1 h2 o o1 o2 b w d =
-    joined (λ k s t printed. Rounds k held s t printed) (λ k s t printed. Visits k (round k held) s t printed) (λ k s t printed. Rounds k held s t printed)
-    (λ k s m t one two x y. rounds_more k held s m t one two x y) k s h1 h2 o o1 o2 w
-    (went (λ k. Unit {0}) (λ k s t printed. Visits k (round k held) s t printed) (λ k s. All (λ group. All (HasNothing k s) group) (round k held)) h1 o1 h2 o2 b (λ k s x. rest_visits k (round k held) s x) d k w.after tt w.stands)
+pub no_round : (k : Setup) (held shut : ℕ → Bool) (s : Scene) (h : State) (o : List ℕ) → StandsFor k h s → Went (λ k s t printed. Rounds k held shut s t printed) k s h o o
+no_round k held shut s h o st = record { after = s; printed = []; goes = (0, (refl, refl)); stands = st; out = sym (append-nil o) }
 
-pub round_less : (held : ℕ → Bool) (h : State) (o : List ℕ) (h1 : State) (o1 : List ℕ) (b : Bool) → b ≡ true → DidRound held h o h1 o1 b → effort h1 < effort h
-round_less held h o h1 o1 false e d = cc
-round_less held h o h1 o1 true e d = d.less
+pub round_again : (held shut : ℕ → Bool) (k : Setup) (s : Scene) (h1 h2 : State) (o o1 o2 : List ℕ) (b : Bool) → Went (λ k s t printed. Rounds k held shut s t printed) k s h1 o o1 → DidRound held shut h1 o1 h2 o2 b
+    → Went (λ k s t printed. Rounds k held shut s t printed) k s h2 o o2
+round_again held shut k s h1 h2 o o1 o2 b w d =
+    joined (λ k s t printed. Rounds k held shut s t printed) (λ k s t printed. Visits k (round k held shut) s t printed) (λ k s t printed. Rounds k held shut s t printed)
+    (λ k s m t one two x y. rounds_more k held shut s m t one two x y) k s h1 h2 o o1 o2 w
+    (went (λ k. Unit {0}) (λ k s t printed. Visits k (round k held shut) s t printed) (λ k s. All (λ group. All (HasNothing k s) group) (round k held shut)) h1 o1 h2 o2 b (λ k s x. rest_visits k (round k held shut) s x) d k w.after tt w.stands)
 
-pub rounds_want : (held : ℕ → Bool) (k : Setup) (s : Scene) (h1 h2 : State) (o o1 o2 : List ℕ) → Went (λ k s t printed. Rounds k held s t printed) k s h1 o o1 → Wants (λ k. Unit {0}) h1 o1 h2 o2 → HappenedFrom k s h2 o o2
-rounds_want held k s h1 h2 o o1 o2 w d =
-    wants_after (λ k s t printed. Rounds k held s t printed) k s h1 h2 o o1 o2 (λ k s t printed x. rounds_some k held s t printed x) w (d.happened k w.after tt w.stands)
+pub round_less : (held shut : ℕ → Bool) (h : State) (o : List ℕ) (h1 : State) (o1 : List ℕ) (b : Bool) → b ≡ true → DidRound held shut h o h1 o1 b → effort h1 < effort h
+round_less held shut h o h1 o1 false e d = cc
+round_less held shut h o h1 o1 true e d = d.less
+
+pub rounds_want : (held shut : ℕ → Bool) (k : Setup) (s : Scene) (h1 h2 : State) (o o1 o2 : List ℕ) → Went (λ k s t printed. Rounds k held shut s t printed) k s h1 o o1 → Wants (λ k. Unit {0}) h1 o1 h2 o2 → HappenedFrom k s h2 o o2
+rounds_want held shut k s h1 h2 o o1 o2 w d =
+    wants_after (λ k s t printed. Rounds k held shut s t printed) k s h1 h2 o o1 o2 (λ k s t printed x. rounds_some k held shut s t printed x) w (d.happened k w.after tt w.stands)
 
 -- the last round moved nothing
-pub rounds_done : (held : ℕ → Bool) (k : Setup) (s : Scene) (h1 h2 : State) (o o1 o2 : List ℕ) (b : Bool) → b ≡ false → Went (λ k s t printed. Rounds k held s t printed) k s h1 o o1 → DidRound held h1 o1 h2 o2 b
+pub rounds_done : (held shut : ℕ → Bool) (k : Setup) (s : Scene) (h1 h2 : State) (o o1 o2 : List ℕ) (b : Bool) → shut ≡ is_shut_in s → b ≡ false → Went (λ k s t printed. Rounds k held shut s t printed) k s h1 o o1 → DidRound held shut h1 o1 h2 o2 b
     → Went (λ k s t printed. GoesRounds k held s t printed) k s h2 o o2
-rounds_done held k s h1 h2 o o1 o2 true e w d = cc
-rounds_done held k s h1 h2 o o1 o2 false e w d = record {
+rounds_done held shut k s h1 h2 o o1 o2 true marks e w d = cc
+rounds_done held shut k s h1 h2 o o1 o2 false marks e w d = record {
   after = w.after;
   printed = w.printed;
-  goes = rounds_of k held s w.after w.printed w.goes (d.idle k w.after tt w.stands);
+  goes = rounds_of w.after w.printed (w.goes.0) (subst (λ (x : ℕ → Bool). Visits k (in_a_row (replicate w.goes.0 (round k held x))) s w.after w.printed) marks w.goes.1)
+      (subst (λ (x : ℕ → Bool). All (λ group. All (HasNothing k w.after) group) (round k held x)) marks (d.idle k w.after tt w.stands));
   stands = subst (λ (x : State). StandsFor k x w.after) (sym d.same) w.stands;
   out = d.silent ∙ w.out;
 }
   where
-    rounds_of : (k : Setup) (held : ℕ → Bool) (s t : Scene) (printed : List ℕ) → Rounds k held s t printed → All (λ group. All (HasNothing k t) group) (round k held) → GoesRounds k held s t printed
-    rounds_of k held s t printed (n, a) d = record { rounds = n; goes = a; done = d }
+    rounds_of : (t : Scene) (printed : List ℕ) (n : ℕ) → Visits k (in_a_row (replicate n (round k held (is_shut_in s)))) s t printed → All (λ group. All (HasNothing k t) group) (round k held (is_shut_in s)) → GoesRounds k held s t printed
+    rounds_of t printed n a d = record { rounds = n; goes = a; done = d }
 
 pub rounds_happened : (k : Setup) (held : ℕ → Bool) (s t : Scene) (printed : List ℕ) → GoesRounds k held s t printed → SomeHappened k s t printed
-rounds_happened k held s t printed g = visits_happened k (in_a_row (replicate g.rounds (round k held))) s t printed g.goes
+rounds_happened k held s t printed g = visits_happened k (in_a_row (replicate g.rounds (round k held (is_shut_in s)))) s t printed g.goes
 
 -- a round from its parts
-pub parts_wants : (held : ℕ → Bool) (h : State) (o : List ℕ) (h1 : State) (o1 : List ℕ) (h2 : State) (o2 : List ℕ) (h3 : State) (o3 : List ℕ) (a b : Bool)
-    → DidVisits (λ k. Unit {0}) (λ k. puts k.config.seats) h o h1 o1 a → DidVisits (λ k. Unit {0}) (λ k. serves held k.config.shards) h1 o1 h2 o2 b → Wants (λ k. Unit {0}) h2 o2 h3 o3 → Wants (λ k. Unit {0}) h o h3 o3
-parts_wants held h o h1 o1 h2 o2 h3 o3 a b x y z =
-    visits_wants (λ k. Unit {0}) (λ k. puts k.config.seats ++ serves held k.config.shards) h o h2 o2 h3 o3 (a || b)
-    (visits_then (λ k. Unit {0}) (λ k. puts k.config.seats) (λ k. serves held k.config.shards) h o h1 o1 h2 o2 a b x y) z
+abbrev pub DidFirst : (shut : ℕ → Bool) → State → List ℕ → State → List ℕ → Bool → Type 0
+DidFirst shut h o h1 o1 moved = DidVisits (λ k. Unit {0}) (λ k. closes k.config.seats shut k.config.shards) h o h1 o1 moved
 
-pub round_of : (held : ℕ → Bool) (h : State) (o : List ℕ) (h1 : State) (o1 : List ℕ) (h2 : State) (o2 : List ℕ) (h3 : State) (o3 : List ℕ) (a b c : Bool)
-    → DidVisits (λ k. Unit {0}) (λ k. puts k.config.seats) h o h1 o1 a → DidVisits (λ k. Unit {0}) (λ k. serves held k.config.shards) h1 o1 h2 o2 b → DidVisits (λ k. Unit {0}) (λ k. hears k.config.seats) h2 o2 h3 o3 c
-    → DidRound held h o h3 o3 ((a || b) || c)
-round_of held h o h1 o1 h2 o2 h3 o3 a b c x y z =
-    visits_then (λ k. Unit {0}) (λ k. puts k.config.seats ++ serves held k.config.shards) (λ k. hears k.config.seats) h o h2 o2 h3 o3 (a || b) c
-    (visits_then (λ k. Unit {0}) (λ k. puts k.config.seats) (λ k. serves held k.config.shards) h o h1 o1 h2 o2 a b x y) z
+abbrev pub DidSecond : (shut : ℕ → Bool) → State → List ℕ → State → List ℕ → Bool → Type 0
+DidSecond shut h o h1 o1 moved = DidVisits (λ k. Unit {0}) (λ k. closes k.config.seats shut k.config.shards ++ puts k.config.seats) h o h1 o1 moved
+
+abbrev pub DidThird : (held shut : ℕ → Bool) → State → List ℕ → State → List ℕ → Bool → Type 0
+DidThird held shut h o h1 o1 moved = DidVisits (λ k. Unit {0}) (λ k. closes k.config.seats shut k.config.shards ++ puts k.config.seats ++ serves held k.config.shards) h o h1 o1 moved
+
+pub first_wants : (shut : ℕ → Bool) (h : State) (o : List ℕ) (h1 : State) (o1 : List ℕ) (h2 : State) (o2 : List ℕ) (a : Bool) → DidFirst shut h o h1 o1 a → Wants (λ k. Unit {0}) h1 o1 h2 o2 → Wants (λ k. Unit {0}) h o h2 o2
+first_wants shut h o h1 o1 h2 o2 a x z = visits_wants (λ k. Unit {0}) (λ k. closes k.config.seats shut k.config.shards) h o h1 o1 h2 o2 a x z
+
+pub then_puts : (shut : ℕ → Bool) (h : State) (o : List ℕ) (h1 : State) (o1 : List ℕ) (h2 : State) (o2 : List ℕ) (a b : Bool)
+    → DidFirst shut h o h1 o1 a → DidVisits (λ k. Unit {0}) (λ k. puts k.config.seats) h1 o1 h2 o2 b → DidSecond shut h o h2 o2 (a || b)
+then_puts shut h o h1 o1 h2 o2 a b x y = visits_then (λ k. Unit {0}) (λ k. closes k.config.seats shut k.config.shards) (λ k. puts k.config.seats) h o h1 o1 h2 o2 a b x y
+
+pub second_wants : (shut : ℕ → Bool) (h : State) (o : List ℕ) (h1 : State) (o1 : List ℕ) (h2 : State) (o2 : List ℕ) (a : Bool) → DidSecond shut h o h1 o1 a → Wants (λ k. Unit {0}) h1 o1 h2 o2 → Wants (λ k. Unit {0}) h o h2 o2
+second_wants shut h o h1 o1 h2 o2 a x z = visits_wants (λ k. Unit {0}) (λ k. closes k.config.seats shut k.config.shards ++ puts k.config.seats) h o h1 o1 h2 o2 a x z
+
+pub then_serves : (held shut : ℕ → Bool) (h : State) (o : List ℕ) (h1 : State) (o1 : List ℕ) (h2 : State) (o2 : List ℕ) (a b : Bool)
+    → DidSecond shut h o h1 o1 a → DidVisits (λ k. Unit {0}) (λ k. serves held k.config.shards) h1 o1 h2 o2 b → DidThird held shut h o h2 o2 (a || b)
+then_serves held shut h o h1 o1 h2 o2 a b x y =
+    visits_then (λ k. Unit {0}) (λ k. closes k.config.seats shut k.config.shards ++ puts k.config.seats) (λ k. serves held k.config.shards) h o h1 o1 h2 o2 a b x y
+
+pub third_wants : (held shut : ℕ → Bool) (h : State) (o : List ℕ) (h1 : State) (o1 : List ℕ) (h2 : State) (o2 : List ℕ) (a : Bool) → DidThird held shut h o h1 o1 a → Wants (λ k. Unit {0}) h1 o1 h2 o2 → Wants (λ k. Unit {0}) h o h2 o2
+third_wants held shut h o h1 o1 h2 o2 a x z = visits_wants (λ k. Unit {0}) (λ k. closes k.config.seats shut k.config.shards ++ puts k.config.seats ++ serves held k.config.shards) h o h1 o1 h2 o2 a x z
+
+pub round_of : (held shut : ℕ → Bool) (h : State) (o : List ℕ) (h1 : State) (o1 : List ℕ) (h2 : State) (o2 : List ℕ) (a b : Bool)
+    → DidThird held shut h o h1 o1 a → DidVisits (λ k. Unit {0}) (λ k. hears k.config.seats) h1 o1 h2 o2 b → DidRound held shut h o h2 o2 (a || b)
+round_of held shut h o h1 o1 h2 o2 a b x y =
+    visits_then (λ k. Unit {0}) (λ k. closes k.config.seats shut k.config.shards ++ puts k.config.seats ++ serves held k.config.shards) (λ k. hears k.config.seats) h o h1 o1 h2 o2 a b x y
+
+pub shards_of : (k : Setup) (s : Scene) (h : State) → StandsFor k h s → k.config.shards ≡ h.directory.shards
+shards_of k s h st = sym (ap (λ (d : Directory). d.shards) st.directory ∙ st.shards)
 
 -- ---- who is there
 
@@ -714,9 +762,6 @@ shards_step held shards shard is h o h1 o1 h2 o2 a b l e c d =
     (did_as (λ k. shard < k.config.shards) (λ k. k.config.shards ≡ shards) (λ k s t printed. Visits k (serve shard is) s t printed) (λ k s t printed. Visits k (serve shard is) s t printed)
     (λ k s. All (λ group. All (HasNothing k s) group) (serve shard is)) (λ k s. All (λ group. All (HasNothing k s) group) (serve shard is)) h1 o1 h2 o2 b
     (λ k s q st. omega (arith, l, q)) (λ k s q st t printed x. x) (λ k s q st x. x) d))
-
-pub shards_of : (k : Setup) (s : Scene) (h : State) → StandsFor k h s → k.config.shards ≡ h.directory.shards
-shards_of k s h st = sym (ap (λ (d : Directory). d.shards) st.directory ∙ st.shards)
 
 pub shards_wants : (held : ℕ → Bool) (shard : ℕ) (h : State) (o : List ℕ) (h1 : State) (o1 : List ℕ) (h2 : State) (o2 : List ℕ) (a : Bool) → shard < h.directory.shards
     → DidVisits (λ k. k.config.shards ≡ h.directory.shards) (λ k. serves held shard) h o h1 o1 a → Wants (λ k. shard < k.config.shards) h1 o1 h2 o2 → Wants (λ k. Unit {0}) h o h2 o2

@@ -6,10 +6,9 @@ use Rattle.delivery_token.specs.declared.CopyKey.{CopyKey}
 use Rattle.delivery_token.specs.declared.Job.{Job}
 use Rattle.delivery_token.specs.declared.Refusal.{Refusal}
 use Rattle.delivery_token.specs.declared.log.Noted.{Noted}
-use Rattle.shard_queue.specs.Lane.{Lane}
 use Rattle.shard_queue.proofs.AtLaws.{set_at-same}
 use Rattle.envelope.specs.Directory.{Directory}
-use Rattle.world.specs.World.{Config, HearStep, MayPut, PutStep, Step, World, hears_one, put_full, put_joins, put_no_memory, shard_of}
+use Rattle.world.specs.World.{Config, HearStep, MayPut, PutStep, Step, World, hears_one, put_full, put_joins, put_no_memory, put_shut, shard_of}
 use Rattle.world.specs.World as world
 use Rattle.delivery_core.specs.Held.{Held, notes_of}
 use Rattle.delivery_core.specs.Changes.{Hears}
@@ -20,7 +19,7 @@ use Rattle.delivery_core.specs.Stands as core
 use Rattle.house_connection.specs.Line.{Line}
 use Rattle.house.specs.State.{State}
 use Rattle.lmtp_machine.specs.Dialogue.{Submission}
-use Rattle.house_connection.specs.HouseConnection.{HouseConnection, copies_of}
+use Rattle.house_connection.specs.HouseConnection.{HouseConnection, Terms, copies_of}
 use Rattle.house.specs.Setup.{Setup, terms_of}
 use Rattle.house.specs.Scene.{ConnectionHears, ConnectionPuts, HearPlay, PutPlay, Scene, connection_hears, connection_puts, session_hears, session_puts, with_caller, with_world}
 use Rattle.house_connection.specs.Taking.{HearsVerdict, due, noted_put}
@@ -37,19 +36,15 @@ use Rattle.house.proofs.Seats.{heard_is, one_step, seat_behind}
 
 -- what may be put
 pub may_of : (k : Config) (w : World) (p s : ℕ) (c : Job) (v : World) → PutStep k w p s c v → MayPut k w p s c
-may_of k w p s c v (put_joins m l e) = m
-may_of k w p s c v (put_full m l e) = m
-may_of k w p s c v (put_no_memory m room e) = m
+may_of k w p s c v (put_joins m live l e) = m
+may_of k w p s c v (put_full m live l e) = m
+may_of k w p s c v (put_no_memory m live room e) = m
+may_of k w p s c v (put_shut m ended e) = m
 
 longer : {A : Type 0} (xs : List A) (x : A) → xs ++ x ∷ [] ≡ xs → ⊥
 longer xs x e = let l = ap length e in let m = length-append xs (x ∷ []) in omega (arith, l, m)
 
--- a put changes the world, and so does a hearing
-pub put_moves : (k : Config) (w : World) (p s : ℕ) (c : Job) (v : World) → PutStep k w p s c v → v ≡ w → ⊥
-put_moves k w p s c v (put_joins m l e) f = longer (w.lane s).waiting _ (sym (ap (λ (x : Lane Job). x.waiting) (set_at-same w.lane s _)) ∙ ap (λ (x : World). (x.lane s).waiting) (sym e ∙ f))
-put_moves k w p s c v (put_full m l e) f = longer (w.heard p) _ (sym (set_at-same w.heard p _) ∙ ap (λ (x : World). x.heard p) (sym e ∙ f))
-put_moves k w p s c v (put_no_memory m room e) f = longer (w.heard p) _ (sym (set_at-same w.heard p _) ∙ ap (λ (x : World). x.heard p) (sym e ∙ f))
-
+-- a hearing changes the world
 pub hear_moves : (w : World) (p : ℕ) (v : World) → HearStep w p v → v ≡ w → ⊥
 hear_moves w p v (hears_one s r others h e) f = longer (w.heard p) _ (sym (set_at-same w.heard p _) ∙ ap (λ (x : World). x.heard p) (sym e ∙ f))
 
@@ -59,14 +54,14 @@ step_of k w v c p q lanes e f h = subst (λ (n : ℕ). PutStep k w q (c.mailbox 
 
 pub put_led : (k : Setup) (h : State) (s : Scene) (number seat : ℕ) (directory : Directory) (g : Line) (c : Held) (why : Option Refusal) (place l : Option Line) (whole : Bool) (old new : List ℕ)
     → StandsFor k h s → number ≡ seat + 1 → directory ≡ h.directory → seat < length h.callers → get_or h.callers seat None ≡ Some g → PutsNext h.core (due g) c why → place ≡ Some (noted_put (heard_verdict why) g)
-    → ((x : Setup) (p : ℕ) (next : CopyKey) (heard : List Noted) (b : HouseConnection) → IsOf x number p directory → StandsForMaybe x p next heard place (Some b) → PlaceWentOn x whole p next heard b l old new)
+    → ((x : Terms) (p : ℕ) (next : CopyKey) (heard : List Noted) (b : HouseConnection) → IsOf x number p directory → StandsForMaybe x p next heard place (Some b) → PlaceWentOn x whole p next heard b l old new)
     → (t : Scene) × (printed : List ℕ) × ConnectionPuts k whole s seat t printed
     × StandsFor k (record { core = c; callers = set h.callers seat l; serials = h.serials; visitors = h.visitors; entered = h.entered; directory = h.directory; host = h.host; max_message = h.max_message }) t
     × (new ≡ old ++ printed)
 put_led k h s number seat directory g c why place l whole old new st e dir lt some puts is f =
     let y = first_key seat in
     let a = at_seat k h s seat y g st lt some in
-    let n = next_copy (terms_of k) seat (get_or h.core.next seat y) (s.world.heard seat) g a.caller puts.copy puts.others a.stands puts.front in
+    let n = next_copy (terms_of k s.shut) seat (get_or h.core.next seat y) (s.world.heard seat) g a.caller puts.copy puts.others a.stands puts.front in
     let p = puts.puts in
     let es : puts.copy.key.seat ≡ seat = ap (λ (q : CopyKey). q.seat) n.key in
     let m = p.follows k.config s.world st.core in
@@ -80,9 +75,9 @@ put_led k h s number seat directory g c why place l whole old new st e dir lt so
     ∙ ap (λ (ns : List Noted). ns ++ heard_at_once puts.copy.key puts.copy.mailbox why) (heard_is k.config h.core s.world st.core seat lk) in
     let next : get_or c.next seat y ≡ past puts.copy.key = ap (λ (ks : List CopyKey). get_or ks seat y) (p.next ∙ ap (λ (q : ℕ). set h.core.next q (past puts.copy.key)) es) ∙ get_or-set_same h.core.next seat (past puts.copy.key) y ln in
     let b : HouseConnection = record { serial = a.caller.serial; gone = a.caller.gone; talk = a.caller.talk; to_put = puts.others } in
-    let b1 = put_stands (terms_of k) seat (get_or h.core.next seat y) (s.world.heard seat) g a.caller puts.copy puts.others why (get_or c.next seat y) (v.heard seat) a.stands n next (may_of k.config s.world seat _ puts.copy v step).above_heard heard in
-    let w = f k seat (get_or c.next seat y) (v.heard seat) b (record { numbered = e; looks_up = dir ∙ st.directory })
-    (subst (λ (x : Option Line). StandsForMaybe k seat (get_or c.next seat y) (v.heard seat) x (Some b)) (sym is) b1) in (
+    let b1 = put_stands (terms_of k s.shut) seat (get_or h.core.next seat y) (s.world.heard seat) g a.caller puts.copy puts.others why (get_or c.next seat y) (v.heard seat) a.stands n next (may_of k.config s.world seat _ puts.copy v step).above_heard heard in
+    let w = f (terms_of k s.shut) seat (get_or c.next seat y) (v.heard seat) b (record { numbered = e; looks_up = dir ∙ st.directory })
+    (subst (λ (x : Option Line). StandsForMaybe (terms_of k s.shut) seat (get_or c.next seat y) (v.heard seat) x (Some b)) (sym is) b1) in (
       with_caller (with_world s v) seat w.left,
       w.printed,
       record { caller = a.caller; there = a.here; copy = puts.copy; others = puts.others; front = n.front; moved = v; step = step; left = w.left; goes = w.goes; after = refl {a = with_caller (with_world s v) seat w.left} },
@@ -98,7 +93,7 @@ may_be_put : (k : Setup) (h : State) (s : Scene) (seat : ℕ) (g : Line) (c : Jo
 may_be_put k h s seat g c others st lt some front =
     let y = c.key in
     let a = at_seat k h s seat y g st lt some in
-    let n = next_copy (terms_of k) seat (get_or h.core.next seat y) (s.world.heard seat) g a.caller c others a.stands front in
+    let n = next_copy (terms_of k s.shut) seat (get_or h.core.next seat y) (s.world.heard seat) g a.caller c others a.stands front in
     let es : c.key.seat ≡ seat = ap (λ (q : CopyKey). q.seat) n.key in
     let lk : seat < k.config.seats = let q = st.seats in omega (arith, lt, q) in
     let ln : seat < length h.core.next = let q = st.core.nexts in omega (arith, lk, q) in
@@ -113,9 +108,6 @@ may_be_put k h s seat g c others st lt some front =
       shard_there = let q = st.some_shard in let r = st.core.shards in omega (arith, q, r);
     }
 
-front_is : (a b : Job) (xs ys : List Job) → a ∷ xs ≡ b ∷ ys → a ≡ b
-front_is a b xs ys e = cc
-
 -- where no copy may be put, none is
 pub put_idles : (k : Setup) (h : State) (s : Scene) (seat : ℕ) (g : Line) (t : Scene) (printed : List ℕ) → StandsFor k h s → seat < length h.callers → get_or h.callers seat None ≡ Some g → MayNotPut h.core (due g) → ConnectionPuts k true s seat t printed → ⊥
 put_idles k h s seat g t printed st lt some (inl none) p =
@@ -125,21 +117,12 @@ put_idles k h s seat g t printed st lt some (inl none) p =
   where
     empty : (a : IsAt k s seat (get_or h.core.next seat (first_key seat)) g) → a.caller.to_put ≡ []
     empty a = a.stands.to_put ∙ ap (λ (ss : List Submission). drop (length g.verdicts) (copies_of ss)) (sym a.stands.pending) ∙ none
-put_idles k h s seat g t printed st lt some (inr (c, others, front, inl isnt)) p = isnt (may_be_put k h s seat g c others st lt some front)
-put_idles k h s seat g t printed st lt some (inr (c, others, front, inr idle)) p =
-    let a = at_seat k h s seat (first_key seat) g st lt some in
-    let n = next_copy (terms_of k) seat (get_or h.core.next seat (first_key seat)) (s.world.heard seat) g a.caller c others a.stands front in
-    let same : a.caller ≡ p.caller = let x : Some a.caller ≡ Some p.caller = sym a.here ∙ p.there in cc in
-    let copy : p.copy ≡ c = front_is p.copy c p.others others (sym p.front ∙ ap (λ (b : HouseConnection). b.to_put) (sym same) ∙ n.front) in
-    let es : c.key.seat ≡ seat = ap (λ (q : CopyKey). q.seat) n.key in
-    let step : PutStep k.config s.world seat (shard_of k.config c.mailbox) c p.moved = subst (λ (x : Job). PutStep k.config s.world seat (shard_of k.config x.mailbox) x p.moved) copy p.step in
-    let back : PutStep k.config s.world c.key.seat (c.mailbox % length h.core.lanes) c p.moved = subst (λ (q : ℕ). PutStep k.config s.world q (c.mailbox % length h.core.lanes) c p.moved) (sym es) (subst (λ (q : ℕ). PutStep k.config s.world seat (c.mailbox % q) c p.moved) (sym st.core.shards) step) in
-    put_moves k.config s.world seat (shard_of k.config c.mailbox) c p.moved step (idle k.config s.world p.moved st.core back)
+put_idles k h s seat g t printed st lt some (inr (c, others, front, isnt)) p = isnt (may_be_put k h s seat g c others st lt some front)
 
 pub heard_led : (k : Setup) (h : State) (s : Scene) (number seat : ℕ) (directory : Directory) (g : Line) (c : Held) (r : Noted) (q : Line) (l : Option Line) (whole : Bool) (old new : List ℕ)
     → StandsFor k h s → number ≡ seat + 1 → directory ≡ h.directory → seat < length h.callers → get_or h.callers seat None ≡ Some g
     → ((x : Config) → core.Follows x h.core (world.Hear seat ∷ []) c) → Hears h.core c seat (r ∷ []) → c.next ≡ h.core.next → HearsVerdict g r q
-    → ((x : Setup) (p : ℕ) (next : CopyKey) (heard : List Noted) (b : HouseConnection) → IsOf x number p directory → StandsForMaybe x p next heard (Some q) (Some b) → PlaceWentOn x whole p next heard b l old new)
+    → ((x : Terms) (p : ℕ) (next : CopyKey) (heard : List Noted) (b : HouseConnection) → IsOf x number p directory → StandsForMaybe x p next heard (Some q) (Some b) → PlaceWentOn x whole p next heard b l old new)
     → (t : Scene) × (printed : List ℕ) × ConnectionHears k whole s seat t printed
     × StandsFor k (record { core = c; callers = set h.callers seat l; serials = h.serials; visitors = h.visitors; entered = h.entered; directory = h.directory; host = h.host; max_message = h.max_message }) t
     × (new ≡ old ++ printed)
@@ -152,8 +135,8 @@ heard_led k h s number seat directory g c r q l whole old new st e dir lt some f
     let lk : seat < k.config.seats = let z = st.seats in omega (arith, lt, z) in
     let heard : v.heard seat ≡ s.world.heard seat ++ r ∷ [] = sym (heard_is k.config c v cs seat lk) ∙ hears.here ∙ ap (λ (ns : List Noted). ns ++ r ∷ []) (heard_is k.config h.core s.world st.core seat lk) in
     let same : get_or c.next seat y ≡ get_or h.core.next seat y = ap (λ (ks : List CopyKey). get_or ks seat y) nexts in
-    let b1 = subst (λ (z : CopyKey). StandsForConnection (terms_of k) seat z (v.heard seat) q a.caller) (sym same) (heard_stands (terms_of k) seat (get_or h.core.next seat y) (s.world.heard seat) a.caller g r q (v.heard seat) a.stands slot heard) in
-    let w = f k seat (get_or c.next seat y) (v.heard seat) a.caller (record { numbered = e; looks_up = dir ∙ st.directory }) b1 in (
+    let b1 = subst (λ (z : CopyKey). StandsForConnection (terms_of k s.shut) seat z (v.heard seat) q a.caller) (sym same) (heard_stands (terms_of k s.shut) seat (get_or h.core.next seat y) (s.world.heard seat) a.caller g r q (v.heard seat) a.stands slot heard) in
+    let w = f (terms_of k s.shut) seat (get_or c.next seat y) (v.heard seat) a.caller (record { numbered = e; looks_up = dir ∙ st.directory }) b1 in (
       with_caller (with_world s v) seat w.left,
       w.printed,
       record { caller = a.caller; there = a.here; moved = v; step = one_step k.config s.world v (world.Hear seat) m.1; left = w.left; goes = w.goes; after = refl },

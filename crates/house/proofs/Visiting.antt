@@ -1,5 +1,5 @@
 -- What a session does over the delivery core, as what it does in the scene; and a house whose session at one place went on.
-use Rattle.std.proofs.Common.{◌≡◌, ◌≢◌, ℕ, ◌+◌, ◌-◌, ◌<◌, ◌≤◌, ◌⊎◌, inl, inr, Bool, true, false, eqb, List, [], ◌++◌, length, get_or, set, zero, suc, append_assoc, append-nil, length-set, get_or-set_same, get_or-set_other, refl, sym, ap, ◌∙◌, subst, arith, Option, Some, None}
+use Rattle.std.proofs.Common.{◌≡◌, ◌≢◌, ℕ, ◌+◌, ◌-◌, ◌<◌, ◌≤◌, ◌⊎◌, inl, inr, Bool, true, false, eqb, List, [], length, get_or, set, zero, suc, append-nil, length-set, get_or-set_same, get_or-set_other, refl, sym, ap, ◌∙◌, subst, arith, Option, Some, None}
 use Rattle.std.specs.Prelude.{◌↔◌, IsTrue}
 use Rattle.std.specs.Option.{is_some}
 use Rattle.std.proofs.lemmas.Bool.{cases_lt}
@@ -19,17 +19,17 @@ use Rattle.session_store.specs.Desk.{Serves}
 use Rattle.session_store.specs.Meets.{Meets}
 use Rattle.session_store.proofs.Served.{IsServing, carries}
 use Rattle.shard_queue.specs.At.{set_at}
-use Rattle.shard_queue.proofs.AtLaws.{at_cases, set_at-same}
+use Rattle.shard_queue.proofs.AtLaws.{set_at-same}
 use Rattle.house_session.specs.Seated as seated
 use Rattle.house_session.specs.Seated.{GoesOn, SeatedSession, Works, sent_by}
 use Rattle.house_session.specs.Seat.{Seat, StandsForSeated, key_with}
 use Rattle.house.specs.inner.Printing.{WentOn}
-use Rattle.house.specs.Printing.{Speaks, still_unsaid, with_session}
+use Rattle.house.specs.Printing.{Speaks}
 use Rattle.house.proofs.Carried.{speaks_carried}
 use Rattle.world.specs.World.{World}
 use Rattle.house.specs.State.{State}
 use Rattle.house.specs.Scene.{Lingers, Parts, Scene, SessionGoes, SessionTalks, fades, lingers, parts, remains, talks, waits}
-use Rattle.house.specs.Stands.{StandsFor, StandsForPlace, StandsForSeat, StandsForVisit, first_of}
+use Rattle.house.specs.Stands.{StandsFor, StandsForPlace, StandsForVisit, first_of}
 use Rattle.house.specs.Steps.{IsNoPlace}
 use Rattle.house.specs.inner.Steps.{HasLingered, PlaceTalked, PlaceVisited, StandsForSomebody}
 use Rattle.house.proofs.Places.{at_there, later_connection}
@@ -168,7 +168,7 @@ with_visits h c place q entered = record { core = c; callers = h.callers; serial
 
 -- the scene then
 abbrev pub visited_scene : Scene → World → ℕ → Option SeatedSession → (ℕ → ℕ) → Scene
-visited_scene s v place o numbers = record { world = v; caller = s.caller; next = s.next; visitor = set_at s.visitor place o; entered = numbers }
+visited_scene s v place o numbers = record { world = v; caller = s.caller; next = s.next; visitor = set_at s.visitor place o; entered = numbers; shut = s.shut }
 
 pub after_visiting : (k : Setup) (h : State) (c : Held) (entered : List ℕ) (s : Scene) (v : World) (numbers : ℕ → ℕ) (place : ℕ) (y : CopyKey) (l : Option Seat) (o : Option SeatedSession)
     → StandsFor k h s → core.StandsFor k.config c v → place < length h.visitors
@@ -182,6 +182,7 @@ after_visiting k h c entered s v numbers place y l o st cs lt notes nexts len he
   host = st.host;
   max_message = st.max_message;
   homes = st.homes;
+  marks = st.marks;
   shards = st.shards;
   some_shard = st.some_shard;
   seats = let e = length-set h.visitors place l in let f = st.seats in omega (arith, e, f);
@@ -191,7 +192,7 @@ after_visiting k h c entered s v numbers place y l o st cs lt notes nexts len he
       let away : q ≢ session_seat k place = λ e. let b = st.connections in absurd (omega (arith, m, e, b)) in
       let lk : q < k.config.seats = let f = st.seats in omega (arith, m, f) in
       seat_kept k s (visited_scene s v place o numbers) q (get_or h.core.next q z) (get_or c.next q z) (get_or h.serials q n) (get_or h.serials q n) (get_or h.callers q d) (get_or h.callers q d) (st.each q z n d m)
-      (nexts q z away) refl refl (sym (heard_is k.config c v cs q lk) ∙ notes q away ∙ heard_is k.config h.core s.world st.core q lk) refl refl;
+      (nexts q z away) refl refl (sym (heard_is k.config c v cs q lk) ∙ notes q away ∙ heard_is k.config h.core s.world st.core q lk) refl refl refl;
   places = length-set h.visitors place l ∙ st.places;
   entries = len ∙ st.entries;
   visitors = λ q z n d m. at q z n d m (eqb_tells q place);

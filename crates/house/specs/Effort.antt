@@ -1,10 +1,11 @@
--- How much is left to do before nothing moves: bytes that wait to be taken, copies that are to be put, and what the delivery side has before it.
-use Rattle.std.specs.Prelude.{ℕ, ◌+◌, ◌-◌, ◌<◌, Option, Some, None, slice_index_or, sum_by}
+-- How much is left to do before nothing moves: bytes that wait to be taken, copies that are to be put, and what the delivery side has before it, the ends
+-- that seats have not put yet among it.
+use Rattle.std.specs.Prelude.{◌≡◌, ℕ, ◌+◌, ◌-◌, ◌<◌, Option, Some, None, slice_index_or, sum_by}
 use Rattle.delivery_core.specs.Changes.{Ends}
 use Rattle.delivery_core.specs.Held.{behind}
 use Rattle.delivery_core.specs.Load.{load}
 use Rattle.house.specs.declared.event.Event.{Event}
-use Rattle.house.specs.declared.event.Event.TheVariants.{Bytes, Vanish, Put, Take, Deliver, Answer, Hear, End, Enter, Say, Idle, Leave}
+use Rattle.house.specs.declared.event.Event.TheVariants.{Bytes, Vanish, Put, Take, Deliver, Answer, Hear, End, Close, Enter, Say, Idle, Leave}
 use Rattle.house_connection.specs.Line.{Line}
 use Rattle.house.specs.State.{State}
 use Rattle.house_connection.specs.Taking.{line_effort}
@@ -34,7 +35,8 @@ idle_effort place h = turns_left (slice_index_or h.visitors place None) (behind 
 abbrev pub MakesLess : Event → State → State → Type 0
 MakesLess (Bytes connection piece) old new = Unit {0}
 MakesLess (Vanish connection) old new = Unit {0}
-MakesLess (End number shard) old new = Ends old.core new.core (number - 1) shard
+MakesLess (End number shard) old new = Ends old.core new.core (number - 1) shard × (effort new < effort old)
+MakesLess (Close shard) old new = effort new ≡ effort old
 MakesLess (Enter session user) old new = Unit {0}
 MakesLess (Say session piece) old new = Unit {0}
 MakesLess (Idle session) old new = idle_effort (place_of session) new < idle_effort (place_of session) old

@@ -6,10 +6,9 @@ use Rattle.lmtp_machine.specs.declared.connection.What.{What}
 use Rattle.lmtp_machine.specs.declared.connection.What.TheVariants.{Quit}
 use Rattle.imap_session.specs.Exchange.{Call, Answer}
 use Rattle.imap_session.specs.Store.{IdleTurns}
-use Rattle.house_connection.specs.HouseConnection.{HouseConnection, Proceeds, with_unsaid}
+use Rattle.house_connection.specs.HouseConnection.{HouseConnection, Proceeds, Terms, with_unsaid}
 use Rattle.house_session.specs.HouseSession.{HasAnswered, HouseSession}
 use Rattle.house_session.specs.Seated.{GoesOn, SeatedSession}
-use Rattle.house.specs.Setup.{Setup, terms_of}
 
 -- an L marks what connections say, an I what sessions say
 abbrev pub of_connection : ℕ
@@ -40,10 +39,10 @@ pub data Leaves (whole : Bool) (what : What) (after : HouseConnection) (o : Opti
   stays : (what ≡ Quit → whole ≡ true → ⊥) → (what ≡ Quit → after.gone ≡ true → ⊥) → o ≡ Some after → Leaves whole what after o
 
 -- The connection at a seat does what it can now, and what it says is printed. `whole` says that memory wasn't wanting.
-pub record ConnectionGoes (k : Setup) (whole : Bool) (seat : ℕ) (heard : List Noted) (b : HouseConnection) (o : Option HouseConnection) (printed : List ℕ) : Type 0 where
+pub record ConnectionGoes (k : Terms) (whole : Bool) (seat : ℕ) (heard : List Noted) (b : HouseConnection) (o : Option HouseConnection) (printed : List ℕ) : Type 0 where
   pub what : What
   pub after : HouseConnection
-  pub proceeds : Proceeds (terms_of k) whole seat heard b what after
+  pub proceeds : Proceeds k whole seat heard b what after
   pub still : List ℕ
   pub prints : Prints of_connection (seat + 1) after.talk.unsaid still printed
   pub all : whole ≡ true → still ≡ []

@@ -1,11 +1,10 @@
 -- The house and those who talk to it, and what each event of the house does to them and prints.
-use Rattle.std.specs.Prelude.{◌≡◌, ℕ, ◌+◌, ◌-◌, ◌^◌, ◌<◌, ◌⊎◌, Bool, true, false, List, [], ◌∷◌, ◌++◌, Option, Some, None}
+use Rattle.std.specs.Prelude.{◌≡◌, ℕ, ◌+◌, ◌-◌, ◌^◌, ◌<◌, ◌⊎◌, Bool, true, false, List, [], ◌∷◌, slice_index_or, slice_set, Option, Some, None}
 use Rattle.delivery_token.specs.declared.Job.{Job}
 use Rattle.delivery_token.specs.declared.log.Noted.{Noted}
 use Rattle.shard_queue.specs.At.{set_at}
-use Rattle.shard_queue.specs.Lane.{has_end}
 use Rattle.world.specs.World as world
-use Rattle.world.specs.World.{World, Config, Step}
+use Rattle.world.specs.World.{World, Step}
 use Rattle.imap_session.specs.Exchange as calls
 use Rattle.imap_session.specs.Exchange.{is_idling}
 use Rattle.session_store.specs.Meets.{Meets}
@@ -18,19 +17,20 @@ use Rattle.house_session.specs.HouseSession.{more_waits as session_more_waits}
 use Rattle.house.specs.Printing.{ConnectionGoes, Idles, IsWhole, Speaks, with_session}
 use Rattle.house.specs.Setup.{Setup, session_seat, terms_of}
 use Rattle.house.specs.declared.event.Event.{Event}
-use Rattle.house.specs.declared.event.Event.TheVariants.{Bytes, Vanish, Put, Take, Deliver, Answer, Hear, End, Enter, Say, Idle, Leave}
+use Rattle.house.specs.declared.event.Event.TheVariants.{Bytes, Vanish, Put, Take, Deliver, Answer, Hear, End, Close, Enter, Say, Idle, Leave}
 
--- The world; which connection stands at each seat of connections, and the serial of the next one there; and which session is at each place, and the serial of
--- the next one there.
+-- The world; which connection stands at each seat of connections, and the serial of the next one there; which session is at each place, and the serial of
+-- the next one there; and of each shard whether it is shut: no new mail is taken for its mailboxes.
 pub record Scene : Type 0 where
   pub world : World
   pub caller : ℕ → Option HouseConnection
   pub next : ℕ → ℕ
   pub visitor : ℕ → Option SeatedSession
   pub entered : ℕ → ℕ
+  pub shut : List Bool
 
-abbrev pub empty_scene : Scene
-empty_scene = record { world = world.empty_world; caller = λ _. None; next = λ _. 0; visitor = λ _. None; entered = λ _. 0 }
+abbrev pub empty_scene : Setup → Scene
+empty_scene k = record { world = world.empty_world; caller = λ _. None; next = λ _. 0; visitor = λ _. None; entered = λ _. 0; shut = k.directory.shut }
 
 -- connections, and behind them sessions, are numbered from 1, seats from 0
 abbrev pub seat_of : ℕ → ℕ
@@ -44,36 +44,35 @@ place_of session = session - 1
 abbrev pub most_serials : ℕ
 most_serials = 2 ^ 64 - 1
 
--- seat p has put its end into the lane of some shard
-abbrev pub HasEnded : Config → World → ℕ → Type 0
-HasEnded k w p = (s : ℕ) × (s < k.shards) × (has_end ((w.lane s).sent p) ≡ true)
-
 -- at this seat now stands this caller, or nobody
 abbrev pub with_caller : Scene → ℕ → Option HouseConnection → Scene
-with_caller s seat o = record { world = s.world; caller = set_at s.caller seat o; next = s.next; visitor = s.visitor; entered = s.entered }
+with_caller s seat o = record s { caller = set_at s.caller seat o }
 
 abbrev pub with_world : Scene → World → Scene
-with_world s w = record { world = w; caller = s.caller; next = s.next; visitor = s.visitor; entered = s.entered }
+with_world s w = record s { world = w }
 
 -- at this place now stands this session, or nobody
 abbrev pub with_visitor : Scene → ℕ → Option SeatedSession → Scene
-with_visitor s place o = record { world = s.world; caller = s.caller; next = s.next; visitor = set_at s.visitor place o; entered = s.entered }
+with_visitor s place o = record s { visitor = set_at s.visitor place o }
 
--- nobody stands at this seat, neither a connection nor a session
-pub record IsFree (k : Setup) (s : Scene) (seat : ℕ) : Type 0 where
-  pub connection : seat < k.connections → s.caller seat ≡ None
-  pub session : (place : ℕ) → seat ≡ session_seat k place → s.visitor place ≡ None
+-- whether a shard is shut; one that isn't there is not
+abbrev pub is_shut_in : Scene → ℕ → Bool
+is_shut_in s shard = slice_index_or s.shut shard false
+
+-- this shard is shut now
+abbrev pub with_shut : Scene → ℕ → Scene
+with_shut s shard = record s { shut = slice_set s.shut shard true }
 
 -- ---- connections
 
 -- bytes came from the peer of a connection
 pub data BytesPlay (k : Setup) (whole : Bool) (s : Scene) (seat : ℕ) (piece : List ℕ) (t : Scene) (printed : List ℕ) : Type 0 where
-  -- nobody stands there, and the seat has ended nowhere: a connection is opened first, with the seat's next serial
-  opens : seat < k.connections → s.caller seat ≡ None → s.next seat < most_serials → (HasEnded k.config s.world seat → ⊥) → (o : Option HouseConnection)
-      → ConnectionGoes k whole seat (s.world.heard seat) (more_waits (greeted (terms_of k) seat (s.next seat)) piece) o printed
-      → t ≡ record { world = s.world; caller = set_at s.caller seat o; next = set_at s.next seat (s.next seat + 1); visitor = s.visitor; entered = s.entered } → BytesPlay k whole s seat piece t printed
+  -- nobody stands there: a connection is opened first, with the seat's next serial
+  opens : seat < k.connections → s.caller seat ≡ None → s.next seat < most_serials → (o : Option HouseConnection)
+      → ConnectionGoes (terms_of k s.shut) whole seat (s.world.heard seat) (more_waits (greeted (terms_of k s.shut) seat (s.next seat)) piece) o printed
+      → t ≡ record s { caller = set_at s.caller seat o; next = set_at s.next seat (s.next seat + 1) } → BytesPlay k whole s seat piece t printed
   goes_on : (b : HouseConnection) → s.caller seat ≡ Some b → b.gone ≡ false → (o : Option HouseConnection)
-      → ConnectionGoes k whole seat (s.world.heard seat) (more_waits b piece) o printed → t ≡ with_caller s seat o → BytesPlay k whole s seat piece t printed
+      → ConnectionGoes (terms_of k s.shut) whole seat (s.world.heard seat) (more_waits b piece) o printed → t ≡ with_caller s seat o → BytesPlay k whole s seat piece t printed
 
 -- the next copy of the message at hand is put
 pub record ConnectionPuts (k : Setup) (whole : Bool) (s : Scene) (seat : ℕ) (t : Scene) (printed : List ℕ) : Type 0 where
@@ -85,7 +84,7 @@ pub record ConnectionPuts (k : Setup) (whole : Bool) (s : Scene) (seat : ℕ) (t
   pub moved : World
   pub step : Step k.config s.world (world.Put seat (world.shard_of k.config copy.mailbox) copy) moved
   pub left : Option HouseConnection
-  pub goes : ConnectionGoes k whole seat (moved.heard seat) (record { serial = caller.serial; gone = caller.gone; talk = caller.talk; to_put = others }) left printed
+  pub goes : ConnectionGoes (terms_of k s.shut) whole seat (moved.heard seat) (record { serial = caller.serial; gone = caller.gone; talk = caller.talk; to_put = others }) left printed
   pub after : t ≡ with_caller (with_world s moved) seat left
 
 -- its seat hears a verdict
@@ -95,7 +94,7 @@ pub record ConnectionHears (k : Setup) (whole : Bool) (s : Scene) (seat : ℕ) (
   pub moved : World
   pub step : Step k.config s.world (world.Hear seat) moved
   pub left : Option HouseConnection
-  pub goes : ConnectionGoes k whole seat (moved.heard seat) caller left printed
+  pub goes : ConnectionGoes (terms_of k s.shut) whole seat (moved.heard seat) caller left printed
   pub after : t ≡ with_caller (with_world s moved) seat left
 
 -- the peer of a connection is gone
@@ -104,7 +103,7 @@ pub record VanishPlay (k : Setup) (whole : Bool) (s : Scene) (seat : ℕ) (t : S
   pub there : s.caller seat ≡ Some caller
   pub was_read : caller.gone ≡ false
   pub left : Option HouseConnection
-  pub goes : ConnectionGoes k whole seat (s.world.heard seat) (unread caller) left printed
+  pub goes : ConnectionGoes (terms_of k s.shut) whole seat (s.world.heard seat) (unread caller) left printed
   pub after : t ≡ with_caller s seat left
 
 -- ---- sessions
@@ -149,17 +148,16 @@ pub record SessionIdles (k : Setup) (whole : Bool) (place : ℕ) (w : World) (be
   pub all : whole ≡ true → after.unsaid ≡ []
   pub left : Parts k whole place (with_session after before) mid v o
 
--- A user opens a session, which is greeted, at a place whose seat has ended nowhere. Its copies have the serial that is next there.
+-- A user opens a session, which is greeted. Its copies have the serial that is next there.
 pub record EnterPlay (k : Setup) (whole : Bool) (s : Scene) (place : ℕ) (user : List ℕ) (t : Scene) (printed : List ℕ) : Type 0 where
   pub there : place < k.config.sessions
   pub free : s.visitor place ≡ None
   pub known : has_user k.directory user ≡ true
   pub more : s.entered place < most_serials
-  pub goes_on : HasEnded k.config s.world (session_seat k place) → ⊥
   pub moved : World
   pub left : Option SeatedSession
   pub goes : SessionTalks k whole place (s.world.heard (session_seat k place)) s.world (seated_greeted (s.entered place) (Some k.max_message) (folders_of k.directory user)) moved left printed
-  pub after : t ≡ record { world = moved; caller = s.caller; next = s.next; visitor = set_at s.visitor place left; entered = set_at s.entered place (s.entered place + 1) }
+  pub after : t ≡ record s { world = moved; visitor = set_at s.visitor place left; entered = set_at s.entered place (s.entered place + 1) }
 
 -- bytes came from a session's client: where it awaits a verdict they only wait
 pub record SayPlay (k : Setup) (whole : Bool) (s : Scene) (place : ℕ) (piece : List ℕ) (t : Scene) (printed : List ℕ) : Type 0 where
@@ -239,6 +237,13 @@ pub record Moves (k : Setup) (s : Scene) (event : world.Event) (t : Scene) (prin
   pub after : t ≡ with_world s moved
   pub silent : printed ≡ []
 
+-- A shard that was not is shut now. What waits in its lane is still delivered, and its seats end one by one.
+pub record ClosePlay (k : Setup) (s : Scene) (shard : ℕ) (t : Scene) (printed : List ℕ) : Type 0 where
+  pub there : shard < k.config.shards
+  pub was_open : is_shut_in s shard ≡ false
+  pub after : t ≡ with_shut s shard
+  pub silent : printed ≡ []
+
 -- One event of the house may lead from one scene to the other, and print this. Where memory is wanting (not `whole`) it may stop
 -- early: then bytes still wait, or words aren't printed yet.
 abbrev pub Plays : Setup → Bool → Scene → Event → Scene → List ℕ → Type 0
@@ -253,7 +258,8 @@ Plays k whole s (Enter session user) t printed = EnterPlay k whole s (place_of s
 Plays k whole s (Say session piece) t printed = SayPlay k whole s (place_of session) piece.now t printed
 Plays k whole s (Idle session) t printed = IdlePlay k whole s (place_of session) t printed
 Plays k whole s (Leave session) t printed = LeavePlay k s (place_of session) t printed
-Plays k whole s (End number shard) t printed = IsFree k s (seat_of number) × Moves k s (world.PutEnd (seat_of number) shard) t printed
+Plays k whole s (End number shard) t printed = Moves k s (world.PutEnd (seat_of number) shard) t printed
+Plays k whole s (Close shard) t printed = ClosePlay k s shard t printed
 
 -- In no way does the event change anything, or print a word.
 abbrev pub HasNothing : Setup → Scene → Event → Type 0

@@ -1,7 +1,7 @@
 -- The settings of a house: those that stand where none are given, their ranges, what may be wrong with them, and what they settle.
 use Rattle.std.specs.Prelude.{◌≡◌, ℕ, ◌+◌, ◌*◌, ◌<◌, ◌≤◌, ◌==◌, ◌&&◌, ◌||◌, not, Bool, nat_lt, max, List, [], ◌∷◌, length, map, count_by, codes, Option, Some, None, Result, Ok, Err, if◌then◌else◌}
 use Rattle.std.specs.List.{list_any}
-use Rattle.envelope.specs.Directory.{Home}
+use Rattle.envelope.specs.Directory.{Home, none_shut}
 use Rattle.envelope.specs.Names.{home_of, words_read}
 use Rattle.envelope.specs.declared.directory.DirectoryFault.{DirectoryFault}
 use Rattle.envelope.specs.declared.directory.DirectoryFault.TheVariants as names
@@ -114,7 +114,7 @@ setup_of c = record {
     uidvalidity = c.uidvalidity;
   };
   connections = connections;
-  directory = record { domains = c.domain.items ∷ []; homes = map home_of (words_of c); shards = c.shards };
+  directory = record { domains = c.domain.items ∷ []; homes = map home_of (words_of c); shards = c.shards; shut = none_shut c.shards };
   host = c.host.items;
   max_message = c.max_message;
 }

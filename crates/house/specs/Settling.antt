@@ -3,9 +3,9 @@
 use Rattle.std.specs.Prelude.{◌≡◌, ℕ, Bool, true, false, not, List, [], ◌∷◌, ◌++◌, map, filter, replicate, flat_map, All}
 use Rattle.std.specs.List.{range_with_len}
 use Rattle.house.specs.declared.event.Event.{Event}
-use Rattle.house.specs.declared.event.Event.TheVariants.{Put, Take, Deliver, Answer, Hear, Idle}
+use Rattle.house.specs.declared.event.Event.TheVariants.{Put, Take, Deliver, Answer, Hear, End, Idle}
 use Rattle.house.specs.Setup.{Setup}
-use Rattle.house.specs.Scene.{HasNothing, Plays, Scene}
+use Rattle.house.specs.Scene.{HasNothing, Plays, Scene, is_shut_in}
 
 -- the event happens, or it has nothing to do
 pub data Tries (k : Setup) (s : Scene) (e : Event) (t : Scene) (printed : List ℕ) : Type 0 where
@@ -32,18 +32,23 @@ abbrev pub Visits : Setup → List (List Event) → Scene → Scene → List ℕ
 Visits k [] s t printed = (t ≡ s) × (printed ≡ [])
 Visits k (group ∷ groups) s t printed = (m : Scene) × (one : List ℕ) × (two : List ℕ) × Visit k group s m one × Visits k groups m t two × (printed ≡ one ++ two)
 
--- A round: each connection from 1, and each session behind them, puts its copies; each shard from 0 that isn't held takes, delivers and answers; each connection
--- and each session hears its verdicts.
-abbrev pub round : Setup → (ℕ → Bool) → List (List Event)
-round k held = map (λ n. Put n ∷ []) (range_with_len 1 k.config.seats)
+-- each seat from 1, whoever stands there, ends on each of these shards
+abbrev pub ends_on : ℕ → List ℕ → List (List Event)
+ends_on seats shards = flat_map (λ shard. map (λ n. End n shard ∷ []) (range_with_len 1 seats)) shards
+
+-- A round, in which these shards are shut: each seat ends on each of them, where it hasn't; each connection from 1, and each session behind them, puts its
+-- copies; each shard from 0 that isn't held takes, delivers and answers; each connection and each session hears its verdicts.
+abbrev pub round : Setup → (held shut : ℕ → Bool) → List (List Event)
+round k held shut = ends_on k.config.seats (filter shut (range_with_len 0 k.config.shards))
+    ++ map (λ n. Put n ∷ []) (range_with_len 1 k.config.seats)
     ++ map (λ s. Take s ∷ Deliver s ∷ Answer s ∷ []) (filter (λ s. not (held s)) (range_with_len 0 k.config.shards))
     ++ map (λ n. Hear n ∷ []) (range_with_len 1 k.config.seats)
 
 -- rounds, until nothing moves
 pub record GoesRounds (k : Setup) (held : ℕ → Bool) (s t : Scene) (printed : List ℕ) : Type 0 where
   pub rounds : ℕ
-  pub goes : Visits k (in_a_row (replicate rounds (round k held))) s t printed
-  pub done : All (λ group. All (HasNothing k t) group) (round k held)
+  pub goes : Visits k (in_a_row (replicate rounds (round k held (is_shut_in s)))) s t printed
+  pub done : All (λ group. All (HasNothing k t) group) (round k held (is_shut_in s))
 
 -- each session from 1 that idles has turns, until it has nothing to be shown
 abbrev pub idle_turns : ℕ → List (List Event)

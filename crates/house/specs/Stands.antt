@@ -6,7 +6,8 @@ use Rattle.delivery_token.specs.Keys.{AtLeast}
 use Rattle.delivery_core.specs.Stands as core
 use Rattle.house_connection.specs.Line.{Line}
 use Rattle.house.specs.State.{State}
-use Rattle.house_connection.specs.HouseConnection.{HouseConnection}
+use Rattle.envelope.specs.Directory.{marked}
+use Rattle.house_connection.specs.HouseConnection.{HouseConnection, Terms}
 use Rattle.house.specs.Setup.{Setup, session_seat, terms_of}
 use Rattle.house.specs.Scene.{Scene}
 use Rattle.house_connection.specs.ConnectionStands.{StandsForConnection}
@@ -18,11 +19,11 @@ abbrev pub first_of : (seat serial : ℕ) → CopyKey
 first_of seat serial = record { seat = seat; serial = serial; message = 0; recipient = 0 }
 
 -- which connection stands at a seat
-abbrev pub StandsForOne : Setup → ℕ → CopyKey → List Noted → ℕ → Option Line → Option HouseConnection → Type 0
+abbrev pub StandsForOne : Terms → ℕ → CopyKey → List Noted → ℕ → Option Line → Option HouseConnection → Type 0
 StandsForOne k seat next heard serials None None = AtLeast next (first_of seat serials)
 StandsForOne k seat next heard serials None (Some b) = ⊥
 StandsForOne k seat next heard serials (Some h) None = ⊥
-StandsForOne k seat next heard serials (Some h) (Some b) = StandsForConnection (terms_of k) seat next heard h b × (b.serial < serials)
+StandsForOne k seat next heard serials (Some h) (Some b) = StandsForConnection k seat next heard h b × (b.serial < serials)
 
 -- which session is at a seat
 abbrev pub StandsForVisit : (seat : ℕ) → CopyKey → List Noted → ℕ → Option Seat → Option SeatedSession → Type 0
@@ -33,7 +34,7 @@ StandsForVisit seat next heard serials (Some p) (Some v) = StandsForSeated seat 
 
 pub record StandsForSeat (k : Setup) (s : Scene) (seat : ℕ) (next : CopyKey) (serials : ℕ) (line : Option Line) : Type 0 where
   pub counted : serials ≡ s.next seat
-  pub who : StandsForOne k seat next (s.world.heard seat) (s.next seat) line (s.caller seat)
+  pub who : StandsForOne (terms_of k s.shut) seat next (s.world.heard seat) (s.next seat) line (s.caller seat)
 
 pub record StandsForPlace (k : Setup) (s : Scene) (place : ℕ) (next : CopyKey) (serials : ℕ) (visitor : Option Seat) : Type 0 where
   pub counted : serials ≡ s.entered place
@@ -42,7 +43,8 @@ pub record StandsForPlace (k : Setup) (s : Scene) (place : ℕ) (next : CopyKey)
 -- the house stands for a scene
 pub record StandsFor (k : Setup) (h : State) (s : Scene) : Type 0 where
   pub core : core.StandsFor k.config h.core s.world
-  pub directory : h.directory ≡ k.directory
+  pub directory : h.directory ≡ marked s.shut k.directory
+  pub marks : length s.shut ≡ k.config.shards
   pub host : h.host ≡ k.host
   pub max_message : h.max_message ≡ k.max_message
   pub homes : length k.directory.homes ≡ k.config.mailboxes

@@ -1,15 +1,16 @@
 -- What a call of the house promises: for each scene for which it stood, a scene to which the event leads.
 use Rattle.std.specs.Option.{is_some}
 use Rattle.std.specs.Prelude.{◌≡◌, ℕ, ◌+◌, ◌-◌, ◌<◌, if◌then◌else◌, nat_lt, ◌≤◌, ◌⊎◌, ◌++◌, ◌%◌, slice_index_or, slice_set, Bool, true, false, List, [], ◌∷◌, length, Option, Some, None, IsSome}
+use Rattle.envelope.specs.Directory.{is_shut}
 use Rattle.delivery_token.specs.Book.{Book}
 use Rattle.delivery_token.specs.declared.log.Noted.{Noted}
 use Rattle.house.specs.declared.event.Event.{Event}
-use Rattle.house.specs.declared.event.Event.TheVariants.{Bytes, Vanish, Put, Take, Deliver, Answer, Hear, End, Enter, Say, Idle, Leave}
+use Rattle.house.specs.declared.event.Event.TheVariants.{Bytes, Vanish, Put, Take, Deliver, Answer, Hear, End, Close, Enter, Say, Idle, Leave}
 use Rattle.delivery_token.specs.declared.Job.{Job}
 use Rattle.delivery_token.specs.declared.Refusal.{Refusal}
 use Rattle.world.specs.World.{Config}
 use Rattle.world.specs.World as world
-use Rattle.delivery_core.specs.Held.{Held, behind, client_of, has_ended}
+use Rattle.delivery_core.specs.Held.{Held, behind, client_of}
 use Rattle.delivery_core.specs.Changes.{Hears, SameCounts, SameDelivery}
 use Rattle.delivery_token.specs.Log.{heard_at_once}
 use Rattle.delivery_token.specs.Keys.{past}
@@ -46,9 +47,9 @@ pub record IsUnread (h : State) (connection : ℕ) : Type 0 where
   pub seat : connection ≤ length h.callers
   pub gone : is_unread (slice_index_or h.callers (seat_of connection) None) ≡ true
 
--- the seat takes no new connection: its serials are spent, or it has ended
+-- the seat takes no new connection: its serials are spent
 abbrev pub IsSpent : State → ℕ → Type 0
-IsSpent h connection = (most_serials ≤ slice_index_or h.serials (seat_of connection) 0) ⊎ (has_ended h.core (seat_of connection) ≡ true)
+IsSpent h connection = most_serials ≤ slice_index_or h.serials (seat_of connection) 0
 
 -- there is no such session: they are numbered from 1
 abbrev pub IsNoPlace : State → ℕ → Type 0
@@ -75,9 +76,9 @@ pub record IsLeft (h : State) (session : ℕ) : Type 0 where
   pub place : session ≤ length h.visitors
   pub gone : is_left (slice_index_or h.visitors (place_of session) None) ≡ true
 
--- the session's seat takes no new one: its serials are spent, or it has ended
+-- the session's seat takes no new one: its serials are spent
 abbrev pub IsSpentPlace : State → ℕ → Type 0
-IsSpentPlace h session = (most_serials ≤ slice_index_or h.entered (place_of session) 0) ⊎ (has_ended h.core (length h.callers + place_of session) ≡ true)
+IsSpentPlace h session = most_serials ≤ slice_index_or h.entered (place_of session) 0
 
 -- there is no connection and no session of this number: those of sessions are behind those of connections
 abbrev pub IsNoNumber : State → ℕ → Type 0
@@ -91,11 +92,9 @@ is_taken h seat = if nat_lt seat (length h.callers) then is_some (slice_index_or
 abbrev pub IsVacant : State → ℕ → Type 0
 IsVacant h number = is_taken h (seat_of number) ≡ false
 
--- it is
-pub record IsThere (h : State) (n : ℕ) : Type 0 where
-  pub some : 0 < n
-  pub number : n ≤ length h.callers + length h.visitors
-  pub who : is_taken h (seat_of n) ≡ true
+-- the shard is there and shut
+abbrev pub IsClosed : State → ℕ → Type 0
+IsClosed h shard = (shard < h.directory.shards) × (is_shut h.directory shard ≡ true)
 
 -- ---- which fault
 
@@ -109,12 +108,13 @@ IsNobody h (Deliver shard) = length h.core.lanes ≤ shard
 IsNobody h (Answer shard) = length h.core.lanes ≤ shard
 IsNobody h (Hear number) = IsNoNumber h number ⊎ IsVacant h number
 IsNobody h (End number shard) = IsNoNumber h number ⊎ (length h.core.lanes ≤ shard)
+IsNobody h (Close shard) = h.directory.shards ≤ shard
 IsNobody h (Enter session user) = IsNoPlace h session ⊎ (has_user h.directory user.now ≡ false ⊎ (IsFreePlace h session × IsSpentPlace h session))
 IsNobody h (Say session piece) = IsNoPlace h session ⊎ IsFreePlace h session
 IsNobody h (Idle session) = IsNoPlace h session ⊎ IsFreePlace h session
 IsNobody h (Leave session) = IsNoPlace h session ⊎ IsFreePlace h session
 
--- The seat still awaits verdicts for a peer that is gone; an end waits for whoever stands there; and where a session is at a place no other enters.
+-- The seat still awaits verdicts for a peer that is gone; a shard that is shut is shut once; and where a session is at a place no other enters.
 abbrev pub IsBusy : State → Event → Type 0
 IsBusy h (Bytes connection piece) = IsUnread h connection
 IsBusy h (Vanish connection) = IsUnread h connection
@@ -123,7 +123,8 @@ IsBusy h (Take shard) = ⊥
 IsBusy h (Deliver shard) = ⊥
 IsBusy h (Answer shard) = ⊥
 IsBusy h (Hear connection) = ⊥
-IsBusy h (End number shard) = (shard < length h.core.lanes) × IsThere h number
+IsBusy h (End number shard) = ⊥
+IsBusy h (Close shard) = IsClosed h shard
 IsBusy h (Enter session user) = (has_user h.directory user.now ≡ true) × IsTakenPlace h session
 IsBusy h (Say session piece) = IsLeft h session
 IsBusy h (Idle session) = IsLeft h session
@@ -146,6 +147,22 @@ Follows before event h old new = (k : Setup) (s : Scene) → StandsFor k before 
 -- Where memory was wanting: the event was cut short, or nothing happened.
 abbrev pub FollowsInPart : State → Event → State → List ℕ → List ℕ → Type 0
 FollowsInPart before event h old new = (k : Setup) (s : Scene) → StandsFor k before s → Led k false s event h old new ⊎ (StandsFor k h s × (new ≡ old))
+
+-- What the house does by itself opens and shuts no shard.
+abbrev pub KeepsMarks : Event → State → State → Type 0
+KeepsMarks (Put number) old new = new.directory ≡ old.directory
+KeepsMarks (Take shard) old new = new.directory ≡ old.directory
+KeepsMarks (Deliver shard) old new = new.directory ≡ old.directory
+KeepsMarks (Answer shard) old new = new.directory ≡ old.directory
+KeepsMarks (Hear number) old new = new.directory ≡ old.directory
+KeepsMarks (End number shard) old new = new.directory ≡ old.directory
+KeepsMarks (Bytes connection piece) old new = Unit {0}
+KeepsMarks (Vanish connection) old new = Unit {0}
+KeepsMarks (Close shard) old new = Unit {0}
+KeepsMarks (Enter session user) old new = Unit {0}
+KeepsMarks (Say session piece) old new = Unit {0}
+KeepsMarks (Idle session) old new = Unit {0}
+KeepsMarks (Leave session) old new = Unit {0}
 
 -- In no scene for which it stood does the event change anything.
 abbrev pub IsIdle : State → Event → Type 0
@@ -199,13 +216,14 @@ pub record MayIdle (p : Seat) (place : ℕ) (core : Held) : Type 0 where
   pub selected : IsSome p.place.link.session.selected
   pub news : IsSome (client_of core place) → behind core place ≡ 0 → ⊥
 
--- When an event may be refused for want of memory. A take, a delivery, an answer, an end, a leave and a peer that is gone ask for none. A put and a hearing ask before
+-- When an event may be refused for want of memory. A take, a delivery, an answer, an end, a close, a leave and a peer that is gone ask for none. A put and a hearing ask before
 -- anything is done for the room of one note alone, and an idling session for what there is to show.
 abbrev pub MayWant : Event → State → State → Type 0
 MayWant (Take shard) old new = ⊥
 MayWant (Deliver shard) old new = ⊥
 MayWant (Answer shard) old new = ⊥
 MayWant (End connection shard) old new = ⊥
+MayWant (Close shard) old new = ⊥
 MayWant (Leave session) old new = ⊥
 MayWant (Vanish connection) old new = ⊥
 MayWant (Put number) old new = MayWantToPut (due_at old (seat_of number)) old.core new.core

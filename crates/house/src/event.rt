@@ -21,9 +21,12 @@ pub enum Event<'a> {
     Answer(u8),
     /// A connection, or a session behind them, hears the verdict at the front of its reply lane.
     Hear(u8),
-    /// The seat of a connection, or of a session behind them, at which nobody stands, puts its end into a shard's lane. After that it takes no new one.
+    /// The seat of a connection, or of a session behind them, whoever stands there, puts its end into a shard's lane. After that each copy that it puts there
+    /// is refused at once, as Shut.
     End(u8, u8),
-    /// A user opens a session, which is greeted, at a seat that has ended nowhere. The user is named as in the words of the settings, byte by byte.
+    /// A shard is shut: no recipient of its mailboxes is accepted any more. That marks it alone; what waits in its lane is still delivered.
+    Close(u8),
+    /// A user opens a session, which is greeted. The user is named as in the words of the settings, byte by byte.
     Enter(u8, &'a [u8]),
     /// Bytes came from a session's client. Each line that ends in them is answered; the mailbox's events of a line happen one after another. Where the
     /// verdict on a message that it appended is awaited, they only wait.
@@ -41,7 +44,7 @@ pub enum HouseFault {
     /// The connection, the session, the user or the shard isn't there, or the seat takes no new connection.
     #[error("nobody is there")]
     Nobody,
-    /// The place is taken, or the seat still waits for the verdicts of a connection or a session whose peer is gone.
+    /// The place is taken, the shard is shut already, or the seat still waits for the verdicts of a connection or a session whose peer is gone.
     #[error("the place is taken")]
     Busy,
     /// There is nothing to do, or it may not happen now.

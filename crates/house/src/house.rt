@@ -13,12 +13,12 @@ ghost use Rattle.house.specs.inner.Steps.{IsOf};
 ghost use Rattle.house_connection.specs.HouseConnection as spec;
 ghost use Rattle.house.specs.Scene as scene;
 ghost use Rattle.house_connection.specs.HouseConnection.{Terms, greeted, more_waits};
-ghost use Rattle.house.specs.Setup.{Setup, terms_of};
+ghost use Rattle.house.specs.Setup.{Setup};
 ghost use Rattle.house.specs.Stands.{StandsFor};
 ghost use Rattle.house.specs.Effort.{MakesLess, place_effort};
 ghost use Rattle.delivery_core.specs.Load.{load};
 ghost use Rattle.std.specs.Borrow.{Bor};
-ghost use Rattle.house.specs.Steps.{CannotNote, CorePuts, Follows, FollowsInPart, HasNoRoom, IsBusy, IsEmptySeat, IsIdle, IsNoNumber, IsNobody, IsVacant, Led, MayWant, PutsNext, is_taken, is_unread};
+ghost use Rattle.house.specs.Steps.{CannotNote, CorePuts, Follows, FollowsInPart, HasNoRoom, IsBusy, IsEmptySeat, IsIdle, IsNoNumber, IsNobody, IsVacant, KeepsMarks, Led, MayWant, PutsNext, is_unread};
 ghost use Rattle.house.specs.inner.Steps.{HasSeat, IsNoNext, IsOpen, IsRead, MayNotPut, PlaceWentOn, StandsForMaybe, fault_of, job_of};
 ghost use Rattle.house.specs.declared.event.Event.TheVariants as events;
 
@@ -77,9 +77,9 @@ fn go_on_at(
     out: &mut Vec<u8>,
 ) -> Result<(), AllocError>
     ensures less { place_effort place.new ≤ place_effort place.old }
-    ensures ok { OnOk result ((k : Setup) (seat : ℕ) (next : CopyKey) (heard : List Noted) (b : spec.HouseConnection) → IsOf k number seat directory.now → StandsForMaybe k seat next heard place.old (Some b) →
+    ensures ok { OnOk result ((k : Terms) (seat : ℕ) (next : CopyKey) (heard : List Noted) (b : spec.HouseConnection) → IsOf k number seat directory.now → StandsForMaybe k seat next heard place.old (Some b) →
         PlaceWentOn k true seat next heard b place.new out.old.items out.new.items) }
-    ensures err { OnErr result ((k : Setup) (seat : ℕ) (next : CopyKey) (heard : List Noted) (b : spec.HouseConnection) → IsOf k number seat directory.now → StandsForMaybe k seat next heard place.old (Some b) →
+    ensures err { OnErr result ((k : Terms) (seat : ℕ) (next : CopyKey) (heard : List Noted) (b : spec.HouseConnection) → IsOf k number seat directory.now → StandsForMaybe k seat next heard place.old (Some b) →
         PlaceWentOn k false seat next heard b place.new out.old.items out.new.items) }
     ensures asks { OnErr result (IfSome place.old (λ h. h.gone ≡ false)) }
 {
@@ -279,6 +279,7 @@ impl House {
         requires seat { HasSeat self.old connection }
         ensures follows { OnOk result (Follows self.old (events.Put connection) self.new out.old.items out.new.items) }
         ensures effort { OnOk result (MakesLess (events.Put connection) self.old self.new) }
+        ensures marks { self.new.directory ≡ self.old.directory }
         ensures nobody { (result ≡ Err HouseFault.Nobody) ↔ IsEmptySeat self.old connection }
         ensures busy { result ≢ Err HouseFault.Busy }
         ensures idle { result ≡ Err HouseFault.Nothing → IsIdle self.old (events.Put connection) }
@@ -304,6 +305,7 @@ impl House {
         requires seat { HasSeat self.old connection }
         ensures follows { OnOk result (Follows self.old (events.Hear connection) self.new out.old.items out.new.items) }
         ensures effort { OnOk result (MakesLess (events.Hear connection) self.old self.new) }
+        ensures marks { self.new.directory ≡ self.old.directory }
         ensures nobody { (result ≡ Err HouseFault.Nobody) ↔ IsEmptySeat self.old connection }
         ensures busy { result ≢ Err HouseFault.Busy }
         ensures idle { result ≡ Err HouseFault.Nothing → IsIdle self.old (events.Hear connection) }
@@ -333,6 +335,7 @@ impl House {
     fn take(&mut self, shard: u8) -> Result<(), HouseFault>
         ensures follows { OnOk result ((k : Setup) (s : scene.Scene) (old : List ℕ) → StandsFor k self.old s → Led k true s (events.Take shard) self.new old old) }
         ensures effort { OnOk result (MakesLess (events.Take shard) self.old self.new) }
+        ensures marks { self.new.directory ≡ self.old.directory }
         ensures nobody { (result ≡ Err HouseFault.Nobody) ↔ IsNobody self.old (events.Take shard) }
         ensures idle { result ≡ Err HouseFault.Nothing → IsIdle self.old (events.Take shard) }
         ensures only { IfErr result (λ e. (e ≡ HouseFault.Nobody) ⊎ (e ≡ HouseFault.Nothing)) }
@@ -348,6 +351,7 @@ impl House {
     fn deliver(&mut self, shard: u8) -> Result<(), HouseFault>
         ensures follows { OnOk result ((k : Setup) (s : scene.Scene) (old : List ℕ) → StandsFor k self.old s → Led k true s (events.Deliver shard) self.new old old) }
         ensures effort { OnOk result (MakesLess (events.Deliver shard) self.old self.new) }
+        ensures marks { self.new.directory ≡ self.old.directory }
         ensures nobody { (result ≡ Err HouseFault.Nobody) ↔ IsNobody self.old (events.Deliver shard) }
         ensures idle { result ≡ Err HouseFault.Nothing → IsIdle self.old (events.Deliver shard) }
         ensures only { IfErr result (λ e. (e ≡ HouseFault.Nobody) ⊎ (e ≡ HouseFault.Nothing)) }
@@ -363,6 +367,7 @@ impl House {
     fn answer(&mut self, shard: u8) -> Result<(), HouseFault>
         ensures follows { OnOk result ((k : Setup) (s : scene.Scene) (old : List ℕ) → StandsFor k self.old s → Led k true s (events.Answer shard) self.new old old) }
         ensures effort { OnOk result (MakesLess (events.Answer shard) self.old self.new) }
+        ensures marks { self.new.directory ≡ self.old.directory }
         ensures nobody { (result ≡ Err HouseFault.Nobody) ↔ IsNobody self.old (events.Answer shard) }
         ensures idle { result ≡ Err HouseFault.Nothing → IsIdle self.old (events.Answer shard) }
         ensures only { IfErr result (λ e. (e ≡ HouseFault.Nobody) ⊎ (e ≡ HouseFault.Nothing)) }
@@ -378,13 +383,14 @@ impl House {
     ///
     /// Nobody, Busy and Nothing come in this order, and after them nothing changed: Nobody where the connection, the shard, the session or
     /// the user isn't there, and where a seat that is free takes nobody any more; Busy where bytes, a vanishing or a leave are for a seat that still
-    /// waits for the verdicts of a peer that is gone, where an end is for a seat at which somebody stands, and where a user enters at a place that is
-    /// taken; Nothing where the event would change nothing. After NoMemory, which no take, delivery, answer, end, leave or vanishing answers, what was
+    /// waits for the verdicts of a peer that is gone, where a shard is shut that is shut already, and where a user enters at a place that is taken;
+    /// Nothing where the event would change nothing. After NoMemory, which no take, delivery, answer, end, close, leave or vanishing answers, what was
     /// done by then stands, and the next event of the connection or session goes on from there; bytes that came with it were taken up or weren't
     /// there at all.
     pub fn step(&mut self, event: Event<'_>, out: &mut Vec<u8>) -> Result<(), HouseFault>
         ensures follows { OnOk result (Follows self.old event.entry self.new out.old.items out.new.items) }
         ensures effort { OnOk result (MakesLess (event.entry) self.old self.new) }
+        ensures marks { KeepsMarks event.entry self.old self.new }
         ensures nobody { (result ≡ Err HouseFault.Nobody) ↔ IsNobody self.old event.entry }
         ensures busy { (result ≡ Err HouseFault.Busy) ↔ IsBusy self.old event.entry }
         ensures idle { result ≡ Err HouseFault.Nothing → IsIdle self.old event.entry }
@@ -402,6 +408,7 @@ impl House {
             Event::Answer(shard) => self.answer(shard),
             Event::Hear(number) => self.hear_at(number, out),
             Event::End(number, shard) => self.end(number, shard),
+            Event::Close(shard) => self.close(shard),
             Event::Enter(session, user) => self.enter(session, user, out),
             Event::Say(session, piece) => self.say(session, piece, out),
             Event::Idle(session) => self.idle(session, out),
@@ -435,7 +442,7 @@ impl House {
         if self.callers[seat].is_some() {
             return self.receive(connection, piece, out);
         }
-        if self.serials[seat] == u64::MAX || self.desk.core.has_ended(connection - 1) {
+        if self.serials[seat] == u64::MAX {
             return Err(HouseFault::Nobody);
         }
         self.welcome(connection, piece, out)
@@ -471,24 +478,31 @@ impl House {
         number == 0 || usize::from(number) > self.callers.len() + self.visitors.len()
     }
 
-    // Whether the connection or the session of a seat is there.
-    fn is_taken(&self, seat: u8) -> bool
-        requires seat { seat < length self.now.callers + length self.now.visitors }
-        ensures { result ≡ is_taken self.now seat }
+    // A shard is marked as shut, where it wasn't.
+    fn close(&mut self, shard: u8) -> Result<(), HouseFault>
+        ensures follows { OnOk result ((k : Setup) (s : scene.Scene) (old : List ℕ) → StandsFor k self.old s → Led k true s (events.Close shard) self.new old old) }
+        ensures effort { OnOk result (MakesLess (events.Close shard) self.old self.new) }
+        ensures nobody { (result ≡ Err HouseFault.Nobody) ↔ IsNobody self.old (events.Close shard) }
+        ensures busy { (result ≡ Err HouseFault.Busy) ↔ IsBusy self.old (events.Close shard) }
+        ensures only { IfErr result (λ e. (e ≡ HouseFault.Nobody) ⊎ (e ≡ HouseFault.Busy)) }
+        ensures refused { OnErr result (self.new ≡ self.old) }
     {
-        let seat = usize::from(seat);
-        let connections = self.callers.len();
-        if seat < connections {
-            return self.callers[seat].is_some();
+        if shard >= self.directory.shards() {
+            return Err(HouseFault::Nobody);
         }
-        self.visitors[seat - connections].is_some()
+        if self.directory.is_shut(usize::from(shard)) {
+            return Err(HouseFault::Busy);
+        }
+        self.directory.shut(shard);
+        Ok(())
     }
 
     // A seat puts its end into a shard's lane.
     fn end(&mut self, number: u8, shard: u8) -> Result<(), HouseFault>
         ensures follows { OnOk result ((k : Setup) (s : scene.Scene) (old : List ℕ) → StandsFor k self.old s → Led k true s (events.End number shard) self.new old old) }
+        ensures marks { self.new.directory ≡ self.old.directory }
         ensures nobody { (result ≡ Err HouseFault.Nobody) ↔ IsNobody self.old (events.End number shard) }
-        ensures busy { (result ≡ Err HouseFault.Busy) ↔ IsBusy self.old (events.End number shard) }
+        ensures busy { result ≢ Err HouseFault.Busy }
         ensures idle { result ≡ Err HouseFault.Nothing → IsIdle self.old (events.End number shard) }
         ensures memory { result ≢ Err HouseFault.NoMemory }
         ensures effort { OnOk result (MakesLess (events.End number shard) self.old self.new) }
@@ -499,9 +513,6 @@ impl House {
         }
         if usize::from(shard) >= self.desk.core.shards() {
             return Err(HouseFault::Nobody);
-        }
-        if self.is_taken(number - 1) {
-            return Err(HouseFault::Busy);
         }
         match self.desk.core.end(number - 1, shard) {
             Ok(()) => {}
@@ -516,6 +527,7 @@ impl House {
     fn put_at(&mut self, number: u8, out: &mut Vec<u8>) -> Result<(), HouseFault>
         ensures follows { OnOk result (Follows self.old (events.Put number) self.new out.old.items out.new.items) }
         ensures effort { OnOk result (MakesLess (events.Put number) self.old self.new) }
+        ensures marks { self.new.directory ≡ self.old.directory }
         ensures nobody { (result ≡ Err HouseFault.Nobody) ↔ IsNobody self.old (events.Put number) }
         ensures busy { result ≢ Err HouseFault.Busy }
         ensures idle { result ≡ Err HouseFault.Nothing → IsIdle self.old (events.Put number) }
@@ -536,6 +548,7 @@ impl House {
     fn hear_at(&mut self, number: u8, out: &mut Vec<u8>) -> Result<(), HouseFault>
         ensures follows { OnOk result (Follows self.old (events.Hear number) self.new out.old.items out.new.items) }
         ensures effort { OnOk result (MakesLess (events.Hear number) self.old self.new) }
+        ensures marks { self.new.directory ≡ self.old.directory }
         ensures nobody { (result ≡ Err HouseFault.Nobody) ↔ IsNobody self.old (events.Hear number) }
         ensures busy { result ≢ Err HouseFault.Busy }
         ensures idle { result ≡ Err HouseFault.Nothing → IsIdle self.old (events.Hear number) }

@@ -4,6 +4,7 @@
 ghost use Rattle.std.specs.Prelude.{◌≡◌, ◌≢◌, ◌<◌, ◌≤◌, ◌⊎◌, ℕ, List, [], ◌∷◌, length, map, max, IfOk, IfErr, IfSome, IsOk, IsOkUnless, Ok, Err, None, replicate};
 ghost use Rattle.delivery_core.specs.New.{IsNewBox};
 ghost use Rattle.delivery_core.specs.Stands.{EachAt};
+ghost use Rattle.envelope.specs.Directory.{none_shut};
 ghost use Rattle.envelope.specs.Names.{texts, words_read};
 ghost use Rattle.house.specs.Scene.{empty_scene};
 ghost use Rattle.house.specs.Settings.{IsInRange, are_ports_wrong, config_fault, connections, fault_named, fault_of_numbers, has_slash, is_ring_wrong, setup_of, users_in, words_of};
@@ -48,6 +49,7 @@ fn named_directory(alloc: Global, config: &Config) -> Result<Directory, ConfigFa
     ensures homes { IfOk result (λ d. words_read (config.now.host.items ∷ config.now.domain.items ∷ []) (words_of config.now) ≡ Ok d.homes) }
     ensures domains { IfOk result (λ d. d.domains ≡ config.now.domain.items ∷ []) }
     ensures shards { IfOk result (λ d. d.shards ≡ config.now.shards) }
+    ensures shut { IfOk result (λ d. d.shut ≡ none_shut config.now.shards) }
     ensures host { IfOk result (λ d. length config.now.host.items < 256) }
     ensures fault { IfErr (words_read (config.now.host.items ∷ config.now.domain.items ∷ []) (words_of config.now))
         (λ fault. (result ≡ Err (fault_named fault)) ⊎ (result ≡ Err ConfigFault.NoMemory)) }
@@ -167,7 +169,7 @@ impl House {
     /// is not 0 and is less than it; `Ports` where mail is to come to port 25 or to a user's port. In place of any of them, and where nothing else is wrong, `NoMemory` if memory is refused.
     pub fn new(alloc: Global, config: &Config) -> Result<House, ConfigFault>
         requires { IsInRange config.now }
-        ensures stands { IfOk result (λ h. StandsFor (setup_of config.now) h empty_scene) }
+        ensures stands { IfOk result (λ h. StandsFor (setup_of config.now) h (empty_scene (setup_of config.now))) }
         ensures fault { IfSome (config_fault config.now) (λ fault. (result ≡ Err fault) ⊎ (result ≡ Err ConfigFault.NoMemory)) }
         // Each mailbox is empty, with the settings' UIDs, room and window.
         ensures mailboxes { IfOk result (λ h. EachAt (λ m b. IsNewBox m config.now.uidvalidity config.now.first_uid config.now.messages config.now.ring

@@ -7,6 +7,7 @@ ghost use Rattle.delivery_token.specs.declared.log.Noted.{Noted};
 ghost use Rattle.line_io.specs.Marks.{marked};
 ghost use Rattle.lmtp_machine.specs.declared.connection.What.TheVariants as whats;
 ghost use Rattle.house_connection.specs.HouseConnection as connection;
+ghost use Rattle.house_connection.specs.HouseConnection.{Terms};
 ghost use Rattle.house_connection.specs.ConnectionStands.{StandsForConnection};
 ghost use Rattle.house_connection.specs.Taking as taking;
 ghost use Rattle.house_connection.specs.Taking.{line_effort};
@@ -17,7 +18,6 @@ ghost use Rattle.delivery_core.specs.Changes.{SameDelivery};
 ghost use Rattle.session_store.specs.Desk.{Serves};
 ghost use Rattle.house.specs.Printing.{of_connection, of_session};
 ghost use Rattle.house.specs.inner.Printing.{Idled, IdledInPart, WentOn};
-ghost use Rattle.house.specs.Setup.{Setup, terms_of};
 ghost use Rattle.house.specs.inner.Steps.{ConnectionWent, IsOf};
 
 use envelope::Directory;
@@ -83,9 +83,9 @@ pub(crate) fn proceed(
     out: &mut Vec<u8>,
 ) -> Result<What, AllocError>
     ensures less { line_effort caller.new ≤ line_effort caller.old }
-    ensures ok { IfOk result (λ what. (k : Setup) (seat : ℕ) (next : CopyKey) (heard : List Noted) (b : connection.HouseConnection) → IsOf k number seat directory.now → StandsForConnection (terms_of k) seat next heard caller.old b →
+    ensures ok { IfOk result (λ what. (k : Terms) (seat : ℕ) (next : CopyKey) (heard : List Noted) (b : connection.HouseConnection) → IsOf k number seat directory.now → StandsForConnection k seat next heard caller.old b →
         ConnectionWent k true seat next heard b what caller.new out.old.items out.new.items) }
-    ensures err { OnErr result ((k : Setup) (seat : ℕ) (next : CopyKey) (heard : List Noted) (b : connection.HouseConnection) → IsOf k number seat directory.now → StandsForConnection (terms_of k) seat next heard caller.old b →
+    ensures err { OnErr result ((k : Terms) (seat : ℕ) (next : CopyKey) (heard : List Noted) (b : connection.HouseConnection) → IsOf k number seat directory.now → StandsForConnection k seat next heard caller.old b →
         ConnectionWent k false seat next heard b whats.More caller.new out.old.items out.new.items) }
     ensures asks { OnErr result (caller.old.gone ≡ false) }
 {

@@ -248,8 +248,7 @@ impl House {
         if self.visitors[place].is_some() {
             return Err(HouseFault::Busy);
         }
-        let seat = self.session_seat(session);
-        if self.entered[place] == u64::MAX || self.desk.core.has_ended(seat) {
+        if self.entered[place] == u64::MAX {
             return Err(HouseFault::Nobody);
         }
         self.admit(session, user, out)
@@ -339,6 +338,7 @@ impl House {
         requires number { IsSession self.old number }
         ensures follows { OnOk result (Follows self.old (events.Put number) self.new out.old.items out.new.items) }
         ensures effort { OnOk result (MakesLess (events.Put number) self.old self.new) }
+        ensures marks { self.new.directory ≡ self.old.directory }
         ensures nobody { (result ≡ Err HouseFault.Nobody) ↔ IsVacant self.old number }
         ensures busy { result ≢ Err HouseFault.Busy }
         ensures idle { result ≡ Err HouseFault.Nothing → IsIdle self.old (events.Put number) }
@@ -370,6 +370,7 @@ impl House {
         requires number { IsSession self.old number }
         ensures follows { OnOk result (Follows self.old (events.Hear number) self.new out.old.items out.new.items) }
         ensures effort { OnOk result (MakesLess (events.Hear number) self.old self.new) }
+        ensures marks { self.new.directory ≡ self.old.directory }
         ensures nobody { (result ≡ Err HouseFault.Nobody) ↔ IsVacant self.old number }
         ensures busy { result ≢ Err HouseFault.Busy }
         ensures idle { result ≡ Err HouseFault.Nothing → IsIdle self.old (events.Hear number) }

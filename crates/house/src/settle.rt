@@ -7,7 +7,8 @@ ghost use Rattle.house.specs.Setup.{Setup};
 ghost use Rattle.house.specs.Settled.{HappenedFrom, SettledFrom, is_held};
 ghost use Rattle.house.specs.Settling.{GoesRounds, round};
 ghost use Rattle.house.specs.Stands.{StandsFor};
-ghost use Rattle.house.specs.inner.Trying.{CameInTurn, CameOne, CameVisit, CameVisits, Goes, IsOwn, Wants, hears, puts, serve, serves};
+ghost use Rattle.envelope.specs.Directory.{is_shut};
+ghost use Rattle.house.specs.inner.Trying.{CameInTurn, CameOne, CameVisit, CameVisits, Goes, IsOwn, Wants, closes, ends, ends_where, hears, puts, serve, serves};
 
 use crate::event::{Event, HouseFault};
 use crate::house::House;
@@ -17,7 +18,8 @@ impl House {
     // An event is tried: whether it happened.
     fn try_event(&mut self, event: Event<'_>, out: &mut Vec<u8>) -> Result<bool, AllocError>
         requires own { IsOwn event }
-        ensures { CameOne event.entry self.old out.old.items self.new out.new.items result }
+        ensures marks { self.new.directory ≡ self.old.directory }
+        ensures came { CameOne event.entry self.old out.old.items self.new out.new.items result }
     {
         match self.step(event, out) {
             Ok(()) => Ok(true),
@@ -31,7 +33,8 @@ impl House {
     // Some events are tried, one after another: whether any happened.
     fn try_each(&mut self, group: &[Event<'_>], out: &mut Vec<u8>) -> Result<bool, AllocError>
         requires own { All IsOwn group.now }
-        ensures { CameInTurn group.now self.old out.old.items self.new out.new.items result }
+        ensures marks { self.new.directory ≡ self.old.directory }
+        ensures came { CameInTurn group.now self.old out.old.items self.new out.new.items result }
     {
         let mut moved = false;
         for event in group {
@@ -46,7 +49,8 @@ impl House {
     // Some events are tried over and over, until none of them has anything to do: whether any happened.
     fn visit(&mut self, group: &[Event<'_>], out: &mut Vec<u8>) -> Result<bool, AllocError>
         requires own { All IsOwn group.now }
-        ensures { CameVisit group.now self.old out.old.items self.new out.new.items result }
+        ensures marks { self.new.directory ≡ self.old.directory }
+        ensures came { CameVisit group.now self.old out.old.items self.new out.new.items result }
     {
         let mut moved = false;
         loop {
@@ -60,9 +64,54 @@ impl House {
         }
     }
 
+    // Each seat ends on a shard, whoever stands there.
+    fn end_all(&mut self, shard: u8, out: &mut Vec<u8>) -> Result<bool, AllocError>
+        ensures came { CameVisits (λ k. shard < k.config.shards) (λ k. ends k.config.seats shard) self.old out.old.items self.new out.new.items result }
+        ensures marks { self.new.directory ≡ self.old.directory }
+    {
+        let seats = (self.callers.len() + self.visitors.len()) as u8;
+        let mut moved = false;
+        for seat in 0..seats {
+            let Ok(one) = self.visit(&[Event::End(seat + 1, shard)], out) else {
+                return Err(AllocError);
+            };
+            moved |= one;
+        }
+        Ok(moved)
+    }
+
+    // Each seat ends on a shard, where that is shut.
+    fn end_where(&mut self, shard: u8, shut: bool, out: &mut Vec<u8>) -> Result<bool, AllocError>
+        ensures came { CameVisits (λ k. shard < k.config.shards) (λ k. ends_where k.config.seats shard shut) self.old out.old.items self.new out.new.items result }
+        ensures marks { self.new.directory ≡ self.old.directory }
+    {
+        if !shut {
+            return Ok(false);
+        }
+        self.end_all(shard, out)
+    }
+
+    // Each seat ends on each shard that is shut.
+    fn close_all(&mut self, out: &mut Vec<u8>) -> Result<bool, AllocError>
+        ensures came { CameVisits (λ k. Unit {0}) (λ k. closes k.config.seats (is_shut self.old.directory) k.config.shards) self.old out.old.items self.new out.new.items result }
+        ensures marks { self.new.directory ≡ self.old.directory }
+    {
+        let shards = self.directory.shards();
+        let mut moved = false;
+        for shard in 0..shards {
+            let shut = self.directory.is_shut(usize::from(shard));
+            let Ok(one) = self.end_where(shard, shut, out) else {
+                return Err(AllocError);
+            };
+            moved |= one;
+        }
+        Ok(moved)
+    }
+
     // Each connection and each session puts its copies.
     fn put_all(&mut self, out: &mut Vec<u8>) -> Result<bool, AllocError>
-        ensures { CameVisits (λ k. Unit {0}) (λ k. puts k.config.seats) self.old out.old.items self.new out.new.items result }
+        ensures marks { self.new.directory ≡ self.old.directory }
+        ensures came { CameVisits (λ k. Unit {0}) (λ k. puts k.config.seats) self.old out.old.items self.new out.new.items result }
     {
         let seats = (self.callers.len() + self.visitors.len()) as u8;
         let mut moved = false;
@@ -77,7 +126,8 @@ impl House {
 
     // Each shard that isn't held takes, delivers and answers.
     fn serve_all(&mut self, held: &[bool], out: &mut Vec<u8>) -> Result<bool, AllocError>
-        ensures { CameVisits (λ k. Unit {0}) (λ k. serves (is_held held.now) k.config.shards) self.old out.old.items self.new out.new.items result }
+        ensures marks { self.new.directory ≡ self.old.directory }
+        ensures came { CameVisits (λ k. Unit {0}) (λ k. serves (is_held held.now) k.config.shards) self.old out.old.items self.new out.new.items result }
     {
         let shards = self.directory.shards();
         let mut moved = false;
@@ -92,7 +142,8 @@ impl House {
 
     // A shard takes, delivers and answers, unless it is held.
     fn serve(&mut self, shard: u8, held: bool, out: &mut Vec<u8>) -> Result<bool, AllocError>
-        ensures { CameVisits (λ k. shard < k.config.shards) (λ k. serve shard held) self.old out.old.items self.new out.new.items result }
+        ensures marks { self.new.directory ≡ self.old.directory }
+        ensures came { CameVisits (λ k. shard < k.config.shards) (λ k. serve shard held) self.old out.old.items self.new out.new.items result }
     {
         if held {
             return Ok(false);
@@ -107,7 +158,8 @@ impl House {
 
     // Each connection and each session hears its verdicts.
     fn hear_all(&mut self, out: &mut Vec<u8>) -> Result<bool, AllocError>
-        ensures { CameVisits (λ k. Unit {0}) (λ k. hears k.config.seats) self.old out.old.items self.new out.new.items result }
+        ensures marks { self.new.directory ≡ self.old.directory }
+        ensures came { CameVisits (λ k. Unit {0}) (λ k. hears k.config.seats) self.old out.old.items self.new out.new.items result }
     {
         let seats = (self.callers.len() + self.visitors.len()) as u8;
         let mut moved = false;
@@ -122,8 +174,12 @@ impl House {
 
     // A round: whether anything happened.
     fn go_round(&mut self, held: &[bool], out: &mut Vec<u8>) -> Result<bool, AllocError>
-        ensures { CameVisits (λ k. Unit {0}) (λ k. round k (is_held held.now)) self.old out.old.items self.new out.new.items result }
+        ensures marks { self.new.directory ≡ self.old.directory }
+        ensures came { CameVisits (λ k. Unit {0}) (λ k. round k (is_held held.now) (is_shut self.old.directory)) self.old out.old.items self.new out.new.items result }
     {
+        let Ok(closed) = self.close_all(out) else {
+            return Err(AllocError);
+        };
         let Ok(put) = self.put_all(out) else {
             return Err(AllocError);
         };
@@ -133,7 +189,7 @@ impl House {
         let Ok(heard) = self.hear_all(out) else {
             return Err(AllocError);
         };
-        Ok(put | served | heard)
+        Ok(closed | put | served | heard)
     }
 
     // Rounds, until nothing moves.
@@ -151,7 +207,7 @@ impl House {
         }
     }
 
-    /// Settles: each connection from 1, and each session behind them, puts its copies; each shard from 0 that isn't held takes, delivers and answers
+    /// Settles: each seat ends on each shard that is shut, where it hasn't ended; each connection from 1, and each session behind them, puts its copies; each shard from 0 that isn't held takes, delivers and answers
     /// until its lane is empty; each connection and each session hears its verdicts; and so on in rounds until nothing moves. Then each session from 1 that idles is
     /// shown what is pending, until nothing is.
     /// The one error is want of memory: what happened by then stands.

@@ -5,7 +5,7 @@ use Rattle.std.proofs.lemmas.List.{append-nil}
 use Rattle.delivery_token.specs.declared.CopyKey.{CopyKey}
 use Rattle.delivery_token.specs.declared.Verdict.{Verdict}
 use Rattle.delivery_token.specs.declared.log.Noted.{Noted}
-use Rattle.envelope.specs.Directory.{Directory}
+use Rattle.envelope.specs.Directory.{Directory, marked}
 use Rattle.lmtp_machine.specs.declared.connection.What.{What}
 use Rattle.lmtp_machine.specs.declared.connection.What.TheVariants.{More, Submit, Quit}
 use Rattle.lmtp_machine.specs.Replies.{wire}
@@ -65,7 +65,7 @@ module _ (k : Terms) (seat : ℕ) (next : CopyKey) (heard : List Noted) where
   took whole b h m bytes left said what s quiet split es eh all t =
       let none = none_put heard h.verdicts b.talk.pending (sym s.pending ∙ quiet) s.verdicts in
       let after = taken_keeps (StandsFor m) (setting_of k seat b.serial) k.host k.directory b.talk.at bytes h.unsaid said what m.pending s.kept t in
-      let first : s.message ≡ b.talk.at.standing.submitted = subst (λ (ss : List Submission). AreMessages (setting_of k seat b.serial) k.directory s.message ss b.talk.at.standing.submitted) (sym s.pending ∙ quiet) s.numbered in
+      let first : s.message ≡ b.talk.at.standing.submitted = subst (λ (ss : List Submission). AreMessages (setting_of k seat b.serial) (length k.directory.homes) s.message ss b.talk.at.standing.submitted) (sym s.pending ∙ quiet) s.numbered in
       record {
         after = record { serial = b.serial; gone = b.gone; talk = record { at = t.after; waits = left; unsaid = said; pending = m.pending }; to_put = copies_of t.turn.submissions };
         works = record {
@@ -129,19 +129,19 @@ module _ (k : Terms) (seat : ℕ) (next : CopyKey) (heard : List Noted) where
 
   -- ---- verdicts that are known
 
-  the_one : (setting : Setting) (directory : Directory) (message submitted : ℕ) (phase : Phase) (pending : List Submission) → length pending ≡ 1 → AreMessages setting directory message pending submitted → IsAwaited pending phase
-      → (s : Submission) × (pending ≡ s ∷ []) × IsMessage setting directory message s × (message + 1 ≡ submitted) × (phase ≡ Waiting (length s.keys))
-  the_one setting directory message submitted phase [] one n a = absurd (omega (arith, one))
-  the_one setting directory message submitted phase (s ∷ []) one n a = (s, refl, n.0, n.1, a.1)
-  the_one setting directory message submitted phase (s ∷ t ∷ ss) one n a = absurd (omega (arith, one))
+  the_one : (setting : Setting) (mailboxes : ℕ) (message submitted : ℕ) (phase : Phase) (pending : List Submission) → length pending ≡ 1 → AreMessages setting mailboxes message pending submitted → IsAwaited pending phase
+      → (s : Submission) × (pending ≡ s ∷ []) × IsMessage setting mailboxes message s × (message + 1 ≡ submitted) × (phase ≡ Waiting (length s.keys))
+  the_one setting mailboxes message submitted phase [] one n a = absurd (omega (arith, one))
+  the_one setting mailboxes message submitted phase (s ∷ []) one n a = (s, refl, n.0, n.1, a.1)
+  the_one setting mailboxes message submitted phase (s ∷ t ∷ ss) one n a = absurd (omega (arith, one))
 
   -- where none is left to put, each key has its slot
-  counted : (submitted n : ℕ) (setting : Setting) (message : ℕ) (phase : Phase) (pending : List Submission) → AreMessages setting k.directory message pending submitted → IsAwaited pending phase
+  counted : (submitted n : ℕ) (setting : Setting) (message : ℕ) (phase : Phase) (pending : List Submission) → AreMessages setting (length k.directory.homes) message pending submitted → IsAwaited pending phase
       → drop n (copies_of pending) ≡ [] → length (keys_of pending) ≤ n
   counted submitted n setting message phase [] m a e = omega arith
   counted submitted n setting message phase (x ∷ xs) m a e =
       let one : length (x ∷ xs) ≡ 1 = let l = ap (λ (ss : List Submission). length ss) a.0 in omega (arith, l) in
-      let o = the_one setting k.directory message submitted phase (x ∷ xs) one m a in
+      let o = the_one setting (length k.directory.homes) message submitted phase (x ∷ xs) one m a in
       let c = ap (drop n) (copies-one (x ∷ xs) o.0 o.1) in
       let p = all_put n o.0.keys o.0.mailboxes o.0.text no_flags o.2.as_many (sym c ∙ e) in
       let q = ap (λ (ks : List CopyKey). length ks) (keys-one (x ∷ xs) o.0 o.1) in
@@ -173,7 +173,7 @@ module _ (k : Terms) (seat : ℕ) (next : CopyKey) (heard : List Noted) where
       → ((d : Directory) (c : Conversation) → StandsFor h.machine c → Happens (StandsFor m) h.machine.setting h.machine.host d c (dialogue.Answered vs) h.unsaid said)
       → SaidVerdicts k seat next heard b vs (record { serial = h.serial; gone = h.gone; machine = m; waits = h.waits; unsaid = said; verdicts = [] })
   said_verdicts b h m vs said s more one known es eh quiet happens =
-      let o = the_one (setting_of k seat b.serial) k.directory s.message b.talk.at.standing.submitted b.talk.at.standing.phase b.talk.pending (ap (λ (x : List Submission). length x) (sym s.pending) ∙ one) s.numbered s.awaited in
+      let o = the_one (setting_of k seat b.serial) (length k.directory.homes) s.message b.talk.at.standing.submitted b.talk.at.standing.phase b.talk.pending (ap (λ (x : List Submission). length x) (sym s.pending) ∙ one) s.numbered s.awaited in
       let c = ap (drop (length h.verdicts)) (copies-one b.talk.pending o.0 o.1) in
       let q = ap (λ (ks : List CopyKey). length ks) (ap keys_of s.pending ∙ keys-one b.talk.pending o.0 o.1) in
       let a = known.all in
@@ -320,3 +320,50 @@ module _ (k : Terms) (seat : ℕ) (next : CopyKey) (heard : List Noted) where
         numbered = refl;
         ahead = ahead;
       }
+
+-- ---- shards that are shut
+
+-- the same terms, where these shards are shut
+abbrev pub under : List Bool → Terms → Terms
+under shut k = record k { directory = marked shut k.directory }
+
+-- a connection that stands for a caller does so whichever shards are shut
+pub stands_marked : (k : Terms) (shut : List Bool) (seat : ℕ) (next : CopyKey) (heard : List Noted) (h : Line) (b : HouseConnection)
+    → StandsForConnection k seat next heard h b → StandsForConnection (under shut k) seat next heard h b
+stands_marked k shut seat next heard h b s = record {
+  serial = s.serial;
+  gone = s.gone;
+  setting = s.setting;
+  host = s.host;
+  machine = s.machine;
+  waits = s.waits;
+  unsaid = s.unsaid;
+  pending = s.pending;
+  to_put = s.to_put;
+  verdicts = s.verdicts;
+  awaited = s.awaited;
+  kept = s.kept;
+  message = s.message;
+  numbered = s.numbered;
+  ahead = s.ahead;
+}
+
+pub stands_unmarked : (k : Terms) (shut : List Bool) (seat : ℕ) (next : CopyKey) (heard : List Noted) (h : Line) (b : HouseConnection)
+    → StandsForConnection (under shut k) seat next heard h b → StandsForConnection k seat next heard h b
+stands_unmarked k shut seat next heard h b s = record {
+  serial = s.serial;
+  gone = s.gone;
+  setting = s.setting;
+  host = s.host;
+  machine = s.machine;
+  waits = s.waits;
+  unsaid = s.unsaid;
+  pending = s.pending;
+  to_put = s.to_put;
+  verdicts = s.verdicts;
+  awaited = s.awaited;
+  kept = s.kept;
+  message = s.message;
+  numbered = s.numbered;
+  ahead = s.ahead;
+}

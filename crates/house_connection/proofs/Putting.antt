@@ -49,11 +49,11 @@ below_itself a (inr (e, inr h)) = omega (arith, h.1)
 -- ---- a copy was put
 
 -- the one message at hand, where copies of it are still to be put
-one_at_hand : (setting : Setting) (directory : Directory) (message submitted : ℕ) (pending : List Submission) (n : ℕ) (c : Job) (cs : List Job) → length pending ≤ 1 → AreMessages setting directory message pending submitted → drop n (copies_of pending) ≡ c ∷ cs
-    → (s : Submission) × (pending ≡ s ∷ []) × IsMessage setting directory message s
-one_at_hand setting directory message submitted [] n c cs few m e = absurd (let l = front_within n [] c cs e in omega (arith, l))
-one_at_hand setting directory message submitted (s ∷ []) n c cs few m e = (s, refl, m.0)
-one_at_hand setting directory message submitted (s ∷ t ∷ ss) n c cs few m e = absurd (omega (arith, few))
+one_at_hand : (setting : Setting) (mailboxes : ℕ) (message submitted : ℕ) (pending : List Submission) (n : ℕ) (c : Job) (cs : List Job) → length pending ≤ 1 → AreMessages setting mailboxes message pending submitted → drop n (copies_of pending) ≡ c ∷ cs
+    → (s : Submission) × (pending ≡ s ∷ []) × IsMessage setting mailboxes message s
+one_at_hand setting mailboxes message submitted [] n c cs few m e = absurd (let l = front_within n [] c cs e in omega (arith, l))
+one_at_hand setting mailboxes message submitted (s ∷ []) n c cs few m e = (s, refl, m.0)
+one_at_hand setting mailboxes message submitted (s ∷ t ∷ ss) n c cs few m e = absurd (omega (arith, few))
 
 few_pending : (pending : List Submission) (phase : Phase) → IsAwaited pending phase → length pending ≤ 1
 few_pending [] phase a = omega arith
@@ -75,7 +75,7 @@ module _ (k : Terms) (seat : ℕ) (next : CopyKey) (heard : List Noted) where
   next_copy h b c others s e =
       let n = length h.verdicts in
       let f : drop n (copies_of b.talk.pending) ≡ c ∷ others = ap (λ (ss : List Submission). drop n (copies_of ss)) (sym s.pending) ∙ e in
-      let o = one_at_hand (setting_of k seat b.serial) k.directory s.message b.talk.at.standing.submitted b.talk.pending n c others (few_pending b.talk.pending b.talk.at.standing.phase s.awaited) s.numbered f in
+      let o = one_at_hand (setting_of k seat b.serial) (length k.directory.homes) s.message b.talk.at.standing.submitted b.talk.pending n c others (few_pending b.talk.pending b.talk.at.standing.phase s.awaited) s.numbered f in
       let g : drop n (copies o.0.keys o.0.mailboxes o.0.text no_flags) ≡ c ∷ others = sym (ap (drop n) (copies-one b.talk.pending o.0 o.1)) ∙ f in
       let w = front_within n (copies o.0.keys o.0.mailboxes o.0.text no_flags) c others g in
       let l = length-copies o.0.keys o.0.mailboxes o.0.text no_flags in
@@ -141,7 +141,7 @@ module _ (k : Terms) (seat : ℕ) (next : CopyKey) (heard : List Noted) where
   numbers : (b : HouseConnection) (h : Line) → (s : StandsForConnection k seat next heard h b) → (i : ℕ) (d : CopyKey) → i < length (keys_of b.talk.pending) → get_or (keys_of b.talk.pending) i d ≡ record { seat = seat; serial = b.serial; message = s.message; recipient = i }
   numbers b h s = at b.talk.pending (few_pending b.talk.pending b.talk.at.standing.phase s.awaited) s.numbered
     where
-      at : (pending : List Submission) → length pending ≤ 1 → AreMessages (setting_of k seat b.serial) k.directory s.message pending b.talk.at.standing.submitted
+      at : (pending : List Submission) → length pending ≤ 1 → AreMessages (setting_of k seat b.serial) (length k.directory.homes) s.message pending b.talk.at.standing.submitted
           → (i : ℕ) (d : CopyKey) → i < length (keys_of pending) → get_or (keys_of pending) i d ≡ record { seat = seat; serial = b.serial; message = s.message; recipient = i }
       at [] few m i d lt = absurd (omega arith)
       at (t ∷ []) few m i d lt =

@@ -16,7 +16,8 @@ abbrev pub IsAwaited : List Submission → Phase → Type 0
 IsAwaited [] phase = (n : ℕ) → phase ≡ Waiting n → ⊥
 IsAwaited (s ∷ ss) phase = (ss ≡ []) × (phase ≡ Waiting (length s.keys))
 
--- the connection stands for this caller, whose seat has heard these verdicts and may use keys from `next` on
+-- The connection stands for this caller, whose seat has heard these verdicts and may use keys from `next` on. Which shards of the directory are shut
+-- doesn't matter to that.
 pub record StandsForConnection (k : Terms) (seat : ℕ) (next : CopyKey) (heard : List Noted) (h : Line) (b : HouseConnection) : Type 0 where
   pub serial : h.serial ≡ b.serial
   pub gone : h.gone ≡ b.gone
@@ -29,10 +30,10 @@ pub record StandsForConnection (k : Terms) (seat : ℕ) (next : CopyKey) (heard 
   pub to_put : b.to_put ≡ drop (length h.verdicts) (copies_of b.talk.pending)
   pub verdicts : SlotsFor heard (keys_of b.talk.pending) h.verdicts
   pub awaited : IsAwaited b.talk.pending b.talk.at.standing.phase
-  pub kept : Kept k.directory b.talk.at.standing
+  pub kept : Kept (length k.directory.homes) b.talk.at.standing
   -- the number of the message at hand, or of the next one
   pub message : ℕ
-  pub numbered : AreMessages (setting_of k seat b.serial) k.directory message b.talk.pending b.talk.at.standing.submitted
+  pub numbered : AreMessages (setting_of k seat b.serial) (length k.directory.homes) message b.talk.pending b.talk.at.standing.submitted
   pub ahead : AtLeast next (record { seat = seat; serial = b.serial; message = message; recipient = length h.verdicts })
 
 -- After a caller proceeded: the connection stands for what it is then.

@@ -16,7 +16,7 @@ use Rattle.submission.specs.Copies.{copies}
 use Rattle.submission.specs.Heard.{AreAnswered}
 use Rattle.house_connection.specs.Talk.{Talk, WorksOff}
 
--- on which terms connections are served: by this directory, with this host's name, and up to so many bytes a message
+-- on which terms connections are served: by this directory, with the marks that it has now, with this host's name, and up to so many bytes a message
 pub record Terms : Type 0 where
   pub directory : Directory
   pub host : List ℕ

@@ -3,21 +3,21 @@ use Rattle.std.proofs.Common.{◌≡◌, ◌+◌, ◌∙◌, ℕ, suc, ap, sym, 
 use Rattle.delivery_token.specs.declared.Job.{Job}
 use Rattle.delivery_token.specs.declared.log.Noted.{Noted}
 use Rattle.shard_queue.specs.declared.queue.ShardQueue.{ShardQueue}
-use Rattle.shard_queue.specs.declared.queue.ProducerSeat.{ProducerSeat}
+use Rattle.lane_work.specs.declared.desk.LaneSeat.{LaneSeat}
 use Rattle.shard_queue.specs.declared.queue.ConsumerSeat.{ConsumerSeat}
 use Rattle.shard_queue.specs.declared.ends.ReplyChannel.{ReplyChannel}
 use Rattle.shard_queue.specs.declared.reply.SenderSeat.{SenderSeat}
 use Rattle.shard_queue.specs.declared.reply.ReceiverSeat.{ReceiverSeat}
 use Rattle.shard_queue.specs.Reply.{IsReceiver, sent_on}
-use Rattle.shard_queue.specs.Seats.{IsConsumer, sent}
-use Rattle.lane_work.specs.Seats.{AreSeats, AreSenders}
+use Rattle.shard_queue.specs.Seats.{IsConsumer}
+use Rattle.lane_work.specs.Seats.{AreSeats, AreSenders, IsNew}
 use Rattle.lane_seats.specs.rows.Rows.{AreConsumers, AreHands}
 use Rattle.lane_seats.specs.rows.SenderRows.{AreReceivers, AreSenderHands}
 use Rattle.house_floor.specs.Crew.{AllAt}
 
 -- a producer's seats on all lanes, which have put nothing
-abbrev pub IsHand : List (ShardQueue Job) → ℕ → Vec (ProducerSeat Job) Global → Type 0
-IsHand lanes n v = AreSeats lanes n v.items × All (λ s. sent s ≡ []) v.items
+abbrev pub IsHand : List (ShardQueue Job) → ℕ → Vec LaneSeat Global → Type 0
+IsHand lanes n v = AreSeats lanes n v.items × All IsNew v.items
 
 -- a consumer's on all channels, which have sent nothing
 abbrev pub IsSenderHand : List (ReplyChannel Noted) → ℕ → Vec (SenderSeat Noted) Global → Type 0
@@ -30,7 +30,7 @@ IsReceiverAt channels n seat = (channel : ReplyChannel Noted) → slice_get chan
 abbrev pub IsConsumerAt : List (ShardQueue Job) → ℕ → ConsumerSeat Job → Type 0
 IsConsumerAt lanes n seat = (lane : ShardQueue Job) → slice_get lanes n ≡ Some lane → IsConsumer lane seat
 
-pub hands_at : (lanes : List (ShardQueue Job)) (n : ℕ) (vs : List (Vec (ProducerSeat Job) Global)) → AreHands lanes n (map (λ v. v.items) vs) → AllAt (IsHand lanes) n vs
+pub hands_at : (lanes : List (ShardQueue Job)) (n : ℕ) (vs : List (Vec LaneSeat Global)) → AreHands lanes n (map (λ v. v.items) vs) → AllAt (IsHand lanes) n vs
 hands_at lanes n [] h = tt
 hands_at lanes n (v ∷ vs) h = (h.0, hands_at lanes (suc n) vs h.1)
 

@@ -5,8 +5,8 @@ use Rattle.delivery_token.specs.declared.log.Noted.{Noted}
 use Rattle.shard_queue.specs.declared.queue.ShardQueue.{ShardQueue}
 use Rattle.shard_queue.specs.declared.ends.ReplyChannel.{ReplyChannel}
 use Rattle.shard_queue.specs.Reply.{IsReceiver, received, sent_on}
-use Rattle.shard_queue.specs.Seats.{IsConsumer, sent, got}
-use Rattle.lane_work.specs.Seats.{AreSeats, AreSenders}
+use Rattle.shard_queue.specs.Seats.{IsConsumer, got}
+use Rattle.lane_work.specs.Seats.{AreSeats, AreSenders, IsNew}
 use Rattle.house_floor.specs.Users.{user_numbered}
 use Rattle.house_floor.specs.declared.floor.Floor.{Floor}
 use Rattle.house_floor.specs.declared.floor.Visit.{Visit}
@@ -39,7 +39,7 @@ pub record AreVisits (floor : Floor) (visits : List Visit) : Type 0 where
 pub record IsPost (floor : Floor) (n : ℕ) (post : Post) : Type 0 where
   pub number : post.desk.number ≡ n
   pub seats : AreSeats floor.office.lanes.items n post.desk.seats.items
-  pub fresh : All (λ s. sent s ≡ []) post.desk.seats.items
+  pub fresh : All IsNew post.desk.seats.items
   pub receiver : (channel : ReplyChannel Noted) → slice_get floor.depot.channels.items n ≡ Some channel → IsReceiver channel post.desk.receiver
   pub unheard : (received post.desk.receiver ≡ []) × (post.desk.ends ≡ 0)
   pub empty : post.room.items ≡ []

@@ -1,5 +1,5 @@
 -- What is made before the first thread runs: the floor that all share, and room for what the threads will leave.
-use Rattle.std.specs.Prelude.{◌≡◌, ◌≤◌, ◌*◌, ℕ, [], All, length, vec_capacity}
+use Rattle.std.specs.Prelude.{◌≡◌, ◌≤◌, ◌*◌, ℕ, [], All, length, map, vec_capacity}
 use Rattle.envelope.specs.Directory.{Directory}
 use Rattle.lane_seats.specs.Rooms.{AreRooms}
 use Rattle.shard_queue.specs.Reply.{room_of, senders_of}
@@ -21,6 +21,7 @@ pub record IsFloor (directory : Directory) (sizes : Sizes) (floor : Floor) : Typ
   pub host : floor.office.host.items ≡ sizes.host.now
   pub max_message : floor.office.max_message ≡ sizes.max_message
   pub turns : floor.turns ≡ sizes.turns
+  pub closings : map (λ c. c.items) floor.office.closings.items ≡ map (λ c. c.items) sizes.closings.now
   pub bells : length floor.bells.items ≡ directory.shards
   pub mailboxes : length floor.depot.mailboxes.items ≡ length directory.homes
   pub lanes : All (λ q. (capacity_of q ≡ sizes.depth) × (producers_of q ≡ sizes.producers)) floor.office.lanes.items

@@ -14,7 +14,7 @@ use crate::floor::{Floor, Post, Stand};
 use crossbeam_utils::sync::Parker;
 use delivery_token::{Job, Noted};
 use lane_seats::{Hands, deal_all, deal_all_senders};
-use lane_work::{Desk, Stall};
+use lane_work::{Desk, LaneSeat, Stall};
 use shard_queue::{ConsumerSeat, Ended, ProducerSeat, ReceiverSeat, SenderEnded, SenderSeat};
 
 // A post for each of so many producers, from the hands that were dealt to them, from the receivers'
@@ -23,7 +23,7 @@ use shard_queue::{ConsumerSeat, Ended, ProducerSeat, ReceiverSeat, SenderEnded, 
 fn set_posts(
     floor: &Floor,
     producers: u8,
-    mut hands: Vec<Vec<ProducerSeat<Job>>>,
+    mut hands: Vec<Vec<LaneSeat>>,
     mut receivers: Vec<ReceiverSeat<Noted>>,
     mut rooms: Vec<Vec<Ended<Job>>>,
     mut posts: Vec<Post>,
@@ -106,7 +106,7 @@ pub(crate) struct Undealt {
     /// For each consumer its own end of its bell.
     pub(crate) parkers: Vec<Parker>,
     /// For each producer's seats.
-    pub(crate) hands: Hands<ProducerSeat<Job>>,
+    pub(crate) hands: Hands<LaneSeat>,
     /// For what is left of each producer's seats.
     pub(crate) rooms: Vec<Vec<Ended<Job>>>,
     /// For each consumer's seats.

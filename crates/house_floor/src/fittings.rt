@@ -1,7 +1,7 @@
 //! What a house is made of, as far as it may be let go again: so it is made first, and where memory is
 //! refused nothing has to be undone. What can't be let go stands in `stock`.
 
-ghost use Rattle.std.specs.Prelude.{◌≡◌, ◌<◌, ◌≤◌, IfOk, length, vec_len};
+ghost use Rattle.std.specs.Prelude.{◌≡◌, ◌<◌, ◌≤◌, IfOk, length, map, vec_len};
 ghost use Rattle.house_floor.specs.inner.Making.{AreFittings, ArePapers};
 
 use crate::bells::{Bells, hang_bells};
@@ -10,6 +10,7 @@ use crate::opening::Sizes;
 use crossbeam_utils::sync::{Parker, Unparker};
 use delivery_token::{Job, Noted, WorkerLog};
 use envelope::Directory;
+use lane_work::Closing;
 use mailbox::Mailbox;
 use session_bells::{SessionBell, Sleeper};
 use shard_queue::{Closed, ReplyClosed};
@@ -43,6 +44,8 @@ pub(crate) struct Hall {
     pub(crate) consumers: Vec<Unparker>,
     /// For each mailbox, what rings the sessions of its user.
     pub(crate) sessions: Vec<Vec<SessionBell>>,
+    /// For each worker, the shards that it closes.
+    pub(crate) closings: Vec<Vec<Closing>>,
 }
 
 /// All of a house that may be let go.
@@ -103,6 +106,17 @@ fn make_papers(alloc: Global, producers: u8, shards: u8) -> Result<Papers, Alloc
     })
 }
 
+// The shards that each worker closes, once more.
+fn copied(alloc: Global, closings: &[Vec<Closing>]) -> Result<Vec<Vec<Closing>>, AllocError>
+    ensures { IfOk result (λ v. map (λ c. c.items) v.items ≡ map (λ c. c.items) closings.now) }
+{
+    let mut copies = Vec::with_capacity(alloc, closings.len())?;
+    for one in closings {
+        copies.push(Vec::from_slice(alloc, one)?)?;
+    }
+    Ok(copies)
+}
+
 /// All of a house that may be let go, for a house with this directory and of these sizes. An error
 /// where memory is refused.
 pub(crate) fn make_fittings(
@@ -124,11 +138,13 @@ pub(crate) fn make_fittings(
         sessions,
     } = hang_bells(alloc, directory, visits)?;
     let papers = make_papers(alloc, sizes.producers, directory.shards())?;
+    let closings = copied(alloc, sizes.closings)?;
     let hall = Hall {
         host,
         mailboxes,
         consumers,
         sessions,
+        closings,
     };
     Ok(Fittings {
         hall,

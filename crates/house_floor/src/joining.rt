@@ -43,6 +43,7 @@ fn lay_floor(
         host: hall.host,
         max_message: sizes.max_message,
         lanes,
+        closings: hall.closings,
     };
     let depot = Depot {
         mailboxes: hall.mailboxes,

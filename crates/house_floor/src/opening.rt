@@ -13,6 +13,7 @@ use crate::joining::put_together;
 use crate::stock::{Spares, make_stock};
 use delivery_token::{Job, Noted, WorkerLog};
 use envelope::Directory;
+use lane_work::Closing;
 use mailbox::{History, Limits};
 use session_bells::Sleeper;
 use shard_queue::{Closed, ConsumerSeat, Ended, ReceiverSeat, ReplyClosed, SenderEnded};
@@ -39,6 +40,8 @@ pub struct Sizes<'a> {
     pub history: History,
     /// So many turns a session has at most where it awaits changes.
     pub turns: u64,
+    /// For each worker, by its number, the shards that it closes before its connections.
+    pub closings: &'a [Vec<Closing>],
 }
 
 /// Room for what the threads leave.

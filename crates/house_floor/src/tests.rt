@@ -63,6 +63,7 @@ fn each_mailbox_has_the_bells_of_its_user(rt: HostRuntime) -> Result<(), Fail> {
         limits: LIMITS,
         history: History::Kept,
         turns: 10,
+        closings: &[],
     };
     let fittings = make_fittings(alloc, &directory, sizes, &visits)?;
     let mut bells = 0usize;
@@ -87,6 +88,7 @@ fn a_house_has_all_its_parts(rt: HostRuntime) -> Result<(), Fail> {
         limits: LIMITS,
         history: History::Kept,
         turns: 10,
+        closings: &[],
     };
     let opened = open(alloc, directory, sizes, &[])?;
     let threads = (opened.crew.stands.len(), opened.crew.posts.len());

@@ -60,10 +60,10 @@ impl BufRead for Torn {
 
 // Takes so many bytes, and then none.
 #[derive(Drop)]
-struct Narrow {
-    bytes: Vec<u8>,
-    room: usize,
-    has_failed: bool,
+pub(crate) struct Narrow {
+    pub(crate) bytes: Vec<u8>,
+    pub(crate) room: usize,
+    pub(crate) has_failed: bool,
 }
 
 impl Sink for Narrow {

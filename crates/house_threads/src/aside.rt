@@ -15,7 +15,7 @@ ghost use Rattle.house_threads.specs.Crew.{IsPostLeft};
 use delivery_token::WorkerLog;
 use house_floor::{Post, Stand};
 use lane_work::{
-    Consumed, Depot, Desk, Fate, Office, Stall, Summons, Worked, end_all, end_one, end_senders,
+    Consumed, Depot, Desk, Fate, Office, Stall, Summons, Worked, end_all, end_seat, end_senders,
 };
 use pace::{Gate, Pace};
 use std::alloc::Global;
@@ -111,7 +111,7 @@ pub(crate) fn end_first<R: Wait, G: Gate, S: Summons>(
     } = desk;
     for lane in 0..manned {
         let seat = seats.remove(0);
-        room.push_reserved(end_one(rt, pace, &office.lanes[lane], seat));
+        room.push_reserved(end_seat(rt, pace, &office.lanes[lane], seat));
         summons.summon(rt, lane);
     }
     Post {

@@ -22,7 +22,7 @@ use Rattle.imap_grammar.specs.declared.command.ImapFault.TheVariants as faults
 use Rattle.imap_grammar.specs.declared.command.Store.{Store}
 use Rattle.imap_grammar.specs.declared.command.Verb.TheVariants as verbs
 use Rattle.delivery_token.specs.declared.Refusal.{Refusal}
-use Rattle.delivery_token.specs.declared.Refusal.TheVariants.{Full, MailboxFull, NoMemory, UidSpent}
+use Rattle.delivery_token.specs.declared.Refusal.TheVariants.{Full, MailboxFull, NoMemory, UidSpent, Shut}
 use Rattle.delivery_token.specs.declared.Verdict.{Verdict}
 use Rattle.delivery_token.specs.declared.Verdict.TheVariants.{Stored, Refused}
 use Rattle.imap_session.specs.declared.standing.Selected.{Selected}
@@ -222,6 +222,7 @@ refused_tells_none Full = refl
 refused_tells_none MailboxFull = refl
 refused_tells_none NoMemory = refl
 refused_tells_none UidSpent = refl
+refused_tells_none Shut = refl
 
 pub verdict_tells : (selected : Option Selected) (mailbox : ℕ) (verdict : Verdict) → VerdictTellsUid selected mailbox verdict (on_verdict selected mailbox verdict)
 verdict_tells selected mailbox (Stored uid) = (refl, λ status. refl)

@@ -9,7 +9,7 @@ use Rattle.delivery_token.specs.declared.Verdict.{Verdict}
 use Rattle.imap_session.specs.declared.standing.After.{After}
 use Rattle.delivery_token.specs.declared.Verdict.TheVariants.{Stored, Refused}
 use Rattle.delivery_token.specs.declared.Refusal.{Refusal}
-use Rattle.delivery_token.specs.declared.Refusal.TheVariants.{Full, MailboxFull, NoMemory, UidSpent}
+use Rattle.delivery_token.specs.declared.Refusal.TheVariants.{Full, MailboxFull, NoMemory, UidSpent, Shut}
 use Rattle.imap_session.specs.declared.standing.Selected.{Selected}
 use Rattle.imap_session.specs.Exchange.{Answer, Appending, Call, Exchange, ForVerdict, Mailing, Sent, Standing, Wait, closed, tagged}
 use Rattle.imap_session.specs.Commands.{appended_words, is_over, kept_text, last_number, nowhere, on_found, on_rest, on_text, on_verdict, refused_words, says, showing, over, taking, turn_with, wanting, with_bytes, without_sent}
@@ -87,6 +87,7 @@ refused_says Full = refl
 refused_says MailboxFull = refl
 refused_says NoMemory = refl
 refused_says UidSpent = refl
+refused_says Shut = refl
 
 pub verdict_shown : (selected : Option Selected) (mailbox : ℕ) (verdict : Verdict) → VerdictShowsInPlace selected verdict (on_verdict selected mailbox verdict)
 verdict_shown selected mailbox (Stored uid) = λ status. shown_before selected (appended_words status.uidvalidity uid)

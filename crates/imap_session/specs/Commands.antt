@@ -252,6 +252,7 @@ refused_words refusals.Full = codes "NO Shard full"
 refused_words refusals.MailboxFull = codes "NO Mailbox full"
 refused_words refusals.NoMemory = codes "NO Out of memory"
 refused_words refusals.UidSpent = codes "NO No UID left"
+refused_words refusals.Shut = codes "NO Shard closed"
 
 abbrev pub appended_words : ℕ → ℕ → List ℕ
 appended_words uidvalidity uid = codes "OK [APPENDUID " ++ decimal uidvalidity ++ codes " " ++ decimal uid ++ codes "] APPEND completed"

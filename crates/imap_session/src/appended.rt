@@ -29,6 +29,7 @@ fn refused_words(why: Refusal) -> &'static [u8]
         Refusal::MailboxFull => b"NO Mailbox full",
         Refusal::NoMemory => b"NO Out of memory",
         Refusal::UidSpent => b"NO No UID left",
+        Refusal::Shut => b"NO Shard closed",
     }
 }
 

@@ -1,5 +1,5 @@
 -- Seats by lane.
-use Rattle.std.proofs.Common.{◌≡◌, ℕ, zero, suc, ◌<◌, ◌+◌, ◌++◌, ◌∙◌, ap, refl, sym, subst, List, [], ◌∷◌, length, map, slice_index_or, slice_set, take, arith, All, Contains}
+use Rattle.std.proofs.Common.{◌≡◌, ℕ, zero, suc, ◌<◌, ◌+◌, ◌++◌, ◌∙◌, ap, refl, sym, subst, List, [], ◌∷◌, length, map, slice_index_or, slice_set, take, drop, arith, All, Contains}
 use Rattle.std.proofs.lemmas.List.Elements.{All-nil, All-cons, All-head, All-tail, All-push, Contains-push}
 use Rattle.delivery_token.specs.declared.Job.{Job}
 use Rattle.shard_queue.specs.declared.queue.ShardQueue.{ShardQueue}
@@ -7,9 +7,11 @@ use Rattle.shard_queue.specs.declared.queue.ProducerSeat.{ProducerSeat}
 use Rattle.shard_queue.specs.declared.queue.Ended.{Ended}
 use Rattle.shard_queue.specs.declared.queue.ConsumerSeat.{ConsumerSeat}
 use Rattle.shard_queue.specs.Seats.{IsProducer, IsEnded, IsConsumer, number_of, sent, producers_of, numbers}
-use Rattle.lane_work.specs.Seats.{AreSeats, AreEnded}
+use Rattle.lane_work.specs.declared.desk.LaneSeat.{LaneSeat}
+use Rattle.lane_work.specs.declared.desk.LaneSeat.TheVariants.{Live}
+use Rattle.lane_work.specs.Seats.{AreSeats, AreEnded, IsNew, IsSeat, put_by, is_over, seat_number}
 use Rattle.lane_seats.specs.rows.Rows.{AreLeft, AreHands, Rows, AreConsumers, EndedRows, AreIn, AllIn, AreEndedHands, Keep}
-use Rattle.lane_seats.proofs.StepLaws.{StepTo, ahead}
+use Rattle.lane_seats.proofs.StepLaws.{StepTo, ahead, front, one_step}
 
 -- ---- lanes that are made
 
@@ -58,28 +60,41 @@ one_left f (q ∷ qs) p (r ∷ rs) h all (suc i) under d =
     let o = one_left f qs p rs h.1 (All-tail (λ q. p < producers_of q) q qs all) i (omega arith) d in
     ((let u = o.0 in omega (arith, u)), o.1)
 
--- the row that comes next has one
-pub row_there : {V : Type 0} (f : V → List (ProducerSeat Job)) (qs : List (ShardQueue Job)) (p : ℕ) (olds news : List V) (ss : List (ProducerSeat Job)) (i : ℕ)
-    → StepTo (λ o n s. f o ≡ s ∷ f n) i olds news ss → Rows qs p (map f olds) → All (λ q. p < producers_of q) qs → i < length qs → (x : V) → x ≡ slice_index_or news i x → 0 < length (f x)
-row_there f qs p olds news ss i h k all under x xe =
-    subst (λ z. 0 < length (f z)) (sym (xe ∙ ahead (λ o n s. f o ≡ s ∷ f n) i olds news ss h x)) (one_left f qs p olds k all i under x).1
+-- the first seat of a row was dealt
+abbrev pub Dealt : {V : Type 0} → (V → List (ProducerSeat Job)) → V → V → LaneSeat → Type 0
+Dealt f old new dealt = (seat : ProducerSeat Job) × (dealt ≡ Live seat) × (f old ≡ seat ∷ f new)
 
-pub dealt : {V : Type 0} (f : V → List (ProducerSeat Job)) (qs : List (ShardQueue Job)) (p : ℕ) (olds news : List V) (ss : List (ProducerSeat Job))
-    → StepTo (λ o n s. f o ≡ s ∷ f n) (length qs) olds news ss → Rows qs p (map f olds)
-    → AreSeats qs p ss × All (λ s. sent s ≡ []) ss × Rows qs (suc p) (map f news)
-dealt f [] p [] [] [] h k = (tt, All-nil (λ s. sent s ≡ []), tt)
+-- the row that comes next has one
+pub row_there : {V : Type 0} (f : V → List (ProducerSeat Job)) (qs : List (ShardQueue Job)) (p : ℕ) (olds news : List V) (ss : List LaneSeat) (i : ℕ)
+    → StepTo (Dealt f) i olds news ss → Rows qs p (map f olds) → All (λ q. p < producers_of q) qs → i < length qs → (x : V) → x ≡ slice_index_or news i x → 0 < length (f x)
+row_there f qs p olds news ss i h k all under x xe =
+    subst (λ z. 0 < length (f z)) (sym (xe ∙ ahead (Dealt f) i olds news ss h x)) (one_left f qs p olds k all i under x).1
+
+-- the first of a row is dealt
+pub row_dealt : {V : Type 0} (f : V → List (ProducerSeat Job)) (i : ℕ) (olds news : List V) (ss : List LaneSeat) → StepTo (Dealt f) i olds news ss → i < length news
+    → (x y : V) (s : ProducerSeat Job) → x ≡ slice_index_or news i x → 0 < length (f x) → s ≡ slice_index_or (f x) 0 s → f y ≡ drop 1 (f x)
+    → StepTo (Dealt f) (i + 1) olds (slice_set news i y) (ss ++ Live s ∷ [])
+row_dealt f i olds news ss h under x y s xe some se ye =
+    one_step (Dealt f) i olds news ss h x y (Live s) under (s, refl, ap f (sym xe) ∙ front (f x) s some se ∙ ap (λ l. s ∷ l) (sym ye))
+
+pub dealt : {V : Type 0} (f : V → List (ProducerSeat Job)) (qs : List (ShardQueue Job)) (p : ℕ) (olds news : List V) (ss : List LaneSeat)
+    → StepTo (Dealt f) (length qs) olds news ss → Rows qs p (map f olds)
+    → AreSeats qs p ss × All IsNew ss × Rows qs (suc p) (map f news)
+dealt f [] p [] [] [] h k = (tt, All-nil IsNew, tt)
 dealt f [] p [] (n ∷ ns) [] h k = absurd (let x : [] ≡ n ∷ ns = h in cc)
 dealt f [] p [] news (s ∷ ss) h k = absurd h
 dealt f [] p (o ∷ os) news ss h k = absurd k
 dealt f (q ∷ qs) p [] news ss h k = absurd k
 dealt f (q ∷ qs) p (o ∷ os) [] ss h k = absurd h
 dealt f (q ∷ qs) p (o ∷ os) (n ∷ ns) [] h k = absurd h
-dealt f (q ∷ qs) p (o ∷ os) (n ∷ ns) (s ∷ ss) h k =
-    let one : AreLeft q p (s ∷ f n) = subst (AreLeft q p) h.0 k.0 in
-    let rest = dealt f qs p os ns ss h.1 k.1 in
-    (((one.1.0, one.1.1), rest.0), All-cons (λ s. sent s ≡ []) s ss one.1.2 rest.1, (one.2, rest.2))
+dealt f (q ∷ qs) p (o ∷ os) (n ∷ ns) (x ∷ ss) ((s, is, e), more) k =
+    let one : AreLeft q p (s ∷ f n) = subst (AreLeft q p) e k.0 in
+    let rest = dealt f qs p os ns ss more k.1 in
+    let here : IsSeat q x × (seat_number x ≡ p) = subst (λ (y : LaneSeat). IsSeat q y × (seat_number y ≡ p)) (sym is) (one.1.0, one.1.1) in
+    let new : IsNew x = subst IsNew (sym is) (one.1.2, refl) in
+    ((here, rest.0), All-cons IsNew x ss new rest.1, (one.2, rest.2))
 
-pub hands_next : (qs : List (ShardQueue Job)) (k n : ℕ) (hs : List (List (ProducerSeat Job))) (h : List (ProducerSeat Job)) → AreHands qs k hs → n ≡ k + length hs → AreSeats qs n h → All (λ s. sent s ≡ []) h
+pub hands_next : (qs : List (ShardQueue Job)) (k n : ℕ) (hs : List (List LaneSeat)) (h : List LaneSeat) → AreHands qs k hs → n ≡ k + length hs → AreSeats qs n h → All IsNew h
     → AreHands qs k (hs ++ h ∷ [])
 hands_next qs k n [] h are e is none =
     let same : n ≡ k = omega (arith, e) in
@@ -180,8 +195,8 @@ in_length (e ∷ es) (r ∷ rs) h = ap suc (in_length es rs h.1)
 -- ---- actors that are taken one by one, and what they leave
 
 -- the first hand of those that are left
-pub first_hand : (qs : List (ShardQueue Job)) (k : ℕ) (hands rest : List (List (ProducerSeat Job))) (h : List (ProducerSeat Job)) → hands ≡ h ∷ rest → AreHands qs k hands
-    → (AreSeats qs k h × All (λ s. sent s ≡ []) h) × AreHands qs (suc k) rest
+pub first_hand : (qs : List (ShardQueue Job)) (k : ℕ) (hands rest : List (List LaneSeat)) (h : List LaneSeat) → hands ≡ h ∷ rest → AreHands qs k hands
+    → (AreSeats qs k h × All IsNew h) × AreHands qs (suc k) rest
 first_hand qs k hands rest h e are = subst (AreHands qs k) e are
 
 -- one more producer's ended seats

@@ -2,14 +2,15 @@
 //! collected and closed. What is put on a lane and taken from it does not belong here.
 
 ghost use Rattle.std.specs.Prelude.{◌≡◌, ◌<◌, ◌≤◌, ◌+◌, ℕ, suc, [], length, map, All, IfOk, MatchOption, vec_len, vec_capacity};
-ghost use Rattle.shard_queue.specs.Seats.{sent, got, capacity_of, producers_of};
-ghost use Rattle.lane_work.specs.Seats.{AreSeats};
+ghost use Rattle.shard_queue.specs.Seats.{got, capacity_of, producers_of};
+ghost use Rattle.lane_work.specs.Seats.{AreSeats, IsNew};
 ghost use Rattle.lane_seats.specs.rows.Rows.{Rows, AreHands, AreConsumers, EndedRows, AreIn, Keep, AllIn, AllStayEnded, StayEnded};
 ghost use Rattle.lane_seats.specs.Closings.{AreClosed, IsTorn};
 ghost use Rattle.lane_seats.specs.Rooms.{AreRooms};
 
 use crate::rooms::spend_lists;
 use delivery_token::Job;
+use lane_work::LaneSeat;
 use shard_queue::{Closed, ConsumerSeat, Ended, NotAll, ProducerSeat, ShardQueue};
 use std::alloc::{AllocError, Global};
 
@@ -107,16 +108,16 @@ pub fn deal(
     lanes: &[ShardQueue<Job>],
     seats: &mut Vec<Vec<ProducerSeat<Job>>>,
     number: u8,
-    mut hand: Vec<ProducerSeat<Job>>,
-) -> Vec<ProducerSeat<Job>>
+    mut hand: Vec<LaneSeat>,
+) -> Vec<LaneSeat>
     requires left { Rows lanes.now number (map (λ v. v.items) seats.old.items) }
     requires more { All (λ q. number < producers_of q) lanes.now }
     requires room { (hand.items ≡ []) × (length lanes.now ≤ vec_capacity hand) }
-    ensures hand { AreSeats lanes.now number result.items × All (λ s. sent s ≡ []) result.items }
+    ensures hand { AreSeats lanes.now number result.items × All IsNew result.items }
     ensures left { Rows lanes.now (suc number) (map (λ v. v.items) seats.new.items) }
 {
     for lane in 0..lanes.len() {
-        hand.push_reserved(seats[lane].remove(0));
+        hand.push_reserved(LaneSeat::Live(seats[lane].remove(0)));
     }
     hand
 }
@@ -128,9 +129,9 @@ pub fn deal_all(
     lanes: &[ShardQueue<Job>],
     mut seats: Vec<Vec<ProducerSeat<Job>>>,
     producers: u8,
-    mut rooms: Vec<Vec<ProducerSeat<Job>>>,
-    mut hands: Vec<Vec<ProducerSeat<Job>>>,
-) -> Vec<Vec<ProducerSeat<Job>>>
+    mut rooms: Vec<Vec<LaneSeat>>,
+    mut hands: Vec<Vec<LaneSeat>>,
+) -> Vec<Vec<LaneSeat>>
     requires left { Rows lanes.now 0 (map (λ v. v.items) seats.items) }
     requires producers { All (λ q. producers_of q ≡ producers) lanes.now }
     requires rooms { AreRooms producers (length lanes.now) rooms }

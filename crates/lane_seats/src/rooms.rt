@@ -6,7 +6,8 @@ ghost use Rattle.std.specs.Prelude.{◌≡◌, ◌≤◌, [], All, IfOk, vec_len
 ghost use Rattle.lane_seats.specs.Rooms.{AreEmptyHands, AreEmptySeatRooms, AreHandRooms, AreRooms, AreSeatRooms};
 
 use delivery_token::{Job, Noted};
-use shard_queue::{Ended, ProducerSeat, SenderEnded, SenderSeat};
+use lane_work::LaneSeat;
+use shard_queue::{Ended, SenderEnded, SenderSeat};
 use std::alloc::{AllocError, Global};
 
 /// `count` empty lists, each with room for `each` elements. An error where memory is refused; nothing
@@ -128,7 +129,7 @@ pub fn spend_seat_rooms<S, E>(rooms: SeatRooms<S, E>)
 /// Room for all seats of a house.
 pub struct Rooms {
     /// For the workers' seats on the lanes.
-    pub workers: SeatRooms<ProducerSeat<Job>, Ended<Job>>,
+    pub workers: SeatRooms<LaneSeat, Ended<Job>>,
     /// For the consumers' seats on the workers' reply channels.
     pub consumers: SeatRooms<SenderSeat<Noted>, SenderEnded<Noted>>,
 }

@@ -3,7 +3,7 @@
 
 ghost use Rattle.std.specs.Prelude.{◌≡◌, ◌≤◌, [], length, map, All, vec_len, vec_capacity};
 ghost use Rattle.shard_queue.specs.Seats.{IsConsumer, IsEnded, IsProducer, ended_number, number_of};
-ghost use Rattle.lane_work.specs.Seats.{AreEnded, AreSeats};
+ghost use Rattle.lane_work.specs.Seats.{AreEnded, AreSeats, IsSeat, seat_number};
 ghost use Rattle.lane_seats.specs.Rooms.{AreHandRooms};
 ghost use Rattle.lane_seats.specs.rows.Rows.{AreConsumers, AreEndedHands, AreHands};
 
@@ -12,12 +12,13 @@ use crate::{
     spend_rooms, spend_seat_rooms,
 };
 use delivery_token::Job;
+use lane_work::LaneSeat;
 use shard_queue::{ConsumerSeat, Ended, ProducerSeat, ShardQueue};
 use std::alloc::{AllocError, Global};
 use std::sync::Wait;
 
 // Ends a seat; each lane here has room for all ends.
-fn end_seat<R: Wait>(rt: &R, lane: &ShardQueue<Job>, mut seat: ProducerSeat<Job>) -> Ended<Job>
+fn end_live<R: Wait>(rt: &R, lane: &ShardQueue<Job>, mut seat: ProducerSeat<Job>) -> Ended<Job>
     requires { IsProducer lane.now seat }
     ensures { IsEnded lane.now result × (ended_number result ≡ number_of seat) }
 {
@@ -30,12 +31,23 @@ fn end_seat<R: Wait>(rt: &R, lane: &ShardQueue<Job>, mut seat: ProducerSeat<Job>
     unreachable!()
 }
 
+// The same of one that may be over.
+fn end_seat<R: Wait>(rt: &R, lane: &ShardQueue<Job>, seat: LaneSeat) -> Ended<Job>
+    requires { IsSeat lane.now seat }
+    ensures { IsEnded lane.now result × (ended_number result ≡ seat_number seat) }
+{
+    match seat {
+        LaneSeat::Live(live) => end_live(rt, lane, live),
+        LaneSeat::Over(ended) => ended,
+    }
+}
+
 // Ends one producer's seats.
 fn end_hand<R: Wait>(
     rt: &R,
     lanes: &[ShardQueue<Job>],
     number: u8,
-    mut hand: Vec<ProducerSeat<Job>>,
+    mut hand: Vec<LaneSeat>,
     mut ended: Vec<Ended<Job>>,
 ) -> Vec<Ended<Job>>
     requires seats { AreSeats lanes.now number hand.items }
@@ -56,7 +68,7 @@ fn end_hands<R: Wait>(
     rt: &R,
     lanes: &[ShardQueue<Job>],
     producers: u8,
-    mut hands: Vec<Vec<ProducerSeat<Job>>>,
+    mut hands: Vec<Vec<LaneSeat>>,
     rooms: Hands<Ended<Job>>,
 ) -> Vec<Vec<Ended<Job>>>
     requires count { vec_len hands ≡ producers }

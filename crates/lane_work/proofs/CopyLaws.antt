@@ -1,7 +1,8 @@
 -- Copies that are put one after another, and what is known of them.
-use Rattle.std.proofs.Common.{◌≡◌, ◌≢◌, ◌⊎◌, inl, inr, ℕ, zero, suc, ◌+◌, ◌<◌, ◌++◌, ◌∙◌, ap, refl, sym, subst, List, [], ◌∷◌, length, map, zip, take, slice_index_or, slice_set, arith, Option, Some, None, Bool, true, false, eqb, MatchOption, append_assoc, append-nil, if◌then◌else◌, ◌==◌}
+use Rattle.std.proofs.Common.{◌≡◌, ◌≢◌, ◌⊎◌, inl, inr, ℕ, zero, suc, ◌+◌, ◌<◌, ◌++◌, ◌∙◌, ap, refl, sym, subst, List, [], ◌∷◌, length, map, zip, take, slice_index_or, slice_set, arith, Option, Some, None, Bool, true, false, eqb, MatchOption, All, append_assoc, append-nil, if◌then◌else◌, ◌==◌}
 use Rattle.std.proofs.lemmas.Bool.Decides.{eqb_tells}
 use Rattle.std.proofs.lemmas.List.Concat.{flat_map-append}
+use Rattle.std.proofs.lemmas.List.Elements.{All-head, All-tail}
 use Rattle.std.proofs.lemmas.List.{get_or-set_same, get_or-set_other, map-append, length-take-le}
 use Rattle.change_ring.specs.Log.{no_flags}
 use Rattle.delivery_token.specs.declared.CopyKey.{CopyKey}
@@ -29,6 +30,11 @@ take_suc (y ∷ ys) (suc i) x under is = ap (λ l. y ∷ l) (take_suc ys i x (om
 
 pub take_next : {A : Type 0} (xs : List A) (i : ℕ) (x : A) → i < length xs → x ≡ slice_index_or xs i x → take (i + 1) xs ≡ take i xs ++ x ∷ []
 take_next xs i x under is = let e : i + 1 ≡ suc i = omega arith in ap (λ n. take n xs) e ∙ take_suc xs i x under is
+
+pub all_at : {A : Type 0} (P : A → Type 0) (xs : List A) (i : ℕ) (x : A) → i < length xs → x ≡ slice_index_or xs i x → All P xs → P x
+all_at P [] i x under is h = absurd (omega arith)
+all_at P (y ∷ ys) zero x under is h = subst P (sym is) (All-head P y ys h)
+all_at P (y ∷ ys) (suc i) x under is h = all_at P ys i x (omega arith) is (All-tail P y ys h)
 
 pub copies_length : (keys : List CopyKey) (mailboxes : List ℕ) (text : List ℕ) → length mailboxes ≡ length keys → length (copies keys mailboxes text) ≡ length keys
 copies_length [] mailboxes text same = refl

@@ -5,3 +5,6 @@ pub mod TalkLaws
 pub mod ServedLaws
 pub mod HistoryLaws
 pub mod AnswerLaws
+pub mod ClosedLaws
+pub mod ClosingLaws
+pub mod RoundLaws

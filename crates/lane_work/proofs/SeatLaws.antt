@@ -1,13 +1,12 @@
 -- Seats in a row.
-use Rattle.std.proofs.Common.{◌≡◌, ℕ, zero, suc, ◌<◌, ◌++◌, ◌∙◌, ap, refl, sym, subst, List, [], ◌∷◌, length, map, slice_index_or, slice_set, take, drop, ◌+◌, append_assoc, append-nil, Bool, true, arith, Option, Some, None, MatchOption}
-use Rattle.std.proofs.lemmas.List.{map-append, map-set}
-use Rattle.std.proofs.lemmas.List.Elements.{filter_map-append}
+use Rattle.std.proofs.Common.{◌≡◌, ℕ, zero, suc, ◌<◌, ◌++◌, ◌∙◌, ap, refl, sym, subst, List, [], ◌∷◌, length, map, slice_index_or, slice_set, take, drop, ◌+◌, append_assoc, append-nil, Bool, true, false, arith, Option, Some, None, MatchOption, All}
+use Rattle.std.proofs.lemmas.List.{map-append, map-set, length-map}
+use Rattle.std.proofs.lemmas.List.Elements.{filter_map-append, All-cons, All-head, All-nil, All-tail}
 use Rattle.delivery_token.specs.declared.Verdict.{Verdict}
 use Rattle.shard_queue.specs.declared.lane.Entry.TheVariants.{Item, End}
 use Rattle.delivery_token.specs.declared.Job.{Job}
 use Rattle.shard_queue.specs.declared.queue.ShardQueue.{ShardQueue}
-use Rattle.shard_queue.specs.declared.queue.ProducerSeat.{ProducerSeat}
-use Rattle.shard_queue.specs.Seats.{IsProducer, number_of, sent}
+use Rattle.lane_work.specs.declared.desk.LaneSeat.{LaneSeat}
 use Rattle.delivery_token.specs.declared.log.Noted.{Noted}
 use Rattle.shard_queue.specs.declared.queue.Ended.{Ended}
 use Rattle.shard_queue.specs.declared.ends.ReplyChannel.{ReplyChannel}
@@ -18,37 +17,77 @@ use Rattle.shard_queue.specs.declared.reply.SenderEnded.{SenderEnded}
 use Rattle.shard_queue.specs.Reply.{IsSender, IsSenderEnded, said_on, sender_number, sender_ended_number, sent_on}
 use Rattle.lane_work.specs.Consuming.{item_of, items_of}
 use Rattle.lane_work.specs.Ends.{ends_in}
-use Rattle.lane_work.specs.Seats.{AreEnded, AreSeats, AreSenders, AreSendersEnded}
+use Rattle.lane_work.specs.Seats.{AreEnded, AreSeats, AreSenders, AreSendersEnded, AreLive, AreShutWhereOver, IsNew, IsSeat, is_over, overs, put_by, seat_number}
+use Rattle.envelope.specs.Directory.{Directory}
 use Rattle.lane_work.specs.Copies.{FoundFull, IsAtOnce, Room, room_at, room_of, rooms_of}
 
-pub seats_length : (qs : List (ShardQueue Job)) (p : ℕ) (ss : List (ProducerSeat Job)) → AreSeats qs p ss → length ss ≡ length qs
+pub seats_length : (qs : List (ShardQueue Job)) (p : ℕ) (ss : List LaneSeat) → AreSeats qs p ss → length ss ≡ length qs
 seats_length [] p [] h = refl
 seats_length [] p (s ∷ ss) h = absurd h
 seats_length (q ∷ qs) p [] h = absurd h
 seats_length (q ∷ qs) p (s ∷ ss) h = ap suc (seats_length qs p ss h.1)
 
-pub seat_at : (qs : List (ShardQueue Job)) (p : ℕ) (ss : List (ProducerSeat Job)) → AreSeats qs p ss → (i : ℕ) → i < length qs → (q : ShardQueue Job) (s : ProducerSeat Job)
-    → IsProducer (slice_index_or qs i q) (slice_index_or ss i s) × (number_of (slice_index_or ss i s) ≡ p)
+pub seat_at : (qs : List (ShardQueue Job)) (p : ℕ) (ss : List LaneSeat) → AreSeats qs p ss → (i : ℕ) → i < length qs → (q : ShardQueue Job) (s : LaneSeat)
+    → IsSeat (slice_index_or qs i q) (slice_index_or ss i s) × (seat_number (slice_index_or ss i s) ≡ p)
 seat_at [] p ss h i under q s = absurd (omega arith)
 seat_at (x ∷ qs) p [] h i under q s = absurd h
 seat_at (x ∷ qs) p (y ∷ ss) h zero under q s = h.0
 seat_at (x ∷ qs) p (y ∷ ss) h (suc i) under q s = seat_at qs p ss h.1 i (omega arith) q s
 
-pub seats_set : (qs : List (ShardQueue Job)) (p : ℕ) (ss : List (ProducerSeat Job)) → AreSeats qs p ss → (i : ℕ) (q : ShardQueue Job) (s : ProducerSeat Job)
-    → IsProducer (slice_index_or qs i q) s → number_of s ≡ p → AreSeats qs p (slice_set ss i s)
+pub seats_set : (qs : List (ShardQueue Job)) (p : ℕ) (ss : List LaneSeat) → AreSeats qs p ss → (i : ℕ) (q : ShardQueue Job) (s : LaneSeat)
+    → IsSeat (slice_index_or qs i q) s → seat_number s ≡ p → AreSeats qs p (slice_set ss i s)
 seats_set [] p [] h i q s is number = h
 seats_set [] p (y ∷ ss) h i q s is number = absurd h
 seats_set (x ∷ qs) p [] h i q s is number = absurd h
 seats_set (x ∷ qs) p (y ∷ ss) h zero q s is number = ((is, number), h.1)
 seats_set (x ∷ qs) p (y ∷ ss) h (suc i) q s is number = (h.0, seats_set qs p ss h.1 i q s is number)
 
-pub sent_at : {T : Type 0} (ss : List (ProducerSeat T)) (i : ℕ) (d : ProducerSeat T) → i < length ss → slice_index_or (map sent ss) i [] ≡ sent (slice_index_or ss i d)
+pub sent_at : (ss : List LaneSeat) (i : ℕ) (d : LaneSeat) → i < length ss → slice_index_or (map put_by ss) i [] ≡ put_by (slice_index_or ss i d)
 sent_at [] i d under = absurd (omega arith)
 sent_at (s ∷ ss) zero d under = refl
 sent_at (s ∷ ss) (suc i) d under = sent_at ss i d (omega arith)
 
-pub sent_set : {T : Type 0} (ss : List (ProducerSeat T)) (i : ℕ) (s : ProducerSeat T) → map sent (slice_set ss i s) ≡ slice_set (map sent ss) i (sent s)
-sent_set ss i s = map-set sent ss i s
+pub sent_set : (ss : List LaneSeat) (i : ℕ) (s : LaneSeat) → map put_by (slice_set ss i s) ≡ slice_set (map put_by ss) i (put_by s)
+sent_set ss i s = map-set put_by ss i s
+
+-- ---- seats that are over
+
+pub overs_length : (ss ts : List LaneSeat) → overs ss ≡ overs ts → length ss ≡ length ts
+overs_length ss ts same = sym (length-map ss is_over) ∙ ap length same ∙ length-map ts is_over
+
+pub over_at : (ss : List LaneSeat) (i : ℕ) (s : LaneSeat) (d : Bool) → i < length ss → s ≡ slice_index_or ss i s → slice_index_or (overs ss) i d ≡ is_over s
+over_at [] i s d under is = absurd (omega arith)
+over_at (x ∷ ss) zero s d under is = ap is_over (sym is)
+over_at (x ∷ ss) (suc i) s d under is = over_at ss i s d (omega arith) is
+
+pub overs_kept : (ss : List LaneSeat) (i : ℕ) (old new : LaneSeat) → old ≡ slice_index_or ss i old → is_over new ≡ is_over old → overs (slice_set ss i new) ≡ overs ss
+overs_kept [] i old new is same = refl
+overs_kept (x ∷ ss) zero old new is same = ap (λ b. b ∷ overs ss) (same ∙ ap is_over is)
+overs_kept (x ∷ ss) (suc i) old new is same = ap (λ l. is_over x ∷ l) (overs_kept ss i old new is same)
+
+pub live_at : (ss : List LaneSeat) (i : ℕ) → AreLive ss → slice_index_or (overs ss) i false ≡ false
+live_at [] i h = refl
+live_at (x ∷ ss) zero h = All-head (λ seat. is_over seat ≡ false) x ss h
+live_at (x ∷ ss) (suc i) h = live_at ss i (All-tail (λ seat. is_over seat ≡ false) x ss h)
+
+pub not_live : (ss ts : List LaneSeat) (i : ℕ) → ss ≡ ts → AreLive ts → slice_index_or (overs ss) i false ≡ true → ⊥
+not_live ss ts i same live over = let e : true ≡ false = sym over ∙ ap (λ l. slice_index_or (overs l) i false) same ∙ live_at ts i live in cc
+
+-- the same ones are over
+pub live_still : (ss ts : List LaneSeat) → overs ts ≡ overs ss → AreLive ss → AreLive ts
+live_still ss [] same h = All-nil (λ seat. is_over seat ≡ false)
+live_still [] (t ∷ ts) same h = absurd (let e : is_over t ∷ overs ts ≡ [] = same in cc)
+live_still (s ∷ ss) (t ∷ ts) same h =
+    let one : is_over t ≡ is_over s = let e : is_over t ∷ overs ts ≡ is_over s ∷ overs ss = same in cc in
+    let more : overs ts ≡ overs ss = let e : is_over t ∷ overs ts ≡ is_over s ∷ overs ss = same in cc in
+    All-cons (λ seat. is_over seat ≡ false) t ts (one ∙ All-head (λ seat. is_over seat ≡ false) s ss h) (live_still ss ts more (All-tail (λ seat. is_over seat ≡ false) s ss h))
+
+pub new_live : (ss : List LaneSeat) → All IsNew ss → AreLive ss
+new_live [] h = All-nil (λ seat. is_over seat ≡ false)
+new_live (s ∷ ss) h = All-cons (λ seat. is_over seat ≡ false) s ss (All-head IsNew s ss h).1 (new_live ss (All-tail IsNew s ss h))
+
+pub not_over : (directory : Directory) (ss : List LaneSeat) → AreLive ss → AreShutWhereOver directory ss
+not_over directory ss live lane over = absurd (let e : true ≡ false = sym over ∙ live_at ss lane live in cc)
 
 pub set_same : {A : Type 0} (xs : List A) (i : ℕ) (d : A) → slice_set xs i (slice_index_or xs i d) ≡ xs
 set_same [] i d = refl
@@ -61,40 +100,40 @@ room_here (x ∷ qs) zero q under = refl
 room_here (x ∷ qs) (suc i) q under = room_here qs i q (omega arith)
 
 -- what a put at one seat makes of all lists
-pub puts_at : (ss : List (ProducerSeat Job)) (i : ℕ) (p : ℕ) (d old new : ProducerSeat Job) (job : Job) (verdict : Option Verdict) (room same : Room) → same ≡ room
-    → i < length ss → old ≡ slice_index_or ss i d → number_of old ≡ p
-    → MatchOption verdict (sent new ≡ sent old ++ Item (number_of old) job ∷ []) (λ v. (sent new ≡ sent old) × IsAtOnce (FoundFull room (number_of old) (sent old)) v)
-    → MatchOption verdict (map sent (slice_set ss i new) ≡ slice_set (map sent ss) i (slice_index_or (map sent ss) i [] ++ Item p job ∷ []))
-    (λ v. (map sent (slice_set ss i new) ≡ map sent ss) × IsAtOnce (FoundFull same p (slice_index_or (map sent ss) i [])) v)
+pub puts_at : (ss : List LaneSeat) (i : ℕ) (p : ℕ) (d old new : LaneSeat) (job : Job) (verdict : Option Verdict) (room same : Room) → same ≡ room
+    → i < length ss → old ≡ slice_index_or ss i d → seat_number old ≡ p
+    → MatchOption verdict (put_by new ≡ put_by old ++ Item (seat_number old) job ∷ []) (λ v. (put_by new ≡ put_by old) × IsAtOnce (FoundFull room (seat_number old) (put_by old)) v)
+    → MatchOption verdict (map put_by (slice_set ss i new) ≡ slice_set (map put_by ss) i (slice_index_or (map put_by ss) i [] ++ Item p job ∷ []))
+    (λ v. (map put_by (slice_set ss i new) ≡ map put_by ss) × IsAtOnce (FoundFull same p (slice_index_or (map put_by ss) i [])) v)
 puts_at ss i p d old new job None room same rooms under is number put =
-    sent_set ss i new ∙ ap (slice_set (map sent ss) i) (put ∙ ap (λ n. sent old ++ Item n job ∷ []) number ∙ ap (λ l. l ++ Item p job ∷ []) (ap sent is ∙ sym (sent_at ss i d under)))
+    sent_set ss i new ∙ ap (slice_set (map put_by ss) i) (put ∙ ap (λ n. put_by old ++ Item n job ∷ []) number ∙ ap (λ l. l ++ Item p job ∷ []) (ap put_by is ∙ sym (sent_at ss i d under)))
 puts_at ss i p d old new job (Some v) room same rooms under is number put =
-    let here : sent old ≡ slice_index_or (map sent ss) i [] = ap sent is ∙ sym (sent_at ss i d under) in
-    let one = subst (λ (n : ℕ). IsAtOnce (FoundFull room n (sent old)) v) number put.1 in
+    let here : put_by old ≡ slice_index_or (map put_by ss) i [] = ap put_by is ∙ sym (sent_at ss i d under) in
+    let one = subst (λ (n : ℕ). IsAtOnce (FoundFull room n (put_by old)) v) number put.1 in
     let two = subst (λ (l : List (Entry Job)). IsAtOnce (FoundFull room p l) v) here one in (
-      sent_set ss i new ∙ ap (slice_set (map sent ss) i) (put.0 ∙ here) ∙ set_same (map sent ss) i [],
-      subst (λ (r : Room). IsAtOnce (FoundFull r p (slice_index_or (map sent ss) i [])) v) (sym rooms) two,
+      sent_set ss i new ∙ ap (slice_set (map put_by ss) i) (put.0 ∙ here) ∙ set_same (map put_by ss) i [],
+      subst (λ (r : Room). IsAtOnce (FoundFull r p (slice_index_or (map put_by ss) i [])) v) (sym rooms) two,
     )
 
 -- the same, where the two at a place were read
-pub seat_read : (qs : List (ShardQueue Job)) (p : ℕ) (ss : List (ProducerSeat Job)) → AreSeats qs p ss → (i : ℕ) → i < length qs → (q : ShardQueue Job) (s : ProducerSeat Job)
-    → q ≡ slice_index_or qs i q → s ≡ slice_index_or ss i s → IsProducer q s × (number_of s ≡ p)
+pub seat_read : (qs : List (ShardQueue Job)) (p : ℕ) (ss : List LaneSeat) → AreSeats qs p ss → (i : ℕ) → i < length qs → (q : ShardQueue Job) (s : LaneSeat)
+    → q ≡ slice_index_or qs i q → s ≡ slice_index_or ss i s → IsSeat q s × (seat_number s ≡ p)
 seat_read qs p ss h i under q s qe se =
     let both = seat_at qs p ss h i under q s in (
-      subst (λ (x : ShardQueue Job). IsProducer x s) (sym qe) (subst (λ (x : ProducerSeat Job). IsProducer (slice_index_or qs i q) x) (sym se) both.0),
-      ap number_of se ∙ both.1,
+      subst (λ (x : ShardQueue Job). IsSeat x s) (sym qe) (subst (λ (x : LaneSeat). IsSeat (slice_index_or qs i q) x) (sym se) both.0),
+      ap seat_number se ∙ both.1,
     )
 
-pub seats_written : (qs : List (ShardQueue Job)) (p : ℕ) (ss : List (ProducerSeat Job)) → AreSeats qs p ss → (i : ℕ) (q : ShardQueue Job) (s : ProducerSeat Job)
-    → q ≡ slice_index_or qs i q → IsProducer q s → number_of s ≡ p → AreSeats qs p (slice_set ss i s)
-seats_written qs p ss h i q s qe is number = seats_set qs p ss h i q s (subst (λ (x : ShardQueue Job). IsProducer x s) qe is) number
+pub seats_written : (qs : List (ShardQueue Job)) (p : ℕ) (ss : List LaneSeat) → AreSeats qs p ss → (i : ℕ) (q : ShardQueue Job) (s : LaneSeat)
+    → q ≡ slice_index_or qs i q → IsSeat q s → seat_number s ≡ p → AreSeats qs p (slice_set ss i s)
+seats_written qs p ss h i q s qe is number = seats_set qs p ss h i q s (subst (λ (x : ShardQueue Job). IsSeat x s) qe is) number
 
 -- the same, where the lane is named by its place
-pub seat_here : (qs : List (ShardQueue Job)) (p : ℕ) (ss : List (ProducerSeat Job)) → AreSeats qs p ss → (i : ℕ) → i < length qs → (q : ShardQueue Job) (s : ProducerSeat Job)
-    → s ≡ slice_index_or ss i s → IsProducer (slice_index_or qs i q) s × (number_of s ≡ p)
+pub seat_here : (qs : List (ShardQueue Job)) (p : ℕ) (ss : List LaneSeat) → AreSeats qs p ss → (i : ℕ) → i < length qs → (q : ShardQueue Job) (s : LaneSeat)
+    → s ≡ slice_index_or ss i s → IsSeat (slice_index_or qs i q) s × (seat_number s ≡ p)
 seat_here qs p ss h i under q s se =
     let both = seat_at qs p ss h i under q s in
-    (subst (λ (x : ProducerSeat Job). IsProducer (slice_index_or qs i q) x) (sym se) both.0, ap number_of se ∙ both.1)
+    (subst (λ (x : LaneSeat). IsSeat (slice_index_or qs i q) x) (sym se) both.0, ap seat_number se ∙ both.1)
 
 -- ---- senders in a row
 
@@ -128,12 +167,12 @@ sender_here qs p ss h i under q s se =
 -- ---- seats that are ended one after another
 
 -- the first of those that are left
-pub first_seat : (qs : List (ShardQueue Job)) (i : ℕ) (p : ℕ) (ss : List (ProducerSeat Job)) → i < length qs → AreSeats (drop i qs) p ss → (q : ShardQueue Job) (s : ProducerSeat Job) → s ≡ slice_index_or ss 0 s
-    → IsProducer (slice_index_or qs i q) s × (number_of s ≡ p) × (ss ≡ s ∷ drop 1 ss) × AreSeats (drop (i + 1) qs) p (drop 1 ss)
+pub first_seat : (qs : List (ShardQueue Job)) (i : ℕ) (p : ℕ) (ss : List LaneSeat) → i < length qs → AreSeats (drop i qs) p ss → (q : ShardQueue Job) (s : LaneSeat) → s ≡ slice_index_or ss 0 s
+    → IsSeat (slice_index_or qs i q) s × (seat_number s ≡ p) × (ss ≡ s ∷ drop 1 ss) × AreSeats (drop (i + 1) qs) p (drop 1 ss)
 first_seat [] i p ss under h q s is = absurd (omega arith)
 first_seat (x ∷ qs) zero p [] under h q s is = absurd h
 first_seat (x ∷ qs) zero p (y ∷ ss) under h q s is =
-    (subst (λ (k : ProducerSeat Job). IsProducer x k) (sym is) h.0.0, ap number_of is ∙ h.0.1, ap (λ k. k ∷ ss) (sym is), h.1)
+    (subst (λ (k : LaneSeat). IsSeat x k) (sym is) h.0.0, ap seat_number is ∙ h.0.1, ap (λ k. k ∷ ss) (sym is), h.1)
 first_seat (x ∷ qs) (suc i) p ss under h q s is =
     let r = first_seat qs i p ss (omega arith) h q s is in
     let e : suc i + 1 ≡ suc (i + 1) = omega arith in
@@ -149,23 +188,23 @@ ended_next (x ∷ qs) (suc i) p (y ∷ es) e under h q is number =
     let k : suc i + 1 ≡ suc (i + 1) = omega arith in
     subst (λ n. AreEnded (take n (x ∷ qs)) p (y ∷ es ++ e ∷ [])) (sym k) (h.0, ended_next qs i p es e (omega arith) h.1 q is number)
 
-pub none_seated : (p : ℕ) (qs : List (ShardQueue Job)) (ss : List (ProducerSeat Job)) → qs ≡ [] → AreSeats qs p ss → ss ≡ []
+pub none_seated : (p : ℕ) (qs : List (ShardQueue Job)) (ss : List LaneSeat) → qs ≡ [] → AreSeats qs p ss → ss ≡ []
 none_seated p [] [] e h = refl
 none_seated p [] (s ∷ ss) e h = absurd h
 none_seated p (q ∷ qs) ss e h = absurd (let x : q ∷ qs ≡ [] = e in cc)
 
-pub said_next : (p : ℕ) (es more : List (Ended Job)) (ss less : List (ProducerSeat Job)) (e : Ended Job) (s : ProducerSeat Job) (all : List (List (Entry Job)))
-    → more ≡ es ++ e ∷ [] → ss ≡ s ∷ drop 1 ss → less ≡ drop 1 ss → number_of s ≡ p → said e ≡ sent s ++ End (number_of s) ∷ []
-    → map said es ++ map (λ entries. entries ++ End p ∷ []) (map sent ss) ≡ map (λ entries. entries ++ End p ∷ []) all
-    → map said more ++ map (λ entries. entries ++ End p ∷ []) (map sent less) ≡ map (λ entries. entries ++ End p ∷ []) all
+pub said_next : (p : ℕ) (es more : List (Ended Job)) (ss less : List LaneSeat) (e : Ended Job) (s : LaneSeat) (all : List (List (Entry Job)))
+    → more ≡ es ++ e ∷ [] → ss ≡ s ∷ drop 1 ss → less ≡ drop 1 ss → seat_number s ≡ p → said e ≡ put_by s ++ End (seat_number s) ∷ []
+    → map said es ++ map (λ entries. entries ++ End p ∷ []) (map put_by ss) ≡ map (λ entries. entries ++ End p ∷ []) all
+    → map said more ++ map (λ entries. entries ++ End p ∷ []) (map put_by less) ≡ map (λ entries. entries ++ End p ∷ []) all
 said_next p es more ss less e s all is first rest number says so =
     let close : List (Entry Job) → List (Entry Job) = λ entries. entries ++ End p ∷ [] in
-    ap (λ l. map said l ++ map close (map sent less)) is
-    ∙ ap (λ l. l ++ map close (map sent less)) (map-append said es (e ∷ []))
-    ∙ append_assoc (map said es) (said e ∷ []) (map close (map sent less))
-    ∙ ap (λ l. map said es ++ l ∷ map close (map sent less)) (says ∙ ap (λ n. sent s ++ End n ∷ []) number)
-    ∙ ap (λ l. map said es ++ close (sent s) ∷ map close (map sent l)) rest
-    ∙ ap (λ l. map said es ++ map close (map sent l)) (sym first)
+    ap (λ l. map said l ++ map close (map put_by less)) is
+    ∙ ap (λ l. l ++ map close (map put_by less)) (map-append said es (e ∷ []))
+    ∙ append_assoc (map said es) (said e ∷ []) (map close (map put_by less))
+    ∙ ap (λ l. map said es ++ l ∷ map close (map put_by less)) (says ∙ ap (λ n. put_by s ++ End n ∷ []) number)
+    ∙ ap (λ l. map said es ++ close (put_by s) ∷ map close (map put_by l)) rest
+    ∙ ap (λ l. map said es ++ map close (map put_by l)) (sym first)
     ∙ so
 
 pub first_sender : (qs : List (ReplyChannel Noted)) (i : ℕ) (p : ℕ) (ss : List (SenderSeat Noted)) → i < length qs → AreSenders (drop i qs) p ss → (q : ReplyChannel Noted) (s : SenderSeat Noted) → s ≡ slice_index_or ss 0 s

@@ -23,6 +23,7 @@ use Rattle.lane_work.specs.Account.{AreBooks}
 use Rattle.lane_work.specs.Copies.{Room}
 use Rattle.lane_work.specs.Speaking.{Stands, is_quit}
 use Rattle.lane_work.specs.inner.Speaking.{Spoke}
+use Rattle.lane_work.proofs.ClosedLaws.{AreOpen, message_open}
 
 wire_more : (host : List ℕ) (one two : List Reply) → wire host (one ++ two) ≡ wire host one ++ wire host two
 wire_more host one two = flat_map-append (λ reply. reply_text host reply ++ crlf) one two
@@ -61,18 +62,18 @@ happens_behind told setting host d c event old new h = record {
 }
 
 -- some bytes were taken, and nothing was submitted
-pub stands_on : (d : Directory) (rooms : List Room) (p : ℕ) (done : List Judged) (bytes : List ℕ) (m after : Machine) (out more : List ℕ) (keeps : List (Job × Verdict) → Type 0) (heard : List (Entry Noted)) (sent : List (List (Entry Job))) (piece : List ℕ) (fed : Fed)
+pub stands_on : (own d : Directory) (rooms : List Room) (p : ℕ) (done : List Judged) (bytes : List ℕ) (m after : Machine) (out more : List ℕ) (keeps : List (Job × Verdict) → Type 0) (heard : List (Entry Noted)) (sent : List (List (Entry Job))) (piece : List ℕ) (fed : Fed)
     → after.setting ≡ m.setting → after.host ≡ m.host → (fed.what ≡ Submit → ⊥)
-    → ((c : Conversation) → StandsFor m c → Follows (StandsFor after) m.setting m.host d c piece fed out more after.pending)
-    → Stands d rooms p done bytes false m out keeps heard sent
-    → Stands d rooms p done (bytes ++ take fed.used piece) (is_quit fed.what) after more keeps heard sent
-stands_on d rooms p done bytes m after out more keeps heard sent piece fed setting host not ok s =
+    → ((c : Conversation) → StandsFor m c → Follows (StandsFor after) m.setting m.host own c piece fed out more after.pending)
+    → Stands own d rooms p done bytes false m out keeps heard sent
+    → Stands own d rooms p done (bytes ++ take fed.used piece) (is_quit fed.what) after more keeps heard sent
+stands_on own d rooms p done bytes m after out more keeps heard sent piece fed setting host not ok s =
     let f = ok s.at s.machine in
     record {
       said = s.said ++ f.turn.replies;
       judged = s.judged;
       at = f.after;
-      talk = subst (λ x. HasTaken x d (bytes ++ take fed.used piece) (s.said ++ f.turn.replies) s.judged f.after) (sym setting)
+      talk = subst (λ x. HasTaken x own (bytes ++ take fed.used piece) (s.said ++ f.turn.replies) s.judged f.after) (sym setting)
           (goes_on (take fed.used piece) f.turn f.after s.talk f.leads (nothing_new fed.what f.turn not f.tells));
       machine = f.stands;
       ended = λ quit. ap (λ x. x.phase) f.leads.stands ∙ is_over fed.what f.turn f.tells quit;
@@ -89,50 +90,50 @@ waits_now Submit turn e tells = tells
 waits_now Quit turn e tells = absurd (let x : Quit ≡ Submit = e in cc)
 
 -- some bytes were taken, and a message was submitted, judged and answered
-pub stands_judged : (d : Directory) (rooms : List Room) (p : ℕ) (done : List Judged) (bytes : List ℕ) (m mid after : Machine) (out between more : List ℕ) (keeps kept : List (Job × Verdict) → Type 0) (heard hears : List (Entry Noted)) (sent put : List (List (Entry Job)))
+pub stands_judged : (own d : Directory) (rooms : List Room) (p : ℕ) (done : List Judged) (bytes : List ℕ) (m mid after : Machine) (out between more : List ℕ) (keeps kept : List (Job × Verdict) → Type 0) (heard hears : List (Entry Noted)) (sent put : List (List (Entry Job)))
     (piece : List ℕ) (fed : Fed) (message : Submission) (vs : List Verdict)
     → mid.setting ≡ m.setting → mid.host ≡ m.host → after.setting ≡ mid.setting → after.host ≡ mid.host → fed.what ≡ Submit
     → mid.pending ≡ message ∷ [] → length vs ≡ length message.keys
-    → ((c : Conversation) → StandsFor m c → Follows (StandsFor mid) m.setting m.host d c piece fed out between mid.pending)
+    → ((c : Conversation) → StandsFor m c → Follows (StandsFor mid) m.setting m.host own c piece fed out between mid.pending)
     → ((x : Directory) (c : Conversation) → StandsFor mid c → Happens (StandsFor after) mid.setting mid.host x c (on.Answered vs) between more)
-    → ((judged : List Judged) → AreBooks d rooms p judged keeps heard sent → AreBooks d rooms p (judged ++ record { message = message; verdicts = vs } ∷ []) kept hears put)
-    → Stands d rooms p done bytes false m out keeps heard sent
-    → Stands d rooms p done (bytes ++ take fed.used piece) (is_quit fed.what) after more kept hears put
-stands_judged d rooms p done bytes m mid after out between more keeps kept heard hears sent put piece fed message vs set1 host1 set2 host2 what pending as_many feeds answers books s =
+    → (AreOpen own message → (judged : List Judged) → AreBooks d rooms p judged keeps heard sent → AreBooks d rooms p (judged ++ record { message = message; verdicts = vs } ∷ []) kept hears put)
+    → Stands own d rooms p done bytes false m out keeps heard sent
+    → Stands own d rooms p done (bytes ++ take fed.used piece) (is_quit fed.what) after more kept hears put
+stands_judged own d rooms p done bytes m mid after out between more keeps kept heard hears sent put piece fed message vs set1 host1 set2 host2 what pending as_many feeds answers books s =
     let f = feeds s.at s.machine in
     let w = waits_now fed.what f.turn what f.tells in
     let only : f.turn.submissions ≡ message ∷ [] = sym f.submits ∙ pending in
-    let h = answers d f.after f.stands in
+    let h = answers own f.after f.stands in
     let waits : f.after.standing.phase ≡ Waiting (length w.submission.keys) = ap (λ x. x.phase) f.leads.stands ∙ w.waits in
-    let replied : (on_event mid.setting d f.after.standing (on.Answered vs)).replies ≡ map verdict_reply vs = said_verdicts f.after.standing.phase f.after.standing.submitted _ vs waits in
+    let replied : (on_event mid.setting own f.after.standing (on.Answered vs)).replies ≡ map verdict_reply vs = said_verdicts f.after.standing.phase f.after.standing.submitted _ vs waits in
     let one : Judged = record { message = message; verdicts = vs } in
-    let last = led_by mid.setting d f.after (on.Answered vs) in
+    let last = led_by mid.setting own f.after (on.Answered vs) in
     let same : mid.setting ≡ m.setting = set1 in
     record {
       said = (s.said ++ f.turn.replies) ++ map verdict_reply vs;
       judged = s.judged ++ one ∷ [];
       at = last;
-      talk = subst (λ x. HasTaken x d (bytes ++ take fed.used piece) ((s.said ++ f.turn.replies) ++ map verdict_reply vs) (s.judged ++ one ∷ []) last) (sym (set2 ∙ set1))
-          (subst (λ x. HasTaken m.setting d (bytes ++ take fed.used piece) ((s.said ++ f.turn.replies) ++ map verdict_reply vs) (s.judged ++ one ∷ []) (led_by x d f.after (on.Answered vs))) (sym set1)
+      talk = subst (λ x. HasTaken x own (bytes ++ take fed.used piece) ((s.said ++ f.turn.replies) ++ map verdict_reply vs) (s.judged ++ one ∷ []) last) (sym (set2 ∙ set1))
+          (subst (λ x. HasTaken m.setting own (bytes ++ take fed.used piece) ((s.said ++ f.turn.replies) ++ map verdict_reply vs) (s.judged ++ one ∷ []) (led_by x own f.after (on.Answered vs))) (sym set1)
           (submits (take fed.used piece) f.turn f.after message vs s.talk f.leads only f.one as_many));
       machine = h.stands;
       ended = λ quit. absurd (let a : is_quit Submit ≡ true = subst (λ x. is_quit x ≡ true) what quit in let b : false ≡ true = a in cc);
       replies = h.said
-          ∙ ap (λ l. l ++ wire mid.host (on_event mid.setting d f.after.standing (on.Answered vs)).replies) f.said
+          ∙ ap (λ l. l ++ wire mid.host (on_event mid.setting own f.after.standing (on.Answered vs)).replies) f.said
           ∙ ap (λ r. (out ++ wire m.host f.turn.replies) ++ wire mid.host r) replied
           ∙ ap (λ l. (l ++ wire m.host f.turn.replies) ++ wire mid.host (map verdict_reply vs)) s.replies
           ∙ ap (λ l. l ++ wire mid.host (map verdict_reply vs)) (sym (wire_more m.host s.said f.turn.replies))
           ∙ ap (λ x. wire x (s.said ++ f.turn.replies) ++ wire mid.host (map verdict_reply vs)) (sym host1)
           ∙ sym (wire_more mid.host (s.said ++ f.turn.replies) (map verdict_reply vs))
           ∙ ap (λ x. wire x ((s.said ++ f.turn.replies) ++ map verdict_reply vs)) (sym host2);
-      books = subst (λ l. AreBooks d rooms p l kept hears put) (append_assoc done s.judged (one ∷ [])) (books (done ++ s.judged) s.books);
+      books = subst (λ l. AreBooks d rooms p l kept hears put) (append_assoc done s.judged (one ∷ [])) (books (message_open m.setting own bytes s.said s.judged s.at (take fed.used piece) f.turn f.after message s.talk f.leads only) (done ++ s.judged) s.books);
     }
 
 -- all was taken, or the dialogue has ended
-pub spoke : (d : Directory) (rooms : List Room) (p : ℕ) (done : List Judged) (bytes taken left : List ℕ) (over : Bool) (m : Machine) (setting : Setting) (host out : List ℕ) (keeps : List (Job × Verdict) → Type 0) (heard : List (Entry Noted)) (sent : List (List (Entry Job)))
+pub spoke : (own d : Directory) (rooms : List Room) (p : ℕ) (done : List Judged) (bytes taken left : List ℕ) (over : Bool) (m : Machine) (setting : Setting) (host out : List ℕ) (keeps : List (Job × Verdict) → Type 0) (heard : List (Entry Noted)) (sent : List (List (Entry Job)))
     → bytes ≡ taken ++ left → (left ≡ []) ⊎ (over ≡ true) → m.setting ≡ setting → m.host ≡ host
-    → Stands d rooms p done taken over m out keeps heard sent → Spoke d rooms p done bytes setting host out keeps heard sent
-spoke d rooms p done bytes taken left over m setting host out keeps heard sent whole ended set same s = record {
+    → Stands own d rooms p done taken over m out keeps heard sent → Spoke own d rooms p done bytes setting host out keeps heard sent
+spoke own d rooms p done bytes taken left over m setting host out keeps heard sent whole ended set same s = record {
   said = s.said;
   judged = s.judged;
   talk = record {
@@ -140,7 +141,7 @@ spoke d rooms p done bytes taken left over m setting host out keeps heard sent w
     left = left;
     last = s.at;
     whole = whole;
-    talk = subst (λ x. HasTaken x d taken s.said s.judged s.at) set s.talk;
+    talk = subst (λ x. HasTaken x own taken s.said s.judged s.at) set s.talk;
     ended = how ended s.ended;
   };
   replies = s.replies ∙ ap (λ h. wire h s.said) same;
@@ -151,20 +152,20 @@ spoke d rooms p done bytes taken left over m setting host out keeps heard sent w
   how (inr e) k = inr (k e)
 
 -- a new connection was greeted
-pub begins : (d : Directory) (rooms : List Room) (p : ℕ) (done : List Judged) (m after : Machine) (out : List ℕ) (keeps : List (Job × Verdict) → Type 0) (heard : List (Entry Noted)) (sent : List (List (Entry Job)))
+pub begins : (own d : Directory) (rooms : List Room) (p : ℕ) (done : List Judged) (m after : Machine) (out : List ℕ) (keeps : List (Job × Verdict) → Type 0) (heard : List (Entry Noted)) (sent : List (List (Entry Job)))
     → after.setting ≡ m.setting → after.host ≡ m.host → StandsFor m opened
     → ((x : Directory) (c : Conversation) → StandsFor m c → Happens (StandsFor after) m.setting m.host x c on.Opened [] out)
-    → AreBooks d rooms p done keeps heard sent → Stands d rooms p done [] false after out keeps heard sent
-begins d rooms p done m after out keeps heard sent setting host new greets books =
-    let h = greets d opened new in
+    → AreBooks d rooms p done keeps heard sent → Stands own d rooms p done [] false after out keeps heard sent
+begins own d rooms p done m after out keeps heard sent setting host new greets books =
+    let h = greets own opened new in
     record {
-      said = (on_event m.setting d opened.standing on.Opened).replies;
+      said = (on_event m.setting own opened.standing on.Opened).replies;
       judged = [];
       at = opened;
       talk = greeted;
       machine = h.stands;
       ended = λ e. absurd (let x : false ≡ true = e in cc);
-      replies = h.said ∙ ap (λ x. wire x (on_event m.setting d opened.standing on.Opened).replies) (sym host);
+      replies = h.said ∙ ap (λ x. wire x (on_event m.setting own opened.standing on.Opened).replies) (sym host);
       books = subst (λ l. AreBooks d rooms p l keeps heard sent) (sym (append-nil done)) books;
     }
 

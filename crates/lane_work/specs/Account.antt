@@ -1,34 +1,51 @@
 -- What one worker's thread says: of its own seats, its own log and its own replies.
-use Rattle.std.specs.Prelude.{◌≡◌, ℕ, ◌<◌, List, [], ◌∷◌, ◌++◌, length, map, slice_index_or}
+use Rattle.std.specs.Prelude.{◌≡◌, ℕ, Bool, ◌<◌, ◌==◌, ◌&&◌, ◌||◌, nat_le, List, [], ◌∷◌, ◌++◌, length, map, slice_index_or}
+use Rattle.std.specs.List.{list_any}
 use Rattle.delivery_token.specs.declared.Job.{Job}
 use Rattle.delivery_token.specs.declared.Verdict.{Verdict}
 use Rattle.delivery_token.specs.declared.log.Noted.{Noted}
-use Rattle.envelope.specs.Directory.{Directory}
+use Rattle.envelope.specs.Directory.{Directory, is_shut, marked}
 use Rattle.lmtp_machine.specs.declared.reply.Reply.{Reply}
 use Rattle.lmtp_machine.specs.Dialogue.{Setting}
 use Rattle.lmtp_machine.specs.Replies.{wire}
 use Rattle.shard_queue.specs.declared.lane.Entry.{Entry}
 use Rattle.shard_queue.specs.declared.lane.Entry.TheVariants.{Item, End}
+use Rattle.lane_work.specs.declared.desk.Closing.{Closing}
 use Rattle.lane_work.specs.Talk.{Judged, WholeTalk}
 use Rattle.lane_work.specs.Copies.{Room, WerePut, note_of, room_at, told}
 
--- What every connection of the house is told of it, and how much room its lanes have.
+-- What every connection of the house is told of it, how much room its lanes have, and which shards each worker closes.
 pub record Premises : Type 0 where
   pub directory : Directory
   pub rooms : List Room
   pub host : List ℕ
   pub max_message : ℕ
+  pub closings : List (List Closing)
+
+-- the shard is closed before this connection, or was before an earlier one
+abbrev pub is_closed_by : ℕ → ℕ → Closing → Bool
+is_closed_by connection shard closing = nat_le closing.connection connection && (closing.shard == shard)
+
+-- This is the house's directory as a worker with these closings has it on a connection: with the marks of the shards that it has closed by then.
+pub record IsMarkedBy (closings : List Closing) (connection : ℕ) (house own : Directory) : Type 0 where
+  pub same : own ≡ marked own.shut house
+  pub marks : (shard : ℕ) → shard < house.shards → is_shut own shard ≡ (is_shut house shard || list_any (is_closed_by connection shard) closings)
+
+abbrev pub closings_of : Premises → ℕ → List Closing
+closings_of house seat = slice_index_or house.closings seat []
 
 -- the i-th connection of a worker has its seat, and i for its serial
 abbrev pub setting_at : Premises → ℕ → ℕ → Setting
 setting_at house seat serial = record { seat = seat; serial = serial; max_message = house.max_message }
 
--- Connections one after another: these bytes came, these were the replies, and these messages were judged.
+-- Connections one after another: these bytes came, these were the replies, and these messages were judged. What is told of a shard on a connection goes by
+-- the closings before it.
 pub data HaveTalked (house : Premises) (seat : ℕ) : List (List ℕ) → List (List ℕ) → List Judged → Type 0 where
   none : HaveTalked house seat [] [] []
-  next : {connections : List (List ℕ)} {replies : List (List ℕ)} {judged : List Judged} (bytes : List ℕ) (said : List Reply) (more : List Judged)
+  next : {connections : List (List ℕ)} {replies : List (List ℕ)} {judged : List Judged} (bytes : List ℕ) (own : Directory) (said : List Reply) (more : List Judged)
       → HaveTalked house seat connections replies judged
-      → WholeTalk (setting_at house seat (length connections)) house.directory bytes said more
+      → IsMarkedBy (closings_of house seat) (length connections) house.directory own
+      → WholeTalk (setting_at house seat (length connections)) own bytes said more
       → HaveTalked house seat (connections ++ bytes ∷ []) (replies ++ wire house.host said ∷ []) (judged ++ more)
 
 -- what notes are to tell of copies and the verdicts on them: each is noted, in their order, and nothing else is

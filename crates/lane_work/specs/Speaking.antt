@@ -1,5 +1,5 @@
 -- How far a worker came with one connection.
-use Rattle.std.specs.Prelude.{◌≡◌, ℕ, Bool, true, false, List, ◌++◌}
+use Rattle.std.specs.Prelude.{◌≡◌, ℕ, Bool, true, false, List, ◌++◌, map}
 use Rattle.delivery_token.specs.declared.Job.{Job}
 use Rattle.delivery_token.specs.declared.Verdict.{Verdict}
 use Rattle.delivery_token.specs.declared.log.Noted.{Noted}
@@ -18,19 +18,26 @@ use Rattle.lane_work.specs.Account.{AreBooks, Premises}
 use Rattle.lane_work.specs.Copies.{Room, rooms_of}
 
 abbrev pub premises_of : Office → Premises
-premises_of office = record { directory = office.directory; rooms = rooms_of office.lanes.items; host = office.host.items; max_message = office.max_message }
+premises_of office = record {
+  directory = office.directory;
+  rooms = rooms_of office.lanes.items;
+  host = office.host.items;
+  max_message = office.max_message;
+  closings = map (λ c. c.items) office.closings.items;
+}
 
 abbrev pub is_quit : What → Bool
 is_quit More = false
 is_quit Submit = false
 is_quit Quit = true
 
--- The connection has taken these bytes; its replies are in `out`, and what it submitted stands in the books, behind what was done before it.
-pub record Stands (directory : Directory) (rooms : List Room) (seat : ℕ) (done : List Judged) (bytes : List ℕ) (over : Bool) (m : Machine) (out : List ℕ) (keeps : List (Job × Verdict) → Type 0) (heard : List (Entry Noted)) (sent : List (List (Entry Job))) : Type 0 where
+-- The connection has taken these bytes, by the producer's own directory; its replies are in `out`, and what it submitted stands in the books, behind what was
+-- done before it.
+pub record Stands (own directory : Directory) (rooms : List Room) (seat : ℕ) (done : List Judged) (bytes : List ℕ) (over : Bool) (m : Machine) (out : List ℕ) (keeps : List (Job × Verdict) → Type 0) (heard : List (Entry Noted)) (sent : List (List (Entry Job))) : Type 0 where
   pub said : List Reply
   pub judged : List Judged
   pub at : Conversation
-  pub talk : HasTaken m.setting directory bytes said judged at
+  pub talk : HasTaken m.setting own bytes said judged at
   pub machine : StandsFor m at
   pub ended : over ≡ true → at.standing.phase ≡ Ended
   pub replies : out ≡ wire m.host said

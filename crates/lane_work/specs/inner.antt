@@ -1,5 +1,7 @@
 pub mod Account
 pub mod Answering
+pub mod Closing
 pub mod Copies
 pub mod Desk
+pub mod Seats
 pub mod Speaking

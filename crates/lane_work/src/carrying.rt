@@ -3,13 +3,12 @@
 
 ghost use Rattle.std.specs.Prelude.{◌≡◌, ◌+◌, ◌≤◌, IfOk, length, map};
 ghost use Rattle.shard_queue.specs.Reply.{IsReceiver, received};
-ghost use Rattle.shard_queue.specs.Seats.{sent};
 ghost use Rattle.shard_queue.specs.Shared.{IsStartOf};
 ghost use Rattle.lane_work.specs.Copies.{rooms_of};
 ghost use Rattle.lane_work.specs.Couriers.{HasCarried, IsReady, IsSameDesk};
 ghost use Rattle.lane_work.specs.inner.Copies.{WasJudged};
 ghost use Rattle.lane_work.specs.Ends.{CountsEnds};
-ghost use Rattle.lane_work.specs.Seats.{AreSeats};
+ghost use Rattle.lane_work.specs.Seats.{AreLive, AreSeats, put_by};
 
 use crate::bells::Summons;
 use crate::desk::{Desk, Office};
@@ -56,13 +55,15 @@ fn judge<R: Wait, G: Gate, S: Summons>(
     requires seats { AreSeats office.now.lanes.items desk.old.number desk.old.seats.items }
     requires receiver { IsReceiver channel.now desk.old.receiver }
     requires lanes { office.now.directory.shards ≡ length office.now.lanes.items }
+    requires live { AreLive desk.old.seats.items }
     ensures seats { AreSeats office.now.lanes.items desk.old.number desk.new.seats.items }
     ensures receiver { IsReceiver channel.now desk.new.receiver }
     ensures number { desk.new.number ≡ desk.old.number }
+    ensures live { AreLive desk.new.seats.items }
     ensures ends { CountsEnds desk.old desk.new }
     ensures grew { IsStartOf (received desk.old.receiver) (received desk.new.receiver) }
     ensures judged { IfOk result (λ verdict. WasJudged office.now.directory (rooms_of office.now.lanes.items) desk.old.number (record { key = key; mailbox = mailbox; text = text.now; flags = flags }) verdict
-        (received desk.new.receiver) (map sent desk.old.seats.items) (map sent desk.new.seats.items)) }
+        (received desk.new.receiver) (map put_by desk.old.seats.items) (map put_by desk.new.seats.items)) }
 {
     match put_copy(rt, pace, office, summons, desk, key, mailbox, text, flags) {
         Some(verdict) => Ok(verdict),

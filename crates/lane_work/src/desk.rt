@@ -3,7 +3,7 @@
 
 use delivery_token::{Job, Noted};
 use envelope::Directory;
-use shard_queue::{ProducerSeat, ReceiverSeat, ShardQueue};
+use shard_queue::{Ended, ProducerSeat, ReceiverSeat, ShardQueue};
 
 /// What all workers share.
 pub struct Office {
@@ -15,6 +15,25 @@ pub struct Office {
     pub max_message: usize,
     /// The lane of each shard, as many as the directory has shards.
     pub lanes: Vec<ShardQueue<Job>>,
+    /// For each worker, by its number, the shards that it closes. A worker that isn't there closes none.
+    pub closings: Vec<Vec<Closing>>,
+}
+
+/// A worker closes a shard before one of its connections, by its number from 0: from then on it takes no
+/// mail for the shard's mailboxes, and its seat on the shard's lane is over. One for a connection that
+/// never comes, for a shard that it has closed, or for one that isn't there does nothing.
+#[derive(Clone, Copy, Debug, PartialEq, Eq)]
+pub struct Closing {
+    pub connection: usize,
+    pub shard: u8,
+}
+
+/// A producer's seat on one lane.
+pub enum LaneSeat {
+    /// It may put copies there.
+    Live(ProducerSeat<Job>),
+    /// It has ended, and puts nothing there any more.
+    Over(Ended<Job>),
 }
 
 /// What one worker holds.
@@ -22,7 +41,7 @@ pub struct Desk {
     /// The worker's number, which is that of its seats and of the keys of its copies.
     pub number: u8,
     /// Its seat on each lane.
-    pub seats: Vec<ProducerSeat<Job>>,
+    pub seats: Vec<LaneSeat>,
     /// Its end of its reply channel.
     pub receiver: ReceiverSeat<Noted>,
     /// How many shards' ends it has heard there.

@@ -6,13 +6,13 @@ ghost use Rattle.shard_queue.specs.declared.lane.Entry.TheVariants as entries;
 ghost use Rattle.shard_queue.specs.Seats.{IsProducer, IsEnded, sent, said, number_of, ended_number};
 ghost use Rattle.shard_queue.specs.Reply.{IsReceiver, IsSender, IsSenderEnded, received, sender_number, sender_ended_number, sent_on, said_on};
 ghost use Rattle.shard_queue.specs.Shared.{IsStartOf};
-ghost use Rattle.lane_work.specs.Seats.{AreEnded, AreSeats, AreSenders, AreSendersEnded};
+ghost use Rattle.lane_work.specs.Seats.{AreEnded, AreSeats, AreSenders, AreSendersEnded, IsSeat, put_by, seat_number};
 ghost use Rattle.lane_work.specs.Account.{HaveEnded};
 ghost use Rattle.lane_work.specs.Answering.{HaveClosed};
 ghost use Rattle.lane_work.specs.Ends.{ends_in};
 
 use crate::bells::Summons;
-use crate::desk::Office;
+use crate::desk::{LaneSeat, Office};
 use delivery_token::{Job, Noted};
 use pace::{Gate, Pace};
 use shard_queue::{
@@ -43,25 +43,41 @@ pub fn end_one<R: Wait, G: Gate>(
     unreachable!()
 }
 
-/// Ends a worker's seat on each lane, from the first on, and summons whoever is to take it there.
-/// `ended`, which is empty, has room for all.
+/// The same of a seat that may be over: then it stays as it is.
+pub fn end_seat<R: Wait, G: Gate>(
+    rt: &R,
+    pace: &mut Pace<'_, G>,
+    lane: &ShardQueue<Job>,
+    seat: LaneSeat,
+) -> Ended<Job>
+    requires { IsSeat lane.now seat }
+    ensures { IsEnded lane.now result × (ended_number result ≡ seat_number seat) × (said result ≡ put_by seat ++ entries.End (seat_number seat) ∷ []) }
+{
+    match seat {
+        LaneSeat::Live(live) => end_one(rt, pace, lane, live),
+        LaneSeat::Over(ended) => ended,
+    }
+}
+
+/// Ends a worker's seat on each lane, from the first on, and summons whoever is to take it there. One
+/// that is over stays as it is. `ended`, which is empty, has room for all.
 pub fn end_all<R: Wait, G: Gate, S: Summons>(
     rt: &R,
     pace: &mut Pace<'_, G>,
     office: &Office,
     summons: &S,
     number: u8,
-    mut seats: Vec<ProducerSeat<Job>>,
+    mut seats: Vec<LaneSeat>,
     mut ended: Vec<Ended<Job>>,
 ) -> Vec<Ended<Job>>
     requires seats { AreSeats office.now.lanes.items number seats.items }
     requires room { (ended.items ≡ []) × (length office.now.lanes.items ≤ vec_capacity ended) }
     ensures ended { AreEnded office.now.lanes.items number result.items }
-    ensures said { HaveEnded number (map sent seats.items) (map said result.items) }
+    ensures said { HaveEnded number (map put_by seats.items) (map said result.items) }
 {
     for lane in 0..office.lanes.len() {
         let seat = seats.remove(0);
-        ended.push_reserved(end_one(rt, pace, &office.lanes[lane], seat));
+        ended.push_reserved(end_seat(rt, pace, &office.lanes[lane], seat));
         summons.summon(rt, lane);
     }
     seats.destroy_empty();

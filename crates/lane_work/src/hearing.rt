@@ -10,9 +10,10 @@ ghost use Rattle.lmtp_machine.specs.Calls.{submission_of};
 ghost use Rattle.lane_work.specs.Copies.{IsHeard, copies_of};
 ghost use Rattle.lane_work.specs.inner.Copies.{Fills, FillsIn, WereHeard, unknown};
 ghost use Rattle.lane_work.specs.inner.Desk.{SameButReceiver};
-ghost use Rattle.lane_work.specs.Ends.{CountsEnds};
+ghost use Rattle.lane_work.specs.Ends.{CountsEnds, ends_in};
+ghost use Rattle.lane_work.specs.Seats.{AreLive, overs};
 
-use crate::desk::Desk;
+use crate::desk::{Desk, LaneSeat};
 use crate::worker::Stop;
 use delivery_token::{CopyKey, Noted, Verdict};
 use lmtp_machine::Submission;
@@ -49,7 +50,18 @@ fn note_in(message: &Submission, slots: &mut Vec<Option<Verdict>>, noted: &Noted
     true
 }
 
-/// Hears verdicts until each of the message's is known; Torn where what comes isn't awaited.
+// Whether the seat on this shard's lane is over, so that the shard's end may come.
+fn is_over_at(seats: &[LaneSeat], shard: u8) -> bool
+    ensures { result ≡ slice_index_or (overs seats.now) shard false }
+{
+    match seats.get(usize::from(shard)) {
+        Some(LaneSeat::Over(_)) => true,
+        _ => false,
+    }
+}
+
+/// Hears verdicts until each of the message's is known; Torn where what comes isn't awaited. The end of
+/// a shard on whose lane the seat is over is counted, and no more.
 pub(crate) fn hear_all<R: Wait, G: Gate>(
     rt: &R,
     pace: &mut Pace<'_, G>,
@@ -65,7 +77,9 @@ pub(crate) fn hear_all<R: Wait, G: Gate>(
     ensures fills { Fills slots.old.items slots.new.items }
     ensures grew { IsStartOf (received desk.old.receiver) (received desk.new.receiver) }
     ensures heard { WereHeard (received desk.new.receiver) (copies_of (submission_of message.now)) slots.old.items slots.new.items }
-    ensures awaited { OnOk result (length (received desk.new.receiver) ≡ length (received desk.old.receiver) + unknown slots.old.items) }
+    ensures awaited { OnOk result (length (received desk.new.receiver) + ends_in (received desk.old.receiver)
+        ≡ length (received desk.old.receiver) + unknown slots.old.items + ends_in (received desk.new.receiver)) }
+    ensures live { OnOk result (AreLive desk.old.seats.items → ends_in (received desk.new.receiver) ≡ ends_in (received desk.old.receiver)) }
     ensures known { OnOk result (list_all is_some slots.new.items ≡ true) }
     ensures torn { OnErr result (length (received desk.old.receiver) < length (received desk.new.receiver)) }
 {
@@ -80,9 +94,11 @@ pub(crate) fn hear_all<R: Wait, G: Gate>(
                     return Err(Stop::Torn);
                 }
             }
-            Entry::End(_) => {
+            Entry::End(shard) => {
                 desk.ends = desk.ends.saturating_add(1);
-                return Err(Stop::Torn);
+                if !is_over_at(desk.seats.as_slice(), shard) {
+                    return Err(Stop::Torn);
+                }
             }
         }
     }

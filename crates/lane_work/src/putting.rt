@@ -1,19 +1,22 @@
 //! A message's copies are put, each into the lane of its mailbox's shard. What is heard of them does
 //! not belong here.
 
-ghost use Rattle.std.specs.Prelude.{◌≡◌, ◌≤◌, ◌<◌, ◌+◌, ℕ, ◌++◌, ◌∷◌, [], length, map, Some, None, MatchOption, OnOk, IfOk, slice_index_or, slice_set, vec_len, vec_capacity};
+ghost use Rattle.std.specs.Prelude.{◌≡◌, ◌≤◌, ◌<◌, ◌+◌, ℕ, ◌++◌, ◌∷◌, [], length, map, Some, None, MatchOption, OnOk, IfOk, true, false, slice_index_or, slice_set, vec_len, vec_capacity};
 ghost use Rattle.change_ring.specs.Log.{no_flags};
 ghost use Rattle.shard_queue.specs.declared.lane.Entry.TheVariants as entries;
+ghost use Rattle.delivery_token.specs.declared.Refusal.TheVariants as refusals;
+ghost use Rattle.delivery_token.specs.declared.Verdict.TheVariants as verdicts;
 ghost use Rattle.shard_queue.specs.Seats.{IsProducer, sent, number_of};
 ghost use Rattle.envelope.specs.Directory.{shard_of};
 ghost use Rattle.lmtp_machine.specs.Calls.{submission_of};
-ghost use Rattle.lane_work.specs.Seats.{AreSeats};
+ghost use Rattle.lane_work.specs.Seats.{AreSeats, IsSeat, is_over, overs, put_by, seat_number};
+ghost use Rattle.lane_work.specs.inner.Seats.{AreOpenTo};
 ghost use Rattle.lane_work.specs.inner.Desk.{SameButSeats};
 ghost use Rattle.lane_work.specs.Copies.{FoundFull, IsAtOnce, copies_of, room_at, room_of, rooms_of};
 ghost use Rattle.lane_work.specs.inner.Copies.{HavePut, WereTried};
 
 use crate::bells::Summons;
-use crate::desk::{Desk, Office};
+use crate::desk::{Desk, LaneSeat, Office};
 use change_ring::{Flags, NO_FLAGS};
 use delivery_token::{CopyKey, Job, Refusal, Text, Verdict};
 use lmtp_machine::Submission;
@@ -52,6 +55,29 @@ fn put_on<R: Wait>(
     }
 }
 
+// The same at a seat that may be over: there nothing is put, and the copy is refused at once.
+fn put_at<R: Wait>(
+    rt: &R,
+    lane: &ShardQueue<Job>,
+    seat: &mut LaneSeat,
+    key: CopyKey,
+    mailbox: u8,
+    text: &Text,
+    flags: Flags,
+) -> Option<Verdict>
+    requires { IsSeat lane.now seat.old }
+    ensures seat { IsSeat lane.now seat.new × (seat_number seat.new ≡ seat_number seat.old) × (is_over seat.new ≡ is_over seat.old) }
+    ensures put { is_over seat.old ≡ false → MatchOption result
+        (put_by seat.new ≡ put_by seat.old ++ entries.Item (seat_number seat.old) (record { key = key; mailbox = mailbox; text = text.now; flags = flags }) ∷ [])
+        (λ v. (put_by seat.new ≡ put_by seat.old) × IsAtOnce (FoundFull (room_of lane.now) (seat_number seat.old) (put_by seat.old)) v) }
+    ensures over { is_over seat.old ≡ true → (result ≡ Some (verdicts.Refused refusals.Shut)) × (seat.new ≡ seat.old) }
+{
+    match seat {
+        LaneSeat::Live(live) => put_on(rt, lane, live, key, mailbox, text, flags),
+        LaneSeat::Over(_) => Some(Verdict::Refused(Refusal::Shut)),
+    }
+}
+
 /// The same, at the lane of the copy's mailbox, for which it is summoned.
 pub(crate) fn put_copy<R: Wait, G: Gate, S: Summons>(
     rt: &R,
@@ -69,16 +95,18 @@ pub(crate) fn put_copy<R: Wait, G: Gate, S: Summons>(
     ensures seats { AreSeats office.now.lanes.items desk.old.number desk.new.seats.items }
     ensures same { SameButSeats desk.old desk.new }
     ensures within { shard_of office.now.directory mailbox < length office.now.lanes.items }
-    ensures put { MatchOption result
-        (map sent desk.new.seats.items ≡ slice_set (map sent desk.old.seats.items) (shard_of office.now.directory mailbox)
-        (slice_index_or (map sent desk.old.seats.items) (shard_of office.now.directory mailbox) [] ++ entries.Item desk.old.number (record { key = key; mailbox = mailbox; text = text.now; flags = flags }) ∷ []))
-        (λ v. (map sent desk.new.seats.items ≡ map sent desk.old.seats.items)
+    ensures put { slice_index_or (overs desk.old.seats.items) (shard_of office.now.directory mailbox) false ≡ false → MatchOption result
+        (map put_by desk.new.seats.items ≡ slice_set (map put_by desk.old.seats.items) (shard_of office.now.directory mailbox)
+        (slice_index_or (map put_by desk.old.seats.items) (shard_of office.now.directory mailbox) [] ++ entries.Item desk.old.number (record { key = key; mailbox = mailbox; text = text.now; flags = flags }) ∷ []))
+        (λ v. (map put_by desk.new.seats.items ≡ map put_by desk.old.seats.items)
         × IsAtOnce (FoundFull (room_at (rooms_of office.now.lanes.items) (shard_of office.now.directory mailbox)) desk.old.number
-        (slice_index_or (map sent desk.old.seats.items) (shard_of office.now.directory mailbox) [])) v) }
+        (slice_index_or (map put_by desk.old.seats.items) (shard_of office.now.directory mailbox) [])) v) }
+    ensures over { slice_index_or (overs desk.old.seats.items) (shard_of office.now.directory mailbox) false ≡ true
+        → (result ≡ Some (verdicts.Refused refusals.Shut)) × (map put_by desk.new.seats.items ≡ map put_by desk.old.seats.items) }
 {
     let shard = office.directory.shard_of(mailbox);
     pace.pass();
-    let verdict = put_on(
+    let verdict = put_at(
         rt,
         &office.lanes[shard],
         &mut desk.seats[shard],
@@ -91,8 +119,8 @@ pub(crate) fn put_copy<R: Wait, G: Gate, S: Summons>(
     verdict
 }
 
-/// Puts each copy of a message, in the order of its recipients. In `slots`, which has room for as many as there are, is then of each what
-/// was known of it at once, or None where it is under way.
+/// Puts each copy of a message, in the order of its recipients; one for a lane on which the seat is over is refused as Shut. In `slots`, which has room
+/// for as many as there are, is then of each what was known of it at once, or None where it is under way.
 pub(crate) fn put_all<R: Wait, G: Gate, S: Summons>(
     rt: &R,
     pace: &mut Pace<'_, G>,
@@ -109,8 +137,11 @@ pub(crate) fn put_all<R: Wait, G: Gate, S: Summons>(
     ensures seats { AreSeats office.now.lanes.items desk.old.number desk.new.seats.items }
     ensures same { SameButSeats desk.old desk.new }
     ensures slots { vec_len slots.new ≡ vec_len message.now.keys }
-    ensures tried { WereTried office.now.directory (rooms_of office.now.lanes.items) desk.old.number (copies_of (submission_of message.now)) slots.new.items (map sent desk.old.seats.items) }
-    ensures put { HavePut office.now.directory desk.old.number (copies_of (submission_of message.now)) slots.new.items (map sent desk.old.seats.items) (map sent desk.new.seats.items) }
+    // Where no seat is over that a copy is for.
+    ensures tried { AreOpenTo office.now.directory message.now.mailboxes.items desk.old.seats.items
+        → WereTried office.now.directory (rooms_of office.now.lanes.items) desk.old.number (copies_of (submission_of message.now)) slots.new.items (map put_by desk.old.seats.items) }
+    ensures put { AreOpenTo office.now.directory message.now.mailboxes.items desk.old.seats.items
+        → HavePut office.now.directory desk.old.number (copies_of (submission_of message.now)) slots.new.items (map put_by desk.old.seats.items) (map put_by desk.new.seats.items) }
 {
     for i in 0..message.keys.len() {
         let verdict = put_copy(

@@ -5,12 +5,14 @@ ghost use Rattle.std.specs.Prelude.{◌≡◌, ◌≢◌, ◌≤◌, ◌<◌, �
 ghost use Rattle.std.specs.Io.{StartsWith};
 ghost use Rattle.delivery_token.specs.declared.Job.{Job};
 ghost use Rattle.delivery_token.specs.declared.Verdict.{Verdict};
-ghost use Rattle.shard_queue.specs.Seats.{sent, said};
+ghost use Rattle.envelope.specs.Directory.{marked};
+ghost use Rattle.shard_queue.specs.Seats.{said};
 ghost use Rattle.shard_queue.specs.Reply.{IsReceiver, received};
 ghost use Rattle.shard_queue.specs.Shared.{IsStartOf};
 ghost use Rattle.lmtp_machine.specs.Calls.{Moves, submission_of};
 ghost use Rattle.lane_work.specs.Talk.{Judged};
-ghost use Rattle.lane_work.specs.Seats.{AreEnded, AreSeats};
+ghost use Rattle.lane_work.specs.Seats.{AreEnded, AreSeated, AreSeats, IsNew, overs, put_by};
+ghost use Rattle.lane_work.specs.inner.Seats.{AreOpenTo};
 ghost use Rattle.lane_work.specs.Account.{AreBooks, HaveEnded, notes_tell, setting_at};
 ghost use Rattle.lane_work.specs.inner.Account.{HasServed};
 ghost use Rattle.lane_work.specs.Ends.{CountsEnds, ends_in};
@@ -20,12 +22,14 @@ ghost use Rattle.lane_work.specs.inner.Speaking.{Spoke};
 ghost use Rattle.lane_work.specs.Copies.{rooms_of};
 
 use crate::bells::Summons;
+use crate::closing::close_due;
 use crate::desk::{Desk, Office};
 use crate::ending::{end_all, hear_ends};
 use crate::hearing::{hear_all, verdicts_of};
 use crate::notebook::Notebook;
 use crate::putting::put_all;
 use delivery_token::{Job, Noted, Verdict, WorkerLog};
+use envelope::Directory;
 use lmtp_machine::{Fed, Limits, LmtpMachine, Submission, What};
 use pace::{Gate, Pace};
 use shard_queue::{Ended, ReceiverSeat, ReplyChannel};
@@ -41,7 +45,7 @@ const ANSWER_ROOM: usize = 4000;
 pub enum Stop {
     /// Memory was refused.
     NoMemory,
-    /// A verdict came that wasn't awaited, or a shard's end before its time.
+    /// A verdict came that wasn't awaited, or the end of a shard that isn't closed.
     Torn,
 }
 
@@ -79,11 +83,13 @@ fn settle<R: Wait, G: Gate, S: Summons, N: Notebook>(
     ensures receiver { IsReceiver channel.now desk.new.receiver }
     ensures number { desk.new.number ≡ desk.old.number }
     ensures ends { CountsEnds desk.old desk.new }
+    ensures overs { overs desk.new.seats.items ≡ overs desk.old.seats.items }
     ensures owner { N.owner book.new ≡ N.owner book.old }
     ensures verdicts { IfOk result (λ vs. vec_len vs ≡ vec_len message.now.keys) }
-    ensures books { IfOk result (λ vs. (judged : List Judged) → AreBooks office.now.directory (rooms_of office.now.lanes.items) desk.old.number judged (N.tells book.old) (received desk.old.receiver) (map sent desk.old.seats.items)
-        → AreBooks office.now.directory (rooms_of office.now.lanes.items) desk.old.number (judged ++ record { message = submission_of message.now; verdicts = vs.items } ∷ []) (N.tells book.new) (received desk.new.receiver) (map sent desk.new.seats.items)) }
-    ensures err { result ≡ Err Stop.NoMemory → (map sent desk.new.seats.items ≡ map sent desk.old.seats.items) × (received desk.new.receiver ≡ received desk.old.receiver) }
+    // Where no seat is over that a copy is for.
+    ensures books { IfOk result (λ vs. AreOpenTo office.now.directory message.now.mailboxes.items desk.old.seats.items → (judged : List Judged) → AreBooks office.now.directory (rooms_of office.now.lanes.items) desk.old.number judged (N.tells book.old) (received desk.old.receiver) (map put_by desk.old.seats.items)
+        → AreBooks office.now.directory (rooms_of office.now.lanes.items) desk.old.number (judged ++ record { message = submission_of message.now; verdicts = vs.items } ∷ []) (N.tells book.new) (received desk.new.receiver) (map put_by desk.new.seats.items)) }
+    ensures err { result ≡ Err Stop.NoMemory → (map put_by desk.new.seats.items ≡ map put_by desk.old.seats.items) × (received desk.new.receiver ≡ received desk.old.receiver) }
     ensures noted { result ≡ Err Stop.NoMemory → (copies : List (Job × Verdict)) → N.tells book.old copies → N.tells book.new copies }
     ensures torn { result ≡ Err Stop.Torn → length (received desk.old.receiver) < length (received desk.new.receiver) }
     ensures grew { IsStartOf (received desk.old.receiver) (received desk.new.receiver) }
@@ -111,7 +117,7 @@ fn settle<R: Wait, G: Gate, S: Summons, N: Notebook>(
 /// it is settled before anything more is taken: its copies are put, each into the lane of its mailbox's
 /// shard, for which `summons` is asked; the verdict on each is awaited, and noted in `book`; and then
 /// they are said. Replies go to `out`, behind what stands there; what was said before may have been
-/// sent.
+/// sent. `directory` is the producer's own, which may have more marks than the office's.
 ///
 /// Errors: `NoMemory` where memory was refused; then no copy was put and nothing was heard. `Torn` where
 /// something came that wasn't awaited, a verdict or a shard's end; copies may be under way then. After
@@ -121,6 +127,7 @@ pub fn turn<R: Wait, G: Gate, S: Summons, N: Notebook>(
     alloc: Global,
     pace: &mut Pace<'_, G>,
     office: &Office,
+    directory: &Directory,
     summons: &S,
     channel: &ReplyChannel<Noted>,
     desk: &mut Desk,
@@ -129,11 +136,12 @@ pub fn turn<R: Wait, G: Gate, S: Summons, N: Notebook>(
     piece: &[u8],
     out: &mut Vec<u8>,
 ) -> Result<Fed, Stop>
-    requires seats { AreSeats office.now.lanes.items desk.old.number desk.old.seats.items }
+    requires seats { AreSeated directory.now office.now.lanes.items desk.old.number desk.old.seats.items }
     requires receiver { IsReceiver channel.now desk.old.receiver }
     requires lanes { office.now.directory.shards ≡ length office.now.lanes.items }
+    requires marks { directory.now ≡ marked directory.now.shut office.now.directory }
     requires quiet { machine.old.pending ≡ [] }
-    ensures seats { AreSeats office.now.lanes.items desk.old.number desk.new.seats.items }
+    ensures seats { AreSeated directory.now office.now.lanes.items desk.old.number desk.new.seats.items }
     ensures receiver { IsReceiver channel.now desk.new.receiver }
     ensures number { desk.new.number ≡ desk.old.number }
     ensures ends { CountsEnds desk.old desk.new }
@@ -143,17 +151,17 @@ pub fn turn<R: Wait, G: Gate, S: Summons, N: Notebook>(
     ensures used { IfOk result (λ fed. fed.used ≤ length piece.now) }
     ensures moves { IfOk result (λ fed. Moves fed.used fed.what piece.now) }
     ensures stands { IfOk result (λ fed. (done : List Judged) (bytes told : List ℕ)
-        → Stands office.now.directory (rooms_of office.now.lanes.items) desk.old.number done bytes false machine.old (told ++ out.old.items) (N.tells book.old) (received desk.old.receiver) (map sent desk.old.seats.items)
-        → Stands office.now.directory (rooms_of office.now.lanes.items) desk.old.number done (bytes ++ take fed.used piece.now) (is_quit fed.what) machine.new (told ++ out.new.items) (N.tells book.new) (received desk.new.receiver) (map sent desk.new.seats.items)) }
+        → Stands directory.now office.now.directory (rooms_of office.now.lanes.items) desk.old.number done bytes false machine.old (told ++ out.old.items) (N.tells book.old) (received desk.old.receiver) (map put_by desk.old.seats.items)
+        → Stands directory.now office.now.directory (rooms_of office.now.lanes.items) desk.old.number done (bytes ++ take fed.used piece.now) (is_quit fed.what) machine.new (told ++ out.new.items) (N.tells book.new) (received desk.new.receiver) (map put_by desk.new.seats.items)) }
     ensures kept { OnErr result ((done : List Judged) (bytes told : List ℕ)
-        → Stands office.now.directory (rooms_of office.now.lanes.items) desk.old.number done bytes false machine.old (told ++ out.old.items) (N.tells book.old) (received desk.old.receiver) (map sent desk.old.seats.items)
+        → Stands directory.now office.now.directory (rooms_of office.now.lanes.items) desk.old.number done bytes false machine.old (told ++ out.old.items) (N.tells book.old) (received desk.old.receiver) (map put_by desk.old.seats.items)
         → StartsWith out.new.items out.old.items) }
-    ensures err { result ≡ Err Stop.NoMemory → (map sent desk.new.seats.items ≡ map sent desk.old.seats.items) × (received desk.new.receiver ≡ received desk.old.receiver) }
+    ensures err { result ≡ Err Stop.NoMemory → (map put_by desk.new.seats.items ≡ map put_by desk.old.seats.items) × (received desk.new.receiver ≡ received desk.old.receiver) }
     ensures noted { result ≡ Err Stop.NoMemory → (copies : List (Job × Verdict)) → N.tells book.old copies → N.tells book.new copies }
     ensures torn { result ≡ Err Stop.Torn → length (received desk.old.receiver) < length (received desk.new.receiver) }
     ensures grew { IsStartOf (received desk.old.receiver) (received desk.new.receiver) }
 {
-    let Ok(fed) = machine.feed(piece, &office.directory, out) else {
+    let Ok(fed) = machine.feed(piece, directory, out) else {
         return Err(Stop::NoMemory);
     };
     match fed.what {
@@ -190,6 +198,7 @@ fn speak<R: Wait, G: Gate, S: Summons>(
     alloc: Global,
     pace: &mut Pace<'_, G>,
     office: &Office,
+    directory: &Directory,
     summons: &S,
     channel: &ReplyChannel<Noted>,
     desk: &mut Desk,
@@ -198,18 +207,19 @@ fn speak<R: Wait, G: Gate, S: Summons>(
     bytes: &[u8],
     out: &mut Vec<u8>,
 ) -> Result<(), Stop>
-    requires seats { AreSeats office.now.lanes.items desk.old.number desk.old.seats.items }
+    requires seats { AreSeated directory.now office.now.lanes.items desk.old.number desk.old.seats.items }
     requires receiver { IsReceiver channel.now desk.old.receiver }
     requires lanes { office.now.directory.shards ≡ length office.now.lanes.items }
+    requires marks { directory.now ≡ marked directory.now.shut office.now.directory }
     requires quiet { machine.old.pending ≡ [] }
-    ensures seats { AreSeats office.now.lanes.items desk.old.number desk.new.seats.items }
+    ensures seats { AreSeated directory.now office.now.lanes.items desk.old.number desk.new.seats.items }
     ensures receiver { IsReceiver channel.now desk.new.receiver }
     ensures number { desk.new.number ≡ desk.old.number }
     ensures ends { CountsEnds desk.old desk.new }
     ensures seat { log.new.seat ≡ log.old.seat }
     ensures spoke { OnOk result ((done : List Judged)
-        → Stands office.now.directory (rooms_of office.now.lanes.items) desk.old.number done [] false machine.old out.old.items (notes_tell log.old.notes) (received desk.old.receiver) (map sent desk.old.seats.items)
-        → Spoke office.now.directory (rooms_of office.now.lanes.items) desk.old.number done bytes.now machine.old.setting machine.old.host out.new.items (notes_tell log.new.notes) (received desk.new.receiver) (map sent desk.new.seats.items)) }
+        → Stands directory.now office.now.directory (rooms_of office.now.lanes.items) desk.old.number done [] false machine.old out.old.items (notes_tell log.old.notes) (received desk.old.receiver) (map put_by desk.old.seats.items)
+        → Spoke directory.now office.now.directory (rooms_of office.now.lanes.items) desk.old.number done bytes.now machine.old.setting machine.old.host out.new.items (notes_tell log.new.notes) (received desk.new.receiver) (map put_by desk.new.seats.items)) }
 {
     let mut used = 0;
     loop {
@@ -218,6 +228,7 @@ fn speak<R: Wait, G: Gate, S: Summons>(
             alloc,
             pace,
             office,
+            directory,
             summons,
             channel,
             desk,
@@ -248,6 +259,7 @@ fn converse<R: Wait, G: Gate, S: Summons>(
     alloc: Global,
     pace: &mut Pace<'_, G>,
     office: &Office,
+    directory: &Directory,
     summons: &S,
     channel: &ReplyChannel<Noted>,
     desk: &mut Desk,
@@ -255,18 +267,19 @@ fn converse<R: Wait, G: Gate, S: Summons>(
     serial: u64,
     bytes: &[u8],
 ) -> Result<Vec<u8>, Stop>
-    requires seats { AreSeats office.now.lanes.items desk.old.number desk.old.seats.items }
+    requires seats { AreSeated directory.now office.now.lanes.items desk.old.number desk.old.seats.items }
     requires receiver { IsReceiver channel.now desk.old.receiver }
     requires lanes { office.now.directory.shards ≡ length office.now.lanes.items }
+    requires marks { directory.now ≡ marked directory.now.shut office.now.directory }
     requires host { length office.now.host.items < 256 }
-    ensures seats { AreSeats office.now.lanes.items desk.old.number desk.new.seats.items }
+    ensures seats { AreSeated directory.now office.now.lanes.items desk.old.number desk.new.seats.items }
     ensures receiver { IsReceiver channel.now desk.new.receiver }
     ensures number { desk.new.number ≡ desk.old.number }
     ensures ends { CountsEnds desk.old desk.new }
     ensures seat { log.new.seat ≡ log.old.seat }
     ensures spoke { IfOk result (λ reply. (done : List Judged)
-        → AreBooks office.now.directory (rooms_of office.now.lanes.items) desk.old.number done (notes_tell log.old.notes) (received desk.old.receiver) (map sent desk.old.seats.items)
-        → Spoke office.now.directory (rooms_of office.now.lanes.items) desk.old.number done bytes.now (setting_at (premises_of office.now) desk.old.number serial) office.now.host.items reply.items (notes_tell log.new.notes) (received desk.new.receiver) (map sent desk.new.seats.items)) }
+        → AreBooks office.now.directory (rooms_of office.now.lanes.items) desk.old.number done (notes_tell log.old.notes) (received desk.old.receiver) (map put_by desk.old.seats.items)
+        → Spoke directory.now office.now.directory (rooms_of office.now.lanes.items) desk.old.number done bytes.now (setting_at (premises_of office.now) desk.old.number serial) office.now.host.items reply.items (notes_tell log.new.notes) (received desk.new.receiver) (map put_by desk.new.seats.items)) }
 {
     let limits = Limits {
         host: office.host.as_slice(),
@@ -284,6 +297,7 @@ fn converse<R: Wait, G: Gate, S: Summons>(
         alloc,
         pace,
         office,
+        directory,
         summons,
         channel,
         desk,
@@ -324,25 +338,30 @@ fn go_through<R: Wait, G: Gate, S: Summons>(
     replies: &mut Vec<Vec<u8>>,
     connections: &[Vec<u8>],
 ) -> Fate
-    requires seats { AreSeats office.now.lanes.items desk.old.number desk.old.seats.items }
+    requires seats { AreSeats office.now.lanes.items desk.old.number desk.old.seats.items × All IsNew desk.old.seats.items }
     requires receiver { IsReceiver channel.now desk.old.receiver }
     requires lanes { office.now.directory.shards ≡ length office.now.lanes.items }
     requires host { length office.now.host.items < 256 }
-    requires begun { (replies.old.items ≡ []) × AreBooks office.now.directory (rooms_of office.now.lanes.items) desk.old.number [] (notes_tell log.old.notes) (received desk.old.receiver) (map sent desk.old.seats.items) }
+    requires begun { (replies.old.items ≡ []) × AreBooks office.now.directory (rooms_of office.now.lanes.items) desk.old.number [] (notes_tell log.old.notes) (received desk.old.receiver) (map put_by desk.old.seats.items) }
     ensures seats { AreSeats office.now.lanes.items desk.old.number desk.new.seats.items }
     ensures receiver { IsReceiver channel.now desk.new.receiver }
     ensures number { desk.new.number ≡ desk.old.number }
     ensures ends { CountsEnds desk.old desk.new }
     ensures seat { log.new.seat ≡ log.old.seat }
     ensures began { result ≢ Fate.NotBegun }
-    ensures whole { result ≡ Fate.Whole → HasServed (premises_of office.now) desk.old.number (map (λ b. b.items) connections.now) (map (λ b. b.items) replies.new.items) (notes_tell log.new.notes) (received desk.new.receiver) (map sent desk.new.seats.items) }
+    ensures whole { result ≡ Fate.Whole → HasServed (premises_of office.now) desk.old.number (map (λ b. b.items) connections.now) (map (λ b. b.items) replies.new.items) (notes_tell log.new.notes) (received desk.new.receiver) (map put_by desk.new.seats.items) }
 {
+    let Ok(mut directory) = office.directory.copy(alloc) else {
+        return Fate::NoMemory;
+    };
     for i in 0..connections.len() {
+        close_due(rt, pace, office, summons, desk, &mut directory, i);
         let reply = match converse(
             rt,
             alloc,
             pace,
             office,
+            &directory,
             summons,
             channel,
             desk,
@@ -365,7 +384,8 @@ fn go_through<R: Wait, G: Gate, S: Summons>(
 /// on; then it receives until each shard's end came on its reply channel.
 ///
 /// Connection i has the worker's number for its seat and i for its serial; these bytes come from its
-/// peer, which then goes. The copies of a message are put in the order of its recipients, each into
+/// peer, which then goes. Before it the worker closes the shards that it is to close then (`Closing`).
+/// The copies of a message are put in the order of its recipients, each into
 /// its shard's queue: one that finds no room is refused as Full at once, and one whose text can't be
 /// shared as NoMemory. All verdicts are awaited before the replies. A worker that stops, by `Fate`,
 /// still ends its seats and hears all ends.
@@ -382,7 +402,7 @@ pub fn work<R: Wait, G: Gate, S: Summons>(
     room: Vec<Ended<Job>>,
     connections: &[Vec<u8>],
 ) -> Worked
-    requires seats { AreSeats office.now.lanes.items desk.number desk.seats.items × All (λ s. sent s ≡ []) desk.seats.items }
+    requires seats { AreSeats office.now.lanes.items desk.number desk.seats.items × All IsNew desk.seats.items }
     requires receiver { IsReceiver channel.now desk.receiver }
     requires lanes { office.now.directory.shards ≡ length office.now.lanes.items }
     requires host { length office.now.host.items < 256 }
@@ -431,7 +451,7 @@ pub fn finish<R: Wait, G: Gate, S: Summons>(
     requires receiver { IsReceiver channel.now desk.receiver }
     requires room { (room.items ≡ []) × (length office.now.lanes.items ≤ vec_capacity room) }
     ensures ended { AreEnded office.now.lanes.items desk.number result.ended.items }
-    ensures said { HaveEnded desk.number (map sent desk.seats.items) (map said result.ended.items) }
+    ensures said { HaveEnded desk.number (map put_by desk.seats.items) (map said result.ended.items) }
     ensures receiver { IsReceiver channel.now result.receiver }
     ensures grew { IsStartOf (received desk.receiver) (received result.receiver) }
     ensures heard { length office.now.lanes.items + ends_in (received desk.receiver) ≤ desk.ends + ends_in (received result.receiver) }

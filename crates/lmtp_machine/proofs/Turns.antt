@@ -5,7 +5,7 @@ use Rattle.std.specs.List.{list_any}
 use Rattle.std.proofs.lemmas.Bool.{eqb-true, eq-eqb}
 use Rattle.std.proofs.lemmas.Bool.Decides.{nat_tests}
 use Rattle.std.proofs.lemmas.List.Folds.{list_any_at, Any-from_list_any}
-use Rattle.envelope.specs.Directory.{Directory, lookup}
+use Rattle.envelope.specs.Directory.{Directory, is_shut, lookup, shard_of}
 use Rattle.envelope.specs.Reading.{read}
 use Rattle.envelope.specs.Values.{Path, Command}
 use Rattle.envelope.specs.Values as say
@@ -16,7 +16,7 @@ use Rattle.dot_stuffing.specs.declared.Outcome.{Outcome}
 use Rattle.dot_stuffing.specs.declared.Outcome.TheVariants as outcomes
 use Rattle.dot_stuffing.specs.Unstuffing.{IsOutcome}
 use Rattle.lmtp_machine.specs.declared.reply.Reply.{Reply}
-use Rattle.lmtp_machine.specs.declared.reply.Reply.TheVariants.{LineTooLong, TooManyRecipients, RecipientOk, ShuttingDown, SenderOk}
+use Rattle.lmtp_machine.specs.declared.reply.Reply.TheVariants.{LineTooLong, ShardClosed, TooManyRecipients, RecipientOk, ShuttingDown, SenderOk}
 use Rattle.lmtp_machine.specs.Message.{outcome, sender_text}
 use Rattle.lmtp_machine.specs.Dialogue.{Phase, Start, Ready, Transaction, Data, Waiting, Ended, Turn, turn, last_number, cleared, on_mail, on_recipient, on_rcpt, on_data, on_command, on_reading, on_command_line, fault_reply}
 use Rattle.lmtp_machine.specs.inner.Ending.{Becomes, so, starved}
@@ -51,19 +51,24 @@ mail_spoken Ready n path h =
       | false ↦ one (Transaction (sender_text path) []) n SenderOk tt
     ]
 
-recipient_spoken : (sender recipients : List ℕ) (n : ℕ) (r : Result ℕ NoSuch) → Spoken (on_recipient sender recipients n r)
-recipient_spoken sender recipients n (Err System) = one (Transaction sender recipients) n _ tt
-recipient_spoken sender recipients n (Err User) = one (Transaction sender recipients) n _ tt
-recipient_spoken sender recipients n (Ok mailbox) =
-    elim (length recipients == 100) as (λ b. Spoken (if b then turn (Transaction sender recipients) n (TooManyRecipients ∷ []) else turn (Transaction sender (recipients ++ mailbox ∷ [])) n (RecipientOk ∷ []))) [
-      | true ↦ one (Transaction sender recipients) n TooManyRecipients tt
-      | false ↦ one (Transaction sender (recipients ++ mailbox ∷ [])) n RecipientOk tt
-    ]
+recipient_spoken : (directory : Directory) (sender recipients : List ℕ) (n : ℕ) (r : Result ℕ NoSuch) → Spoken (on_recipient directory sender recipients n r)
+recipient_spoken directory sender recipients n (Err System) = one (Transaction sender recipients) n _ tt
+recipient_spoken directory sender recipients n (Err User) = one (Transaction sender recipients) n _ tt
+recipient_spoken directory sender recipients n (Ok mailbox) = unless_shut (is_shut directory (shard_of directory mailbox))
+  where
+    at_most : (b : Bool) → Spoken (if b then turn (Transaction sender recipients) n (TooManyRecipients ∷ []) else turn (Transaction sender (recipients ++ mailbox ∷ [])) n (RecipientOk ∷ []))
+    at_most true = one (Transaction sender recipients) n TooManyRecipients tt
+    at_most false = one (Transaction sender (recipients ++ mailbox ∷ [])) n RecipientOk tt
+
+    unless_shut : (b : Bool) → Spoken (if b then turn (Transaction sender recipients) n (ShardClosed ∷ [])
+        else if length recipients == 100 then turn (Transaction sender recipients) n (TooManyRecipients ∷ []) else turn (Transaction sender (recipients ++ mailbox ∷ [])) n (RecipientOk ∷ []))
+    unless_shut true = one (Transaction sender recipients) n ShardClosed tt
+    unless_shut false = at_most (length recipients == 100)
 
 rcpt_spoken : (directory : Directory) (phase : Phase) (n : ℕ) (path : Path) → IsGoing phase → Spoken (on_rcpt directory phase n path)
 rcpt_spoken directory Start n path h = one Start n _ h
 rcpt_spoken directory Ready n path h = one Ready n _ h
-rcpt_spoken directory (Transaction sender recipients) n path h = recipient_spoken sender recipients n (lookup directory path)
+rcpt_spoken directory (Transaction sender recipients) n path h = recipient_spoken directory sender recipients n (lookup directory path)
 rcpt_spoken directory (Data sender recipients lines) n path h = one (Data sender recipients lines) n _ h
 rcpt_spoken directory (Waiting count) n path h = absurd h
 rcpt_spoken directory Ended n path h = one Ended n _ h

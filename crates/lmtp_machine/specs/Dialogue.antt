@@ -3,7 +3,7 @@ use Rattle.std.specs.Prelude.{ℕ, Bool, true, false, List, [], ◌∷◌, ◌++
 use Rattle.envelope.specs.Values.{Path, Null, Postmaster, To, Command}
 use Rattle.envelope.specs.Values as say
 use Rattle.envelope.specs.Reading.{read}
-use Rattle.envelope.specs.Directory.{Directory, lookup}
+use Rattle.envelope.specs.Directory.{Directory, is_shut, lookup, shard_of}
 use Rattle.envelope.specs.declared.command.CommandFault.{CommandFault}
 use Rattle.envelope.specs.declared.command.CommandFault.TheVariants as faults
 use Rattle.envelope.specs.declared.directory.NoSuch.{NoSuch}
@@ -14,7 +14,7 @@ use Rattle.delivery_token.specs.declared.Verdict.TheVariants.{Stored, Refused}
 use Rattle.delivery_token.specs.declared.Refusal.{Refusal}
 use Rattle.delivery_token.specs.declared.Refusal.TheVariants as refusals
 use Rattle.lmtp_machine.specs.declared.reply.Reply.{Reply}
-use Rattle.lmtp_machine.specs.declared.reply.Reply.TheVariants.{Greeting, LineTooLong, CommandUnknown, NotImplemented, BadClientName, InvalidArguments, PathTooLong, ParameterUnknown, BadSequence, Extensions, SenderOk, DomainUnknown, MailboxUnknown, TooManyRecipients, RecipientOk, StartInput, Okay, CannotVerify, Bye, ShuttingDown, Delivered, ShardFull, MailboxFull, OutOfMemory, NoUidLeft, MessageTooBig, NulByte}
+use Rattle.lmtp_machine.specs.declared.reply.Reply.TheVariants.{Greeting, LineTooLong, CommandUnknown, NotImplemented, BadClientName, InvalidArguments, PathTooLong, ParameterUnknown, BadSequence, Extensions, SenderOk, DomainUnknown, MailboxUnknown, TooManyRecipients, RecipientOk, StartInput, Okay, CannotVerify, Bye, ShuttingDown, Delivered, ShardFull, ShardClosed, MailboxFull, OutOfMemory, NoUidLeft, MessageTooBig, NulByte}
 use Rattle.dot_stuffing.specs.declared.Outcome.{Outcome}
 use Rattle.dot_stuffing.specs.declared.Outcome.TheVariants as outcomes
 use Rattle.lmtp_machine.specs.Message.{sender_text, stored_text, plain, outcome}
@@ -96,16 +96,18 @@ on_mail Ready n path =
     if n == last_number then turn Ended n (ShuttingDown ∷ []) else turn (Transaction (sender_text path) []) n (SenderOk ∷ [])
 on_mail phase n path = turn phase n (BadSequence ∷ [])
 
-abbrev pub on_recipient : List ℕ → List ℕ → ℕ → Result ℕ NoSuch → Turn
-on_recipient sender recipients n (Err System) = turn (Transaction sender recipients) n (DomainUnknown ∷ [])
-on_recipient sender recipients n (Err User) = turn (Transaction sender recipients) n (MailboxUnknown ∷ [])
-on_recipient sender recipients n (Ok mailbox) =
-    if length recipients == 100
+abbrev pub on_recipient : Directory → List ℕ → List ℕ → ℕ → Result ℕ NoSuch → Turn
+on_recipient directory sender recipients n (Err System) = turn (Transaction sender recipients) n (DomainUnknown ∷ [])
+on_recipient directory sender recipients n (Err User) = turn (Transaction sender recipients) n (MailboxUnknown ∷ [])
+on_recipient directory sender recipients n (Ok mailbox) =
+    if is_shut directory (shard_of directory mailbox)
+    then turn (Transaction sender recipients) n (ShardClosed ∷ [])
+    else if length recipients == 100
     then turn (Transaction sender recipients) n (TooManyRecipients ∷ [])
     else turn (Transaction sender (recipients ++ mailbox ∷ [])) n (RecipientOk ∷ [])
 
 abbrev pub on_rcpt : Directory → Phase → ℕ → Path → Turn
-on_rcpt directory (Transaction sender recipients) n path = on_recipient sender recipients n (lookup directory path)
+on_rcpt directory (Transaction sender recipients) n path = on_recipient directory sender recipients n (lookup directory path)
 on_rcpt directory phase n path = turn phase n (BadSequence ∷ [])
 
 abbrev pub on_data : Phase → ℕ → Turn
@@ -187,6 +189,7 @@ refusal_reply refusals.Full = ShardFull
 refusal_reply refusals.MailboxFull = MailboxFull
 refusal_reply refusals.NoMemory = OutOfMemory
 refusal_reply refusals.UidSpent = NoUidLeft
+refusal_reply refusals.Shut = ShardClosed
 
 abbrev pub verdict_reply : Verdict → Reply
 verdict_reply (Stored uid) = Delivered

@@ -3,7 +3,7 @@ use Rattle.std.specs.Prelude.{ℕ, codes, List, ◌++◌}
 use Rattle.std.specs.List.{flat_map}
 use Rattle.line_io.specs.Wire.{crlf}
 use Rattle.lmtp_machine.specs.declared.reply.Reply.{Reply}
-use Rattle.lmtp_machine.specs.declared.reply.Reply.TheVariants.{Greeting, LineTooLong, CommandUnknown, NotImplemented, BadClientName, InvalidArguments, PathTooLong, ParameterUnknown, BadSequence, Extensions, SenderOk, DomainUnknown, MailboxUnknown, TooManyRecipients, RecipientOk, StartInput, Okay, CannotVerify, Bye, ShuttingDown, Delivered, ShardFull, MailboxFull, OutOfMemory, NoUidLeft, MessageTooBig, NulByte}
+use Rattle.lmtp_machine.specs.declared.reply.Reply.TheVariants.{Greeting, LineTooLong, CommandUnknown, NotImplemented, BadClientName, InvalidArguments, PathTooLong, ParameterUnknown, BadSequence, Extensions, SenderOk, DomainUnknown, MailboxUnknown, TooManyRecipients, RecipientOk, StartInput, Okay, CannotVerify, Bye, ShuttingDown, Delivered, ShardFull, ShardClosed, MailboxFull, OutOfMemory, NoUidLeft, MessageTooBig, NulByte}
 
 -- a reply of a server of this name, without the CRLF of its last line
 abbrev pub reply_text : List ℕ → Reply → List ℕ
@@ -30,6 +30,7 @@ reply_text host Bye = codes "221 2.0.0 Bye"
 reply_text host ShuttingDown = codes "421 4.3.2 Shutting down"
 reply_text host Delivered = codes "250 2.1.5 Delivered"
 reply_text host ShardFull = codes "452 4.3.1 Shard full"
+reply_text host ShardClosed = codes "450 4.2.1 Shard closed"
 reply_text host MailboxFull = codes "452 4.2.2 Mailbox full"
 reply_text host OutOfMemory = codes "451 4.3.0 Out of memory"
 reply_text host NoUidLeft = codes "554 5.2.0 No UID left"

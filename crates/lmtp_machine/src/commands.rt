@@ -182,6 +182,9 @@ impl Commands {
             Err(NoSuch::System) => say(out, host, Reply::DomainUnknown),
             Err(NoSuch::User) => say(out, host, Reply::MailboxUnknown),
             Ok(mailbox) => {
+                if directory.is_shut(directory.shard_of(mailbox)) {
+                    return say(out, host, Reply::ShardClosed);
+                }
                 if self.recipients.list().len() == 100 {
                     return say(out, host, Reply::TooManyRecipients);
                 }

@@ -65,6 +65,7 @@ fn refusal_reply(refusal: Refusal) -> Reply
         Refusal::MailboxFull => Reply::MailboxFull,
         Refusal::NoMemory => Reply::OutOfMemory,
         Refusal::UidSpent => Reply::NoUidLeft,
+        Refusal::Shut => Reply::ShardClosed,
     }
 }
 

@@ -38,7 +38,7 @@ pub record Goes (house : Premises) (seat : ℕ) (done : List Judged) (stream res
   pub whole : came ≡ taken ++ dropped
   pub all : (dropped ≡ []) ⊎ (over ≡ true)
   pub sunk : Appends before after told
-  pub stands : Stands house.directory house.rooms seat done taken over m (told ++ out) keeps heard sent
+  pub stands : Stands house.directory house.directory house.rooms seat done taken over m (told ++ out) keeps heard sent
 
 wire_more : (host : List ℕ) (one two : List Reply) → wire host (one ++ two) ≡ wire host one ++ wire host two
 wire_more host one two = flat_map-append (λ reply. reply_text host reply ++ crlf) one two
@@ -73,7 +73,7 @@ module _ (before mid after : Option (List ℕ)) (failed : Bool) (told : List ℕ
 module _ (house : Premises) (seat : ℕ) (done : List Judged) (stream before : Option (List ℕ)) where
   -- nothing was read yet, and nothing sent
   pub goes_begin : (m : Machine) (out : List ℕ) (keeps : List (Job × Verdict) → Type 0) (heard : List (Entry Noted)) (sent : List (List (Entry Job)))
-      → Stands house.directory house.rooms seat done [] false m out keeps heard sent → Goes house seat done stream stream before before m out keeps heard sent
+      → Stands house.directory house.directory house.rooms seat done [] false m out keeps heard sent → Goes house seat done stream stream before before m out keeps heard sent
   goes_begin m out keeps heard sent s = record {
     came = [];
     taken = [];
@@ -101,12 +101,12 @@ module _ (house : Premises) (seat : ℕ) (done : List Judged) (stream before : O
     whole = g.whole;
     all = g.all;
     sunk = Appends-trans before mid after g.told out g.sunk appends;
-    stands = subst (λ l. Stands house.directory house.rooms seat done g.taken g.over m l keeps heard sent) (sym (append-nil (g.told ++ out)) ∙ ap (λ l. (g.told ++ out) ++ l) (sym none)) g.stands;
+    stands = subst (λ l. Stands house.directory house.directory house.rooms seat done g.taken g.over m l keeps heard sent) (sym (append-nil (g.told ++ out)) ∙ ap (λ l. (g.told ++ out) ++ l) (sym none)) g.stands;
   }
 
   -- a new connection was greeted
   pub begun : (m : Machine) (out : List ℕ) (keeps : List (Job × Verdict) → Type 0) (heard : List (Entry Noted)) (sent : List (List (Entry Job))) → StandsFor m opened → out ≡ wire m.host (Greeting ∷ [])
-      → AreBooks house.directory house.rooms seat done keeps heard sent → Stands house.directory house.rooms seat done [] false m out keeps heard sent
+      → AreBooks house.directory house.rooms seat done keeps heard sent → Stands house.directory house.directory house.rooms seat done [] false m out keeps heard sent
   begun m out keeps heard sent stands said books = record {
     said = Greeting ∷ [];
     judged = [];
@@ -153,8 +153,8 @@ module _ (house : Premises) (seat : ℕ) (done : List Judged) (stream before : O
 
     -- so it stood, when this was read
     pub stood : (g : Goes house seat done stream rest before after m out keeps heard sent) → (m.commands.stage ≡ stages.Ended → ⊥)
-        → Stands house.directory house.rooms seat done g.taken false m (g.told ++ out) keeps heard sent
-    stood g not = subst (λ b. Stands house.directory house.rooms seat done g.taken b m (g.told ++ out) keeps heard sent) (going g not).2 g.stands
+        → Stands house.directory house.directory house.rooms seat done g.taken false m (g.told ++ out) keeps heard sent
+    stood g not = subst (λ b. Stands house.directory house.directory house.rooms seat done g.taken b m (g.told ++ out) keeps heard sent) (going g not).2 g.stands
 
     -- all that came was taken
     pub all_taken : (g : Goes house seat done stream rest before after m out keeps heard sent) → (m.commands.stage ≡ stages.Ended → ⊥) → g.came ≡ g.taken

@@ -57,7 +57,7 @@ pub nothing_said : (host out : List ℕ) (phase : Phase) → last_words phase �
 nothing_said host out phase e = sym (append-nil out) ∙ ap (λ l. out ++ wire host l) (sym e)
 
 nowhere : Directory
-nowhere = record { domains = []; homes = []; shards = 0 }
+nowhere = record { domains = []; homes = []; shards = 0; shut = [] }
 
 -- that it shuts down is said
 pub shut_said : (m after : Machine) (c : Conversation) (old new : List ℕ) → is_data c.standing.phase ≡ false → (m.commands.stage ≡ stages.Ended → ⊥)

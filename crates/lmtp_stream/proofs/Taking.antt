@@ -21,14 +21,14 @@ use Rattle.lmtp_stream.specs.inner.Pieces.{TookPiece, SaidByThen}
 
 module _ (d : Directory) (rooms : List Room) (p : ℕ) (done : List Judged) (bytes piece : List ℕ) (m : Machine) (out : List ℕ) (keeps : List (Job × Verdict) → Type 0) (heard : List (Entry Noted)) (sent : List (List (Entry Job))) where
   -- one turn more
-  pub turned : (used more : ℕ) (over : Bool) → Stands d rooms p done ((bytes ++ take used piece) ++ take more (take (length piece - used) (drop used piece))) over m out keeps heard sent
-      → Stands d rooms p done (bytes ++ take (used + more) piece) over m out keeps heard sent
-  turned used more over = subst (λ l. Stands d rooms p done l over m out keeps heard sent)
+  pub turned : (used more : ℕ) (over : Bool) → Stands d d rooms p done ((bytes ++ take used piece) ++ take more (take (length piece - used) (drop used piece))) over m out keeps heard sent
+      → Stands d d rooms p done (bytes ++ take (used + more) piece) over m out keeps heard sent
+  turned used more over = subst (λ l. Stands d d rooms p done l over m out keeps heard sent)
       (append_assoc bytes (take used piece) (take more (take (length piece - used) (drop used piece))) ∙ ap (λ l. bytes ++ l) (piece_more piece used more))
 
   -- so far it was taken
   pub took : (used : ℕ) (over : Bool) (next : Next) → (next ≡ nexts.Read → (drop used piece ≡ []) ⊎ (over ≡ true))
-      → Stands d rooms p done (bytes ++ take used piece) over m out keeps heard sent
+      → Stands d d rooms p done (bytes ++ take used piece) over m out keeps heard sent
       → TookPiece d rooms p done bytes piece next m out keeps heard sent
   took used over next all s = record {
     taken = take used piece;
@@ -40,20 +40,20 @@ module _ (d : Directory) (rooms : List Room) (p : ℕ) (done : List Judged) (byt
   }
 
   -- nothing was taken
-  pub took_none : Stands d rooms p done bytes false m out keeps heard sent → TookPiece d rooms p done bytes piece nexts.Shut m out keeps heard sent
+  pub took_none : Stands d d rooms p done bytes false m out keeps heard sent → TookPiece d rooms p done bytes piece nexts.Shut m out keeps heard sent
   took_none s = record {
     taken = [];
     left = piece;
     over = false;
     whole = refl;
     all = λ e. absurd (let x : nexts.Shut ≡ nexts.Read = e in cc);
-    stands = subst (λ l. Stands d rooms p done l false m out keeps heard sent) (sym (append-nil bytes)) s;
+    stands = subst (λ l. Stands d d rooms p done l false m out keeps heard sent) (sym (append-nil bytes)) s;
   }
 
   -- memory was refused, and what the turn before left in `out` is there still
   pub wanted : (used : ℕ) (setting : Setting) (host after : List ℕ) (keeps' : List (Job × Verdict) → Type 0) (heard' : List (Entry Noted)) (sent' : List (List (Entry Job)))
       → m.setting ≡ setting → m.host ≡ host → after ≡ out → ((copies : List (Job × Verdict)) → keeps copies → keeps' copies) → sent' ≡ sent → heard' ≡ heard
-      → Stands d rooms p done (bytes ++ take used piece) false m out keeps heard sent
+      → Stands d d rooms p done (bytes ++ take used piece) false m out keeps heard sent
       → SaidByThen setting host d rooms p done bytes piece after keeps' heard' sent'
   wanted used setting host after keeps' heard' sent' set same kept tells puts hears s = record {
     taken = take used piece;

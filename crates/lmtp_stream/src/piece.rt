@@ -2,11 +2,10 @@
 //! stops. What a turn does stands in `lane_work`.
 
 ghost use Rattle.std.specs.Prelude.{◌≡◌, ◌<◌, ◌++◌, ℕ, List, [], map, length, false, Err, IfOk, OnOk};
-ghost use Rattle.shard_queue.specs.Seats.{sent};
 ghost use Rattle.shard_queue.specs.Reply.{IsReceiver, received};
 ghost use Rattle.shard_queue.specs.Shared.{IsStartOf};
 ghost use Rattle.lane_work.specs.Talk.{Judged};
-ghost use Rattle.lane_work.specs.Seats.{AreSeats};
+ghost use Rattle.lane_work.specs.Seats.{AreSeated, put_by};
 ghost use Rattle.lane_work.specs.Ends.{CountsEnds};
 ghost use Rattle.lane_work.specs.Speaking.{Stands};
 ghost use Rattle.lane_work.specs.Copies.{rooms_of};
@@ -45,11 +44,11 @@ pub(crate) fn take_piece<R: Wait, G: Gate, S: Summons, N: Notebook>(
     stop: &AtomicBool,
     out: &mut Vec<u8>,
 ) -> Result<Next, Stop>
-    requires seats { AreSeats office.now.lanes.items desk.old.number desk.old.seats.items }
+    requires seats { AreSeated office.now.directory office.now.lanes.items desk.old.number desk.old.seats.items }
     requires receiver { IsReceiver channel.now desk.old.receiver }
     requires lanes { office.now.directory.shards ≡ length office.now.lanes.items }
     requires quiet { machine.old.pending ≡ [] }
-    ensures seats { AreSeats office.now.lanes.items desk.old.number desk.new.seats.items }
+    ensures seats { AreSeated office.now.directory office.now.lanes.items desk.old.number desk.new.seats.items }
     ensures receiver { IsReceiver channel.now desk.new.receiver }
     ensures number { desk.new.number ≡ desk.old.number }
     ensures ends { CountsEnds desk.old desk.new }
@@ -59,11 +58,11 @@ pub(crate) fn take_piece<R: Wait, G: Gate, S: Summons, N: Notebook>(
     ensures quiet { OnOk result (machine.new.pending ≡ []) }
     ensures same { OnOk result ((machine.new.setting ≡ machine.old.setting) × (machine.new.host ≡ machine.old.host)) }
     ensures took { IfOk result (λ next. (done : List Judged) (bytes told : List ℕ)
-        → Stands office.now.directory (rooms_of office.now.lanes.items) desk.old.number done bytes false machine.old (told ++ out.old.items) (N.tells book.old) (received desk.old.receiver) (map sent desk.old.seats.items)
-        → TookPiece office.now.directory (rooms_of office.now.lanes.items) desk.old.number done bytes piece.now next machine.new (told ++ out.new.items) (N.tells book.new) (received desk.new.receiver) (map sent desk.new.seats.items)) }
+        → Stands office.now.directory office.now.directory (rooms_of office.now.lanes.items) desk.old.number done bytes false machine.old (told ++ out.old.items) (N.tells book.old) (received desk.old.receiver) (map put_by desk.old.seats.items)
+        → TookPiece office.now.directory (rooms_of office.now.lanes.items) desk.old.number done bytes piece.now next machine.new (told ++ out.new.items) (N.tells book.new) (received desk.new.receiver) (map put_by desk.new.seats.items)) }
     ensures no_memory { result ≡ Err Stop.NoMemory → (done : List Judged) (bytes told : List ℕ)
-        → Stands office.now.directory (rooms_of office.now.lanes.items) desk.old.number done bytes false machine.old (told ++ out.old.items) (N.tells book.old) (received desk.old.receiver) (map sent desk.old.seats.items)
-        → SaidByThen machine.old.setting machine.old.host office.now.directory (rooms_of office.now.lanes.items) desk.old.number done bytes piece.now (told ++ out.new.items) (N.tells book.new) (received desk.new.receiver) (map sent desk.new.seats.items) }
+        → Stands office.now.directory office.now.directory (rooms_of office.now.lanes.items) desk.old.number done bytes false machine.old (told ++ out.old.items) (N.tells book.old) (received desk.old.receiver) (map put_by desk.old.seats.items)
+        → SaidByThen machine.old.setting machine.old.host office.now.directory (rooms_of office.now.lanes.items) desk.old.number done bytes piece.now (told ++ out.new.items) (N.tells book.new) (received desk.new.receiver) (map put_by desk.new.seats.items) }
 {
     if stop.load(Ordering::SeqCst) {
         return Ok(Next::Shut);
@@ -76,6 +75,7 @@ pub(crate) fn take_piece<R: Wait, G: Gate, S: Summons, N: Notebook>(
             alloc,
             pace,
             office,
+            &office.directory,
             summons,
             channel,
             desk,

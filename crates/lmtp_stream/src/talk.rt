@@ -6,11 +6,10 @@ ghost use Rattle.lmtp_machine.specs.declared.reply.Reply.TheVariants.{Greeting};
 ghost use Rattle.lmtp_machine.specs.Conversation.{opened};
 ghost use Rattle.lmtp_machine.specs.Machine.{StandsFor};
 ghost use Rattle.lmtp_machine.specs.Replies.{wire};
-ghost use Rattle.shard_queue.specs.Seats.{sent};
 ghost use Rattle.shard_queue.specs.Reply.{IsReceiver, received};
 ghost use Rattle.shard_queue.specs.Shared.{IsStartOf};
 ghost use Rattle.lane_work.specs.Talk.{Judged};
-ghost use Rattle.lane_work.specs.Seats.{AreSeats};
+ghost use Rattle.lane_work.specs.Seats.{AreSeated, put_by};
 ghost use Rattle.lane_work.specs.Account.{AreBooks, setting_at};
 ghost use Rattle.lane_work.specs.Ends.{CountsEnds};
 ghost use Rattle.lane_work.specs.Speaking.{Stands, premises_of};
@@ -74,14 +73,14 @@ fn go_on<R: Wait, G: Gate, S: Summons, N: Notebook, I: Read, O: Sink>(
     buffer: &mut [u8],
     out: &mut Vec<u8>,
 ) -> Result<Ending, TalkFault>
-    requires seats { AreSeats office.now.lanes.items desk.old.number desk.old.seats.items }
+    requires seats { AreSeated office.now.directory office.now.lanes.items desk.old.number desk.old.seats.items }
     requires receiver { IsReceiver channel.now desk.old.receiver }
     requires lanes { office.now.directory.shards ≡ length office.now.lanes.items }
     requires quiet { machine.old.pending ≡ [] }
     requires host { machine.old.host ≡ office.now.host.items }
     requires live { O.failed output.old ≡ false }
     requires room { 0 < length buffer.old }
-    ensures seats { AreSeats office.now.lanes.items desk.old.number desk.new.seats.items }
+    ensures seats { AreSeated office.now.directory office.now.lanes.items desk.old.number desk.new.seats.items }
     ensures receiver { IsReceiver channel.now desk.new.receiver }
     ensures number { desk.new.number ≡ desk.old.number }
     ensures ends { CountsEnds desk.old desk.new }
@@ -92,9 +91,9 @@ fn go_on<R: Wait, G: Gate, S: Summons, N: Notebook, I: Read, O: Sink>(
     ensures live { OnOk result (O.failed output.new ≡ false) }
     ensures failed { result ≡ Err TalkFault.Write → O.failed output.new ≡ true }
     ensures played { (done : List Judged)
-        → Stands office.now.directory (rooms_of office.now.lanes.items) desk.old.number done [] false machine.old out.old.items (N.tells book.old) (received desk.old.receiver) (map sent desk.old.seats.items)
+        → Stands office.now.directory office.now.directory (rooms_of office.now.lanes.items) desk.old.number done [] false machine.old out.old.items (N.tells book.old) (received desk.old.receiver) (map put_by desk.old.seats.items)
         → IsPlayed (premises_of office.now) machine.old.setting desk.old.number done (I.remaining input.old) (I.remaining input.new) (O.taken output.old) (O.taken output.new) (O.failed output.new)
-        (N.tells book.new) (received desk.new.receiver) (map sent desk.new.seats.items) result }
+        (N.tells book.new) (received desk.new.receiver) (map put_by desk.new.seats.items) result }
 {
     for _ in rt.forever() {
         let Ok(()) = send(output, out.as_slice()) else {
@@ -167,13 +166,13 @@ pub fn converse<R: Wait, G: Gate, S: Summons, N: Notebook, I: Read, O: Sink>(
     buffer: &mut [u8],
     out: &mut Vec<u8>,
 ) -> Result<Ending, TalkFault>
-    requires seats { AreSeats office.now.lanes.items desk.old.number desk.old.seats.items }
+    requires seats { AreSeated office.now.directory office.now.lanes.items desk.old.number desk.old.seats.items }
     requires receiver { IsReceiver channel.now desk.old.receiver }
     requires lanes { office.now.directory.shards ≡ length office.now.lanes.items }
     requires host { length office.now.host.items < 256 }
     requires live { O.failed output.old ≡ false }
     requires room { 0 < length buffer.old }
-    ensures seats { AreSeats office.now.lanes.items desk.old.number desk.new.seats.items }
+    ensures seats { AreSeated office.now.directory office.now.lanes.items desk.old.number desk.new.seats.items }
     ensures receiver { IsReceiver channel.now desk.new.receiver }
     ensures number { desk.new.number ≡ desk.old.number }
     ensures ends { CountsEnds desk.old desk.new }
@@ -184,9 +183,9 @@ pub fn converse<R: Wait, G: Gate, S: Summons, N: Notebook, I: Read, O: Sink>(
     ensures live { OnOk result (O.failed output.new ≡ false) }
     ensures failed { result ≡ Err TalkFault.Write → O.failed output.new ≡ true }
     ensures played { (done : List Judged)
-        → AreBooks office.now.directory (rooms_of office.now.lanes.items) desk.old.number done (N.tells book.old) (received desk.old.receiver) (map sent desk.old.seats.items)
+        → AreBooks office.now.directory (rooms_of office.now.lanes.items) desk.old.number done (N.tells book.old) (received desk.old.receiver) (map put_by desk.old.seats.items)
         → IsPlayed (premises_of office.now) (setting_at (premises_of office.now) desk.old.number serial) desk.old.number done (I.remaining input.old) (I.remaining input.new) (O.taken output.old) (O.taken output.new) (O.failed output.new)
-        (N.tells book.new) (received desk.new.receiver) (map sent desk.new.seats.items) result }
+        (N.tells book.new) (received desk.new.receiver) (map put_by desk.new.seats.items) result }
 {
     out.clear();
     let Ok(mut machine) = open(alloc, office, desk.number, serial, out) else {

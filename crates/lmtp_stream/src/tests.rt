@@ -1,19 +1,19 @@
 //! Connections over readers and sinks of a test, with one lane and one channel: in one piece and byte by byte, pipelined, broken off on
 //! either side, and shut at each place where the house may stop.
 
-ghost use Rattle.std.specs.Prelude.{◌≡◌, ◌<◌, ◌≤◌, ◌∷◌, [], Some, IfSome, IfOk, length, vec_len, vec_capacity};
-ghost use Rattle.shard_queue.specs.Seats.{IsConsumer};
+ghost use Rattle.std.specs.Prelude.{◌≡◌, ◌<◌, ◌≤◌, ◌∷◌, [], Some, IfSome, IfOk, OnOk, length, vec_len, vec_capacity};
+ghost use Rattle.shard_queue.specs.Seats.{IsConsumer, IsProducer, number_of};
 ghost use Rattle.shard_queue.specs.Reply.{IsReceiver, IsSender};
-ghost use Rattle.lane_work.specs.Seats.{AreSeats};
+ghost use Rattle.lane_work.specs.Seats.{AreSeated};
 
 use crate::{Ending, TalkFault, converse};
 use delivery_token::{Job, Noted, Verdict};
 use envelope::Directory;
-use lane_work::{Desk, Office, Summons, Unkept};
+use lane_work::{Desk, LaneSeat, Office, Summons, Unkept};
 use line_io::Sink;
 use pace::{Actor, Gate, Pace};
 use shard_queue::{
-    ConsumerSeat, ProducerSeat, ReceiverSeat, ReplyChannel, SenderSeat, ShardQueue, Taken,
+    ConsumerSeat, Ended, ProducerSeat, ReceiverSeat, ReplyChannel, SenderSeat, ShardQueue, Taken,
 };
 use std::alloc::{AllocError, Global};
 use std::io::{Error, ErrorKind, Read, Result as IoResult};
@@ -374,10 +374,11 @@ fn talk<R: Wait, S: Summons>(
     stop: &AtomicBool,
     case: &Case,
 ) -> Result<bool, AllocError>
-    requires seats { AreSeats office.now.lanes.items desk.old.number desk.old.seats.items }
+    requires seats { AreSeated office.now.directory office.now.lanes.items desk.old.number desk.old.seats.items }
     requires receiver { IsReceiver channel.now desk.old.receiver }
     requires lanes { office.now.directory.shards ≡ length office.now.lanes.items }
     requires host { length office.now.host.items < 256 }
+    ensures { length desk.new.seats.items ≡ length office.now.lanes.items }
 {
     let mut input = Pieces {
         pieces: case.pieces,
@@ -434,12 +435,13 @@ fn with_clerk<R: Wait>(
     SenderSeat<Noted>,
     Result<bool, AllocError>,
 )
-    requires seats { AreSeats office.now.lanes.items desk.old.number desk.old.seats.items }
+    requires seats { AreSeated office.now.directory office.now.lanes.items desk.old.number desk.old.seats.items }
     requires receiver { IsReceiver channel.now desk.old.receiver }
     requires lanes { office.now.directory.shards ≡ length office.now.lanes.items }
     requires host { length office.now.host.items < 256 }
     requires takes { IsConsumer lane.now seat }
     requires answers { IsSender channel.now sender }
+    ensures { length desk.new.seats.items ≡ length office.now.lanes.items }
 {
     let stop = AtomicBool::new(false);
     let counter = Counter {
@@ -476,7 +478,7 @@ fn directory(alloc: Global) -> Option<Directory>
 // The seats of one lane and one channel, each with one that puts and one that takes.
 struct Seats {
     lane: ShardQueue<Job>,
-    hand: Vec<ProducerSeat<Job>>,
+    producer: ProducerSeat<Job>,
     seat: ConsumerSeat<Job>,
     channel: ReplyChannel<Noted>,
     sender: SenderSeat<Noted>,
@@ -484,12 +486,12 @@ struct Seats {
 }
 
 fn make_seats(alloc: Global) -> Result<Seats, AllocError>
-    ensures hand { IfOk result (λ s. AreSeats (s.lane ∷ []) 0 s.hand.items) }
+    ensures producer { IfOk result (λ s. IsProducer s.lane s.producer × (number_of s.producer ≡ 0)) }
     ensures seat { IfOk result (λ s. IsConsumer s.lane s.seat) }
     ensures sender { IfOk result (λ s. IsSender s.channel s.sender) }
     ensures receiver { IfOk result (λ s. IsReceiver s.channel s.receiver) }
 {
-    let (lane, hand, seat) = ShardQueue::new(alloc, 4, 1)?;
+    let (lane, mut hand, seat) = ShardQueue::new(alloc, 4, 1)?;
     let (channel, mut senders, receiver) = match ReplyChannel::new(alloc, 4, 1) {
         Ok(made) => made,
         Err(e) => {
@@ -499,9 +501,11 @@ fn make_seats(alloc: Global) -> Result<Seats, AllocError>
     };
     let sender = senders.remove(0);
     senders.destroy_empty();
+    let producer = hand.remove(0);
+    hand.destroy_empty();
     Ok(Seats {
         lane,
-        hand,
+        producer,
         seat,
         channel,
         sender,
@@ -509,43 +513,111 @@ fn make_seats(alloc: Global) -> Result<Seats, AllocError>
     })
 }
 
-// Lists with room for one, of the lanes and of the seats that come back.
+// Lists with room for one, of the lanes and of the seats, before and after.
 struct Room {
     lanes: Vec<ShardQueue<Job>>,
+    hand: Vec<LaneSeat>,
+    live: Vec<ProducerSeat<Job>>,
+    ended: Vec<Ended<Job>>,
     back: Vec<SenderSeat<Noted>>,
 }
 
-fn make_room(alloc: Global) -> Result<Room, AllocError>
-    ensures lanes { IfOk result (λ r. (r.lanes.items ≡ []) × (1 ≤ vec_capacity r.lanes)) }
-    ensures back { IfOk result (λ r. (r.back.items ≡ []) × (1 ≤ vec_capacity r.back)) }
+fn no_room(alloc: Global) -> Room
+    ensures { (result.lanes.items ≡ []) × (result.hand.items ≡ []) × (result.live.items ≡ []) × (result.ended.items ≡ []) × (result.back.items ≡ []) }
 {
-    let lanes = Vec::with_capacity(alloc, 1)?;
-    let back = match Vec::with_capacity(alloc, 1) {
-        Ok(back) => back,
+    Room {
+        lanes: Vec::new(alloc),
+        hand: Vec::new(alloc),
+        live: Vec::new(alloc),
+        ended: Vec::new(alloc),
+        back: Vec::new(alloc),
+    }
+}
+
+fn spend_room(room: Room)
+    requires { (room.lanes.items ≡ []) × (room.hand.items ≡ []) × (room.live.items ≡ []) × (room.ended.items ≡ []) × (room.back.items ≡ []) }
+{
+    let Room {
+        lanes,
+        hand,
+        live,
+        ended,
+        back,
+    } = room;
+    lanes.destroy_empty();
+    hand.destroy_empty();
+    live.destroy_empty();
+    ended.destroy_empty();
+    back.destroy_empty();
+}
+
+fn reserve(room: &mut Room) -> Result<(), AllocError>
+    requires { (room.old.lanes.items ≡ []) × (room.old.hand.items ≡ []) × (room.old.live.items ≡ []) × (room.old.ended.items ≡ []) × (room.old.back.items ≡ []) }
+    ensures empty { (room.new.lanes.items ≡ []) × (room.new.hand.items ≡ []) × (room.new.live.items ≡ []) × (room.new.ended.items ≡ []) × (room.new.back.items ≡ []) }
+    ensures room { OnOk result ((1 ≤ vec_capacity room.new.lanes) × (1 ≤ vec_capacity room.new.hand) × (1 ≤ vec_capacity room.new.live) × (1 ≤ vec_capacity room.new.ended) × (1 ≤ vec_capacity room.new.back)) }
+{
+    room.lanes.reserve(1)?;
+    room.hand.reserve(1)?;
+    room.live.reserve(1)?;
+    room.ended.reserve(1)?;
+    room.back.reserve(1)?;
+    Ok(())
+}
+
+fn make_room(alloc: Global) -> Result<Room, AllocError>
+    ensures empty { IfOk result (λ r. (r.lanes.items ≡ []) × (r.hand.items ≡ []) × (r.live.items ≡ []) × (r.ended.items ≡ []) × (r.back.items ≡ [])) }
+    ensures room { IfOk result (λ r. (1 ≤ vec_capacity r.lanes) × (1 ≤ vec_capacity r.hand) × (1 ≤ vec_capacity r.live) × (1 ≤ vec_capacity r.ended) × (1 ≤ vec_capacity r.back)) }
+{
+    let mut room = no_room(alloc);
+    match reserve(&mut room) {
+        Ok(()) => Ok(room),
         Err(e) => {
-            lanes.destroy_empty();
-            return Err(e);
+            spend_room(room);
+            Err(e)
         }
-    };
-    Ok(Room { lanes, back })
+    }
+}
+
+// The seat of a desk goes to those that may put still, or to what is left of the others.
+fn sort(desk_seats: Vec<LaneSeat>, live: &mut Vec<ProducerSeat<Job>>, ended: &mut Vec<Ended<Job>>)
+    requires seats { vec_len desk_seats ≡ 1 }
+    requires live { vec_len live.old < vec_capacity live.old }
+    requires ended { vec_len ended.old < vec_capacity ended.old }
+{
+    let mut seats = desk_seats;
+    match seats.remove(0) {
+        LaneSeat::Live(seat) => live.push_reserved(seat),
+        LaneSeat::Over(left) => ended.push_reserved(left),
+    }
+    seats.destroy_empty();
+}
+
+// What comes back when the connection is over.
+struct Back {
+    live: Vec<ProducerSeat<Job>>,
+    ended: Vec<Ended<Job>>,
+    senders: Vec<SenderSeat<Noted>>,
 }
 
 // What is left goes.
 fn spend(
-    alloc: Global,
     office: Office,
     desk: Desk,
     channel: ReplyChannel<Noted>,
     seat: ConsumerSeat<Job>,
-    back: Vec<SenderSeat<Noted>>,
+    back: Back,
+    alloc: Global,
 )
-    requires { vec_len office.lanes ≡ 1 }
+    requires lanes { vec_len office.lanes ≡ 1 }
+    requires seats { vec_len desk.seats ≡ 1 }
+    requires room { (vec_len back.live < vec_capacity back.live) × (vec_len back.ended < vec_capacity back.ended) }
 {
     let Office {
         directory: _,
         host: _,
         max_message: _,
         mut lanes,
+        closings: _,
     } = office;
     let Desk {
         number: _,
@@ -553,10 +625,16 @@ fn spend(
         receiver,
         ends: _,
     } = desk;
+    let Back {
+        mut live,
+        mut ended,
+        senders,
+    } = back;
+    sort(seats, &mut live, &mut ended);
     let lane = lanes.remove(0);
     lanes.destroy_empty();
-    lane.abandon(seats, Vec::new(alloc), seat);
-    channel.abandon(back, Vec::new(alloc), receiver);
+    lane.abandon(live, ended, seat);
+    channel.abandon(senders, Vec::new(alloc), receiver);
 }
 
 // A case is played in a house of these seats.
@@ -571,31 +649,36 @@ fn play_in<R: Wait>(
 ) -> Result<bool, AllocError>
     requires shards { directory.shards ≡ 1 }
     requires host { vec_len host < 256 }
-    requires lanes { (room.lanes.items ≡ []) × (1 ≤ vec_capacity room.lanes) }
-    requires back { (room.back.items ≡ []) × (1 ≤ vec_capacity room.back) }
-    requires hand { AreSeats (seats.lane ∷ []) 0 seats.hand.items }
+    requires empty { (room.lanes.items ≡ []) × (room.hand.items ≡ []) × (room.live.items ≡ []) × (room.ended.items ≡ []) × (room.back.items ≡ []) }
+    requires room { (1 ≤ vec_capacity room.lanes) × (1 ≤ vec_capacity room.hand) × (1 ≤ vec_capacity room.live) × (1 ≤ vec_capacity room.ended) × (1 ≤ vec_capacity room.back) }
+    requires producer { IsProducer seats.lane seats.producer × (number_of seats.producer ≡ 0) }
     requires seat { IsConsumer seats.lane seats.seat }
     requires sender { IsSender seats.channel seats.sender }
     requires receiver { IsReceiver seats.channel seats.receiver }
 {
     let Room {
         mut lanes,
-        mut back,
+        mut hand,
+        live,
+        ended,
+        back: mut senders,
     } = room;
     let Seats {
         lane,
-        hand,
+        producer,
         seat,
         channel,
         sender,
         receiver,
     } = seats;
     lanes.push_reserved(lane);
+    hand.push_reserved(LaneSeat::Live(producer));
     let office = Office {
         directory,
         host,
         max_message: 100,
         lanes,
+        closings: Vec::new(alloc),
     };
     let mut desk = Desk {
         number: 0,
@@ -607,8 +690,13 @@ fn play_in<R: Wait>(
     let (seat, sender, told) = with_clerk(
         rt, alloc, &office, served, &channel, &mut desk, seat, sender, case,
     );
-    back.push_reserved(sender);
-    spend(alloc, office, desk, channel, seat, back);
+    senders.push_reserved(sender);
+    let back = Back {
+        live,
+        ended,
+        senders,
+    };
+    spend(office, desk, channel, seat, back, alloc);
     told
 }
 
@@ -622,9 +710,7 @@ fn play<R: Wait>(rt: &R, alloc: Global, case: &Case) -> Result<bool, AllocError>
     let seats = match make_seats(alloc) {
         Ok(seats) => seats,
         Err(e) => {
-            let Room { lanes, back } = room;
-            lanes.destroy_empty();
-            back.destroy_empty();
+            spend_room(room);
             return Err(e);
         }
     };

@@ -218,6 +218,7 @@ impl Mailbox {
         ensures spent { (result ≡ Err Refusal.UidSpent) ↔ (is_spent job.now.flags self.old ≡ true) }
         ensures full { (result ≡ Err Refusal.MailboxFull) ↔ ((is_spent job.now.flags self.old ≡ false) × (is_full self.old ≡ true)) }
         ensures not_queued { (result ≡ Err Refusal.Full) → ⊥ }
+        ensures not_shut { (result ≡ Err Refusal.Shut) → ⊥ }
         ensures err { OnErr result (self.new ≡ self.old) }
 
         // One event more, on every log for which the mailbox stood.

@@ -175,6 +175,7 @@ LeavesNot NoMemory m seat changes = ⊥
 -- why a copy with these flags was not stored: the first of these that holds
 abbrev pub DeliversNot : Refusal → Flags → Mail → Type 0
 DeliversNot copy.Full flags m = ⊥
+DeliversNot copy.Shut flags m = ⊥
 DeliversNot copy.UidSpent flags m = is_spent flags m ≡ true
 DeliversNot copy.MailboxFull flags m = (is_spent flags m ≡ false) × (is_full m ≡ true)
 DeliversNot copy.NoMemory flags m = (is_spent flags m ≡ false) × (is_full m ≡ false)

@@ -20,7 +20,7 @@ use mailbox::{MailFault, Mailbox, Opening, Receipt, Row, Status, View, every_mai
 ///
 /// Refused, in this order, as UidSpent where the next UID would be 4,294,967,295 or the log, of
 /// 2^62 changes at most, has no room for all of them, as MailboxFull where as many messages are
-/// there as may be, and as NoMemory where memory is refused; never as Full. The mailbox is then
+/// there as may be, and as NoMemory where memory is refused; never as Full, nor as Shut. The mailbox is then
 /// unchanged.
 pub fn deliver(mailbox: &mut Mailbox, job: &Job) -> Result<Receipt, Refusal>
     ensures { DoesDeliver mailbox.old job.now result mailbox.new }

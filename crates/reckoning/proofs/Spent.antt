@@ -33,7 +33,7 @@ fits f each count xs into empty room all few =
 
 -- where what the first leave is there, there is room for what the others leave
 pub fits_behind : {X Y T : Type 0} (f : X → ℕ) (g : Y → ℕ) (each count : ℕ) (xs : List X) (ys : List Y) (old new : Vec T Global) → old.items ≡ [] → count * each ≤ vec_capacity old
-    → (vec_len new ≡ vec_len old + sum_by f xs) × (vec_capacity new ≡ vec_capacity old) → All (λ x. f x ≤ each) xs → All (λ y. g y ≤ each) ys → length xs + length ys ≡ count
+    → (vec_len new ≤ vec_len old + sum_by f xs) × (vec_capacity new ≡ vec_capacity old) → All (λ x. f x ≤ each) xs → All (λ y. g y ≤ each) ys → length xs + length ys ≡ count
     → vec_len new + sum_by g ys ≤ vec_capacity new
 fits_behind f g each count xs ys old new empty room grown all others same =
     let none : length old.items ≡ 0 = ap length empty in
@@ -41,9 +41,6 @@ fits_behind f g each count xs ys old new empty room grown all others same =
 
 pub seats_of_posts : (lanes : ℕ) (posts : List Post) → All (IsPostLeft lanes) posts → All (λ (p : Post). vec_len p.desk.seats ≤ lanes) posts
 seats_of_posts lanes posts left = All-weaker (IsPostLeft lanes) (λ (p : Post). vec_len p.desk.seats ≤ lanes) (λ p h. omega (arith, h)) posts left
-
-pub rooms_of_posts : (lanes : ℕ) (posts : List Post) → All (IsPostLeft lanes) posts → All (λ (p : Post). vec_len p.room ≤ lanes) posts
-rooms_of_posts lanes posts left = All-weaker (IsPostLeft lanes) (λ (p : Post). vec_len p.room ≤ lanes) (λ p h. omega (arith, h)) posts left
 
 pub senders_of_stands : (producers : ℕ) (stands : List Stand) → All (IsStandLeft producers) stands → All (λ (s : Stand). vec_len s.stall.senders ≤ producers) stands
 senders_of_stands producers stands left = All-weaker (IsStandLeft producers) (λ (s : Stand). vec_len s.stall.senders ≤ producers) (λ s h. h.0) stands left

@@ -4,14 +4,14 @@
 ghost use Rattle.std.specs.Prelude.{◌≡◌, ◌<◌, ◌≤◌, ◌+◌, [], All, length, sum_by, vec_len, vec_capacity};
 ghost use Rattle.house_floor.specs.Opening.{AreBaskets};
 ghost use Rattle.house_threads.specs.Crew.{IsSpendable};
-ghost use Rattle.reckoning.specs.inner.Spending.{HasGrown};
+ghost use Rattle.reckoning.specs.inner.Spending.{HasGrown, HasGrownAtMost};
 
 use crate::remains::{Remains, remains_of};
 use delivery_token::{Job, Noted};
 use house_floor::{Baskets, Floor, Post, Spares, Stand};
 use house_threads::Ran;
 use lane_seats::spend_lists;
-use lane_work::{Consumed, Desk, Stall, Worked};
+use lane_work::{Consumed, Desk, LaneSeat, Stall, Worked};
 use shard_queue::{
     ConsumerSeat, Ended, ProducerSeat, ReceiverSeat, ReplyChannel, SenderEnded, SenderSeat,
     ShardQueue,
@@ -29,6 +29,22 @@ fn pour<T>(mut from: Vec<T>, into: &mut Vec<T>)
     from.destroy_empty();
 }
 
+// Sorts a producer's seats: those that may put still, and what is left of those that are over.
+fn sort(mut from: Vec<LaneSeat>, seats: &mut Vec<ProducerSeat<Job>>, ended: &mut Vec<Ended<Job>>)
+    requires seats { vec_len seats.old + vec_len from ≤ vec_capacity seats.old }
+    requires ended { vec_len ended.old + vec_len from ≤ vec_capacity ended.old }
+    ensures seats { HasGrownAtMost (vec_len from) seats.old seats.new }
+    ensures ended { HasGrownAtMost (vec_len from) ended.old ended.new }
+{
+    while let Some(one) = from.pop() {
+        match one {
+            LaneSeat::Live(seat) => seats.push_reserved(seat),
+            LaneSeat::Over(left) => ended.push_reserved(left),
+        }
+    }
+    from.destroy_empty();
+}
+
 // Takes apart a post that never had a thread.
 fn clear_post(
     post: Post,
@@ -38,20 +54,20 @@ fn clear_post(
 )
     requires receivers { vec_len receivers.old < vec_capacity receivers.old }
     requires seats { vec_len seats.old + vec_len post.desk.seats ≤ vec_capacity seats.old }
-    requires ended { vec_len ended.old + vec_len post.room ≤ vec_capacity ended.old }
+    requires ended { vec_len ended.old + (vec_len post.desk.seats + vec_len post.room) ≤ vec_capacity ended.old }
     ensures receivers { HasGrown 1 receivers.old receivers.new }
-    ensures seats { HasGrown (vec_len post.desk.seats) seats.old seats.new }
-    ensures ended { HasGrown (vec_len post.room) ended.old ended.new }
+    ensures seats { HasGrownAtMost (vec_len post.desk.seats) seats.old seats.new }
+    ensures ended { HasGrownAtMost (vec_len post.desk.seats + vec_len post.room) ended.old ended.new }
 {
     let Post { desk, room } = post;
     let Desk {
         number: _,
-        seats: live,
+        seats: own,
         receiver,
         ends: _,
     } = desk;
     receivers.push_reserved(receiver);
-    pour(live, seats);
+    sort(own, seats, ended);
     pour(room, ended);
 }
 
@@ -64,9 +80,9 @@ fn clear_posts(
 )
     requires receivers { vec_len receivers.old + vec_len posts ≤ vec_capacity receivers.old }
     requires seats { vec_len seats.old + sum_by (λ p. vec_len p.desk.seats) posts.items ≤ vec_capacity seats.old }
-    requires ended { vec_len ended.old + sum_by (λ p. vec_len p.room) posts.items ≤ vec_capacity ended.old }
+    requires ended { vec_len ended.old + sum_by (λ p. vec_len p.desk.seats + vec_len p.room) posts.items ≤ vec_capacity ended.old }
     ensures receivers { HasGrown (vec_len posts) receivers.old receivers.new }
-    ensures ended { HasGrown (sum_by (λ p. vec_len p.room) posts.items) ended.old ended.new }
+    ensures ended { HasGrownAtMost (sum_by (λ p. vec_len p.desk.seats + vec_len p.room) posts.items) ended.old ended.new }
 {
     while let Some(post) = posts.pop() {
         clear_post(post, receivers, seats, ended);

@@ -40,6 +40,7 @@ pub fn remains_of(floor: Floor) -> Remains
         host: _,
         max_message: _,
         lanes,
+        closings: _,
     } = office;
     let Depot {
         mailboxes,

@@ -3,7 +3,7 @@ use Rattle.std.proofs.Common.{◌≡◌, ℕ, Bool, true, false, ◌==◌, List,
 use Rattle.std.specs.Prelude.{Result, Ok, Err, nat_lt, replicate, if◌then◌else◌}
 use Rattle.dot_stuffing.specs.declared.Outcome.{Outcome}
 use Rattle.dot_stuffing.specs.declared.Outcome.TheVariants as outcomes
-use Rattle.envelope.specs.Directory.{Directory, lookup}
+use Rattle.envelope.specs.Directory.{Directory, is_shut, lookup, shard_of}
 use Rattle.envelope.specs.Reading.{read}
 use Rattle.envelope.specs.Values.{Path, Command}
 use Rattle.envelope.specs.Values as say
@@ -11,7 +11,7 @@ use Rattle.envelope.specs.declared.command.CommandFault.{CommandFault}
 use Rattle.envelope.specs.declared.directory.NoSuch.{NoSuch}
 use Rattle.envelope.specs.declared.directory.NoSuch.TheVariants.{System, User}
 use Rattle.lmtp_machine.specs.declared.reply.Reply.{Reply}
-use Rattle.lmtp_machine.specs.declared.reply.Reply.TheVariants.{LineTooLong, RecipientOk, SenderOk, ShuttingDown, TooManyRecipients}
+use Rattle.lmtp_machine.specs.declared.reply.Reply.TheVariants.{LineTooLong, RecipientOk, SenderOk, ShardClosed, ShuttingDown, TooManyRecipients}
 use Rattle.lmtp_machine.specs.declared.reply.Reply.TheVariants as replies
 use Rattle.lmtp_machine.specs.Message.{outcome, plain, sender_text}
 use Rattle.lmtp_machine.specs.Dialogue.{Phase, Start, Ready, Transaction, Data, Waiting, Ended, Setting, Standing, Turn, turn, refuse, at_end, is_dot, last_number, on_command, on_command_line, on_data, on_data_line, on_line, on_mail, on_outcome, on_rcpt, on_reading, on_recipient}
@@ -32,16 +32,22 @@ mail_one (Data sender recipients lines) n path = refl
 mail_one (Waiting count) n path = refl
 mail_one Ended n path = refl
 
-recipient_one : (sender recipients : List ℕ) (n : ℕ) (found : Result ℕ NoSuch) → HasOne (on_recipient sender recipients n found)
-recipient_one sender recipients n (Err System) = refl
-recipient_one sender recipients n (Err User) = refl
-recipient_one sender recipients n (Ok mailbox) =
+room_one : (sender recipients : List ℕ) (n mailbox : ℕ)
+    → HasOne (if length recipients == 100 then turn (Transaction sender recipients) n (TooManyRecipients ∷ []) else turn (Transaction sender (recipients ++ mailbox ∷ [])) n (RecipientOk ∷ []))
+room_one sender recipients n mailbox =
     either_one (length recipients == 100) (turn (Transaction sender recipients) n (TooManyRecipients ∷ [])) (turn (Transaction sender (recipients ++ mailbox ∷ [])) n (RecipientOk ∷ [])) refl refl
+
+recipient_one : (directory : Directory) (sender recipients : List ℕ) (n : ℕ) (found : Result ℕ NoSuch) → HasOne (on_recipient directory sender recipients n found)
+recipient_one directory sender recipients n (Err System) = refl
+recipient_one directory sender recipients n (Err User) = refl
+recipient_one directory sender recipients n (Ok mailbox) =
+    either_one (is_shut directory (shard_of directory mailbox)) (turn (Transaction sender recipients) n (ShardClosed ∷ []))
+    (if length recipients == 100 then turn (Transaction sender recipients) n (TooManyRecipients ∷ []) else turn (Transaction sender (recipients ++ mailbox ∷ [])) n (RecipientOk ∷ [])) refl (room_one sender recipients n mailbox)
 
 rcpt_one : (directory : Directory) (phase : Phase) (n : ℕ) (path : Path) → HasOne (on_rcpt directory phase n path)
 rcpt_one directory Start n path = refl
 rcpt_one directory Ready n path = refl
-rcpt_one directory (Transaction sender recipients) n path = recipient_one sender recipients n (lookup directory path)
+rcpt_one directory (Transaction sender recipients) n path = recipient_one directory sender recipients n (lookup directory path)
 rcpt_one directory (Data sender recipients lines) n path = refl
 rcpt_one directory (Waiting count) n path = refl
 rcpt_one directory Ended n path = refl

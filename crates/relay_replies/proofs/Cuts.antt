@@ -9,7 +9,7 @@ use Rattle.std.proofs.lemmas.List.Folds.{list_all-append}
 use Rattle.line_io.specs.Wire.{IsUncut, crlf, joined}
 use Rattle.line_io.specs.inner.WireLaws.{wire_joined}
 use Rattle.lmtp_machine.specs.declared.reply.Reply.{Reply}
-use Rattle.lmtp_machine.specs.declared.reply.Reply.TheVariants.{Greeting, LineTooLong, CommandUnknown, NotImplemented, BadClientName, InvalidArguments, PathTooLong, ParameterUnknown, BadSequence, Extensions, SenderOk, DomainUnknown, MailboxUnknown, TooManyRecipients, RecipientOk, StartInput, Okay, CannotVerify, Bye, ShuttingDown, Delivered, ShardFull, MailboxFull, OutOfMemory, NoUidLeft, MessageTooBig, NulByte}
+use Rattle.lmtp_machine.specs.declared.reply.Reply.TheVariants.{Greeting, LineTooLong, CommandUnknown, NotImplemented, BadClientName, InvalidArguments, PathTooLong, ParameterUnknown, BadSequence, Extensions, SenderOk, DomainUnknown, MailboxUnknown, TooManyRecipients, RecipientOk, StartInput, Okay, CannotVerify, Bye, ShuttingDown, Delivered, ShardFull, ShardClosed, MailboxFull, OutOfMemory, NoUidLeft, MessageTooBig, NulByte}
 use Rattle.lmtp_machine.specs.Replies.{reply_text, wire}
 use Rattle.relay_replies.specs.Relay.{last_lines, replies_of}
 use Rattle.relay_replies.specs.Laws.{IsInLine, last_line}
@@ -66,6 +66,7 @@ lines_uncut host Bye h = one_uncut (reply_text host Bye) refl
 lines_uncut host ShuttingDown h = one_uncut (reply_text host ShuttingDown) refl
 lines_uncut host Delivered h = one_uncut (reply_text host Delivered) refl
 lines_uncut host ShardFull h = one_uncut (reply_text host ShardFull) refl
+lines_uncut host ShardClosed h = one_uncut (reply_text host ShardClosed) refl
 lines_uncut host MailboxFull h = one_uncut (reply_text host MailboxFull) refl
 lines_uncut host OutOfMemory h = one_uncut (reply_text host OutOfMemory) refl
 lines_uncut host NoUidLeft h = one_uncut (reply_text host NoUidLeft) refl
@@ -96,6 +97,7 @@ lines_joined host Bye = refl
 lines_joined host ShuttingDown = refl
 lines_joined host Delivered = refl
 lines_joined host ShardFull = refl
+lines_joined host ShardClosed = refl
 lines_joined host MailboxFull = refl
 lines_joined host OutOfMemory = refl
 lines_joined host NoUidLeft = refl
@@ -126,6 +128,7 @@ last_read host Bye rest = refl
 last_read host ShuttingDown rest = refl
 last_read host Delivered rest = refl
 last_read host ShardFull rest = refl
+last_read host ShardClosed rest = refl
 last_read host MailboxFull rest = refl
 last_read host OutOfMemory rest = refl
 last_read host NoUidLeft rest = refl

@@ -28,10 +28,13 @@ last_lines-append (x ∷ xs) ys = by (goes_on x) (last_lines-append xs ys)
     by true more = more
     by false more = ap (λ (l : List (List ℕ)). x ∷ l) more
 
+-- what is read of a front is the first of what is read of all
+pub replies_of_front : (told untold : List ℕ) → replies_of (told ++ untold) ≡ replies_of told ++ last_lines (wire_lines (wire_rest told ++ untold))
+replies_of_front told untold = ap last_lines (lines_of_front told untold) ∙ last_lines-append (wire_lines told) (wire_lines (wire_rest told ++ untold))
+
 pub fronts_are_read : (host : List ℕ) (replies : List Reply) (told untold : List ℕ) → IsInLine host → told ++ untold ≡ wire host replies
     → (more : List (List ℕ)) × (map (last_line host) replies ≡ replies_of told ++ more)
 fronts_are_read host replies told untold h e = (
   last_lines (wire_lines (wire_rest told ++ untold)),
-  sym (replies_are_read host replies h) ∙ ap replies_of (sym e)
-      ∙ ap last_lines (lines_of_front told untold) ∙ last_lines-append (wire_lines told) (wire_lines (wire_rest told ++ untold)),
+  sym (replies_are_read host replies h) ∙ ap replies_of (sym e) ∙ replies_of_front told untold,
 )

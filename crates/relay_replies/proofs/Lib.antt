@@ -1,3 +1,13 @@
 mod Cuts
 mod Counts
 mod Fronts
+mod Asks
+mod Turned
+mod Steps
+mod Known
+mod Taken
+mod Concluding
+mod Connected
+mod Numbered
+mod Keyed
+mod Refuted

@@ -1,5 +1,8 @@
 //! Laws of what a relay reads, as functions that do nothing.
 
+ghost use Rattle.relay_replies.specs.Conclusions.{FrontsAreCut, MessagesAreKnown, MessagesAreKnownByBytes, MessagesAreKnownWhileShardsAreShut, RelaysMayForget, RelaysMayForgetWhileShardsAreShut, TakenAreStored, WhatIsReadStays};
+ghost use Rattle.relay_replies.specs.Connections.{Begins, Concludes, NumbersMessages, ShutsDown, TakesBytes, TellsVerdicts};
+ghost use Rattle.relay_replies.specs.Numbers.{MessagesAreNumbered};
 ghost use Rattle.relay_replies.specs.Laws.{CommandsHaveOneReply, DataHasItsReplies, DeliveredAloneIsTaken, FrontsAreRead, RepliesAreRead};
 
 /// A relay that cuts what it is told at each CRLF, and joins lines by the hyphen behind the code alone, reads just the
@@ -13,4 +16,33 @@ pub fn replies_are_read()
     ensures taken { DeliveredAloneIsTaken }
     ensures command { CommandsHaveOneReply }
     ensures data { DataHasItsReplies }
+{}
+
+/// A relay that knows RFC 5321's lines and codes alone (which word a line of its own begins with, the code of each reply, the dot)
+/// knows just the messages that the server submitted and those that it refused as a whole, in their order: the i-th RCPT line that was answered 250 names
+/// the i-th mailbox of the submission, the text is that of the MAIL line's path and of the lines that it sent, and the replies are those to the
+/// verdicts on it, one each. So the i-th reply to the k-th message is 250 if and only if that copy is stored. Where what it was told ends early
+/// it knows the first of all that, and nothing that isn't so.
+pub fn messages_are_known()
+    ensures known { MessagesAreKnown }
+    ensures shut { MessagesAreKnownWhileShardsAreShut }
+    ensures bytes { MessagesAreKnownByBytes }
+    ensures taken { TakenAreStored }
+    ensures numbers { MessagesAreNumbered }
+    ensures fronts { FrontsAreCut }
+    ensures stays { WhatIsReadStays }
+    ensures forget { RelaysMayForget }
+    ensures forget_shut { RelaysMayForgetWhileShardsAreShut }
+{}
+
+/// All this of a connection as it goes on, call by call, whichever shards are shut at each: it begins, takes bytes in whatever pieces, is told the verdicts
+/// that it awaits, and may be shut down while it listens. At each place a relay that sent what was taken, and perhaps more, and was told a front of
+/// what was said, may forget the copies that it takes for stored. Its submissions are numbered from 0 on, which says the keys of their copies.
+pub fn connections_are_known()
+    ensures begins { Begins }
+    ensures bytes { TakesBytes }
+    ensures verdicts { TellsVerdicts }
+    ensures shut { ShutsDown }
+    ensures concludes { Concludes }
+    ensures numbers { NumbersMessages }
 {}

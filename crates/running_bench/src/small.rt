@@ -60,6 +60,7 @@ pub fn small_plan(alloc: Global) -> Result<Plan, AllocError>
         workers,
         sessions,
         turns: 0,
+        closings: Vec::new(alloc),
     })
 }
 

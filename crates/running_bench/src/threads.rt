@@ -68,6 +68,7 @@ pub fn plan_of(alloc: Global, workers: u8, shards: u8, copies: usize) -> Result<
         workers: all,
         sessions: Vec::new(alloc),
         turns: 0,
+        closings: Vec::new(alloc),
     })
 }
 

@@ -1,5 +1,5 @@
 -- The floor of a plan's house.
-use Rattle.std.proofs.Common.{◌≡◌, ◌+◌, ◌∙◌, ℕ, List, [], ◌∷◌, All, replicate, length, refl, sym, ap, ap₂, subst}
+use Rattle.std.proofs.Common.{map, ◌≡◌, ◌+◌, ◌∙◌, ℕ, List, [], ◌∷◌, All, replicate, length, refl, sym, ap, ap₂, subst}
 use Rattle.std.proofs.lemmas.List.Elements.{All-head, All-tail, All-weaker}
 use Rattle.delivery_token.specs.declared.Job.{Job}
 use Rattle.envelope.specs.Directory.{Directory}
@@ -40,13 +40,15 @@ floor_for plan directory sizes floor same are is =
     let rooms : rooms_of floor.office.lanes.items ≡ replicate plan.config.shards (record { producers = producers_in plan; places = plan.config.depth }) =
     same_rooms plan.config.depth (producers_in plan) floor.office.lanes.items as_large
     ∙ ap (λ n. let rs : List Room = replicate n (record { producers = producers_in plan; places = plan.config.depth }) in rs) many in
+    let shut = map (λ c. c.items) floor.office.closings.items in
     record {
       house = subst (IsHouse floor) are.producers is.house;
       premises =
-          ap (λ d. let h : Premises = record { directory = d; rooms = rooms_of floor.office.lanes.items; host = floor.office.host.items; max_message = floor.office.max_message } in h) (is.is ∙ same)
-          ∙ ap (λ rs. let h : Premises = record { directory = (setup_of plan.config).directory; rooms = rs; host = floor.office.host.items; max_message = floor.office.max_message } in h) rooms
-          ∙ ap (λ bs. let h : Premises = record { directory = (setup_of plan.config).directory; rooms = (premises_for plan).rooms; host = bs; max_message = floor.office.max_message } in h) (is.host ∙ are.host)
-          ∙ ap (λ n. let h : Premises = record { directory = (setup_of plan.config).directory; rooms = (premises_for plan).rooms; host = plan.config.host.items; max_message = n } in h) (is.max_message ∙ are.max_message);
+          ap (λ d. let h : Premises = record { directory = d; rooms = rooms_of floor.office.lanes.items; host = floor.office.host.items; max_message = floor.office.max_message; closings = shut } in h) (is.is ∙ same)
+          ∙ ap (λ rs. let h : Premises = record { directory = (setup_of plan.config).directory; rooms = rs; host = floor.office.host.items; max_message = floor.office.max_message; closings = shut } in h) rooms
+          ∙ ap (λ bs. let h : Premises = record { directory = (setup_of plan.config).directory; rooms = (premises_for plan).rooms; host = bs; max_message = floor.office.max_message; closings = shut } in h) (is.host ∙ are.host)
+          ∙ ap (λ n. let h : Premises = record { directory = (setup_of plan.config).directory; rooms = (premises_for plan).rooms; host = plan.config.host.items; max_message = n; closings = shut } in h) (is.max_message ∙ are.max_message)
+          ∙ ap (λ cs. let h : Premises = record { directory = (setup_of plan.config).directory; rooms = (premises_for plan).rooms; host = plan.config.host.items; max_message = plan.config.max_message; closings = cs } in h) (is.closings ∙ are.closings);
       mailboxes = is.mailboxes ∙ ap (λ d. length d.homes) same;
       turns = is.turns ∙ are.turns;
       lanes = as_large;

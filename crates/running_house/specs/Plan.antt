@@ -1,5 +1,6 @@
 -- What a plan says: what each peer sends, and what may be wrong with it.
-use Rattle.std.specs.Prelude.{◌≡◌, ◌⊎◌, ◌==◌, ◌+◌, ℕ, Bool, List, length, map, filter, replicate, nat_lt, Option, Some, None, is_none, if◌then◌else◌}
+use Rattle.std.specs.Prelude.{◌≡◌, ◌⊎◌, ◌==◌, ◌+◌, ℕ, Bool, List, length, map, filter, replicate, nat_lt, nat_le, Vec, Option, Some, None, is_none, if◌then◌else◌}
+use Rattle.std.specs.Global.{Global}
 use Rattle.std.specs.List.{list_any}
 use Rattle.envelope.specs.Directory.{Home}
 use Rattle.house.specs.Settings.{config_fault, setup_of}
@@ -7,6 +8,7 @@ use Rattle.house.specs.declared.config.ConfigFault.{ConfigFault}
 use Rattle.house.specs.declared.config.ConfigFault.TheVariants as settings
 use Rattle.house_floor.specs.Users.{user_numbered}
 use Rattle.house_floor.specs.declared.floor.Visit.{Visit}
+use Rattle.lane_work.specs.declared.desk.Closing.{Closing}
 use Rattle.lane_work.specs.Account.{Premises}
 use Rattle.reckoning.specs.declared.gather.Fault.{Fault}
 use Rattle.reckoning.specs.declared.gather.Fault.TheVariants as reckoned
@@ -27,6 +29,7 @@ premises_for plan =
       rooms = replicate plan.config.shards (record { producers = producers_in plan; places = plan.config.depth });
       host = k.host;
       max_message = k.max_message;
+      closings = map (λ c. c.items) plan.closings.items;
     }
 
 -- for each worker, for each of its connections, the bytes that its peer sends
@@ -55,16 +58,22 @@ are_too_many most visits = list_any (λ (v : Visit). nat_lt most (count_of v.use
 abbrev pub is_someone_missing : List Home → List Visit → Bool
 is_someone_missing homes visits = list_any (λ (v : Visit). is_none (user_numbered v.user homes)) visits
 
+-- some worker is to close a shard that isn't there
+abbrev pub is_shard_missing : ℕ → List (Vec Closing Global) → Bool
+is_shard_missing shards closings = list_any (λ (own : Vec Closing Global). list_any (λ (c : Closing). nat_le shards c.shard) own.items) closings
+
 abbrev pub after_settings : Plan → Option ConfigFault → Option ConfigFault
 after_settings plan (Some fault) = Some fault
 after_settings plan None =
     if nat_lt most_workers (length plan.workers.items) then Some settings.TooMany
     else if nat_lt most_producers (producers_in plan) then Some settings.TooMany
     else if are_too_many plan.config.sessions plan.sessions.items then Some settings.TooMany
+    else if is_shard_missing plan.config.shards plan.closings.items then Some settings.TooMany
     else if is_someone_missing (setup_of plan.config).directory.homes plan.sessions.items then Some settings.BadName
     else None
 
--- what is wrong: with the settings; that there are too many workers, producers, or sessions of one user; that a session's user isn't there
+-- what is wrong: with the settings; that there are too many workers, producers, or sessions of one user; that a shard that is to be closed, or a session's user,
+-- isn't there
 abbrev pub plan_fault : Plan → Option ConfigFault
 plan_fault plan = after_settings plan (config_fault plan.config)
 

@@ -1,14 +1,16 @@
 //! What a run is told and what it reports, and what may be wrong with a plan. Nothing is run here.
 
-ghost use Rattle.std.specs.Prelude.{◌≡◌, ◌≢◌, ◌<◌, ◌≤◌, All, None, is_none, IfErr, IfOk, length};
+ghost use Rattle.std.specs.Prelude.{◌≡◌, ◌≢◌, ◌<◌, ◌≤◌, All, None, is_none, IfErr, IfOk, length, nat_le};
+ghost use Rattle.std.specs.List.{list_any};
 ghost use Rattle.house.specs.Settings.{IsInRange, setup_of};
 ghost use Rattle.house_floor.specs.Users.{user_numbered};
-ghost use Rattle.running_house.specs.Plan.{IsFaultOf, are_too_many, count_of, is_someone_missing, most_producers, most_workers, of_config, of_reckoning, plan_fault, producers_in};
+ghost use Rattle.running_house.specs.Plan.{IsFaultOf, are_too_many, is_shard_missing, count_of, is_someone_missing, most_producers, most_workers, of_config, of_reckoning, plan_fault, producers_in};
 
 use delivery_token::{CopyKey, Text, WorkerLog};
 use envelope::Directory;
 use house::{Config, ConfigFault, directory_of};
 use house_floor::{Visit, inbox_numbered};
+use lane_work::Closing;
 use reckoning::{Closes, Fault};
 use std::alloc::{AllocError, Global};
 use thiserror::Error;
@@ -32,6 +34,9 @@ pub struct Plan {
     pub sessions: Vec<Visit>,
     /// So many turns a session has at most where it awaits changes.
     pub turns: u64,
+    /// For each worker, by its number, the shards that it closes, and before which of its connections.
+    /// A worker without a list closes none.
+    pub closings: Vec<Vec<Closing>>,
 }
 
 /// What a run left.
@@ -55,8 +60,8 @@ pub struct Report {
 /// Why there is no report. Of several causes the first in this order is told.
 #[derive(Clone, Copy, Debug, PartialEq, Eq, Error)]
 pub enum WorkFault {
-    /// The settings are wrong, or there are too many workers or sessions, or a session's user isn't
-    /// there.
+    /// The settings are wrong, or there are too many workers or sessions, or a shard that is to be
+    /// closed isn't there, or a session's user isn't.
     #[error("{0}")]
     Config(ConfigFault),
     /// A thread could not be made.
@@ -133,10 +138,25 @@ fn is_someone_missing(directory: &Directory, visits: &[Visit]) -> bool
     visits.iter().any(|visit| is_nobody(directory, visit.user))
 }
 
+// Whether one of these closes a shard that isn't there.
+fn is_beyond(closings: &[Closing], shards: u8) -> bool
+    ensures { result ≡ list_any (λ c. nat_le shards c.shard) closings.now }
+{
+    closings.iter().any(|closing| shards <= closing.shard)
+}
+
+// Whether some worker is to close a shard that isn't there.
+fn is_shard_missing(closings: &[Vec<Closing>], shards: u8) -> bool
+    ensures { result ≡ is_shard_missing shards closings.now }
+{
+    closings.iter().any(|own| is_beyond(own.as_slice(), shards))
+}
+
 /// The directory that the house of this plan goes by.
 ///
 /// Errors: `Config` of the first fault: those of the settings, in the order of `House::new`; `TooMany`
-/// for more than 8 workers, more than 255 workers and sessions together, or more sessions of one user than `config.sessions`; `BadName`
+/// for more than 8 workers, more than 255 workers and sessions together, more sessions of one user than `config.sessions`, or a shard
+/// that is to be closed and isn't there; `BadName`
 /// for a session whose user isn't there. In place of any of them, and where nothing is wrong, `NoMemory` if memory is
 /// refused.
 pub(crate) fn directory_for(alloc: Global, plan: &Plan) -> Result<Directory, WorkFault>
@@ -156,6 +176,9 @@ pub(crate) fn directory_for(alloc: Global, plan: &Plan) -> Result<Directory, Wor
         return Err(WorkFault::Config(ConfigFault::TooMany));
     }
     if are_too_many(&plan.sessions, plan.config.sessions) {
+        return Err(WorkFault::Config(ConfigFault::TooMany));
+    }
+    if is_shard_missing(&plan.closings, plan.config.shards) {
         return Err(WorkFault::Config(ConfigFault::TooMany));
     }
     if is_someone_missing(&directory, &plan.sessions) {

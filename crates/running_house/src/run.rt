@@ -38,19 +38,22 @@ fn sizes_of(plan: &Plan) -> Sizes<'_>
         },
         history: History::Kept,
         turns: plan.turns,
+        closings: plan.closings.as_slice(),
     }
 }
 
 /// Runs a plan in a house of its own, with a thread for each shard's consumer, each worker and each
 /// session, in this order, and joins them all. Each actor asks the gate before each of its events.
+/// A worker that closes a shard takes no more mail for its mailboxes, and says so; the others go on.
+/// The shard's consumer has ended when each producer has closed it or come to its end.
 ///
 /// Where the answer is Ok the report agrees with the plan and in itself; that is compared after the
 /// joins, when each queue is closed.
 ///
 /// Errors, the first that holds: `Config`, before anything runs, of the first fault of the settings, in
 /// the order of `House::new`; `TooMany` for more than 8 workers, more than 255 workers and sessions
-/// together, or more sessions of one user than `config.sessions`; `BadName` for a session whose user
-/// isn't there. `Spawn`
+/// together, more sessions of one user than `config.sessions`, or a shard that is to be closed and
+/// isn't there; `BadName` for a session whose user isn't there. `Spawn`
 /// where a thread can't be made: no actor behind it begins. `NoMemory` where memory is refused, to an
 /// actor too: it stops, and the others go on. `Torn` where a worker heard a verdict that it didn't
 /// await, or a session did, an end is missing, or what the threads left doesn't agree.

@@ -4,6 +4,8 @@
 #[cfg(test)]
 mod appends;
 #[cfg(test)]
+mod closings;
+#[cfg(test)]
 mod crowds;
 #[cfg(test)]
 mod cuts;

@@ -47,6 +47,7 @@ pub fn plan_of(alloc: Global, mailboxes: &[&[u8]], shards: u8) -> Result<Plan, A
         workers: Vec::new(alloc),
         sessions: Vec::new(alloc),
         turns: 0,
+        closings: Vec::new(alloc),
     })
 }
 

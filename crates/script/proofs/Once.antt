@@ -18,13 +18,13 @@ use Rattle.exactly_once.proofs.Told.{rising_append}
 use Rattle.exactly_once.proofs.Going.{SceneOk, Went, entry_went, happened_went, nobody_ok, none_yet, plays_did, tells_once, told_same, verdicts-append}
 use Rattle.house.specs.declared.event.Event.{Event}
 use Rattle.house.specs.declared.event.Event.TheVariants as events
-use Rattle.house.specs.Scene.{Plays, Scene, empty_scene}
+use Rattle.house.specs.Scene.{Plays, Scene, empty_scene, is_shut_in}
 use Rattle.house.specs.Settled.{is_held}
 use Rattle.house.specs.State.{State}
 use Rattle.house.specs.Settling.{GoesRounds, Happened, Settles, Visits, idle_turns, in_a_row, round}
 use Rattle.std.specs.Prelude.{replicate}
 use Rattle.house.proofs.Settlement.{plays_part, visits_happened}
-use Rattle.script.specs.Script.{LineDoes, LinePlays, Script, ScriptLine, asks, asks_lingering, asks_nobody, enters, enters_nowhere, enters_taken, goes_again, goes_nobody, held_after, is_bad, leaves, leaves_again, leaves_nobody, none_held, refusal, sends, sends_to_nobody, sends_to_owing, skips, stands_nobody, stands_still, tails, tails_nobody, vanishes, vanishes_again, vanishes_away}
+use Rattle.script.specs.Script.{LineDoes, LinePlays, Script, ScriptLine, asks, asks_lingering, asks_nobody, closes, closes_again, closes_nobody, enters, enters_nowhere, enters_taken, goes_again, goes_nobody, held_after, is_bad, leaves, leaves_again, leaves_nobody, none_held, refusal, sends, sends_to_nobody, sends_to_owing, skips, stands_nobody, stands_still, tails, tails_nobody, vanishes, vanishes_again, vanishes_away}
 use Rattle.script.specs.Leaving.{Writes, WritesBeginning, WritesFirst}
 use Rattle.script.specs.Promise.{AreParts, DeliversOnce, OfHouse, Part, Refusal, Why, Line, Nobody, Busy, Window, WroteOnce, entries_of, entry_in, refusals_of, refused_in, scene_after, text_of_part, word_of}
 
@@ -135,6 +135,9 @@ line_goes k told number s t printed line ok (stands_still shard l e p) = is_sile
 line_goes k told number s t printed line ok (stands_nobody shard l e p) = refuses k told number Nobody s t printed ok e p
 line_goes k told number s t printed line ok (goes_again shard l e p) = is_silent k told number (number + 1) (omega arith) s t printed ok e p
 line_goes k told number s t printed line ok (goes_nobody shard l e p) = refuses k told number Nobody s t printed ok e p
+line_goes k told number s t printed line ok (closes shard p) = event_goes k told number (number + 1) (omega arith) s (events.Close shard) t printed ok p
+line_goes k told number s t printed line ok (closes_nobody shard l e p) = refuses k told number Nobody s t printed ok e p
+line_goes k told number s t printed line ok (closes_again shard l e p) = refuses k told number Busy s t printed ok e p
 line_goes k told number s t printed line ok (tails word m is e p) = shows_window k told number (number + 1) (omega arith) word m s t printed ok is e p
 line_goes k told number s t printed line ok (tails_nobody word n e p) = refuses k told number Nobody s t printed ok e p
 line_goes k told number s t printed line ok (skips e p) = is_silent k told number (number + 1) (omega arith) s t printed ok e p
@@ -166,7 +169,7 @@ happened_goes k told first last l es s t printed ok h = let by = happened_went k
 
 rounds_go : (k : Setup) (told : ℕ → List Noted) (first last : ℕ) → first ≤ last → (held : ℕ → Bool) (s t : Scene) (printed : List ℕ) → SceneOk k told s → GoesRounds k held s t printed → Goes k told first last s t printed
 rounds_go k told first last l held s t printed ok d =
-    let h = visits_happened k (in_a_row (replicate d.rounds (round k held))) s t printed d.goes in
+    let h = visits_happened k (in_a_row (replicate d.rounds (round k held (is_shut_in s)))) s t printed d.goes in
     happened_goes k told first last l h.0 s t printed ok h.1
 
 turns_go : (k : Setup) (told : ℕ → List Noted) (first last : ℕ) → first ≤ last → (s t : Scene) (printed : List ℕ) → SceneOk k told s → Visits k (idle_turns k.config.sessions) s t printed → Goes k told first last s t printed
@@ -192,9 +195,9 @@ script_goes k told number last held (line ∷ lines) s t printed count ok (m, on
     rw both (both_go k told number (number + 1) last s m t one two a (script_goes k (told_by told a.parts) (number + 1) last (held_after held line) lines m t two (omega (arith, count)) a.ok more))
 
 -- what a script prints delivers exactly once
-pub script_once : (k : Setup) (lines : List ScriptLine) (t : Scene) (printed : List ℕ) → Script k 1 (none_held k) lines empty_scene t printed → DeliversOnce k (length lines) t printed
+pub script_once : (k : Setup) (lines : List ScriptLine) (t : Scene) (printed : List ℕ) → Script k 1 (none_held k) lines (empty_scene k) t printed → DeliversOnce k (length lines) t printed
 script_once k lines t printed s =
-    let g = script_goes k none_yet 1 (1 + length lines) (none_held k) lines empty_scene t printed refl (nobody_ok k) s in
+    let g = script_goes k none_yet 1 (1 + length lines) (none_held k) lines (empty_scene k) t printed refl (nobody_ok k) s in
     let refused = refusals_of g.parts in
     let h = always k.config g.reached.0 t.world g.reached.1 in
     record {

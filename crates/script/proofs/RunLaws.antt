@@ -13,6 +13,7 @@ use Rattle.std.specs.Io.BufRead.{drop_through, take_through}
 use Rattle.std.specs.Io.KnownBytes.{Appends}
 use Rattle.delivery_token.specs.declared.CopyKey.{CopyKey}
 use Rattle.delivery_token.specs.declared.log.Noted.{Noted}
+use Rattle.envelope.specs.Directory.{Directory, is_shut}
 use Rattle.envelope.specs.Names.{number_of}
 use Rattle.house.specs.declared.event.Event.TheVariants as events
 use Rattle.house.specs.declared.event.HouseFault.{HouseFault}
@@ -21,20 +22,19 @@ use Rattle.script.specs.declared.run.TurnFault.{TurnFault}
 use Rattle.script.specs.declared.run.TurnFault.TheVariants as turn_faults
 use Rattle.house_connection.specs.Line.{Line}
 use Rattle.house.specs.State.{State}
-use Rattle.house_connection.specs.HouseConnection.{HouseConnection}
-use Rattle.house.specs.Setup.{Setup}
-use Rattle.house.specs.Scene.{HasEnded, Plays, Scene, empty_scene, most_serials, seat_of}
+use Rattle.house_connection.specs.HouseConnection.{HouseConnection, Terms}
+use Rattle.house.specs.Setup.{Setup, terms_of}
+use Rattle.house.specs.Scene.{Plays, Scene, empty_scene, most_serials, seat_of}
 use Rattle.house.specs.Stands.{StandsFor, StandsForOne}
 use Rattle.house.specs.declared.event.Event.{Event}
 use Rattle.house.specs.Steps.{FollowsInPart, IsEmptySeat, IsNoSeat, IsSpent, IsUnread, Led, is_unread}
 use Rattle.house.specs.Settled.{HappenedFrom, SettledFrom, is_held}
 use Rattle.house.specs.Settling.{Settles}
 use Rattle.house.specs.Window.{PrintsWindow}
-use Rattle.script.specs.Script.{IsAway, IsNoConnection, IsOwing, LinePlays, NobodyThere, Script, ScriptLine, Asks, Enters, Leaves, Sends, Vanishes, Hold, Free, Tail, Skip, Bad, asked, brought, goes_again, goes_nobody, held_after, is_bad, is_digit, line_of, none_held, refusal, script_of, sends, sends_to_nobody, sends_to_owing, skips, stands_nobody, stands_still, tails, tails_nobody, vanishes, vanishes_again, vanishes_away}
+use Rattle.script.specs.Script.{IsAway, IsNoConnection, IsOwing, LinePlays, NobodyThere, Script, ScriptLine, Asks, Enters, Leaves, Sends, Vanishes, Hold, Free, Closes, Tail, Skip, Bad, asked, brought, closes, closes_again, closes_nobody, goes_again, goes_nobody, held_after, is_bad, is_digit, line_of, none_held, refusal, script_of, sends, sends_to_nobody, sends_to_owing, skips, stands_nobody, stands_still, tails, tails_nobody, vanishes, vanishes_again, vanishes_away}
 use Rattle.script.specs.Leaving.{Writes, WritesBeginning, WritesFirst, IsLeftWanting, unread, unwritten, LineBegins, LineWanting, undone, begun, PlayWanting, doing, settling}
 use Rattle.std.specs.Prelude.{Bool, IfNone, IfSome, codes, false, true}
 use Rattle.script.specs.inner.Running.{HasRun, IsClipped, IsOver, IsUnread as IsUnreadTurn, IsUnwritten, LineCut, LineDone, LinePlayed, LineWritten, SetsHeld, TurnTells, held_by, sets, sets_nobody}
-use Rattle.house.proofs.Ended.{ended_somewhere}
 use Rattle.script.proofs.Once.{script_once}
 use Rattle.script.proofs.ScriptLaws.{first_line, script_push}
 
@@ -45,7 +45,7 @@ below a zero = inr (omega arith)
 below zero (suc b) = inl (omega arith)
 below (suc a) (suc b) = elim (below a b) [ inl h ↦ inl (omega arith) | inr h ↦ inr (omega arith) ]
 
-no_caller : (k : Setup) (seat : ℕ) (next : CopyKey) (heard : List Noted) (serials : ℕ) (line : Option Line) (o : Option HouseConnection) → line ≡ None → StandsForOne k seat next heard serials line o → o ≡ None
+no_caller : (k : Terms) (seat : ℕ) (next : CopyKey) (heard : List Noted) (serials : ℕ) (line : Option Line) (o : Option HouseConnection) → line ≡ None → StandsForOne k seat next heard serials line o → o ≡ None
 no_caller k seat next heard serials None None e s = refl
 no_caller k seat next heard serials None (Some b) e s = absurd s
 no_caller k seat next heard serials (Some h) o e s = absurd (let n : Some h ≡ None = e in cc)
@@ -57,11 +57,6 @@ seat_cases k h s connection st some = elim (below (seat_of connection) (length h
   | inr l ↦ inl (inr (let e = st.connections in omega arith))
 ]
 
-ended : (k : Setup) (h : State) (s : Scene) (connection : ℕ) → StandsFor k h s → IsSpent h connection → get_or h.serials (seat_of connection) 0 ≡ s.next (seat_of connection) → seat_of connection < length h.callers
-    → (most_serials ≤ s.next (seat_of connection)) ⊎ HasEnded k.config s.world (seat_of connection)
-ended k h s connection st (inl m) e l = inl (omega (arith, m, e))
-ended k h s connection st (inr x) e l = inr (ended_somewhere k.config h.core s.world (seat_of connection) st.core (let p = st.seats in omega (arith, p, l)) x)
-
 pub nobody_there : (k : Setup) (h : State) (s : Scene) (connection : ℕ) → StandsFor k h s → IsNoSeat h connection ⊎ (IsEmptySeat h connection × IsSpent h connection) → NobodyThere k s connection
 nobody_there k h s connection st (inl (inl e)) = inl (inl e)
 nobody_there k h s connection st (inl (inr l)) = inl (inr (let e = st.connections in omega arith))
@@ -69,7 +64,7 @@ nobody_there k h s zero st (inr n) = inl (inl refl)
 nobody_there k h s (suc c) st (inr n) = elim (seat_cases k h s (suc c) st (omega arith)) [
   | inl l ↦ inl l
   | inr l ↦ (let at = st.each (seat_of (suc c)) (record { seat = 0; serial = 0; message = 0; recipient = 0 }) 0 None l in
-      inr (no_caller k (seat_of (suc c)) _ _ _ _ _ n.0 at.who, ended k h s (suc c) st n.1 at.counted l))
+      inr (no_caller (terms_of k s.shut) (seat_of (suc c)) _ _ _ _ _ n.0 at.who, (let e = at.counted in let m = n.1 in omega (arith, e, m))))
 ]
 
 pub away : (k : Setup) (h : State) (s : Scene) (connection : ℕ) → StandsFor k h s → IsNoSeat h connection ⊎ IsEmptySeat h connection → IsAway k s connection
@@ -79,10 +74,10 @@ away k h s zero st (inr n) = inl (inl refl)
 away k h s (suc c) st (inr n) = elim (seat_cases k h s (suc c) st (omega arith)) [
   | inl l ↦ inl l
   | inr l ↦ (let at = st.each (seat_of (suc c)) (record { seat = 0; serial = 0; message = 0; recipient = 0 }) 0 None l in
-      inr (no_caller k (seat_of (suc c)) _ _ _ _ _ n at.who))
+      inr (no_caller (terms_of k s.shut) (seat_of (suc c)) _ _ _ _ _ n at.who))
 ]
 
-owing_caller : (k : Setup) (seat : ℕ) (next : CopyKey) (heard : List Noted) (serials : ℕ) (line : Option Line) (o : Option HouseConnection) → is_unread line ≡ true → StandsForOne k seat next heard serials line o
+owing_caller : (k : Terms) (seat : ℕ) (next : CopyKey) (heard : List Noted) (serials : ℕ) (line : Option Line) (o : Option HouseConnection) → is_unread line ≡ true → StandsForOne k seat next heard serials line o
     → (b : HouseConnection) × (o ≡ Some b) × (b.gone ≡ true)
 owing_caller k seat next heard serials None o e s = absurd (let x : false ≡ true = e in cc)
 owing_caller k seat next heard serials (Some h) None e s = absurd s
@@ -92,7 +87,7 @@ pub owing : (k : Setup) (h : State) (s : Scene) (connection : ℕ) → StandsFor
 owing k h s connection st u =
     let l : seat_of connection < length h.callers = let n = u.number in let m = u.seat in omega (arith, n, m) in
     let at = st.each (seat_of connection) (record { seat = 0; serial = 0; message = 0; recipient = 0 }) 0 None l in
-    owing_caller k (seat_of connection) _ _ _ _ _ u.gone at.who
+    owing_caller (terms_of k s.shut) (seat_of connection) _ _ _ _ _ u.gone at.who
 
 -- ---- a line
 
@@ -152,6 +147,17 @@ pub freed_done : (k : Setup) (number : ℕ) (s : Scene) (held holds : List Bool)
     → StandsFor k h s → length held ≡ k.config.shards → SetsHeld held number shard false holds old new → LineDone k number (Free shard) s h old new
 freed_done k number s held holds shard h old new st many (sets l e f) = record { after = s; printed = []; does = goes_again shard (omega (arith, l, many)) refl refl; stands = st; out = f ∙ sym (append-nil old) }
 freed_done k number s held holds shard h old new st many (sets_nobody l e f) = record { after = s; printed = _; does = goes_nobody shard (omega (arith, l, many)) refl refl; stands = st; out = f }
+
+pub closed : (k : Setup) (number : ℕ) (s : Scene) (shard : ℕ) (h : State) (old new : List ℕ) → Led k true s (events.Close shard) h old new → LineDone k number (Closes shard) s h old new
+closed k number s shard h old new led = record { after = led.after; printed = led.printed; does = closes shard led.plays; stands = led.stands; out = led.out }
+
+pub closed_nobody : (k : Setup) (number : ℕ) (s : Scene) (shard : ℕ) (h : State) (old new : List ℕ) → StandsFor k h s → h.directory.shards ≤ shard → new ≡ old ++ refusal number (codes "Nobody") → LineDone k number (Closes shard) s h old new
+closed_nobody k number s shard h old new st l e =
+    let n = ap (λ (d : Directory). d.shards) st.directory ∙ st.shards in
+    record { after = s; printed = _; does = closes_nobody shard (omega (arith, l, n)) refl refl; stands = st; out = e }
+
+pub closed_again : (k : Setup) (number : ℕ) (s : Scene) (shard : ℕ) (h : State) (old new : List ℕ) → StandsFor k h s → is_shut h.directory shard ≡ true → new ≡ old ++ refusal number (codes "Busy") → LineDone k number (Closes shard) s h old new
+closed_again k number s shard h old new st shut e = record { after = s; printed = _; does = closes_again shard (sym (ap (λ (d : Directory). is_shut d shard) st.directory) ∙ shut) refl refl; stands = st; out = e }
 
 set_beyond : (held : List Bool) (i : ℕ) (v : Bool) → length held ≤ i → set held i v ≡ held
 set_beyond [] zero v l = refl
@@ -247,6 +253,16 @@ digit_at (d ∷ ds) (suc i) e l = digit_at ds i (others (is_digit d) refl e) (om
     others true f g = rw f at g
     others false f g = absurd (let x : false ≡ true = rw f at g in cc)
 
+-- no shard has a number that is clipped to one behind them all
+pub beyond_all : (c n shards : ℕ) → IsClipped c n → shards ≤ c → shards < 256 → shards ≤ n
+beyond_all c n shards (inl (e, l)) a b = omega (arith, a, e)
+beyond_all c n shards (inr (e, l)) a b = omega (arith, b, l)
+
+-- the number of a shard that is there isn't clipped
+pub the_number : (c n shards : ℕ) → IsClipped c n → c < shards → shards < 256 → c ≡ n
+the_number c n shards (inl (e, l)) a b = e
+the_number c n shards (inr (e, l)) a b = absurd (omega (arith, e, a, b))
+
 -- ---- the run
 
 -- which shards are held after some lines and one more
@@ -262,6 +278,7 @@ held_as_many held (Asks session bytes) = refl
 held_as_many held (Leaves session) = refl
 held_as_many held (Hold shard) = length-set held shard true
 held_as_many held (Free shard) = length-set held shard false
+held_as_many held (Closes shard) = refl
 held_as_many held (Tail word) = refl
 held_as_many held Skip = refl
 held_as_many held Bad = refl
@@ -313,10 +330,10 @@ run_more k input count g h held holds before left old mid new sent more start r 
     }
 
 pub run_over : (k : Setup) (input : List ℕ) (count : ℕ) (g h : State) (held holds : List Bool) (before left old mid new : Option (List ℕ)) (sent : ℕ)
-    → (r : HasRun k input count g held before old mid sent empty_scene) → (o : Option ℕ) → o ≡ None → TurnTells k (count + 1) held r.after r.rest h holds left mid new (Ok o) → Writes k (script_of input) h old new
+    → (r : HasRun k input count g held before old mid sent (empty_scene k)) → (o : Option ℕ) → o ≡ None → TurnTells k (count + 1) held r.after r.rest h holds left mid new (Ok o) → Writes k (script_of input) h old new
 run_over k input count g h held holds before left old mid new sent r o is tells =
     let over : IsOver k r.after r.rest h mid new = subst (λ (x : Option ℕ). TurnTells k (count + 1) held r.after r.rest h holds left mid new (Ok x)) is tells in
-    let played = subst (λ (ls : List ScriptLine). Script k 1 (none_held k) ls empty_scene r.after r.printed) (sym (r.split ∙ ap (λ (x : List ℕ). r.lines ++ script_of x) over.ended ∙ append-nil r.lines)) r.script in
+    let played = subst (λ (ls : List ScriptLine). Script k 1 (none_held k) ls (empty_scene k) r.after r.printed) (sym (r.split ∙ ap (λ (x : List ℕ). r.lines ++ script_of x) over.ended ∙ append-nil r.lines)) r.script in
     record {
       after = r.after;
       printed = r.printed;
@@ -327,7 +344,7 @@ run_over k input count g h held holds before left old mid new sent r o is tells 
     }
 
 pub run_stops : (k : Setup) (input : List ℕ) (count : ℕ) (h : State) (held : List Bool) (left old mid new : Option (List ℕ)) (sent : ℕ) (Left : ℕ → List ScriptLine → Scene → Type 0)
-    → (r : HasRun k input count h held left old mid sent empty_scene) → Left (count + 1) (script_of r.rest) r.after → new ≡ mid → WritesBeginning k (script_of input) Left old new
+    → (r : HasRun k input count h held left old mid sent (empty_scene k)) → Left (count + 1) (script_of r.rest) r.after → new ≡ mid → WritesBeginning k (script_of input) Left old new
 run_stops k input count h held left old mid new sent Left r is same = record {
   some = r.lines;
   others = script_of r.rest;
@@ -341,15 +358,15 @@ run_stops k input count h held left old mid new sent Left r is same = record {
 }
 
 -- nothing was read or written yet
-pub run_unbegun : (k : Setup) (lines : List ScriptLine) (old : Option (List ℕ)) (Left : ℕ → List ScriptLine → Scene → Type 0) → Left 1 lines empty_scene → WritesBeginning k lines Left old old
-run_unbegun k lines old Left is = record { some = []; others = lines; split = refl; after = empty_scene; printed = []; script = (refl, refl); once = script_once k [] empty_scene [] (refl, refl); left = is; out = Appends-nil old }
+pub run_unbegun : (k : Setup) (lines : List ScriptLine) (old : Option (List ℕ)) (Left : ℕ → List ScriptLine → Scene → Type 0) → Left 1 lines (empty_scene k) → WritesBeginning k lines Left old old
+run_unbegun k lines old Left is = record { some = []; others = lines; split = refl; after = (empty_scene k); printed = []; script = (refl, refl); once = script_once k [] (empty_scene k) [] (refl, refl); left = is; out = Appends-nil old }
 
 pub run_cut : (k : Setup) (input : List ℕ) (count : ℕ) (g h : State) (held holds : List Bool) (before left old mid new : Option (List ℕ)) (sent more : ℕ)
-    → (r : HasRun k input count g held before old mid sent empty_scene) → (f : TurnFault) → f ≡ turn_faults.Write more → TurnTells k (count + 1) held r.after r.rest h holds left mid new (Err f)
+    → (r : HasRun k input count g held before old mid sent (empty_scene k)) → (f : TurnFault) → f ≡ turn_faults.Write more → TurnTells k (count + 1) held r.after r.rest h holds left mid new (Err f)
     → WritesFirst k (script_of input) (sent + more) h old new
 run_cut k input count g h held holds before left old mid new sent more r f is tells =
     let w : LineCut k (count + 1) held r.after r.rest h mid new more = subst (λ (x : TurnFault). TurnTells k (count + 1) held r.after r.rest h holds left mid new (Err x)) is tells in
-    let played = script_push k 1 (count + 1) (none_held k) r.lines w.line empty_scene r.after w.after r.printed w.printed (let e = r.counted in omega arith) r.script
+    let played = script_push k 1 (count + 1) (none_held k) r.lines w.line (empty_scene k) r.after w.after r.printed w.printed (let e = r.counted in omega arith) r.script
     (subst (λ (x : List Bool). LinePlays k (count + 1) x w.line r.after w.after w.printed) r.holds_now w.plays) in
     record {
       some = r.lines ++ w.line ∷ [];

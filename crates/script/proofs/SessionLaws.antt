@@ -8,15 +8,12 @@ use Rattle.house_session.specs.Seated.{SeatedSession}
 use Rattle.house_session.specs.Seat.{Seat}
 use Rattle.delivery_token.specs.declared.CopyKey.{CopyKey}
 use Rattle.delivery_token.specs.declared.log.Noted.{Noted}
-use Rattle.delivery_core.specs.Held.{has_ended}
-use Rattle.house.specs.Setup.{Setup, session_seat}
+use Rattle.house.specs.Setup.{Setup}
 use Rattle.house.specs.declared.event.Event.TheVariants as events
 use Rattle.house.specs.State.{State}
-use Rattle.house.specs.Scene.{HasEnded, Scene, most_serials, place_of}
+use Rattle.house.specs.Scene.{Scene, most_serials, place_of}
 use Rattle.house.specs.Stands.{StandsFor, StandsForVisit}
 use Rattle.house.specs.Steps.{IsFreePlace, IsLeft, IsNoPlace, IsSpentPlace, IsTakenPlace, Led, is_left}
-use Rattle.house.proofs.Ended.{ended_somewhere}
-use Rattle.house.proofs.Seats.{seat_within}
 use Rattle.script.specs.Script.{Asks, Enters, IsLingering, IsNoSession, IsSpentSession, IsUnknown, IsUnvisited, IsVisited, Leaves, asks, asks_lingering, asks_nobody, enters, enters_nowhere, enters_taken, leaves, leaves_again, leaves_nobody, refusal}
 use Rattle.script.specs.inner.Running.{LineDone}
 use Rattle.script.proofs.RunLaws.{below}
@@ -65,20 +62,15 @@ lingering k h s session st t =
     gone_visitor _ _ _ _ _ (s.visitor (place_of session)) t.gone (st.visitors (place_of session) any_key 0 None l).who
 
 -- its seat takes no more
-spent : (k : Setup) (h : State) (s : Scene) (session : ℕ) → StandsFor k h s → place_of session < length h.visitors → IsFreePlace h session → IsSpentPlace h session → IsSpentSession k s session
+spent : (k : Setup) (h : State) (s : Scene) (session : ℕ) → StandsFor k h s → place_of session < length h.visitors → IsFreePlace h session → IsSpentPlace h session → IsSpentSession s session
 spent k h s session st l free more =
     let at = st.visitors (place_of session) any_key 0 None l in
-    (no_visitor _ _ _ _ _ (s.visitor (place_of session)) free at.who, by more at.counted)
-  where
-    by : IsSpentPlace h session → get_or h.entered (place_of session) 0 ≡ s.entered (place_of session) → (most_serials ≤ s.entered (place_of session)) ⊎ HasEnded k.config s.world (session_seat k (place_of session))
-    by (inl m) e = inl (omega (arith, m, e))
-    by (inr x) e = inr (ended_somewhere k.config h.core s.world (session_seat k (place_of session)) st.core (seat_within k h s (place_of session) st l)
-        (subst (λ (n : ℕ). has_ended h.core (n + place_of session) ≡ true) st.connections x))
+    (no_visitor _ _ _ _ _ (s.visitor (place_of session)) free at.who, let e = at.counted in omega (arith, e, more))
 
 -- ---- users
 
 pub nowhere : (k : Setup) (h : State) (s : Scene) (session : ℕ) (user : List ℕ) → StandsFor k h s → IsNoPlace h session ⊎ (has_user h.directory user ≡ false ⊎ (IsFreePlace h session × IsSpentPlace h session))
-    → IsNoSession k session ⊎ (IsUnknown k user ⊎ IsSpentSession k s session)
+    → IsNoSession k session ⊎ (IsUnknown k user ⊎ IsSpentSession s session)
 nowhere k h s session user st (inl n) = inl (no_session k h s session st n)
 nowhere k h s session user st (inr (inl e)) = inr (inl (ap (λ (d : Directory). has_user d user) (sym st.directory) ∙ e))
 nowhere k h s zero user st (inr (inr n)) = inl (inl refl)
@@ -97,7 +89,7 @@ pub entered : (k : Setup) (number : ℕ) (s : Scene) (session : ℕ) (user : Bor
 entered k number s session user h old new led = record { after = led.after; printed = led.printed; does = enters session user.now led.plays; stands = led.stands; out = led.out }
 
 pub entered_nowhere : (k : Setup) (number : ℕ) (s : Scene) (session : ℕ) (user : List ℕ) (h : State) (old new : List ℕ)
-    → StandsFor k h s → IsNoSession k session ⊎ (IsUnknown k user ⊎ IsSpentSession k s session) → new ≡ old ++ refusal number (codes "Nobody") → LineDone k number (Enters session user) s h old new
+    → StandsFor k h s → IsNoSession k session ⊎ (IsUnknown k user ⊎ IsSpentSession s session) → new ≡ old ++ refusal number (codes "Nobody") → LineDone k number (Enters session user) s h old new
 entered_nowhere k number s session user h old new st none e = record { after = s; printed = _; does = enters_nowhere session user none refl refl; stands = st; out = e }
 
 pub entered_taken : (k : Setup) (number : ℕ) (s : Scene) (session : ℕ) (user : List ℕ) (h : State) (old new : List ℕ)

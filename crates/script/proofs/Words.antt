@@ -74,9 +74,9 @@ cut_is line word None none one = no_word word line one none
 cut_is line word (Some (first, rest)) (k, at, front, behind) one =
     (ap (λ xs. bytes_eq xs word) front ∙ by_word word line one k at, λ h. behind ∙ ap (λ i. drop (i + 1) line) (ends_there word line one k at h))
 
--- a line that begins with none of the three words
-pub by_letter_alone : (line : List ℕ) → begins (codes "TAIL ") line ≡ false → begins (codes "HOLD ") line ≡ false → begins (codes "FREE ") line ≡ false → by_letter line ≡ request_of line
-by_letter_alone line tail hold free = rw (tail, hold, free) refl
+-- a line that begins with none of the four words
+pub by_letter_alone : (line : List ℕ) → begins (codes "TAIL ") line ≡ false → begins (codes "HOLD ") line ≡ false → begins (codes "FREE ") line ≡ false → begins (codes "CLOSE ") line ≡ false → by_letter line ≡ request_of line
+by_letter_alone line tail hold free close = rw (tail, hold, free, close) refl
 
 -- the first word is none of them
 pub another_word : (line word : List ℕ) (r : Option (Bor (List ℕ) × Bor (List ℕ))) (first rest : Bor (List ℕ)) → IsCut line word r → r ≡ Some (first, rest) → bytes_eq first.now word ≡ false → begins (word ++ space) line ≡ false

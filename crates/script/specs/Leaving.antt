@@ -2,12 +2,12 @@
 use Rattle.std.specs.Prelude.{◌≡◌, ℕ, ◌+◌, ◌<◌, false, List, ◌∷◌, ◌++◌, length, take, Option}
 use Rattle.std.specs.Io.KnownBytes.{Appends}
 use Rattle.house.specs.Setup.{Setup}
-use Rattle.house.specs.Scene.{BytesPlay, EnterPlay, LeavePlay, SayPlay, Scene, VanishPlay, empty_scene, place_of, seat_of}
+use Rattle.house.specs.Scene.{BytesPlay, ClosePlay, EnterPlay, LeavePlay, SayPlay, Scene, VanishPlay, empty_scene, place_of, seat_of}
 use Rattle.house.specs.Settling.{Happened}
 use Rattle.house.specs.Stands.{StandsFor}
 use Rattle.house.specs.State.{State}
 use Rattle.house.specs.declared.event.Event.{Event}
-use Rattle.script.specs.Script.{Asks, Enters, Leaves, LineDoes, Script, ScriptLine, Sends, Vanishes, none_held}
+use Rattle.script.specs.Script.{Asks, Closes, Enters, Leaves, LineDoes, Script, ScriptLine, Sends, Vanishes, none_held}
 use Rattle.script.specs.Promise.{DeliversOnce}
 
 -- These bytes were written, they are what a script of these lines prints, and deliver exactly once; the house that is left stands for the scene that it
@@ -15,7 +15,7 @@ use Rattle.script.specs.Promise.{DeliversOnce}
 pub record Writes (k : Setup) (lines : List ScriptLine) (h : State) (old new : Option (List ℕ)) : Type 0 where
   pub after : Scene
   pub printed : List ℕ
-  pub script : Script k 1 (none_held k) lines empty_scene after printed
+  pub script : Script k 1 (none_held k) lines (empty_scene k) after printed
   pub once : DeliversOnce k (length lines) after printed
   pub stands : StandsFor k h after
   pub out : Appends old new printed
@@ -27,7 +27,7 @@ pub record WritesFirst (k : Setup) (lines : List ScriptLine) (sent : ℕ) (h : S
   pub split : lines ≡ some ++ others
   pub after : Scene
   pub printed : List ℕ
-  pub script : Script k 1 (none_held k) some empty_scene after printed
+  pub script : Script k 1 (none_held k) some (empty_scene k) after printed
   pub once : DeliversOnce k (length some) after printed
   pub stands : StandsFor k h after
   pub within : sent < length printed
@@ -40,7 +40,7 @@ pub record WritesBeginning (k : Setup) (lines : List ScriptLine) (Left : ℕ →
   pub split : lines ≡ some ++ others
   pub after : Scene
   pub printed : List ℕ
-  pub script : Script k 1 (none_held k) some empty_scene after printed
+  pub script : Script k 1 (none_held k) some (empty_scene k) after printed
   pub once : DeliversOnce k (length some) after printed
   pub left : Left (length some + 1) others after
   pub out : Appends old new printed
@@ -56,6 +56,7 @@ LineBegins k s t printed (Vanishes connection) = VanishPlay k false s (seat_of c
 LineBegins k s t printed (Enters session user) = EnterPlay k false s (place_of session) user t printed
 LineBegins k s t printed (Asks session bytes) = SayPlay k false s (place_of session) bytes t printed
 LineBegins k s t printed (Leaves session) = LeavePlay k s (place_of session) t printed
+LineBegins k s t printed (Closes shard) = ClosePlay k s shard t printed
 LineBegins k s t printed _ = ⊥
 
 -- Memory was wanting as a line was done: nothing happened, or its event did in part.

@@ -68,7 +68,7 @@ refusals_of parts = filter_map refused_in parts
 pub record DeliversOnce (k : Setup) (count : ℕ) (after : Scene) (printed : List ℕ) : Type 0 where
   -- what was printed, part by part
   pub parts : List Part
-  pub leads : AreParts k parts empty_scene after
+  pub leads : AreParts k parts (empty_scene k) after
   pub whole : printed ≡ flat_map (text_of_part k) parts
   -- each refusal is of another of the lines, in their order
   pub in_turn : AllPairs (λ a b. a < b) (refusals_of parts)
@@ -86,7 +86,7 @@ pub record WroteOnce (k : Setup) (lines : List ScriptLine) (old new : Option (Li
   pub split : lines ≡ some ++ others
   pub after : Scene
   pub printed : List ℕ
-  pub script : Script k 1 (none_held k) some empty_scene after printed
+  pub script : Script k 1 (none_held k) some (empty_scene k) after printed
   pub once : DeliversOnce k (length some) after printed
   pub sent : ℕ
   pub within : sent ≤ length printed

@@ -8,8 +8,8 @@ use Rattle.hex.specs.declared.error.FromHexError.{FromHexError}
 use Rattle.envelope.specs.Names.{number_of}
 use Rattle.line_io.specs.Wire.{crlf}
 use Rattle.house_connection.specs.HouseConnection.{HouseConnection}
-use Rattle.house.specs.Setup.{Setup, session_seat}
-use Rattle.house.specs.Scene.{BytesPlay, EnterPlay, HasEnded, LeavePlay, SayPlay, Scene, VanishPlay, most_serials, place_of, seat_of}
+use Rattle.house.specs.Setup.{Setup}
+use Rattle.house.specs.Scene.{BytesPlay, ClosePlay, EnterPlay, LeavePlay, SayPlay, Scene, VanishPlay, is_shut_in, most_serials, place_of, seat_of}
 use Rattle.house.specs.Settled.{is_held}
 use Rattle.house.specs.Settling.{Settles}
 use Rattle.house.specs.Window.{window_text}
@@ -48,6 +48,8 @@ pub data ScriptLine : Type 0 where
   Hold : (shard : ℕ) → ScriptLine
   -- it goes on
   Free : (shard : ℕ) → ScriptLine
+  -- a shard is shut
+  Closes : (shard : ℕ) → ScriptLine
   -- a mailbox's window is to be printed
   Tail : List ℕ → ScriptLine
   -- an empty line, or one that begins with #
@@ -122,6 +124,10 @@ held_of digits = if is_number digits then Hold (digits_value 10 digits) else Bad
 abbrev pub freed_of : List ℕ → ScriptLine
 freed_of digits = if is_number digits then Free (digits_value 10 digits) else Bad
 
+-- `CLOSE s`, with one space
+abbrev pub closed_of : List ℕ → ScriptLine
+closed_of digits = if is_number digits then Closes (digits_value 10 digits) else Bad
+
 -- the line begins with this text
 abbrev pub begins : List ℕ → List ℕ → Bool
 begins text line = starts_with nat_eq line text
@@ -143,6 +149,7 @@ request_of line =
     if begins (codes "TAIL ") line then tail_of (drop 5 line)
     else if begins (codes "HOLD ") line then held_of (drop 5 line)
     else if begins (codes "FREE ") line then freed_of (drop 5 line)
+    else if begins (codes "CLOSE ") line then closed_of (drop 6 line)
     else by_letter line
 
 -- what a line asks for: comments are skipped whatever their length
@@ -163,6 +170,7 @@ as_spec (reads.AsksInHex session digits) = brought (Asks session) (decode_of dig
 as_spec (reads.Leaves session) = Leaves session
 as_spec (reads.Hold digits) = Hold (digits_value 10 digits.now)
 as_spec (reads.Free digits) = Free (digits_value 10 digits.now)
+as_spec (reads.Closes digits) = Closes (digits_value 10 digits.now)
 as_spec (reads.Tail word) = Tail word.now
 as_spec reads.Skip = Skip
 as_spec reads.Bad = Bad
@@ -178,6 +186,7 @@ HasDigits (reads.AsksInHex session digits) = Unit {0}
 HasDigits (reads.Leaves session) = Unit {0}
 HasDigits (reads.Hold digits) = list_all is_digit digits.now ≡ true
 HasDigits (reads.Free digits) = list_all is_digit digits.now ≡ true
+HasDigits (reads.Closes digits) = list_all is_digit digits.now ≡ true
 HasDigits (reads.Tail word) = Unit {0}
 HasDigits reads.Skip = Unit {0}
 HasDigits reads.Bad = Unit {0}
@@ -198,10 +207,10 @@ IsNoConnection k connection = (connection ≡ 0) ⊎ (k.connections < connection
 abbrev pub IsAway : Setup → Scene → ℕ → Type 0
 IsAway k s connection = IsNoConnection k connection ⊎ (s.caller (seat_of connection) ≡ None)
 
--- nobody is there, and the seat takes no more: its serials are spent, or it has ended
+-- nobody is there, and the seat takes no more: its serials are spent
 abbrev pub NobodyThere : Setup → Scene → ℕ → Type 0
 NobodyThere k s connection = IsNoConnection k connection
-    ⊎ ((s.caller (seat_of connection) ≡ None) × ((most_serials ≤ s.next (seat_of connection)) ⊎ HasEnded k.config s.world (seat_of connection)))
+    ⊎ ((s.caller (seat_of connection) ≡ None) × (most_serials ≤ s.next (seat_of connection)))
 
 -- the seat still waits for the verdicts of a connection whose peer is gone
 abbrev pub IsOwing : Scene → ℕ → Type 0
@@ -223,9 +232,9 @@ IsVisited s session = (v : SeatedSession) × (s.visitor (place_of session) ≡ S
 abbrev pub IsLingering : Scene → ℕ → Type 0
 IsLingering s session = (v : SeatedSession) × (s.visitor (place_of session) ≡ Some v) × (v.gone ≡ true)
 
--- nobody is at its place, and the seat takes no more: its serials are spent, or it has ended
-abbrev pub IsSpentSession : Setup → Scene → ℕ → Type 0
-IsSpentSession k s session = (s.visitor (place_of session) ≡ None) × ((most_serials ≤ s.entered (place_of session)) ⊎ HasEnded k.config s.world (session_seat k (place_of session)))
+-- nobody is at its place, and the seat takes no more: its serials are spent
+abbrev pub IsSpentSession : Scene → ℕ → Type 0
+IsSpentSession s session = (s.visitor (place_of session) ≡ None) × (most_serials ≤ s.entered (place_of session))
 
 -- there is no such user, compared byte by byte
 abbrev pub IsUnknown : Setup → (user : List ℕ) → Type 0
@@ -245,7 +254,7 @@ pub data LineDoes (k : Setup) (number : ℕ) (s : Scene) (t : Scene) (printed : 
   vanishes_again : (connection : ℕ) → IsOwing s connection → t ≡ s → printed ≡ refusal number (codes "Busy")
       → LineDoes k number s t printed (Vanishes connection)
   enters : (session : ℕ) (user : List ℕ) → EnterPlay k true s (place_of session) user t printed → LineDoes k number s t printed (Enters session user)
-  enters_nowhere : (session : ℕ) (user : List ℕ) → IsNoSession k session ⊎ (IsUnknown k user ⊎ IsSpentSession k s session) → t ≡ s → printed ≡ refusal number (codes "Nobody")
+  enters_nowhere : (session : ℕ) (user : List ℕ) → IsNoSession k session ⊎ (IsUnknown k user ⊎ IsSpentSession s session) → t ≡ s → printed ≡ refusal number (codes "Nobody")
       → LineDoes k number s t printed (Enters session user)
   enters_taken : (session : ℕ) (user : List ℕ) → (IsUnknown k user → ⊥) → IsVisited s session → t ≡ s → printed ≡ refusal number (codes "Busy")
       → LineDoes k number s t printed (Enters session user)
@@ -264,6 +273,9 @@ pub data LineDoes (k : Setup) (number : ℕ) (s : Scene) (t : Scene) (printed : 
   stands_nobody : (shard : ℕ) → k.config.shards ≤ shard → t ≡ s → printed ≡ refusal number (codes "Nobody") → LineDoes k number s t printed (Hold shard)
   goes_again : (shard : ℕ) → shard < k.config.shards → t ≡ s → printed ≡ [] → LineDoes k number s t printed (Free shard)
   goes_nobody : (shard : ℕ) → k.config.shards ≤ shard → t ≡ s → printed ≡ refusal number (codes "Nobody") → LineDoes k number s t printed (Free shard)
+  closes : (shard : ℕ) → ClosePlay k s shard t printed → LineDoes k number s t printed (Closes shard)
+  closes_nobody : (shard : ℕ) → k.config.shards ≤ shard → t ≡ s → printed ≡ refusal number (codes "Nobody") → LineDoes k number s t printed (Closes shard)
+  closes_again : (shard : ℕ) → is_shut_in s shard ≡ true → t ≡ s → printed ≡ refusal number (codes "Busy") → LineDoes k number s t printed (Closes shard)
   tails : (word : List ℕ) (m : ℕ) → number_of k.directory word ≡ Some m → t ≡ s → printed ≡ window_text word (s.world.box m)
       → LineDoes k number s t printed (Tail word)
   tails_nobody : (word : List ℕ) → number_of k.directory word ≡ None → t ≡ s → printed ≡ refusal number (codes "Nobody")
@@ -284,6 +296,7 @@ held_after held (Asks session bytes) = held
 held_after held (Leaves session) = held
 held_after held (Hold shard) = slice_set held shard true
 held_after held (Free shard) = slice_set held shard false
+held_after held (Closes shard) = held
 held_after held (Tail word) = held
 held_after held Skip = held
 held_after held Bad = held

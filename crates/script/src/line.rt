@@ -4,7 +4,7 @@ ghost use Rattle.std.specs.Prelude.{◌≡◌, ℕ, List, true, false};
 ghost use Rattle.std.specs.List.{list_all};
 ghost use Rattle.std.specs.Io.BufRead.{ends_with_byte, strip_last};
 ghost use Rattle.script.specs.Script as spec;
-ghost use Rattle.script.specs.Script.{Asks, HasDigits, Leaves, as_spec, asked, behind_number, by_letter, freed_of, has_space, held_of, in_hex, is_digit, is_number, is_one_to_eight, is_skipped, line_of, numbered, of_connection, of_session, request_of, tail_of};
+ghost use Rattle.script.specs.Script.{Asks, HasDigits, Leaves, as_spec, asked, behind_number, by_letter, closed_of, freed_of, has_space, held_of, in_hex, is_digit, is_number, is_one_to_eight, is_skipped, line_of, numbered, of_connection, of_session, request_of, tail_of};
 ghost use Rattle.script.specs.inner.Script.{IsCut, as_line};
 
 use bstr::ByteSlice;
@@ -33,6 +33,8 @@ pub enum ScriptLine<'a> {
     Hold(&'a [u8]),
     /// It goes on.
     Free(&'a [u8]),
+    /// The shard with this number, in decimal digits, is shut.
+    Closes(&'a [u8]),
     /// The window of the mailbox with this word is to be printed.
     Tail(&'a [u8]),
     /// An empty line, or a comment.
@@ -231,6 +233,17 @@ fn freed_of(digits: &[u8]) -> ScriptLine<'_>
     }
 }
 
+fn closed_of(digits: &[u8]) -> ScriptLine<'_>
+    ensures reads { as_spec result ≡ closed_of digits.now }
+    ensures digits { HasDigits result }
+{
+    if is_number(digits) {
+        ScriptLine::Closes(digits)
+    } else {
+        ScriptLine::Bad
+    }
+}
+
 fn tail_of(word: &[u8]) -> ScriptLine<'_>
     ensures reads { as_spec result ≡ tail_of word.now }
     ensures digits { HasDigits result }
@@ -275,6 +288,9 @@ fn request_of(line: &[u8]) -> ScriptLine<'_>
         }
         if word == b"FREE".as_slice() {
             return freed_of(rest);
+        }
+        if word == b"CLOSE".as_slice() {
+            return closed_of(rest);
         }
     }
     of_letter(line)
@@ -346,6 +362,13 @@ mod tests {
         assert_eq!(rt; read_line(b"i1"), ScriptLine::Bad);
         assert_eq!(rt; read_line(b"HOLD 00"), ScriptLine::Hold(b"00".as_slice()));
         assert_eq!(rt; read_line(b"FREE 256"), ScriptLine::Free(b"256".as_slice()));
+        assert_eq!(rt;
+            read_line(b"CLOSE 01"),
+            ScriptLine::Closes(b"01".as_slice())
+        );
+        assert_eq!(rt; read_line(b"CLOSE"), ScriptLine::Bad);
+        assert_eq!(rt; read_line(b"CLOSE "), ScriptLine::Bad);
+        assert_eq!(rt; read_line(b"CLOSE 1 "), ScriptLine::Bad);
         assert_eq!(rt; read_line(b"HOLD  0"), ScriptLine::Bad);
         assert_eq!(rt; read_line(b"HOLD 0 "), ScriptLine::Bad);
         assert_eq!(rt; read_line(b"HOLD "), ScriptLine::Bad);

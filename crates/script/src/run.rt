@@ -230,6 +230,28 @@ fn set_held(
     Ok(())
 }
 
+// A shard is shut, if there is one of this number.
+fn close_shard(
+    house: &mut House,
+    number: u64,
+    digits: &[u8],
+    out: &mut Vec<u8>,
+) -> Result<(), AllocError>
+    requires digits { list_all is_digit digits.now ≡ true }
+    ensures done { OnOk result ((k : Setup) (s : scene.Scene) → StandsFor k house.old s → LineDone k number (spec.Closes (digits_value 10 digits.now)) s house.new out.old.items out.new.items) }
+    ensures wanting { OnErr result ((k : Setup) (s : scene.Scene) → StandsFor k house.old s → LineWanting k (spec.Closes (digits_value 10 digits.now)) s house.new) }
+{
+    let shard = clipped_number(digits);
+    if shard >= usize::from(house.shards()) {
+        return refuse(number, b"Nobody", out);
+    }
+    match house.step(Event::Close(shard as u8), out) {
+        Ok(()) => Ok(()),
+        Err(HouseFault::Busy) => refuse(number, b"Busy", out),
+        Err(_) => Err(AllocError),
+    }
+}
+
 // A session of this user begins.
 fn enter_session(
     house: &mut House,
@@ -362,6 +384,7 @@ fn do_line(
         ScriptLine::Leaves(session) => leave_session(house, number, session, out),
         ScriptLine::Hold(digits) => set_held(held, number, digits, true, out),
         ScriptLine::Free(digits) => set_held(held, number, digits, false, out),
+        ScriptLine::Closes(digits) => close_shard(house, number, digits, out),
         ScriptLine::Tail(word) => show_tail(house, number, word, out),
         ScriptLine::Skip => Ok(()),
         ScriptLine::Bad => refuse(number, b"Line", out),
@@ -470,15 +493,15 @@ pub fn drive<R: BufRead, W: Sink>(
     writer: &mut W,
 ) -> Result<(), RunFault>
     requires { W.failed writer.old ≡ false }
-    ensures ok { OnOk result ((k : Setup) (input : List ℕ) → StandsFor k house.old empty_scene → R.remaining reader.old ≡ Some input →
+    ensures ok { OnOk result ((k : Setup) (input : List ℕ) → StandsFor k house.old (empty_scene k) → R.remaining reader.old ≡ Some input →
         Writes k (script_of input) house.new (W.taken writer.old) (W.taken writer.new)) }
-    ensures write { (sent : ℕ) → result ≡ Err (RunFault.Write sent) → (k : Setup) (input : List ℕ) → StandsFor k house.old empty_scene → R.remaining reader.old ≡ Some input →
+    ensures write { (sent : ℕ) → result ≡ Err (RunFault.Write sent) → (k : Setup) (input : List ℕ) → StandsFor k house.old (empty_scene k) → R.remaining reader.old ≡ Some input →
         WritesFirst k (script_of input) sent house.new (W.taken writer.old) (W.taken writer.new) }
     ensures failed { (sent : ℕ) → result ≡ Err (RunFault.Write sent) → W.failed writer.new ≡ true }
-    ensures no_memory { result ≡ Err RunFault.NoMemory → (k : Setup) (input : List ℕ) → StandsFor k house.old empty_scene → R.remaining reader.old ≡ Some input →
+    ensures no_memory { result ≡ Err RunFault.NoMemory → (k : Setup) (input : List ℕ) → StandsFor k house.old (empty_scene k) → R.remaining reader.old ≡ Some input →
         WritesBeginning k (script_of input) (IsLeftWanting k house.new) (W.taken writer.old) (W.taken writer.new) }
-    ensures once { (k : Setup) (input : List ℕ) → StandsFor k house.old empty_scene → R.remaining reader.old ≡ Some input → WroteOnce k (script_of input) (W.taken writer.old) (W.taken writer.new) }
-    ensures read { result ≡ Err RunFault.Read → (k : Setup) (input : List ℕ) → StandsFor k house.old empty_scene → R.remaining reader.old ≡ Some input →
+    ensures once { (k : Setup) (input : List ℕ) → StandsFor k house.old (empty_scene k) → R.remaining reader.old ≡ Some input → WroteOnce k (script_of input) (W.taken writer.old) (W.taken writer.new) }
+    ensures read { result ≡ Err RunFault.Read → (k : Setup) (input : List ℕ) → StandsFor k house.old (empty_scene k) → R.remaining reader.old ≡ Some input →
         WritesBeginning k (script_of input) (IsLeft k house.new) (W.taken writer.old) (W.taken writer.new) }
 {
     let Ok(held) = none_held(alloc, house.shards()) else {

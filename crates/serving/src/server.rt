@@ -59,6 +59,8 @@ fn sizes_of(config: &Config, places: usize) -> Sizes<'_>
         // Nobody compares what was accepted, and a server runs for months.
         history: History::Unkept,
         turns: 0,
+        // A server closes its shards at its end alone.
+        closings: &[],
     }
 }
 

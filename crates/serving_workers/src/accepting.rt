@@ -5,7 +5,7 @@ ghost use Rattle.std.specs.Prelude.{◌≡◌, ◌≤◌, ◌<◌, [], length, v
 ghost use Rattle.delivery_token.specs.declared.log.Noted.{Noted};
 ghost use Rattle.shard_queue.specs.declared.ends.ReplyChannel.{ReplyChannel};
 ghost use Rattle.shard_queue.specs.Reply.{IsReceiver};
-ghost use Rattle.lane_work.specs.Seats.{AreEnded, AreSeats};
+ghost use Rattle.lane_work.specs.Seats.{AreEnded, AreSeated};
 
 use crate::door::Door;
 use delivery_token::{Job, Noted};
@@ -55,12 +55,12 @@ fn serve_one<R: Wait, G: Gate, S: Summons>(
     stream: &TcpStream,
     buffers: &mut Buffers,
 ) -> bool
-    requires seats { AreSeats office.now.lanes.items desk.old.number desk.old.seats.items }
+    requires seats { AreSeated office.now.directory office.now.lanes.items desk.old.number desk.old.seats.items }
     requires receiver { IsReceiver channel.now desk.old.receiver }
     requires lanes { office.now.directory.shards ≡ length office.now.lanes.items }
     requires host { length office.now.host.items < 256 }
     requires room { 0 < length buffers.old.input.items }
-    ensures seats { AreSeats office.now.lanes.items desk.old.number desk.new.seats.items }
+    ensures seats { AreSeated office.now.directory office.now.lanes.items desk.old.number desk.new.seats.items }
     ensures receiver { IsReceiver channel.now desk.new.receiver }
     ensures number { desk.new.number ≡ desk.old.number }
     ensures room { length buffers.new.input.items ≡ length buffers.old.input.items }
@@ -105,12 +105,12 @@ fn attend<R: Wait, G: Gate, S: Summons>(
     stream: &TcpStream,
     buffers: &mut Buffers,
 ) -> bool
-    requires seats { AreSeats office.now.lanes.items desk.old.number desk.old.seats.items }
+    requires seats { AreSeated office.now.directory office.now.lanes.items desk.old.number desk.old.seats.items }
     requires receiver { IsReceiver channel.now desk.old.receiver }
     requires lanes { office.now.directory.shards ≡ length office.now.lanes.items }
     requires host { length office.now.host.items < 256 }
     requires room { 0 < length buffers.old.input.items }
-    ensures seats { AreSeats office.now.lanes.items desk.old.number desk.new.seats.items }
+    ensures seats { AreSeated office.now.directory office.now.lanes.items desk.old.number desk.new.seats.items }
     ensures receiver { IsReceiver channel.now desk.new.receiver }
     ensures number { desk.new.number ≡ desk.old.number }
     ensures room { length buffers.new.input.items ≡ length buffers.old.input.items }
@@ -143,12 +143,12 @@ fn serve_all<R: Wait, G: Gate, S: Summons>(
     slot: &Slot,
     buffers: &mut Buffers,
 ) -> bool
-    requires seats { AreSeats office.now.lanes.items desk.old.number desk.old.seats.items }
+    requires seats { AreSeated office.now.directory office.now.lanes.items desk.old.number desk.old.seats.items }
     requires receiver { IsReceiver channel.now desk.old.receiver }
     requires lanes { office.now.directory.shards ≡ length office.now.lanes.items }
     requires host { length office.now.host.items < 256 }
     requires room { 0 < length buffers.old.input.items }
-    ensures seats { AreSeats office.now.lanes.items desk.old.number desk.new.seats.items }
+    ensures seats { AreSeated office.now.directory office.now.lanes.items desk.old.number desk.new.seats.items }
     ensures receiver { IsReceiver channel.now desk.new.receiver }
     ensures number { desk.new.number ≡ desk.old.number }
 {
@@ -185,7 +185,7 @@ pub(crate) fn serve_until_stopped<R: Wait, G: Gate, S: Summons>(
     slot: &Slot,
     mut buffers: Buffers,
 ) -> Served
-    requires seats { AreSeats office.now.lanes.items desk.number desk.seats.items }
+    requires seats { AreSeated office.now.directory office.now.lanes.items desk.number desk.seats.items }
     requires receiver { IsReceiver channel.now desk.receiver }
     requires lanes { office.now.directory.shards ≡ length office.now.lanes.items }
     requires host { length office.now.host.items < 256 }

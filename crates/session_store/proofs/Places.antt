@@ -6,7 +6,7 @@ use Rattle.change_ring.specs.declared.change.Change.{Change}
 use Rattle.shard_queue.proofs.AtLaws.{at_cases}
 use Rattle.shard_queue.specs.At.{set_at}
 use Rattle.world.specs.World as ev
-use Rattle.world.specs.World.{Config, World, Session, Event, Step, Steps, IsWorld, empty_world, MailStep, LeaveStep, PutStep, EndStep, TakeStep, DeliverStep, AnswerStep, HearStep, EnterStep, put_joins, put_full, put_no_memory, end_joins, end_full, takes, take_empty, delivers, deliver_spent, deliver_full, deliver_no_memory, answers, answer_full, hears_one, enters, enter_spent, enter_no_memory, mails, mail_lapped, mail_spent, mail_no_memory, leaves, leave_spent}
+use Rattle.world.specs.World.{Config, World, Session, Event, Step, Steps, IsWorld, empty_world, MailStep, LeaveStep, PutStep, EndStep, TakeStep, DeliverStep, AnswerStep, HearStep, EnterStep, put_joins, put_full, put_no_memory, put_shut, end_joins, end_full, takes, take_empty, delivers, deliver_spent, deliver_full, deliver_no_memory, answers, answer_full, hears_one, enters, enter_spent, enter_no_memory, mails, mail_lapped, mail_spent, mail_no_memory, leaves, leave_spent}
 use Rattle.delivery_core.specs.Held.{Held, client_of}
 use Rattle.delivery_core.specs.Stands.{StandsFor, StandsForPlace}
 
@@ -32,9 +32,10 @@ leave_keeps k w n s changes v none is (leaves b L e) = rw e (set_within k w.sess
 leave_keeps k w n s changes v none is (leave_spent many e) = rw e none
 
 step_keeps : (k : Config) (w : World) (e : Event) (v : World) → NoneBeyond k w → Step k w e v → NoneBeyond k v
-step_keeps k w (ev.Put p s c) v none (put_joins may room e) = rw e none
-step_keeps k w (ev.Put p s c) v none (put_full may room e) = rw e none
-step_keeps k w (ev.Put p s c) v none (put_no_memory may room e) = rw e none
+step_keeps k w (ev.Put p s c) v none (put_joins may live room e) = rw e none
+step_keeps k w (ev.Put p s c) v none (put_full may live room e) = rw e none
+step_keeps k w (ev.Put p s c) v none (put_no_memory may live room e) = rw e none
+step_keeps k w (ev.Put p s c) v none (put_shut may ended e) = rw e none
 step_keeps k w (ev.PutEnd p s) v none (end_joins seat shard live room e) = rw e none
 step_keeps k w (ev.PutEnd p s) v none (end_full seat shard live room e) = rw e none
 step_keeps k w (ev.Take s) v none (takes x others empty front e) = rw e none

@@ -340,6 +340,10 @@ const DIALOGUES: &[Dialogue] = &[
             Step::Line(END, After::Submit, NOTHING),
             Step::Submitted(3, 3, b"x", NO_FLAGS),
             Step::Refused(Refusal::UidSpent, b"a4 NO No UID left\r\n"),
+            Step::Line(b"a5 APPEND INBOX {1+}", After::Literal(1), NOTHING),
+            Step::Literal(b"x", 1, 0),
+            Step::Line(END, After::Submit, NOTHING),
+            Step::Refused(Refusal::Shut, b"a5 NO Shard closed\r\n"),
         ],
     },
     // A tag of 32 bytes is kept in place, and one of 33 is not.

@@ -11,7 +11,7 @@ use Rattle.delivery_token.specs.declared.CopyKey.{CopyKey}
 use Rattle.delivery_token.specs.declared.Job.{Job}
 use Rattle.delivery_token.specs.Keys.{Below}
 use Rattle.delivery_token.specs.declared.Verdict.TheVariants.{Stored}
-use Rattle.delivery_token.specs.declared.Refusal.TheVariants.{Full, NoMemory}
+use Rattle.delivery_token.specs.declared.Refusal.TheVariants.{Full, NoMemory, Shut}
 use Rattle.delivery_token.specs.declared.log.Noted.{Noted}
 use Rattle.change_ring.specs.Log.{Row, added, rows_of, IsLegalLog, FitsView}
 use Rattle.change_ring.specs.declared.change.Change.{Change}
@@ -20,7 +20,7 @@ use Rattle.delivery_token.specs.Log.{stored_pair, stored_in}
 use Rattle.std.specs.List.{range_with_len}
 use Rattle.shard_queue.proofs.AtLaws.{at_cases}
 use Rattle.shard_queue.proofs.LaneLaws.{of_append, closed_is_empty, closed_not_live}
-use Rattle.world.specs.World.{Config, World, Box, Session, Event, Put, PutEnd, Take, Deliver, Answer, Hear, Enter, Status, Read, Store, Expunge, Feed, Leave, Step, Steps, IsWorld, put_joins, put_full, put_no_memory, end_joins, end_full, takes, take_empty, delivers, deliver_spent, deliver_full, deliver_no_memory, answers, answer_full, hears_one, enters, enter_spent, enter_no_memory, MailStep, mails, mail_lapped, mail_spent, mail_no_memory, LeaveStep, leaves, leave_spent, shard_of, pending, empty_world}
+use Rattle.world.specs.World.{Config, World, Box, Session, Event, Put, PutEnd, Take, Deliver, Answer, Hear, Enter, Status, Read, Store, Expunge, Feed, Leave, Step, Steps, IsWorld, put_joins, put_full, put_no_memory, put_shut, end_joins, end_full, takes, take_empty, delivers, deliver_spent, deliver_full, deliver_no_memory, answers, answer_full, hears_one, enters, enter_spent, enter_no_memory, MailStep, mails, mail_lapped, mail_spent, mail_no_memory, LeaveStep, leaves, leave_spent, shard_of, pending, empty_world}
 use Rattle.world.specs.Law.{stored, due, accepted_of, pair_of, pairs, copies, key_of, keys, copy_for, taken_copies, IsShown, IsPart, none, keeps, skips, StandsOnce, Headline}
 use Rattle.world.proofs.Base.{Every, Rising, rising_pair, rising_map, part_more, part_front, part_self, part_both, part_rising, part_filter, part_map}
 use Rattle.world.specs.Known.{key_in}
@@ -63,9 +63,10 @@ added_removed true rows = added_removals (λ _. true) rows
 added_removed false rows = refl
 
 pub kept_step : (k : Config) (w : World) (e : Event) (v : World) → Kept k w → Step k w e v → Kept k v
-kept_step k w (Put p s c) v K (put_joins may room e) = rw e (kept_put k w p s c K may room)
-kept_step k w (Put p s c) v K (put_full may room e) = rw e (kept_hears k w p _ Full K refl)
-kept_step k w (Put p s c) v K (put_no_memory may room e) = rw e (kept_hears k w p _ NoMemory K refl)
+kept_step k w (Put p s c) v K (put_joins may live room e) = rw e (kept_put k w p s c K may live room)
+kept_step k w (Put p s c) v K (put_full may live room e) = rw e (kept_hears k w p _ Full K refl)
+kept_step k w (Put p s c) v K (put_no_memory may live room e) = rw e (kept_hears k w p _ NoMemory K refl)
+kept_step k w (Put p s c) v K (put_shut may ended e) = rw e (kept_hears k w p _ Shut K refl)
 kept_step k w (PutEnd p s) v K (end_joins seat shard live room e) = rw e (kept_end k w p s K seat live room)
 kept_step k w (PutEnd p s) v K (end_full seat shard live room e) = rw e K
 kept_step k w (Take s) v K (takes x others empty front e) = rw e (kept_take k w s x others K empty front)
@@ -181,10 +182,11 @@ mail_lane k w n x allocates shown changes v s (mail_spent h i e) = rw e refl
 mail_lane k w n x allocates shown changes v s (mail_no_memory h i j e) = rw e refl
 
 pub closed_step : (k : Config) (w : World) (e : Event) (v : World) (s : ℕ) → Kept k w → IsClosed k.seats (w.lane s) → Step k w e v → v.lane s ≡ w.lane s
-closed_step k w (Put p t c) v s K closed (put_joins may room e) = rw e (at_cases (λ l. l ≡ w.lane s) w.lane t _ s
-    (λ same. absurd (closed_not_live k.seats k.depth (w.lane t) (K.lanes t) (subst (λ x. IsClosed k.seats (w.lane x)) same closed) p may.seat may.live)) (λ _. refl))
-closed_step k w (Put p t c) v s K closed (put_full may room e) = rw e refl
-closed_step k w (Put p t c) v s K closed (put_no_memory may room e) = rw e refl
+closed_step k w (Put p t c) v s K closed (put_joins may live room e) = rw e (at_cases (λ l. l ≡ w.lane s) w.lane t _ s
+    (λ same. absurd (closed_not_live k.seats k.depth (w.lane t) (K.lanes t) (subst (λ x. IsClosed k.seats (w.lane x)) same closed) p may.seat live)) (λ _. refl))
+closed_step k w (Put p t c) v s K closed (put_full may live room e) = rw e refl
+closed_step k w (Put p t c) v s K closed (put_no_memory may live room e) = rw e refl
+closed_step k w (Put p t c) v s K closed (put_shut may ended e) = rw e refl
 closed_step k w (PutEnd p t) v s K closed (end_joins seat shard live room e) = rw e (at_cases (λ l. l ≡ w.lane s) w.lane t _ s
     (λ same. absurd (closed_not_live k.seats k.depth (w.lane t) (K.lanes t) (subst (λ x. IsClosed k.seats (w.lane x)) same closed) p seat live)) (λ _. refl))
 closed_step k w (PutEnd p t) v s K closed (end_full seat shard live room e) = rw e refl

@@ -16,7 +16,7 @@ one_run_leads = (
     enters (omega arith) (omega arith) refl (omega arith) refl,
     (
       _,
-      put_joins (record { seat = omega arith; own = refl; mailbox = omega arith; shard = (omega arith, refl); live = refl; above_sent = λ t i d l. absurd (omega arith); above_heard = λ i d l. absurd (omega arith) }) (omega arith) refl,
+      put_joins (record { seat = omega arith; own = refl; mailbox = omega arith; shard = (omega arith, refl); above_sent = λ t i d l. absurd (omega arith); above_heard = λ i d l. absurd (omega arith) }) refl (omega arith) refl,
       (
         _,
         takes (Item 0 one_copy) [] refl refl refl,

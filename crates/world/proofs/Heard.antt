@@ -1,7 +1,7 @@
 -- Only a seat's own Put and Hear change what it has heard.
 use Rattle.std.proofs.Common.{◌≡◌, ◌≢◌, ℕ, List, refl}
 use Rattle.shard_queue.proofs.AtLaws.{at_cases}
-use Rattle.world.specs.World.{Config, World, Session, Event, Put, PutEnd, Take, Deliver, Answer, Hear, Enter, Status, Read, Store, Expunge, Feed, Leave, Step, put_joins, put_full, put_no_memory, end_joins, end_full, takes, take_empty, delivers, deliver_spent, deliver_full, deliver_no_memory, answers, answer_full, hears_one, enters, enter_spent, enter_no_memory, MailStep, mails, mail_lapped, mail_spent, mail_no_memory, leaves, leave_spent}
+use Rattle.world.specs.World.{Config, World, Session, Event, Put, PutEnd, Take, Deliver, Answer, Hear, Enter, Status, Read, Store, Expunge, Feed, Leave, Step, put_joins, put_full, put_no_memory, put_shut, end_joins, end_full, takes, take_empty, delivers, deliver_spent, deliver_full, deliver_no_memory, answers, answer_full, hears_one, enters, enter_spent, enter_no_memory, MailStep, mails, mail_lapped, mail_spent, mail_no_memory, leaves, leave_spent}
 
 -- the event is no Put and no Hear of seat p
 abbrev pub IsOfOthers : ℕ → Event → Type 0
@@ -16,9 +16,10 @@ mail_heard k w n s a shown changes v p (mail_spent i j e) = rw e refl
 mail_heard k w n s a shown changes v p (mail_no_memory h i j e) = rw e refl
 
 pub heard_stays : (k : Config) (w : World) (e : Event) (v : World) (p : ℕ) → IsOfOthers p e → Step k w e v → v.heard p ≡ w.heard p
-heard_stays k w (Put q s c) v p o (put_joins may room e) = rw e refl
-heard_stays k w (Put q s c) v p o (put_full may room e) = rw e (at_cases (λ rs. rs ≡ w.heard p) w.heard q _ p (λ same. absurd (o same)) (λ _. refl))
-heard_stays k w (Put q s c) v p o (put_no_memory may room e) = rw e (at_cases (λ rs. rs ≡ w.heard p) w.heard q _ p (λ same. absurd (o same)) (λ _. refl))
+heard_stays k w (Put q s c) v p o (put_joins may live room e) = rw e refl
+heard_stays k w (Put q s c) v p o (put_full may live room e) = rw e (at_cases (λ rs. rs ≡ w.heard p) w.heard q _ p (λ same. absurd (o same)) (λ _. refl))
+heard_stays k w (Put q s c) v p o (put_no_memory may live room e) = rw e (at_cases (λ rs. rs ≡ w.heard p) w.heard q _ p (λ same. absurd (o same)) (λ _. refl))
+heard_stays k w (Put q s c) v p o (put_shut may ended e) = rw e (at_cases (λ rs. rs ≡ w.heard p) w.heard q _ p (λ same. absurd (o same)) (λ _. refl))
 heard_stays k w (PutEnd q s) v p o (end_joins seat shard live room e) = rw e refl
 heard_stays k w (PutEnd q s) v p o (end_full seat shard live room e) = rw e refl
 heard_stays k w (Take s) v p o (takes x others empty front e) = rw e refl

@@ -17,7 +17,6 @@ use Rattle.delivery_token.specs.declared.Verdict.TheVariants.{Stored, Refused}
 use Rattle.delivery_token.specs.declared.Refusal.{Refusal}
 use Rattle.delivery_token.specs.declared.log.Noted.{Noted}
 use Rattle.change_ring.specs.declared.change.Change.{Change}
-use Rattle.change_ring.specs.declared.change.Change.TheVariants.{Add}
 use Rattle.change_ring.specs.Log.{added, rows_of, replay, FitsView}
 use Rattle.delivery_token.specs.Log.{stored_pair, stored_in}
 use Rattle.std.specs.List.{range_with_len}
@@ -111,8 +110,8 @@ keys_below y [] h = tt
 keys_below y (Item p c ∷ es) h = (h.0, keys_below y es h.1)
 keys_below y (End p ∷ es) h = keys_below y es h.1
 
-pub kept_put : (k : Config) (w : World) (p s : ℕ) (c : Job) → Kept k w → MayPut k w p s c → length (w.lane s).waiting < k.depth → Kept k (puts w s (Item p c))
-kept_put k w p s c K may room = kept_puts k w s (Item p c) K may.seat may.live room (may.own, may.shard)
+pub kept_put : (k : Config) (w : World) (p s : ℕ) (c : Job) → Kept k w → MayPut k w p s c → IsLive (w.lane s) p → length (w.lane s).waiting < k.depth → Kept k (puts w s (Item p c))
+kept_put k w p s c K may live room = kept_puts k w s (Item p c) K may.seat live room (may.own, may.shard)
     (rw filter_map-append (rising_push Below (filter_map key_in ((w.lane s).sent p)) c.key (K.rising p s) (keys_below c.key ((w.lane s).sent p) (every_of_all (EntryBelow c.key) ((w.lane s).sent p) (may.above_sent s)))))
 
 pub kept_end : (k : Config) (w : World) (p s : ℕ) → Kept k w → p < k.seats → IsLive (w.lane s) p → length (w.lane s).waiting < k.depth → Kept k (puts w s (End p))

@@ -9,7 +9,7 @@ use Rattle.delivery_token.specs.declared.CopyKey.{CopyKey}
 use Rattle.delivery_token.specs.declared.Job.{Job}
 use Rattle.delivery_token.specs.declared.log.Noted.{Noted}
 use Rattle.shard_queue.proofs.AtLaws.{at_cases, at_each}
-use Rattle.world.specs.World.{Config, World, Box, Session, Hand, Empty, Taken, Done, MayPut, put_joins, put_full, put_no_memory, end_joins, end_full, takes, take_empty, delivers, deliver_spent, deliver_full, deliver_no_memory, answers, answer_full, hears_one, enters, enter_spent, enter_no_memory, MailStep, mails, mail_lapped, mail_spent, mail_no_memory, LeaveStep, leaves, leave_spent, Event, Put, PutEnd, Take, Deliver, Answer, Hear, Enter, Status, Read, Store, Expunge, Feed, Leave, Step, Steps, IsWorld, in_hand, puts, empty_world}
+use Rattle.world.specs.World.{Config, World, Box, Session, Hand, Empty, Taken, Done, MayPut, put_joins, put_full, put_no_memory, put_shut, end_joins, end_full, takes, take_empty, delivers, deliver_spent, deliver_full, deliver_no_memory, answers, answer_full, hears_one, enters, enter_spent, enter_no_memory, MailStep, mails, mail_lapped, mail_spent, mail_no_memory, LeaveStep, leaves, leave_spent, Event, Put, PutEnd, Take, Deliver, Answer, Hear, Enter, Status, Read, Store, Expunge, Feed, Leave, Step, Steps, IsWorld, in_hand, puts, empty_world}
 use Rattle.world.proofs.Base.{Every, every_append, every_weaker}
 use Rattle.world.proofs.Mails.{IsIn}
 use Rattle.world.specs.Known.{key_in}
@@ -182,9 +182,10 @@ known_leave k w n s changes v K (leaves b L e) = rw e (known_rest k w _ _ _ _ K)
 known_leave k w n s changes v K (leave_spent i e) = rw e K
 
 pub known_step : (k : Config) (w : World) (e : Event) (v : World) → Known k w → Step k w e v → Known k v
-known_step k w (Put p s c) v K (put_joins may room e) = rw e (known_put k w p s c K may)
-known_step k w (Put p s c) v K (put_full may room e) = rw e (known_rest k w _ _ _ _ K)
-known_step k w (Put p s c) v K (put_no_memory may room e) = rw e (known_rest k w _ _ _ _ K)
+known_step k w (Put p s c) v K (put_joins may live room e) = rw e (known_put k w p s c K may)
+known_step k w (Put p s c) v K (put_full may live room e) = rw e (known_rest k w _ _ _ _ K)
+known_step k w (Put p s c) v K (put_no_memory may live room e) = rw e (known_rest k w _ _ _ _ K)
+known_step k w (Put p s c) v K (put_shut may ended e) = rw e (known_rest k w _ _ _ _ K)
 known_step k w (PutEnd p s) v K (end_joins seat shard live room e) = rw e (known_puts k w s (End p) K tt)
 known_step k w (PutEnd p s) v K (end_full seat shard live room e) = rw e K
 known_step k w (Take s) v K (takes x others empty front e) = rw e (known_take k w s x others K front)

@@ -4,6 +4,7 @@ pub mod Kept
 pub mod Always
 pub mod Outcomes
 pub mod FirstRun
+pub mod Refusals
 pub mod Known
 pub mod Waiting
 pub mod Heard

@@ -1,13 +1,14 @@
 -- Each event that is allowed has an outcome, also without want of memory; and a first run.
-use Rattle.std.proofs.Common.{◌≡◌, ℕ, suc, ◌+◌, ◌<◌, ◌≤◌, ◌⊎◌, inl, inr, Bool, true, false, List, [], ◌∷◌, ◌++◌, length, take, refl, arith}
+use Rattle.std.proofs.Common.{◌≡◌, ℕ, suc, ◌+◌, ◌<◌, ◌≤◌, ◌⊎◌, inl, inr, Bool, true, false, List, [], ◌∷◌, ◌++◌, length, take, refl}
 use Rattle.std.proofs.lemmas.Bool.{cases_lt}
+use Rattle.shard_queue.specs.Lane.{has_end}
 use Rattle.shard_queue.specs.declared.lane.Entry.{Entry}
 use Rattle.delivery_token.specs.declared.Job.{Job}
 use Rattle.change_ring.specs.declared.change.Change.{Change}
 use Rattle.change_ring.specs.Log.{rows_of}
 use Rattle.change_ring.specs.Logged.{arrival, flags_logged, removals, seen_logged, removals_if}
 use Rattle.change_ring.specs.Window.{BaseAfter}
-use Rattle.world.specs.World.{Config, World, Box, Session, Empty, Taken, Event, Put, PutEnd, Take, Deliver, Answer, Hear, Enter, Status, Read, Store, Expunge, Feed, Leave, Step, Allowed, put_joins, put_full, put_no_memory, end_joins, end_full, TakeStep, takes, take_empty, DeliverStep, delivers, deliver_spent, deliver_full, deliver_no_memory, answers, answer_full, hears_one, enters, enter_spent, enter_no_memory, MailStep, mails, mail_lapped, mail_spent, LeaveStep, leaves, leave_spent, Logs, reply_room, pending, next_uid, most_changes, most_entries, last_uid}
+use Rattle.world.specs.World.{Config, World, Box, Session, Empty, Taken, Event, Put, PutEnd, Take, Deliver, Answer, Hear, Enter, Status, Read, Store, Expunge, Feed, Leave, Step, Allowed, put_joins, put_full, put_no_memory, put_shut, end_joins, end_full, TakeStep, takes, take_empty, DeliverStep, delivers, deliver_spent, deliver_full, deliver_no_memory, answers, answer_full, hears_one, enters, enter_spent, enter_no_memory, MailStep, mails, mail_lapped, mail_spent, LeaveStep, leaves, leave_spent, Logs, reply_room, pending, next_uid, most_changes, most_entries, last_uid}
 
 base_stays : (ring total base : ℕ) (cs : List Change) → BaseAfter ring total base cs base
 base_stays ring total base [] = refl
@@ -54,11 +55,12 @@ take_outcome w s [] empty h = (w, take_empty empty h refl)
 take_outcome w s (e ∷ others) empty h = (_, takes e others empty h refl)
 
 pub outcome : (k : Config) (w : World) (e : Event) → Allowed k w e → (v : World) × Step k w e v
-outcome k w (Put p s c) may = go (cases_lt (length (w.lane s).waiting) k.depth)
+outcome k w (Put p s c) may = go (has_end ((w.lane s).sent p)) refl (cases_lt (length (w.lane s).waiting) k.depth)
   where
-    go : (length (w.lane s).waiting < k.depth) ⊎ (k.depth ≤ length (w.lane s).waiting) → (v : World) × Step k w (Put p s c) v
-    go (inl room) = (_, put_joins may room refl)
-    go (inr full) = (_, put_full may full refl)
+    go : (ended : Bool) → has_end ((w.lane s).sent p) ≡ ended → (length (w.lane s).waiting < k.depth) ⊎ (k.depth ≤ length (w.lane s).waiting) → (v : World) × Step k w (Put p s c) v
+    go true ended h = (_, put_shut may ended refl)
+    go false live (inl room) = (_, put_joins may live room refl)
+    go false live (inr full) = (_, put_full may live full refl)
 outcome k w (PutEnd p s) (seat, shard, live) = go (cases_lt (length (w.lane s).waiting) k.depth)
   where
     go : (length (w.lane s).waiting < k.depth) ⊎ (k.depth ≤ length (w.lane s).waiting) → (v : World) × Step k w (PutEnd p s) v
@@ -85,9 +87,10 @@ outcome k w (Feed n limit) (s, is) = let o : (v : World) × MailStep k w n s tru
 outcome k w (Leave n removing) (s, is) = let o : (v : World) × LeaveStep k w n s (removals_if removing (rows_of (w.box s.mailbox).log)) v = leave_outcome k w n s _ in (o.0, (s, is, o.1))
 
 pub only_allowed : (k : Config) (w : World) (e : Event) (v : World) → Step k w e v → Allowed k w e
-only_allowed k w (Put p s c) v (put_joins may room e) = may
-only_allowed k w (Put p s c) v (put_full may room e) = may
-only_allowed k w (Put p s c) v (put_no_memory may room e) = may
+only_allowed k w (Put p s c) v (put_joins may live room e) = may
+only_allowed k w (Put p s c) v (put_full may live room e) = may
+only_allowed k w (Put p s c) v (put_no_memory may live room e) = may
+only_allowed k w (Put p s c) v (put_shut may ended e) = may
 only_allowed k w (PutEnd p s) v (end_joins seat shard live room e) = (seat, shard, live)
 only_allowed k w (PutEnd p s) v (end_full seat shard live room e) = (seat, shard, live)
 only_allowed k w (Take s) v (takes x others empty front e) = empty

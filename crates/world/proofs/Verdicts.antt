@@ -18,7 +18,7 @@ use Rattle.delivery_token.specs.declared.Verdict.{Verdict}
 use Rattle.delivery_token.specs.declared.Verdict.TheVariants.{Stored, Refused}
 use Rattle.delivery_token.specs.declared.Refusal.{Refusal}
 use Rattle.delivery_token.specs.declared.log.Noted.{Noted}
-use Rattle.world.specs.World.{Config, World, Box, Session, Hand, Empty, Taken, Done, MayPut, EntryBelow, put_joins, put_full, put_no_memory, end_joins, end_full, takes, take_empty, delivers, deliver_spent, deliver_full, deliver_no_memory, answers, answer_full, hears_one, enters, enter_spent, enter_no_memory, MailStep, mails, mail_lapped, mail_spent, mail_no_memory, LeaveStep, leaves, leave_spent, Event, Put, PutEnd, Take, Deliver, Answer, Hear, Enter, Status, Read, Store, Expunge, Feed, Leave, Step, Steps, IsWorld, in_hand, puts, hears, shard_of, empty_world}
+use Rattle.world.specs.World.{Config, World, Box, Session, Hand, Empty, Taken, Done, MayPut, EntryBelow, put_joins, put_full, put_no_memory, put_shut, end_joins, end_full, takes, take_empty, delivers, deliver_spent, deliver_full, deliver_no_memory, answers, answer_full, hears_one, enters, enter_spent, enter_no_memory, MailStep, mails, mail_lapped, mail_spent, mail_no_memory, LeaveStep, leaves, leave_spent, Event, Put, PutEnd, Take, Deliver, Answer, Hear, Enter, Status, Read, Store, Expunge, Feed, Leave, Step, Steps, IsWorld, in_hand, puts, hears, shard_of, empty_world}
 use Rattle.world.specs.Law.{item_of, items, stored, held, due, accepted_of, pair_of, pairs}
 use Rattle.world.specs.Known.{key_in}
 use Rattle.world.proofs.Base.{Every, every_append, every_map, every_weaker, every_of_all, all_of_every, Rising, rising_pair}
@@ -382,9 +382,10 @@ verdicts_leave k w n s changes v V (leaves b L e) = rw e (verdicts_rest w _ _ _ 
 verdicts_leave k w n s changes v V (leave_spent i e) = rw e V
 
 verdicts_step : (k : Config) (w : World) (e : Event) (v : World) → Known k w → Verdicts w → Step k w e v → Verdicts v
-verdicts_step k w (Put p s c) v K V (put_joins may room e) = rw e (verdicts_put k w p s c K V may)
-verdicts_step k w (Put p s c) v K V (put_full may room e) = rw e (verdicts_hears k w p s c _ K V may refl)
-verdicts_step k w (Put p s c) v K V (put_no_memory may room e) = rw e (verdicts_hears k w p s c _ K V may refl)
+verdicts_step k w (Put p s c) v K V (put_joins may live room e) = rw e (verdicts_put k w p s c K V may)
+verdicts_step k w (Put p s c) v K V (put_full may live room e) = rw e (verdicts_hears k w p s c _ K V may refl)
+verdicts_step k w (Put p s c) v K V (put_no_memory may live room e) = rw e (verdicts_hears k w p s c _ K V may refl)
+verdicts_step k w (Put p s c) v K V (put_shut may ended e) = rw e (verdicts_hears k w p s c _ K V may refl)
 verdicts_step k w (PutEnd p s) v K V (end_joins seat shard live room e) = rw e (verdicts_end w p s V)
 verdicts_step k w (PutEnd p s) v K V (end_full seat shard live room e) = rw e V
 verdicts_step k w (Take s) v K V (takes x others empty front e) = rw e (verdicts_take w s x others V empty front)

@@ -1,13 +1,13 @@
 -- The whole house as lists and numbers, the events that change it, and the worlds that come from the empty one.
 use Rattle.std.specs.Prelude.{◌≡◌, ℕ, ◌+◌, ◌-◌, ◌%◌, ◌^◌, ◌<◌, ◌≤◌, Bool, true, false, ◌⊎◌, List, [], ◌∷◌, ◌++◌, length, take, drop, All, Option, Some, None}
-use Rattle.shard_queue.specs.Lane.{Lane, empty_lane, put, took, IsLive}
+use Rattle.shard_queue.specs.Lane.{Lane, empty_lane, put, took, has_end, IsLive}
 use Rattle.shard_queue.specs.declared.lane.Entry.{Entry}
 use Rattle.shard_queue.specs.declared.lane.Entry.TheVariants.{Item, End}
 use Rattle.shard_queue.specs.At.{set_at}
 use Rattle.delivery_token.specs.declared.CopyKey.{CopyKey}
 use Rattle.delivery_token.specs.declared.Job.{Job}
 use Rattle.delivery_token.specs.Keys.{Below}
-use Rattle.delivery_token.specs.declared.Refusal.TheVariants.{Full, MailboxFull, NoMemory, UidSpent}
+use Rattle.delivery_token.specs.declared.Refusal.TheVariants.{Full, MailboxFull, NoMemory, Shut, UidSpent}
 use Rattle.delivery_token.specs.declared.Verdict.{Verdict}
 use Rattle.delivery_token.specs.declared.Verdict.TheVariants.{Stored, Refused}
 use Rattle.delivery_token.specs.declared.log.Noted.{Noted}
@@ -127,23 +127,25 @@ abbrev pub EntryBelow : CopyKey → Entry Job → Type 0
 EntryBelow y (Item p c) = Below c.key y
 EntryBelow y (End p) = Unit {0}
 
--- seat p may put the copy: it hasn't ended on that shard, which is the mailbox's, and the key is p's and above every other of p
+-- seat p may put the copy: the shard is the mailbox's, and the key is p's and above every other of p; where it has ended there, it hears so
 pub record MayPut (k : Config) (w : World) (p s : ℕ) (c : Job) : Type 0 where
   pub seat : p < k.seats
   pub own : c.key.seat ≡ p
   pub mailbox : c.mailbox < k.mailboxes
   pub shard : IsShardOf k c.mailbox s
-  pub live : IsLive (w.lane s) p
   pub above_sent : (t : ℕ) → All (EntryBelow c.key) ((w.lane t).sent p)
   pub above_heard : All (λ r. Below r.key c.key) (w.heard p)
 
--- seat p puts a copy into the lane of shard s, or hears at once that it was refused
+-- seat p puts a copy into the lane of shard s, or hears at once that it was refused: as shut where it has put its end into that lane, and
+-- else as full where the lane is
 pub data PutStep (k : Config) (w : World) (p s : ℕ) (c : Job) (v : World) : Type 0 where
   -- the copy goes last
-  put_joins : MayPut k w p s c → length (w.lane s).waiting < k.depth → v ≡ puts w s (Item p c) → PutStep k w p s c v
-  put_full : MayPut k w p s c → k.depth ≤ length (w.lane s).waiting → v ≡ hears w p (reply_to c (Refused Full)) → PutStep k w p s c v
+  put_joins : MayPut k w p s c → IsLive (w.lane s) p → length (w.lane s).waiting < k.depth → v ≡ puts w s (Item p c) → PutStep k w p s c v
+  put_full : MayPut k w p s c → IsLive (w.lane s) p → k.depth ≤ length (w.lane s).waiting → v ≡ hears w p (reply_to c (Refused Full)) → PutStep k w p s c v
   -- a growth was refused
-  put_no_memory : MayPut k w p s c → length (w.lane s).waiting < k.depth → v ≡ hears w p (reply_to c (Refused NoMemory)) → PutStep k w p s c v
+  put_no_memory : MayPut k w p s c → IsLive (w.lane s) p → length (w.lane s).waiting < k.depth → v ≡ hears w p (reply_to c (Refused NoMemory)) → PutStep k w p s c v
+  -- the shard is being closed: the seat has put its end into the lane, which stays as it is
+  put_shut : MayPut k w p s c → has_end ((w.lane s).sent p) ≡ true → v ≡ hears w p (reply_to c (Refused Shut)) → PutStep k w p s c v
 
 -- seat p puts its end into the lane of shard s, unless that is full
 pub data EndStep (k : Config) (w : World) (p s : ℕ) (v : World) : Type 0 where

@@ -9,6 +9,7 @@ ghost use Rattle.change_ring.specs.declared.change.Change.TheVariants.{Add};
 ghost use Rattle.world.specs.First.{one_house, one_copy, one_reply, one_run};
 ghost use Rattle.world.specs.Known.{WhatWaits};
 ghost use Rattle.world.specs.Law.{Always, Headline};
+ghost use Rattle.world.specs.Refusals.{FullIsNotShut, ShutComesFirst};
 ghost use Rattle.world.specs.World.{Allowed, Config, Event, IsWorld, Step, World};
 
 /// Over every list of events, so over every interleaving of the actors: each copy that was heard as
@@ -32,6 +33,14 @@ pub fn one_run_happens()
     ensures { (w : World) × IsWorld one_house one_run w × (w.heard 0 ≡ one_reply ∷ [])
         × (w.box 0 ≡ record { log = Add 1 ∷ []; base = 0; accepted = (one_copy, 1) ∷ [] })
         × (w.session 0 ≡ Some (record { mailbox = 0; start = 0; cursor = 1; shown = Add 1 ∷ [] })) }
+{}
+
+/// Two worlds in which a put is refused, each for one reason alone: a seat that has put its end into
+/// the lane hears that it is shut, though the lane is full too, and one that has not hears that the
+/// lane is full.
+pub fn a_put_is_refused_for_its_reason()
+    ensures shut { ShutComesFirst }
+    ensures full { FullIsNotShut }
 {}
 
 /// In every world, each copy and each verdict that waits or is in a hand has a key that its seat

@@ -1,6 +1,6 @@
 -- Worked examples: whole strings, and what is heard of them.
 use Rattle.std.specs.Prelude.{codes}
-use Rattle.std.proofs.Common.{inl, inr, ℕ, List, [], ◌∷◌, ◌++◌, None, refl}
+use Rattle.std.proofs.Common.{false, inl, inr, ℕ, List, [], ◌∷◌, ◌++◌, None, refl}
 use Rattle.delivery_token.specs.declared.Verdict.TheVariants.{Stored}
 use Rattle.envelope.specs.Directory.{Directory}
 use Rattle.envelope.specs.Reading.{read, forward_at}
@@ -9,7 +9,7 @@ use Rattle.lmtp_machine.specs.Dialogue.{Ended, Line, Starved, Answered, Setting,
 use Rattle.account_laws.specs.Woven.{IsWholeDialogue, none, line, submits}
 
 abbrev pub alice : Directory
-alice = record { domains = codes "example.org" ∷ []; homes = record { user = codes "alice"; folder = None } ∷ []; shards = 1 }
+alice = record { domains = codes "example.org" ∷ []; homes = record { user = codes "alice"; folder = None } ∷ []; shards = 1; shut = false ∷ [] }
 
 -- the fifth connection of seat 3
 abbrev pub fifth : Setting

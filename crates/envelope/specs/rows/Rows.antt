@@ -1,7 +1,7 @@
 -- Lines and what they are.
-use Rattle.std.specs.Prelude.{◌≡◌, ℕ, codes, List, [], ◌∷◌, ◌++◌, Ok, Err, true, false, replicate, refl, Some, None, Option}
+use Rattle.std.specs.Prelude.{◌≡◌, ℕ, codes, List, [], ◌∷◌, ◌++◌, Ok, Err, true, false, replicate, refl, slice_set, Some, None, Option}
 use Rattle.envelope.specs.Values.{Path, Null, Postmaster, To, Lhlo, Mail, Rcpt, Help}
-use Rattle.envelope.specs.Directory.{Directory, Home, lookup}
+use Rattle.envelope.specs.Directory.{Directory, Home, is_shut, lookup, marked, none_shut}
 use Rattle.envelope.specs.Names.{is_name, words_read, number_of}
 use Rattle.envelope.specs.declared.directory.DirectoryFault.TheVariants.{TooMany, BadName, Twice}
 use Rattle.envelope.specs.declared.directory.NoSuch.TheVariants.{System, User}
@@ -93,6 +93,7 @@ three = record {
   domains = codes "example.org" ∷ [];
   homes = home (codes "alice") None ∷ home (codes "alice") (Some (codes "Work")) ∷ home (codes "bob") None ∷ [];
   shards = 2;
+  shut = none_shut 2;
 }
 
 work : lookup three (at (codes "Alice+work") (codes "EXAMPLE.ORG")) ≡ Ok 1
@@ -156,3 +157,22 @@ longest_name = refl
 
 too_long_name : is_name (replicate 256 97) ≡ false
 too_long_name = refl
+
+-- ---- shards that are shut
+
+-- of three mailboxes on two shards, those of the second are not shut with the first
+the_first_is_shut : is_shut (marked (slice_set three.shut 0 true) three) 0 ≡ true
+the_first_is_shut = refl
+
+the_second_is_not : is_shut (marked (slice_set three.shut 0 true) three) 1 ≡ false
+the_second_is_not = refl
+
+none_is_at_first : is_shut three 0 ≡ false
+none_is_at_first = refl
+
+one_that_is_not_there : is_shut (marked (slice_set three.shut 0 true) three) 2 ≡ false
+one_that_is_not_there = refl
+
+-- who is looked up doesn't hang on the marks
+work_is_there_still : lookup (marked (slice_set three.shut 1 true) three) (at (codes "Alice+work") (codes "EXAMPLE.ORG")) ≡ Ok 1
+work_is_there_still = refl

@@ -1,13 +1,11 @@
 -- What bodies and proofs say besides: what a call of the house promises: for each scene for which it stood, a scene to which the event leads.
-use Rattle.std.specs.Prelude.{◌≡◌, ℕ, ◌+◌, ◌-◌, ◌<◌, ◌≤◌, ◌⊎◌, ◌++◌, ◌%◌, slice_index_or, Bool, true, false, List, [], ◌∷◌, length, Option, Some, None, IsSome}
+use Rattle.std.specs.Prelude.{◌≡◌, ℕ, ◌+◌, ◌<◌, ◌≤◌, ◌⊎◌, ◌++◌, slice_index_or, Bool, true, false, List, [], ◌∷◌, length, Option, Some, None, IsSome}
 use Rattle.delivery_token.specs.declared.CopyKey.{CopyKey}
 use Rattle.delivery_token.specs.declared.log.Noted.{Noted}
-use Rattle.house.specs.declared.event.Event.TheVariants.{Put, Idle}
 use Rattle.delivery_token.specs.declared.Job.{Job}
 use Rattle.submission.specs.declared.verdicts.NextCopy.{NextCopy}
-use Rattle.world.specs.World.{Config, World}
-use Rattle.world.specs.World as world
-use Rattle.delivery_core.specs.Held.{Held, has_ended}
+use Rattle.world.specs.World.{World}
+use Rattle.delivery_core.specs.Held.{Held}
 use Rattle.delivery_core.specs.Changes.{SameDelivery}
 use Rattle.delivery_core.specs.Puts.{IsNextKey}
 use Rattle.delivery_core.specs.Stands as core
@@ -17,8 +15,8 @@ use Rattle.house.specs.declared.event.HouseFault.{HouseFault}
 use Rattle.house.specs.declared.event.HouseFault.TheVariants as house_faults
 use Rattle.house_connection.specs.Line.{Line}
 use Rattle.house.specs.State.{State}
-use Rattle.house_connection.specs.HouseConnection.{HouseConnection}
-use Rattle.house.specs.Setup.{Setup, session_seat, terms_of}
+use Rattle.house_connection.specs.HouseConnection.{HouseConnection, Terms}
+use Rattle.house.specs.Setup.{Setup, session_seat}
 use Rattle.envelope.specs.Directory.{Directory}
 use Rattle.lmtp_machine.specs.declared.connection.What.{What}
 use Rattle.lmtp_machine.specs.declared.connection.What.TheVariants.{Quit}
@@ -27,7 +25,6 @@ use Rattle.house.specs.Scene.{Lingers, SessionGoes, SessionIdles, SessionTalks, 
 use Rattle.house_session.specs.Folders.{has_user}
 use Rattle.house_session.specs.Place.{with_more}
 use Rattle.house_connection.specs.ConnectionStands.{StandsForConnection}
-use Rattle.house.specs.Stands.{StandsFor, StandsForVisit}
 use Rattle.house_session.specs.Seat.{Seat, StandsForSeated, with_place}
 use Rattle.house_session.specs.Seated.{SeatedSession}
 use Rattle.house.specs.Steps.{IsEmptySeat, is_left, is_unread}
@@ -50,7 +47,6 @@ pub record IsOpen (h : State) (connection : ℕ) : Type 0 where
   pub seat : connection ≤ length h.callers
   pub empty : IsEmptySeat h connection
   pub more : slice_index_or h.serials (seat_of connection) 0 < most_serials
-  pub goes_on : has_ended h.core (seat_of connection) ≡ false
 
 -- this is the number of a session, behind those of connections
 pub record IsSession (h : State) (number : ℕ) : Type 0 where
@@ -71,27 +67,26 @@ pub record CanEnter (h : State) (session : ℕ) (user : List ℕ) : Type 0 where
   pub free : slice_index_or h.visitors (place_of session) None ≡ None
   pub known : has_user h.directory user ≡ true
   pub more : slice_index_or h.entered (place_of session) 0 < most_serials
-  pub goes_on : has_ended h.core (length h.callers + place_of session) ≡ false
 
 -- who may stand at a place, and for whom
-abbrev pub StandsForMaybe : Setup → ℕ → CopyKey → List Noted → Option Line → Option HouseConnection → Type 0
+abbrev pub StandsForMaybe : Terms → ℕ → CopyKey → List Noted → Option Line → Option HouseConnection → Type 0
 StandsForMaybe k seat next heard None None = Unit {0}
 StandsForMaybe k seat next heard None (Some b) = ⊥
 StandsForMaybe k seat next heard (Some h) None = ⊥
-StandsForMaybe k seat next heard (Some h) (Some b) = StandsForConnection (terms_of k) seat next heard h b
+StandsForMaybe k seat next heard (Some h) (Some b) = StandsForConnection k seat next heard h b
 
 -- a connection's number and directory are those of the house
-pub record IsOf (k : Setup) (number seat : ℕ) (directory : Directory) : Type 0 where
+pub record IsOf (k : Terms) (number seat : ℕ) (directory : Directory) : Type 0 where
   pub numbered : number ≡ seat + 1
   pub looks_up : directory ≡ k.directory
 
 -- after a caller went on: it is gone, or stands there still
-abbrev pub IsStillThere : Setup → ℕ → CopyKey → List Noted → What → Line → Option HouseConnection → Type 0
+abbrev pub IsStillThere : Terms → ℕ → CopyKey → List Noted → What → Line → Option HouseConnection → Type 0
 IsStillThere k seat next heard what h None = what ≡ Quit
-IsStillThere k seat next heard what h (Some b) = (what ≡ Quit → ⊥) × StandsForConnection (terms_of k) seat next heard h b
+IsStillThere k seat next heard what h (Some b) = (what ≡ Quit → ⊥) × StandsForConnection k seat next heard h b
 
 -- From this caller the connection did what it could and this was printed, and it stands for the caller after it.
-pub record ConnectionWent (k : Setup) (whole : Bool) (seat : ℕ) (next : CopyKey) (heard : List Noted) (b : HouseConnection) (what : What) (h : Line) (old new : List ℕ) : Type 0 where
+pub record ConnectionWent (k : Terms) (whole : Bool) (seat : ℕ) (next : CopyKey) (heard : List Noted) (b : HouseConnection) (what : What) (h : Line) (old new : List ℕ) : Type 0 where
   pub left : Option HouseConnection
   pub printed : List ℕ
   pub goes : ConnectionGoes k whole seat heard b left printed
@@ -99,7 +94,7 @@ pub record ConnectionWent (k : Setup) (whole : Bool) (seat : ℕ) (next : CopyKe
   pub out : new ≡ old ++ printed
 
 -- the caller at a place went on, and printed this
-pub record PlaceWentOn (k : Setup) (whole : Bool) (seat : ℕ) (next : CopyKey) (heard : List Noted) (b : HouseConnection) (h : Option Line) (old new : List ℕ) : Type 0 where
+pub record PlaceWentOn (k : Terms) (whole : Bool) (seat : ℕ) (next : CopyKey) (heard : List Noted) (b : HouseConnection) (h : Option Line) (old new : List ℕ) : Type 0 where
   pub left : Option HouseConnection
   pub printed : List ℕ
   pub goes : ConnectionGoes k whole seat heard b left printed
@@ -116,9 +111,9 @@ fault_of faults.NoMemory = house_faults.NoMemory
 abbrev pub job_of : NextCopy → Job
 job_of copy = record { key = copy.key; mailbox = copy.mailbox; text = copy.text.now; flags = copy.flags }
 
--- the copy may not be put
+-- the copy may not be put: its key isn't the next that its seat may use
 abbrev pub IsNoNext : Held → Job → Type 0
-IsNoNext old c = (IsNextKey old c.key c.mailbox → ⊥) ⊎ ((k : Config) → core.Idle k old (world.Put c.key.seat (c.mailbox % length old.lanes) c))
+IsNoNext old c = IsNextKey old c.key c.mailbox → ⊥
 
 -- there is no copy to put, or it may not be put
 abbrev pub MayNotPut : Held → List Job → Type 0

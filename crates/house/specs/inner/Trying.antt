@@ -3,25 +3,26 @@
 use Rattle.std.specs.Prelude.{◌≡◌, ℕ, ◌<◌, ◌≤◌, ◌++◌, Bool, true, false, not, List, [], ◌∷◌, map, filter, All, Result, Ok, Err}
 use Rattle.std.specs.List.{range_with_len}
 use Rattle.house.specs.declared.event.Event.{Event}
-use Rattle.house.specs.declared.event.Event.TheVariants.{Bytes, Vanish, Put, Take, Deliver, Answer, Hear, End, Enter, Say, Idle, Leave}
+use Rattle.house.specs.declared.event.Event.TheVariants.{Bytes, Vanish, Put, Take, Deliver, Answer, Hear, End, Close, Enter, Say, Idle, Leave}
 use Rattle.house.specs.Effort.{effort}
 use Rattle.house.specs.Setup.{Setup}
 use Rattle.house.specs.Scene.{HasNothing, Scene}
-use Rattle.house.specs.Settling.{InTurn, Tries, Visit, Visits}
+use Rattle.house.specs.Settling.{InTurn, Tries, Visit, Visits, ends_on}
 use Rattle.house.specs.Settled.{HappenedFrom}
 use Rattle.house.specs.Stands.{StandsFor}
 use Rattle.house.specs.State.{State}
 
--- what the house does by itself in a round: not what a peer does, no end, and no turn of a session that idles
+-- what the house does by itself in a round: not what a peer or an operator does, and no turn of a session that idles
 abbrev pub IsOwn : Event → Type 0
 IsOwn (Bytes connection piece) = ⊥
 IsOwn (Vanish connection) = ⊥
-IsOwn (End connection shard) = ⊥
+IsOwn (Close shard) = ⊥
 IsOwn (Enter session user) = ⊥
 IsOwn (Say session piece) = ⊥
 IsOwn (Idle session) = ⊥
 IsOwn (Leave session) = ⊥
 IsOwn (Put connection) = Unit {0}
+IsOwn (End connection shard) = Unit {0}
 IsOwn (Take shard) = Unit {0}
 IsOwn (Deliver shard) = Unit {0}
 IsOwn (Answer shard) = Unit {0}
@@ -31,18 +32,30 @@ IsOwn (Hear connection) = Unit {0}
 abbrev pub IsAmong : Setup → Event → Type 0
 IsAmong k (Bytes connection piece) = ⊥
 IsAmong k (Vanish connection) = ⊥
-IsAmong k (End connection shard) = ⊥
+IsAmong k (Close shard) = ⊥
 IsAmong k (Enter session user) = ⊥
 IsAmong k (Say session piece) = ⊥
 IsAmong k (Leave session) = ⊥
 IsAmong k (Idle session) = (0 < session) × (session ≤ k.config.sessions)
 IsAmong k (Put connection) = (0 < connection) × (connection ≤ k.config.seats)
+IsAmong k (End connection shard) = (0 < connection) × (connection ≤ k.config.seats) × (shard < k.config.shards)
 IsAmong k (Take shard) = shard < k.config.shards
 IsAmong k (Deliver shard) = shard < k.config.shards
 IsAmong k (Answer shard) = shard < k.config.shards
 IsAmong k (Hear connection) = (0 < connection) × (connection ≤ k.config.seats)
 
--- the visits of a round: each connection puts, each shard that isn't held serves, each connection hears
+-- the visits of a round: each seat ends on each shard that is shut, each connection puts, each shard that isn't held serves, each connection hears
+abbrev pub ends : (seats shard : ℕ) → List (List Event)
+ends seats shard = map (λ n. End n shard ∷ []) (range_with_len 1 seats)
+
+-- the ends on one shard: none where it isn't shut
+abbrev pub ends_where : (seats shard : ℕ) → Bool → List (List Event)
+ends_where seats shard true = ends seats shard
+ends_where seats shard false = []
+
+abbrev pub closes : ℕ → (ℕ → Bool) → ℕ → List (List Event)
+closes seats shut shards = ends_on seats (filter shut (range_with_len 0 shards))
+
 abbrev pub puts : ℕ → List (List Event)
 puts seats = map (λ n. Put n ∷ []) (range_with_len 1 seats)
 

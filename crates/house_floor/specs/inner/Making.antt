@@ -40,6 +40,7 @@ pub record ArePapers (producers shards : ℕ) (p : Papers) : Type 0 where
 -- what the floor is made of beside the queues, for a house with this directory and of these sizes
 pub record IsHall (directory : Directory) (sizes : Sizes) (h : Hall) : Type 0 where
   pub host : h.host.items ≡ sizes.host.now
+  pub closings : map (λ c. c.items) h.closings.items ≡ map (λ c. c.items) sizes.closings.now
   pub mailboxes : vec_len h.mailboxes ≡ length directory.homes
   pub consumers : vec_len h.consumers ≡ directory.shards
   pub sessions : vec_len h.sessions ≡ length directory.homes

@@ -5,7 +5,8 @@ use Rattle.shard_queue.specs.declared.queue.ShardQueue.{ShardQueue}
 use Rattle.shard_queue.specs.declared.queue.ProducerSeat.{ProducerSeat}
 use Rattle.shard_queue.specs.declared.queue.Ended.{Ended}
 use Rattle.shard_queue.specs.declared.queue.ConsumerSeat.{ConsumerSeat}
-use Rattle.lane_work.specs.Seats.{AreEnded, AreSeats}
+use Rattle.lane_work.specs.declared.desk.LaneSeat.{LaneSeat}
+use Rattle.lane_work.specs.Seats.{AreEnded, AreSeats, IsNew}
 use Rattle.shard_queue.specs.Seats.{IsProducer, IsEnded, IsConsumer, number_of, sent, producers_of}
 
 -- the seats of this lane's producers from p to the last, none of which has put anything
@@ -21,9 +22,9 @@ Rows (q ∷ qs) p [] = ⊥
 Rows (q ∷ qs) p (r ∷ rs) = AreLeft q p r × Rows qs p rs
 
 -- each hand has the seats of one producer on all lanes, from producer p on, which have put nothing
-abbrev pub AreHands : List (ShardQueue Job) → ℕ → List (List (ProducerSeat Job)) → Type 0
+abbrev pub AreHands : List (ShardQueue Job) → ℕ → List (List LaneSeat) → Type 0
 AreHands qs p [] = Unit {0}
-AreHands qs p (h ∷ hs) = (AreSeats qs p h × All (λ s. sent s ≡ []) h) × AreHands qs (suc p) hs
+AreHands qs p (h ∷ hs) = (AreSeats qs p h × All IsNew h) × AreHands qs (suc p) hs
 
 -- the i-th seat is the consumer's of the i-th lane
 abbrev pub AreConsumers : List (ShardQueue Job) → List (ConsumerSeat Job) → Type 0

@@ -24,7 +24,7 @@ pub record TookPiece (directory : Directory) (rooms : List Room) (seat : ℕ) (d
   pub over : Bool
   pub whole : piece ≡ taken ++ left
   pub all : next ≡ nexts.Read → (left ≡ []) ⊎ (over ≡ true)
-  pub stands : Stands directory rooms seat done (bytes ++ taken) over m out keeps heard sent
+  pub stands : Stands directory directory rooms seat done (bytes ++ taken) over m out keeps heard sent
 
 -- Memory was refused when the front of the piece had been taken; these are the replies to that, and what it submitted stands in the books.
 pub record SaidByThen (setting : Setting) (host : List ℕ) (directory : Directory) (rooms : List Room) (seat : ℕ) (done : List Judged) (bytes piece out : List ℕ) (keeps : List (Job × Verdict) → Type 0) (heard : List (Entry Noted)) (sent : List (List (Entry Job))) : Type 0 where

@@ -1,5 +1,5 @@
 -- What bodies and proofs say besides: what a report says of a run: how what the threads left agrees.
-use Rattle.std.specs.Prelude.{◌≡◌, ◌<◌, ℕ, List, [], ◌∷◌, length, All, Vec}
+use Rattle.std.specs.Prelude.{◌≡◌, ◌<◌, ℕ, List, [], ◌∷◌, length, map, All, Vec}
 use Rattle.std.specs.Global.{Global}
 use Rattle.shard_queue.specs.Lane.{of}
 use Rattle.shard_queue.specs.Reply.{room_of, senders_of}
@@ -25,6 +25,7 @@ pub record AreSizesFor (plan : Plan) (sizes : Sizes) : Type 0 where
   -- what was accepted is compared, so it is kept
   pub history : sizes.history ≡ Kept
   pub turns : sizes.turns ≡ plan.turns
+  pub closings : map (λ c. c.items) sizes.closings.now ≡ map (λ c. c.items) plan.closings.items
 
 -- this is the floor of this plan's house
 pub record IsFloorFor (plan : Plan) (floor : Floor) : Type 0 where

@@ -1,6 +1,7 @@
 use Rattle.account_laws.proofs.Connections.{connections_have_talked, each_is_a_dialogue, talks_are_of_lines}
 use Rattle.account_laws.proofs.TalkLines.{heard_are_first, talk_is_of_lines}
 use Rattle.account_laws.proofs.BackLaws.{lines_are_a_talk}
+use Rattle.account_laws.proofs.ClosedLaws.{closed_get_nothing}
 use Rattle.account_laws.proofs.laws.connections_are_of_lines.Goals as goal
 
 pub returns-clause-lines : goal.returns-clause-lines
@@ -20,3 +21,6 @@ returns-clause-talks_back c = connections_have_talked
 
 pub returns-clause-each : goal.returns-clause-each
 returns-clause-each c = each_is_a_dialogue
+
+pub returns-clause-closed : goal.returns-clause-closed
+returns-clause-closed c = closed_get_nothing

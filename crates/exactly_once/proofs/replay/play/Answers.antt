@@ -13,11 +13,11 @@ loop-event-preserved c k s st =
 
 pub returns-in_default-clause-once : goal.returns-in_default-clause-once
 returns-in_default-clause-once c k st =
-    let a = tried_happened k empty_scene _ _ _ _ _ (c.loop-event.invariant k empty_scene st) in
-    came_once k _ _ _ (happened_both k empty_scene _ _ _ _ _ a (c.in_default.ensures.wanting k a.after a.stands))
+    let a = tried_happened k (empty_scene k) _ _ _ _ _ (c.loop-event.invariant k (empty_scene k) st) in
+    came_once k _ _ _ (happened_both k (empty_scene k) _ _ _ _ _ a (c.in_default.ensures.wanting k a.after a.stands))
 
 pub returns-clause-tried : goal.returns-clause-tried
 returns-clause-tried c k s st = all_tried k s _ _ _ _ _ _ (let x = c.loop-event-test.false in omega (arith, x)) (c.loop-event.invariant k s st)
 
 pub returns-clause-once : goal.returns-clause-once
-returns-clause-once c k st = came_once k _ _ _ (tried_happened k empty_scene _ _ _ _ _ (c.loop-event.invariant k empty_scene st))
+returns-clause-once c k st = came_once k _ _ _ (tried_happened k (empty_scene k) _ _ _ _ _ (c.loop-event.invariant k (empty_scene k) st))

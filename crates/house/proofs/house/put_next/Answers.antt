@@ -1,4 +1,4 @@
-use Rattle.std.proofs.Common.{inr, ap, Err}
+use Rattle.std.proofs.Common.{inr}
 use Rattle.house.specs.inner.Steps.{job_of}
 use Rattle.house.proofs.house.put_next.Goals as goal
 

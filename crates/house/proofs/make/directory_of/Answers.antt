@@ -8,4 +8,4 @@ returns-in-None-clause-directory c =
     let config = c.args.config.now in
     let made = c.in_ok-directory.ensures in
     directory_is config c.in_ok-directory.directory made.domains
-    (read_homes (config.host.items ∷ config.domain.items ∷ []) (words_of config) c.in_ok-directory.directory.homes made.homes) made.shards
+    (read_homes (config.host.items ∷ config.domain.items ∷ []) (words_of config) c.in_ok-directory.directory.homes made.homes) made.shards made.shut

@@ -1,4 +1,4 @@
-use Rattle.std.proofs.Common.{◌≡◌, ◌∙◌, List, ℕ, sym, subst}
+use Rattle.std.proofs.Common.{◌∙◌, List, ℕ, sym, subst}
 use Rattle.std.specs.Prelude.{true, false}
 use Rattle.session_store.specs.Desk.{Serves}
 use Rattle.session_store.proofs.Served.{met_delivery}

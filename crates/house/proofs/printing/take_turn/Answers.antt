@@ -1,5 +1,5 @@
-use Rattle.std.proofs.Common.{◌≡◌, ◌∙◌, List, ℕ, inl, inr, refl, sym, subst}
-use Rattle.std.specs.Prelude.{true, false}
+use Rattle.std.proofs.Common.{◌∙◌, List, ℕ, inl, inr, refl, sym, subst}
+use Rattle.std.specs.Prelude.{true}
 use Rattle.session_store.specs.Desk.{Serves}
 use Rattle.house_session.specs.Place.{HadTurn}
 use Rattle.house_session.specs.Seat.{Seat}

@@ -1,4 +1,4 @@
-use Rattle.std.proofs.Common.{◌≡◌, ◌-◌, ◌∙◌, false, true, sym, Result, Ok, Err, OnOk, OnErr}
+use Rattle.std.proofs.Common.{◌-◌, ◌∙◌, false, true, sym, Result, Ok, Err, OnOk, OnErr}
 use Rattle.house.specs.Setup.{session_seat}
 use Rattle.house.proofs.SessionEvents.{gone_there, talks_there}
 use Rattle.house.proofs.Visiting.{visited_gone, visited_there}

@@ -1,4 +1,4 @@
-use Rattle.std.proofs.Common.{◌≡◌, ◌∙◌, ap, None, Option, refl, Some, subst, sym}
+use Rattle.std.proofs.Common.{None, Option, refl, Some, subst}
 use Rattle.house_session.specs.Seat.{Seat}
 use Rattle.house.specs.Scene.{fades, waits}
 use Rattle.house.specs.inner.Steps.{StandsForSomebody}

@@ -1,10 +1,9 @@
-use Rattle.std.proofs.Common.{◌≡◌, ◌-◌, ◌∙◌, false, refl, Option, Some, subst, sym, true, ap}
+use Rattle.std.proofs.Common.{◌≡◌, ◌-◌, ◌∙◌, false, refl, Option, Some, subst, sym, true}
 use Rattle.imap_session.specs.Exchange.{Left}
 use Rattle.imap_session.specs.Store.{answer}
 use Rattle.session_store.specs.declared.desk.Desk.{Desk}
 use Rattle.house_session.specs.Seat.{Seat}
 use Rattle.house.specs.Setup.{session_seat}
-use Rattle.house.specs.Steps.{is_left}
 use Rattle.house.specs.inner.Steps.{StandsForSomebody}
 use Rattle.house.proofs.Visiting.{delivery_then, parted, talked}
 use Rattle.house.proofs.sessions.talk_at.Goals as goal

@@ -1,8 +1,7 @@
 use Rattle.std.proofs.Common.{rules, ◌≡◌, ◌≤◌, ◌+◌, ◌∷◌, [], ◌∙◌, suc, All, Vec, Global, ap, sym, subst, length, map, vec_capacity, arith}
 use Rattle.std.proofs.lemmas.List.{length-map, map-append}
 use Rattle.std.proofs.lemmas.List.Elements.{All-drop}
-use Rattle.delivery_token.specs.declared.Job.{Job}
-use Rattle.shard_queue.specs.declared.queue.ProducerSeat.{ProducerSeat}
+use Rattle.lane_work.specs.declared.desk.LaneSeat.{LaneSeat}
 use Rattle.lane_seats.specs.rows.Rows.{AreHands, Rows}
 use Rattle.lane_seats.proofs.StepLaws.{list}
 use Rattle.lane_seats.proofs.RowLaws.{hands_next, none_left}
@@ -11,7 +10,7 @@ use Rattle.lane_seats.proofs.lanes.deal_all.Goals as goal
 pub loop-number-preserved : goal.loop-number-preserved
 loop-number-preserved c =
     let v = c.loop-number.invariant in
-    let P : Vec (ProducerSeat Job) Global → Type 0 = λ v. (v.items ≡ []) × (length c.args.lanes.now ≤ vec_capacity v) in
+    let P : Vec LaneSeat Global → Type 0 = λ v. (v.items ≡ []) × (length c.args.lanes.now ≤ vec_capacity v) in
     let n = c.loop-number.number in
     let hands = c.loop-number.hands.items in
     let e : suc n ≡ n + 1 = omega arith in

@@ -1,5 +1,6 @@
 use Rattle.std.proofs.Common.{rules, ◌+◌, ◌<◌, length, ◌∙◌, sym, subst, map, take, drop, length-drop, arith}
-use Rattle.shard_queue.specs.Seats.{IsEnded, sent}
+use Rattle.shard_queue.specs.Seats.{IsEnded}
+use Rattle.lane_work.specs.Seats.{put_by}
 use Rattle.lane_work.specs.Seats.{AreEnded, AreSeats}
 use Rattle.lane_work.proofs.SeatLaws.{seats_length, first_seat, ended_next, said_next}
 use Rattle.lane_work.proofs.ending.end_all.Goals as goal
@@ -20,9 +21,9 @@ loop-lane-preserved g c =
     let f = first_seat lanes i c.args.number c.loop-lane.seats.items under v.0 c.index.result.now c.remove-seat.result c.remove-seat.ensures.value in (
       subst (AreSeats (drop (i + 1) lanes) c.args.number) (sym c.remove-seat.ensures.items) f.3,
       subst (AreEnded (take (i + 1) lanes) c.args.number) (sym c.push_reserved.ensures.items)
-          (ended_next lanes i c.args.number c.loop-lane.ended.items c.end_one.result under v.1 c.index.result.now (subst (λ q. IsEnded q c.end_one.result) c.index.ensures c.end_one.ensures.0) (c.end_one.ensures.1 ∙ f.1)),
+          (ended_next lanes i c.args.number c.loop-lane.ended.items c.end_seat.result under v.1 c.index.result.now (subst (λ q. IsEnded q c.end_seat.result) c.index.ensures c.end_seat.ensures.0) (c.end_seat.ensures.1 ∙ f.1)),
       c.push_reserved.ensures.len ∙ search rules,
       search rules,
-      said_next c.args.number c.loop-lane.ended.items c.push_reserved.new.self.items c.loop-lane.seats.items c.remove-seat.new.self.items c.end_one.result c.remove-seat.result (map sent c.args.seats.items)
-          c.push_reserved.ensures.items f.2 c.remove-seat.ensures.items f.1 c.end_one.ensures.2 v.4,
+      said_next c.args.number c.loop-lane.ended.items c.push_reserved.new.self.items c.loop-lane.seats.items c.remove-seat.new.self.items c.end_seat.result c.remove-seat.result (map put_by c.args.seats.items)
+          c.push_reserved.ensures.items f.2 c.remove-seat.ensures.items f.1 c.end_seat.ensures.2 v.4,
     )

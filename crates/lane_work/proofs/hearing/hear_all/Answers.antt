@@ -4,7 +4,7 @@ use Rattle.shard_queue.specs.declared.lane.Entry.TheVariants.{Item, End}
 use Rattle.shard_queue.specs.Reply.{received}
 use Rattle.lane_work.specs.Copies.{copies_of}
 use Rattle.lane_work.specs.Ends.{ends_in}
-use Rattle.lane_work.proofs.SeatLaws.{ends_next}
+use Rattle.lane_work.proofs.SeatLaws.{ends_next, not_live}
 use Rattle.lane_work.proofs.SlotLaws.{fills_same, fills_on, heard_next, heard_still, none_unknown, start_on, start_same, were_heard_same}
 use Rattle.lane_work.proofs.hearing.hear_all.Goals as goal
 
@@ -17,6 +17,7 @@ loop-init g c = (
   start_same (received c.args.desk.now.receiver),
   refl,
   were_heard_same (received c.args.desk.now.receiver) (copies_of (submission_of c.args.message.now)) c.args.slots.now.items,
+  λ live. refl,
 )
 
 pub returns-then-not-note_in-clause-fills : goal.returns-then-not-note_in-clause-fills
@@ -42,21 +43,21 @@ returns-then-not-note_in-clause-heard g c =
     heard_still old (received c.recv_as.new.seat) (copies_of (submission_of c.args.message.now)) c.args.slots.now.items c.loop.slots.items c.note_in.new.slots.items (c.recv_as.result ∷ [], grew)
     (search rules) c.loop.invariant.6
 
-pub returns-in-End-clause-ends : goal.returns-in-End-clause-ends
-returns-in-End-clause-ends g c =
+pub returns-then-not-is_over_at-clause-ends : goal.returns-then-not-is_over_at-clause-ends
+returns-then-not-is_over_at-clause-ends g c =
     let old = received c.loop.desk.receiver in
-    let grew : received c.recv_as.new.seat ≡ old ++ End c.in-End.field-0 ∷ [] = search rules in
-    let e = ap ends_in grew ∙ ends_next old (End c.in-End.field-0) in
+    let grew : received c.recv_as.new.seat ≡ old ++ End c.in-End.shard ∷ [] = search rules in
+    let e = ap ends_in grew ∙ ends_next old (End c.in-End.shard) in
     search rules
 
-pub returns-in-End-clause-grew : goal.returns-in-End-clause-grew
-returns-in-End-clause-grew g c =
+pub returns-then-not-is_over_at-clause-grew : goal.returns-then-not-is_over_at-clause-grew
+returns-then-not-is_over_at-clause-grew g c =
     let old = received c.loop.desk.receiver in
     let grew : received c.recv_as.new.seat ≡ old ++ c.recv_as.result ∷ [] = search rules in
     start_on (received c.args.desk.now.receiver) old (received c.recv_as.new.seat) c.loop.invariant.4 (c.recv_as.result ∷ [], grew)
 
-pub returns-in-End-clause-heard : goal.returns-in-End-clause-heard
-returns-in-End-clause-heard g c =
+pub returns-then-not-is_over_at-clause-heard : goal.returns-then-not-is_over_at-clause-heard
+returns-then-not-is_over_at-clause-heard g c =
     let old = received c.loop.desk.receiver in
     let grew : received c.recv_as.new.seat ≡ old ++ c.recv_as.result ∷ [] = search rules in
     heard_still old (received c.recv_as.new.seat) (copies_of (submission_of c.args.message.now)) c.args.slots.now.items c.loop.slots.items c.loop.slots.items (c.recv_as.result ∷ [], grew)
@@ -70,16 +71,16 @@ returns-then-not-note_in-clause-torn g c =
     let l = ap length c.loop.invariant.4.1 ∙ length-append (received c.args.desk.now.receiver) c.loop.invariant.4.0 in
     omega (arith, n, l)
 
-pub returns-in-End-clause-torn : goal.returns-in-End-clause-torn
-returns-in-End-clause-torn g c =
+pub returns-then-not-is_over_at-clause-torn : goal.returns-then-not-is_over_at-clause-torn
+returns-then-not-is_over_at-clause-torn g c =
     let old = received c.loop.desk.receiver in
     let grew : received c.recv_as.new.seat ≡ old ++ c.recv_as.result ∷ [] = search rules in
     let n = ap length grew ∙ length-append old (c.recv_as.result ∷ []) in
     let l = ap length c.loop.invariant.4.1 ∙ length-append (received c.args.desk.now.receiver) c.loop.invariant.4.0 in
     omega (arith, n, l)
 
-pub loop-preserved : goal.loop-preserved
-loop-preserved g c =
+pub loop-preserved-else-not-note_in : goal.loop-preserved-else-not-note_in
+loop-preserved-else-not-note_in g c =
     let old = received c.loop.desk.receiver in
     let grew : received c.recv_as.new.seat ≡ old ++ c.recv_as.result ∷ [] = search rules in
     let came : received c.recv_as.new.seat ≡ old ++ Item c.in-Item.field-0 c.in-Item.noted ∷ [] = search rules in (
@@ -89,9 +90,28 @@ loop-preserved g c =
       fills_on c.args.slots.now.items c.loop.slots.items c.note_in.new.slots.items c.loop.invariant.3 c.note_in.ensures.fills,
       start_on (received c.args.desk.now.receiver) old (received c.recv_as.new.seat) c.loop.invariant.4 (c.recv_as.result ∷ [], grew),
       (let n = ap length grew ∙ length-append old (c.recv_as.result ∷ []) in
-          let f = c.note_in.ensures.noted (search rules) in omega (arith, n, f.awaited, c.loop.invariant.5)),
+          let e = ap ends_in came ∙ ends_next old (Item c.in-Item.field-0 c.in-Item.noted) in
+          let f = c.note_in.ensures.noted (search rules) in omega (arith, n, e, f.awaited, c.loop.invariant.5)),
       heard_next old (received c.recv_as.new.seat) (copies_of (submission_of c.args.message.now)) c.args.slots.now.items c.loop.slots.items c.note_in.new.slots.items c.in-Item.field-0 c.in-Item.noted came
           (c.note_in.ensures.noted (search rules)) c.loop.invariant.6,
+      (λ live. let e = ap ends_in came ∙ ends_next old (Item c.in-Item.field-0 c.in-Item.noted) in let h = c.loop.invariant.7 live in omega (arith, e, h)),
+    )
+
+-- the end of a shard on which the seat is over
+pub loop-preserved : goal.loop-preserved
+loop-preserved g c =
+    let old = received c.loop.desk.receiver in
+    let grew : received c.recv_as.new.seat ≡ old ++ c.recv_as.result ∷ [] = search rules in
+    let came : received c.recv_as.new.seat ≡ old ++ End c.in-End.shard ∷ [] = search rules in
+    let e = ap ends_in came ∙ ends_next old (End c.in-End.shard) in (
+      c.recv_as.ensures.seat,
+      c.loop.invariant.1,
+      search rules,
+      c.loop.invariant.3,
+      start_on (received c.args.desk.now.receiver) old (received c.recv_as.new.seat) c.loop.invariant.4 (c.recv_as.result ∷ [], grew),
+      (let n = ap length came ∙ length-append old (End c.in-End.shard ∷ []) in omega (arith, n, e, c.loop.invariant.5)),
+      heard_still old (received c.recv_as.new.seat) (copies_of (submission_of c.args.message.now)) c.args.slots.now.items c.loop.slots.items c.loop.slots.items (c.recv_as.result ∷ [], grew) refl c.loop.invariant.6,
+      (λ live. absurd (not_live c.loop.desk.seats.items c.args.desk.now.seats.items c.in-End.shard (search rules) live (search rules))),
     )
 
 pub returns-then-are_known-clause-awaited : goal.returns-then-are_known-clause-awaited

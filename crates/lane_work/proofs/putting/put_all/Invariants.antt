@@ -1,5 +1,6 @@
 use Rattle.std.proofs.Common.{◌≡◌, ◌≤◌, map, take, vec_len, vec_capacity}
-use Rattle.shard_queue.specs.Seats.{sent}
+use Rattle.lane_work.specs.Seats.{put_by}
+use Rattle.lane_work.specs.inner.Seats.{AreOpenTo}
 use Rattle.lane_work.specs.Seats.{AreSeats}
 use Rattle.lane_work.specs.inner.Desk.{SameButSeats}
 use Rattle.lane_work.specs.Copies.{copies, rooms_of}
@@ -11,8 +12,8 @@ invariant-loop-i g l =
     AreSeats l.office.lanes.items l.fn.desk.number l.desk.seats.items
     × SameButSeats l.fn.desk l.desk
     × (vec_len l.slots ≡ l.i)
-    × WereTried l.office.directory (rooms_of l.office.lanes.items) l.fn.desk.number (copies (take l.i l.message.keys.items) (take l.i l.message.mailboxes.items) l.message.text) l.slots.items
-    (map sent l.fn.desk.seats.items)
+    × (AreOpenTo l.office.directory l.message.mailboxes.items l.fn.desk.seats.items → WereTried l.office.directory (rooms_of l.office.lanes.items) l.fn.desk.number (copies (take l.i l.message.keys.items) (take l.i l.message.mailboxes.items) l.message.text) l.slots.items
+    (map put_by l.fn.desk.seats.items))
     × (vec_len l.message.keys ≤ vec_capacity l.slots)
-    × HavePut l.office.directory l.fn.desk.number (copies (take l.i l.message.keys.items) (take l.i l.message.mailboxes.items) l.message.text) l.slots.items
-    (map sent l.fn.desk.seats.items) (map sent l.desk.seats.items)
+    × (AreOpenTo l.office.directory l.message.mailboxes.items l.fn.desk.seats.items → HavePut l.office.directory l.fn.desk.number (copies (take l.i l.message.keys.items) (take l.i l.message.mailboxes.items) l.message.text) l.slots.items
+    (map put_by l.fn.desk.seats.items) (map put_by l.desk.seats.items))

@@ -1,9 +1,9 @@
-use Rattle.std.proofs.Common.{◌≡◌, ◌<◌, ◌∙◌, ap, sym, subst, slice_index_or, slice_set, length, map, ◌++◌, ◌∷◌, [], MatchOption, arith}
+use Rattle.std.proofs.Common.{◌≡◌, ◌<◌, ◌∙◌, ap, refl, sym, subst, slice_index_or, slice_set, length, map, ◌++◌, ◌∷◌, [], MatchOption, arith, true, false}
 use Rattle.delivery_token.specs.declared.Job.{Job}
 use Rattle.shard_queue.specs.declared.lane.Entry.TheVariants.{Item}
-use Rattle.shard_queue.specs.Seats.{IsProducer, sent}
+use Rattle.lane_work.specs.Seats.{IsSeat, overs, put_by}
 use Rattle.lane_work.specs.Copies.{FoundFull, IsAtOnce, room_at, room_of, rooms_of}
-use Rattle.lane_work.proofs.SeatLaws.{puts_at, room_here, seat_here, seats_length, seats_set}
+use Rattle.lane_work.proofs.SeatLaws.{over_at, overs_kept, puts_at, room_here, seat_here, seats_length, seats_set, sent_at, sent_set, set_same}
 use Rattle.lane_work.proofs.putting.put_copy.Goals as goal
 
 pub index_mut-requires : goal.index_mut-requires
@@ -13,12 +13,12 @@ index_mut-requires g c =
     let l = c.requires.lanes in
     omega (arith, n, w, l)
 
-pub put_on-verdict-requires : goal.put_on-verdict-requires
-put_on-verdict-requires g c =
+pub put_at-verdict-requires : goal.put_at-verdict-requires
+put_at-verdict-requires g c =
     let w = c.shard_of-shard.ensures.within in
     let l = c.requires.lanes in
     let under : c.shard_of-shard.result < length c.args.office.now.lanes.items = omega (arith, w, l) in
-    subst (λ q. IsProducer q c.index_mut.result.now) (sym c.index.ensures)
+    subst (λ q. IsSeat q c.index_mut.result.now) (sym c.index.ensures)
     (seat_here c.args.office.now.lanes.items c.args.desk.now.number c.args.desk.now.seats.items c.requires.seats c.shard_of-shard.result under c.index.result.now c.index_mut.result.now
     c.index_mut.ensures.value).0
 
@@ -29,11 +29,33 @@ returns-clause-seats g c =
     let under : c.shard_of-shard.result < length c.args.office.now.lanes.items = omega (arith, w, l) in
     let was = seat_here c.args.office.now.lanes.items c.args.desk.now.number c.args.desk.now.seats.items c.requires.seats c.shard_of-shard.result under c.index.result.now c.index_mut.result.now
     c.index_mut.ensures.value in
-    seats_set c.args.office.now.lanes.items c.args.desk.now.number c.args.desk.now.seats.items c.requires.seats c.shard_of-shard.result c.index.result.now c.put_on-verdict.new.seat
-    (subst (λ q. IsProducer q c.put_on-verdict.new.seat) c.index.ensures c.put_on-verdict.ensures.seat.0) (c.put_on-verdict.ensures.seat.1 ∙ was.1)
+    seats_set c.args.office.now.lanes.items c.args.desk.now.number c.args.desk.now.seats.items c.requires.seats c.shard_of-shard.result c.index.result.now c.put_at-verdict.new.seat
+    (subst (λ q. IsSeat q c.put_at-verdict.new.seat) c.index.ensures c.put_at-verdict.ensures.seat.0) (c.put_at-verdict.ensures.seat.1 ∙ was.1)
+
+pub returns-clause-same : goal.returns-clause-same
+returns-clause-same g c = (
+  refl,
+  refl,
+  refl,
+  overs_kept c.args.desk.now.seats.items c.shard_of-shard.result c.index_mut.result.now c.put_at-verdict.new.seat c.index_mut.ensures.value c.put_at-verdict.ensures.seat.2,
+)
+
+pub returns-clause-over : goal.returns-clause-over
+returns-clause-over g c over =
+    let w = c.shard_of-shard.ensures.within in
+    let l = c.requires.lanes in
+    let n = seats_length c.args.office.now.lanes.items c.args.desk.now.number c.args.desk.now.seats.items c.requires.seats in
+    let under : c.shard_of-shard.result < length c.args.desk.now.seats.items = omega (arith, n, w, l) in
+    let here : slice_index_or (overs c.args.desk.now.seats.items) c.shard_of-shard.result false ≡ true = subst (λ lane. slice_index_or (overs c.args.desk.now.seats.items) lane false ≡ true) (sym c.shard_of-shard.ensures.value) over in
+    let is = c.put_at-verdict.ensures.over (sym (over_at c.args.desk.now.seats.items c.shard_of-shard.result c.index_mut.result.now false under c.index_mut.ensures.value) ∙ here) in (
+      is.0,
+      sent_set c.args.desk.now.seats.items c.shard_of-shard.result c.put_at-verdict.new.seat
+          ∙ ap (slice_set (map put_by c.args.desk.now.seats.items) c.shard_of-shard.result) (ap put_by is.1 ∙ ap put_by c.index_mut.ensures.value ∙ sym (sent_at c.args.desk.now.seats.items c.shard_of-shard.result c.index_mut.result.now under))
+          ∙ set_same (map put_by c.args.desk.now.seats.items) c.shard_of-shard.result [],
+    )
 
 pub returns-clause-put : goal.returns-clause-put
-returns-clause-put g c =
+returns-clause-put g c live =
     let w = c.shard_of-shard.ensures.within in
     let l = c.requires.lanes in
     let n = seats_length c.args.office.now.lanes.items c.args.desk.now.number c.args.desk.now.seats.items c.requires.seats in
@@ -42,12 +64,15 @@ returns-clause-put g c =
     let was = seat_here c.args.office.now.lanes.items c.args.desk.now.number c.args.desk.now.seats.items c.requires.seats c.shard_of-shard.result under c.index.result.now c.index_mut.result.now
     c.index_mut.ensures.value in
     let job : Job = record { key = c.args.key; mailbox = c.args.mailbox; text = c.args.text.now; flags = c.args.flags } in
-    subst (λ lane. MatchOption c.put_on-verdict.result
-    (map sent (slice_set c.args.desk.now.seats.items c.shard_of-shard.result c.put_on-verdict.new.seat)
-    ≡ slice_set (map sent c.args.desk.now.seats.items) lane (slice_index_or (map sent c.args.desk.now.seats.items) lane [] ++ Item c.args.desk.now.number job ∷ []))
-    (λ v. (map sent (slice_set c.args.desk.now.seats.items c.shard_of-shard.result c.put_on-verdict.new.seat) ≡ map sent c.args.desk.now.seats.items) × IsAtOnce (FoundFull (room_at (rooms_of c.args.office.now.lanes.items) lane) c.args.desk.now.number (slice_index_or (map sent c.args.desk.now.seats.items) lane [])) v))
+    subst (λ lane. MatchOption c.put_at-verdict.result
+    (map put_by (slice_set c.args.desk.now.seats.items c.shard_of-shard.result c.put_at-verdict.new.seat)
+    ≡ slice_set (map put_by c.args.desk.now.seats.items) lane (slice_index_or (map put_by c.args.desk.now.seats.items) lane [] ++ Item c.args.desk.now.number job ∷ []))
+    (λ v. (map put_by (slice_set c.args.desk.now.seats.items c.shard_of-shard.result c.put_at-verdict.new.seat) ≡ map put_by c.args.desk.now.seats.items) × IsAtOnce (FoundFull (room_at (rooms_of c.args.office.now.lanes.items) lane) c.args.desk.now.number (slice_index_or (map put_by c.args.desk.now.seats.items) lane [])) v))
     c.shard_of-shard.ensures.value
-    (puts_at c.args.desk.now.seats.items c.shard_of-shard.result c.args.desk.now.number c.index_mut.result.now c.index_mut.result.now c.put_on-verdict.new.seat job c.put_on-verdict.result
+    (puts_at c.args.desk.now.seats.items c.shard_of-shard.result c.args.desk.now.number c.index_mut.result.now c.index_mut.result.now c.put_at-verdict.new.seat job c.put_at-verdict.result
     (room_of c.index.result.now) (room_at (rooms_of c.args.office.now.lanes.items) c.shard_of-shard.result)
     (room_here c.args.office.now.lanes.items c.shard_of-shard.result c.index.result.now under ∙ ap room_of (sym c.index.ensures)) at_seat
-    c.index_mut.ensures.value was.1 c.put_on-verdict.ensures.put)
+    c.index_mut.ensures.value was.1
+    (c.put_at-verdict.ensures.put
+    (sym (over_at c.args.desk.now.seats.items c.shard_of-shard.result c.index_mut.result.now false at_seat c.index_mut.ensures.value)
+    ∙ subst (λ lane. slice_index_or (overs c.args.desk.now.seats.items) lane false ≡ false) (sym c.shard_of-shard.ensures.value) live)))

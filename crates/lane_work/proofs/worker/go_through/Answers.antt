@@ -1,9 +1,18 @@
-use Rattle.std.proofs.Common.{rules, ◌∙◌, subst, refl, map, List, arith}
+use Rattle.std.proofs.Common.{rules, ◌≡◌, ◌∙◌, ap, sym, subst, refl, map, List, take, arith}
 use Rattle.shard_queue.specs.Reply.{received}
-use Rattle.shard_queue.specs.Seats.{sent}
 use Rattle.lane_work.specs.Copies.{rooms_of}
 use Rattle.lane_work.specs.Account.{notes_tell, AreBooks, setting_at}
-use Rattle.lane_work.specs.Seats.{AreSeats}
+use Rattle.delivery_token.specs.declared.Job.{Job}
+use Rattle.delivery_token.specs.declared.log.Noted.{Noted}
+use Rattle.envelope.specs.Directory.{Directory}
+use Rattle.shard_queue.specs.declared.lane.Entry.{Entry}
+use Rattle.shard_queue.specs.declared.reply.ReceiverSeat.{ReceiverSeat}
+use Rattle.lane_work.specs.Ends.{ends_in}
+use Rattle.lane_work.specs.Seats.{AreSeated, put_by}
+use Rattle.lane_work.specs.inner.Account.{HasServed}
+use Rattle.lane_work.specs.inner.Closing.{Marks, closings_at}
+use Rattle.lane_work.proofs.ClosingLaws.{marked_at, marked_first, marked_next}
+use Rattle.lane_work.proofs.SeatLaws.{new_live, not_over}
 use Rattle.lane_work.specs.Speaking.{premises_of}
 use Rattle.lane_work.specs.inner.Speaking.{Spoke}
 use Rattle.lane_work.specs.Talk.{Judged}
@@ -12,29 +21,59 @@ use Rattle.lane_work.proofs.worker.go_through.Goals as goal
 
 pub loop-i-init : goal.loop-i-init
 loop-i-init g c = (
-  c.requires.seats,
+  (c.requires.seats.0, not_over c.in-Ok.directory c.args.desk.now.seats.items (new_live c.args.desk.now.seats.items c.requires.seats.1)),
   c.requires.receiver,
   refl,
   omega arith,
   refl,
-  served_begin (premises_of c.args.office.now) c.args.desk.now.number c.args.replies.now.items (notes_tell c.args.log.now.notes) (received c.args.desk.now.receiver) (map sent c.args.desk.now.seats.items) c.requires.begun.0 c.requires.begun.1,
+  served_begin (premises_of c.args.office.now) c.args.desk.now.number c.args.replies.now.items (notes_tell c.args.log.now.notes) (received c.args.desk.now.receiver) (map put_by c.args.desk.now.seats.items) c.requires.begun.0 c.requires.begun.1,
+  marked_first (closings_at c.args.office.now c.args.desk.now.number) c.args.office.now.directory c.in-Ok.directory c.in-Ok.ensures.same c.in-Ok.ensures.marks,
 )
+
+pub close_due-requires-clause-seats : goal.close_due-requires-clause-seats
+close_due-requires-clause-seats g c =
+    subst (λ n. AreSeated c.loop-i.directory c.args.office.now.lanes.items n c.loop-i.desk.seats.items) (sym c.loop-i.invariant.2) c.loop-i.invariant.0
+
+pub close_due-requires-clause-lanes : goal.close_due-requires-clause-lanes
+close_due-requires-clause-lanes g c = ap (λ (d : Directory). d.shards) c.loop-i.invariant.6.same ∙ c.requires.lanes
+
+pub converse-requires-clause-seats : goal.converse-requires-clause-seats
+converse-requires-clause-seats g c =
+    subst (λ n. AreSeated c.close_due.new.directory c.args.office.now.lanes.items n c.close_due.new.desk.seats.items) (sym c.close_due.ensures.kept.0) c.close_due.ensures.seats
+
+pub converse-requires-clause-marks : goal.converse-requires-clause-marks
+converse-requires-clause-marks g c =
+    let closings = closings_at c.args.office.now c.args.desk.now.number in
+    let marks = subst (λ n. Marks c.loop-i.i (closings_at c.args.office.now n) c.loop-i.directory c.close_due.new.directory) c.loop-i.invariant.2 c.close_due.ensures.marks in
+    (marked_at closings c.loop-i.i c.args.office.now.directory c.loop-i.directory c.close_due.new.directory c.loop-i.invariant.6 marks).same
 
 pub loop-i-preserved : goal.loop-i-preserved
 loop-i-preserved g c =
     let v = c.loop-i.invariant in
     let d = c.args.office.now.directory in
     let lanes = c.args.office.now.lanes.items in
-    let before = map sent c.loop-i.desk.seats.items in
-    let after = map sent c.converse.new.desk.seats.items in (
-      subst (λ n. AreSeats lanes n c.converse.new.desk.seats.items) v.2 c.in-Ok.ensures.seats,
-      c.in-Ok.ensures.receiver,
-      c.in-Ok.ensures.number ∙ v.2,
-      (let e = c.in-Ok.ensures.ends in omega (arith, e, v.3)),
-      c.in-Ok.ensures.seat ∙ v.4,
-      served_step (premises_of c.args.office.now) c.args.desk.now.number c.args.connections.now c.loop-i.i c.index-connections-i.result c.as_slice.result.now c.loop-i.replies.items c.push.new.self.items c.in-Ok.reply
-          (notes_tell c.loop-i.log.notes) (notes_tell c.converse.new.log.notes) (received c.loop-i.desk.receiver) (received c.converse.new.desk.receiver) before after c.loop-i-test.true c.index-connections-i.is (search rules) c.in-Ok-push.ensures.items v.5
-          (subst (λ n. (done : List Judged) → AreBooks d (rooms_of c.args.office.now.lanes.items) n done (notes_tell c.loop-i.log.notes) (received c.loop-i.desk.receiver) before
-          → Spoke d (rooms_of c.args.office.now.lanes.items) n done c.as_slice.result.now (setting_at (premises_of c.args.office.now) n c.loop-i.i) c.args.office.now.host.items c.in-Ok.reply.items (notes_tell c.converse.new.log.notes) (received c.converse.new.desk.receiver) after)
-          v.2 c.in-Ok.ensures.spoke),
+    let p = c.args.desk.now.number in
+    let house = premises_of c.args.office.now in
+    let own = c.close_due.new.directory in
+    let closed = c.close_due.new.desk in
+    let kept = c.close_due.ensures.kept in
+    let number : closed.number ≡ p = kept.0 ∙ v.2 in
+    let before = map put_by closed.seats.items in
+    let after = map put_by c.converse.new.desk.seats.items in
+    let closings = closings_at c.args.office.now p in
+    let marks = subst (λ n. Marks c.loop-i.i (closings_at c.args.office.now n) c.loop-i.directory own) v.2 c.close_due.ensures.marks in
+    let served = subst (λ (r : ReceiverSeat Noted). HasServed house p (map (λ b. b.items) (take c.loop-i.i c.args.connections.now)) (map (λ b. b.items) c.loop-i.replies.items) (notes_tell c.loop-i.log.notes) (received r) before) (sym kept.1)
+    (subst (λ (l : List (List (Entry Job))). HasServed house p (map (λ b. b.items) (take c.loop-i.i c.args.connections.now)) (map (λ b. b.items) c.loop-i.replies.items) (notes_tell c.loop-i.log.notes) (received c.loop-i.desk.receiver) l) (sym kept.3) v.5) in (
+      subst (λ n. AreSeated own lanes n c.converse.new.desk.seats.items) number c.in-Ok-converse.ensures.seats,
+      c.in-Ok-converse.ensures.receiver,
+      c.in-Ok-converse.ensures.number ∙ number,
+      (let e = c.in-Ok-converse.ensures.ends in let r = ap (λ (x : ReceiverSeat Noted). ends_in (received x)) kept.1 in omega (arith, e, r, v.3, kept.2)),
+      c.in-Ok-converse.ensures.seat ∙ v.4,
+      served_step house p c.args.connections.now c.loop-i.i c.index-connections-i.result c.as_slice.result.now c.loop-i.replies.items c.push.new.self.items c.in-Ok-converse.reply
+          (notes_tell c.loop-i.log.notes) (notes_tell c.converse.new.log.notes) (received closed.receiver) (received c.converse.new.desk.receiver) before after c.loop-i-test.true c.index-connections-i.is (search rules) c.in-Ok-push.ensures.items served
+          own (marked_at closings c.loop-i.i d c.loop-i.directory own v.6 marks)
+          (subst (λ n. (done : List Judged) → AreBooks d (rooms_of c.args.office.now.lanes.items) n done (notes_tell c.loop-i.log.notes) (received closed.receiver) before
+          → Spoke own d (rooms_of c.args.office.now.lanes.items) n done c.as_slice.result.now (setting_at house n c.loop-i.i) c.args.office.now.host.items c.in-Ok-converse.reply.items (notes_tell c.converse.new.log.notes) (received c.converse.new.desk.receiver) after)
+          number c.in-Ok-converse.ensures.spoke),
+      marked_next closings c.loop-i.i d c.loop-i.directory own v.6 marks,
     )

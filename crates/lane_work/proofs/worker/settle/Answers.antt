@@ -1,18 +1,18 @@
 use Rattle.std.proofs.Common.{rules, ◌∙◌, ap, sym, subst, length, map, Vec, arith}
 use Rattle.std.specs.Global.{Global}
 use Rattle.std.proofs.lemmas.List.{length-map}
-use Rattle.delivery_token.specs.declared.Job.{Job}
 use Rattle.lmtp_machine.specs.Calls.{submission_of}
-use Rattle.shard_queue.specs.declared.queue.ProducerSeat.{ProducerSeat}
+use Rattle.lane_work.specs.declared.desk.LaneSeat.{LaneSeat}
 use Rattle.delivery_token.specs.declared.log.Noted.{Noted}
 use Rattle.shard_queue.specs.declared.reply.ReceiverSeat.{ReceiverSeat}
 use Rattle.shard_queue.specs.Reply.{received}
 use Rattle.shard_queue.specs.Shared.{IsStartOf}
-use Rattle.shard_queue.specs.Seats.{sent}
+use Rattle.lane_work.specs.Seats.{put_by}
 use Rattle.lane_work.specs.Copies.{copies_of, rooms_of}
 use Rattle.lane_work.specs.inner.Copies.{HavePut}
 use Rattle.lane_work.proofs.SlotLaws.{fills_length}
 use Rattle.lane_work.proofs.CopyLaws.{books_more}
+use Rattle.lane_work.proofs.SeatLaws.{overs_length}
 use Rattle.lane_work.proofs.worker.settle.Goals as goal
 
 pub note_all-requires-clause-verdicts : goal.note_all-requires-clause-verdicts
@@ -52,15 +52,15 @@ returns-clause-verdicts g c =
     omega (arith, n, f, l, a, c.put_all.new.slots.ok.0, c.hear_all.new.slots.ok.0)
 
 pub returns-clause-books : goal.returns-clause-books
-returns-clause-books g c judged books =
-    let kept = ap (λ (v : Vec (ProducerSeat Job) Global). map sent v.items) (sym c.hear_all.ensures.same.1) in
+returns-clause-books g c open_to judged books =
+    let kept = ap (λ (v : Vec LaneSeat Global). map put_by v.items) (sym c.hear_all.ensures.same.1) in
     let p = c.args.desk.now.number in
     let d = c.args.office.now.directory in
     let m = submission_of c.args.message.now in
-    let before = map sent c.args.desk.now.seats.items in
+    let before = map put_by c.args.desk.now.seats.items in
     let mid = c.put_all.new.desk.seats.items in
-    books_more d (rooms_of c.args.office.now.lanes.items) p judged (g.N.Notebook.tells c.args.book.now) (g.N.Notebook.tells c.note_all.new.self) (received c.args.desk.now.receiver) (received c.hear_all.new.desk.receiver) m c.put_all.new.slots.items c.hear_all.new.slots.items c.verdicts_of-verdicts.result.items before (map sent c.hear_all.new.desk.seats.items)
-    (search rules) (search rules) c.put_all.ensures.tried c.hear_all.ensures.fills (sym c.as_slice.ensures.value ∙ c.verdicts_of-verdicts.ensures.known)
-    (subst (HavePut d p (copies_of m) c.put_all.new.slots.items before) kept c.put_all.ensures.put)
-    (ap length (sym kept) ∙ length-map mid sent ∙ c.put_all.ensures.same.3 ∙ sym (length-map c.args.desk.now.seats.items sent))
+    books_more d (rooms_of c.args.office.now.lanes.items) p judged (g.N.Notebook.tells c.args.book.now) (g.N.Notebook.tells c.note_all.new.self) (received c.args.desk.now.receiver) (received c.hear_all.new.desk.receiver) m c.put_all.new.slots.items c.hear_all.new.slots.items c.verdicts_of-verdicts.result.items before (map put_by c.hear_all.new.desk.seats.items)
+    (search rules) (search rules) (c.put_all.ensures.tried open_to) c.hear_all.ensures.fills (sym c.as_slice.ensures.value ∙ c.verdicts_of-verdicts.ensures.known)
+    (subst (HavePut d p (copies_of m) c.put_all.new.slots.items before) kept (c.put_all.ensures.put open_to))
+    (ap length (sym kept) ∙ length-map mid put_by ∙ overs_length mid c.args.desk.now.seats.items c.put_all.ensures.same.3 ∙ sym (length-map c.args.desk.now.seats.items put_by))
     (search rules) (subst (λ (r : ReceiverSeat Noted). IsStartOf (received r) (received c.hear_all.new.desk.receiver)) c.put_all.ensures.same.1 c.hear_all.ensures.grew) c.hear_all.ensures.heard books

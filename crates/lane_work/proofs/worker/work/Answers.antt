@@ -2,7 +2,8 @@ use Rattle.std.proofs.Common.{◌∙◌, ap, sym, subst, map, ℕ, Vec}
 use Rattle.std.specs.Global.{Global}
 use Rattle.delivery_token.specs.Book.{Book}
 use Rattle.shard_queue.specs.Reply.{received}
-use Rattle.shard_queue.specs.Seats.{sent, said}
+use Rattle.shard_queue.specs.Seats.{said}
+use Rattle.lane_work.specs.Seats.{put_by}
 use Rattle.lane_work.specs.Copies.{rooms_of}
 use Rattle.lane_work.specs.Account.{Account, HaveEnded}
 use Rattle.lane_work.specs.Seats.{AreEnded}
@@ -20,7 +21,7 @@ pub returns-clause-worked : goal.returns-clause-worked
 returns-clause-worked g c =
     let number = c.go_through-fate.ensures.number in
     let f = c.finish.ensures in
-    let before = map sent c.go_through-fate.new.desk.seats.items in
+    let before = map put_by c.go_through-fate.new.desk.seats.items in
     let after = map said c.finish.result.ended.items in (
       subst (λ n. AreEnded c.args.office.now.lanes.items n c.finish.result.ended.items) number f.ended,
       f.receiver,

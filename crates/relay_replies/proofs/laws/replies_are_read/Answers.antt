@@ -1,18 +1,9 @@
 use Rattle.std.proofs.Common.{refl, true}
-use Rattle.delivery_token.specs.declared.Verdict.TheVariants.{Stored, Refused}
-use Rattle.delivery_token.specs.declared.Refusal.TheVariants.{Full, MailboxFull, NoMemory, UidSpent}
 use Rattle.relay_replies.proofs.Cuts.{replies_are_read}
 use Rattle.relay_replies.proofs.Fronts.{fronts_are_read}
 use Rattle.relay_replies.proofs.Counts.{commands_have_one_reply, data_is_silent, dot_answers, end_answers}
-use Rattle.relay_replies.specs.Laws.{DeliveredAloneIsTaken}
+use Rattle.relay_replies.proofs.Taken.{delivered_alone}
 use Rattle.relay_replies.proofs.laws.replies_are_read.Goals as goal
-
-taken : DeliveredAloneIsTaken
-taken host (Stored uid) = refl
-taken host (Refused Full) = refl
-taken host (Refused MailboxFull) = refl
-taken host (Refused NoMemory) = refl
-taken host (Refused UidSpent) = refl
 
 pub returns-clause-replies : goal.returns-clause-replies
 returns-clause-replies c = replies_are_read
@@ -21,7 +12,7 @@ pub returns-clause-fronts : goal.returns-clause-fronts
 returns-clause-fronts c = fronts_are_read
 
 pub returns-clause-taken : goal.returns-clause-taken
-returns-clause-taken c = taken
+returns-clause-taken c = delivered_alone
 
 pub returns-clause-command : goal.returns-clause-command
 returns-clause-command c = commands_have_one_reply

@@ -38,6 +38,16 @@ pub returns-in-AsksInHex-clause-held : goal.returns-in-AsksInHex-clause-held
 returns-in-AsksInHex-clause-held c =
     on_ok_weaker c.ask_hex.result (λ f. sym (ap (held_after c.args.held.now.items) (sym c.in-AsksInHex.ensures.reads) ∙ hex_holds_nothing c.args.held.now.items (Asks c.in-AsksInHex.session) (decode_of c.in-AsksInHex.digits.now) (λ bytes. refl))) c.ask_hex.ensures.done
 
+pub returns-in-Closes-clause-done : goal.returns-in-Closes-clause-done
+returns-in-Closes-clause-done c =
+    on_ok_weaker c.close_shard.result
+    (λ e k s st many. subst (λ (l : ScriptLine). LineDone k c.args.number l s c.close_shard.new.house c.args.out.now.items c.close_shard.new.out.items) c.in-Closes.ensures.reads (e k s st))
+    c.close_shard.ensures.done
+
+pub returns-in-Closes-clause-wanting : goal.returns-in-Closes-clause-wanting
+returns-in-Closes-clause-wanting c =
+    on_err_weaker c.close_shard.result (λ w k s st. subst (λ (l : ScriptLine). LineWanting k l s c.close_shard.new.house) c.in-Closes.ensures.reads (w k s st)) c.close_shard.ensures.wanting
+
 pub returns-in-Hold-clause-done : goal.returns-in-Hold-clause-done
 returns-in-Hold-clause-done c =
     on_ok_weaker c.set_held.result

@@ -13,7 +13,7 @@ use Rattle.script.proofs.run.drive.Goals as goal
 
 pub loop-done-init : goal.loop-done-init
 loop-done-init g c = record {
-  run = λ k input st e. none_run k input _ _ _ _ empty_scene st (c.in-Ok.ensures ∙ ap (λ (n : ℕ). replicate n false) (c.shards.ensures ∙ ap (λ (d : Directory). d.shards) st.directory ∙ st.shards)) e;
+  run = λ k input st e. none_run k input _ _ _ _ (empty_scene k) st (c.in-Ok.ensures ∙ ap (λ (n : ℕ). replicate n false) (c.shards.ensures ∙ ap (λ (d : Directory). d.shards) st.directory ∙ st.shards)) e;
   live = c.requires;
   few = (let l = ap (λ (xs : List Bool). length xs) c.in-Ok.ensures in let m = length-replicate c.shards.result false in let r = c.shards.auto in omega (arith, l, m, r));
   small = omega arith;
@@ -23,7 +23,7 @@ pub loop-done-preserved : goal.loop-done-preserved
 loop-done-preserved g c = record {
   run = λ k input st e. (let r = c.loop-done.invariant.run k input st e in
       run_more k input c.loop-done.done c.loop-done.house c.take_turn.new.house c.loop-done.room.held.items c.take_turn.new.room.held.items (g.R.Read.remaining c.loop-done.reader) (g.R.Read.remaining c.take_turn.new.reader)
-      (g.W.Sink.taken c.args.writer.now) (g.W.Sink.taken c.loop-done.writer) (g.W.Sink.taken c.take_turn.new.writer) c.loop-done.sent c.in-Ok-Some.count empty_scene
+      (g.W.Sink.taken c.args.writer.now) (g.W.Sink.taken c.loop-done.writer) (g.W.Sink.taken c.take_turn.new.writer) c.loop-done.sent c.in-Ok-Some.count (empty_scene k)
       r c.in-Ok-Some.field-0 c.in-Ok-Some.field-0-is (c.in-Ok-Some.ensures.tells k r.after r.rest r.stands (a_place_each k input _ _ _ _ _ _ _ _ r) r.remaining));
   live = c.in-Ok-Some.ensures.live;
   few = (let l = c.in-Ok-Some.ensures.places in let m = c.loop-done.invariant.few in omega (arith, l, m));

@@ -3,6 +3,7 @@ use Rattle.delivery_token.specs.declared.log.Noted.{Noted}
 use Rattle.shard_queue.specs.declared.ends.ReplyChannel.{ReplyChannel}
 use Rattle.shard_queue.specs.Reply.{IsReceiver}
 use Rattle.lane_work.specs.Seats.{AreSeats}
+use Rattle.lane_work.proofs.SeatLaws.{new_live}
 use Rattle.house_floor.specs.Crew.{IsPost}
 use Rattle.serving_workers.specs.declared.accepting.Served.{Served}
 use Rattle.serving_workers.proofs.Lives.{here_at, served_by}
@@ -19,6 +20,7 @@ answer_clients-requires g c =
         subst (λ (x : ReplyChannel Noted). IsReceiver x post.desk.receiver) (sym c.index.ensures)
             (is.receiver _ (here_at floor.depot.channels.items c.from.result c.args.number c.index.result.now same c.requires.number)),
         c.requires.house.shards,
+        new_live post.desk.seats.items is.fresh,
       );
     }
 

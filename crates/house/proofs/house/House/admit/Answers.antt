@@ -1,6 +1,5 @@
-use Rattle.std.proofs.Common.{◌≡◌, ◌+◌, ◌-◌, ◌<◌, ◌∙◌, ap, arith, false, inl, length, List, ℕ, None, Option, Some, refl, subst, sym, true, get_or, set}
+use Rattle.std.proofs.Common.{◌≡◌, ◌+◌, ◌-◌, ◌<◌, ◌∙◌, ap, arith, false, inl, length, List, ℕ, None, Option, Some, refl, subst, sym, true, get_or}
 use Rattle.delivery_core.proofs.Follow.{get_or-any}
-use Rattle.delivery_core.specs.Held.{has_ended}
 use Rattle.imap_session.specs.Exchange.{Folder}
 use Rattle.house_session.specs.Folders.{has_user}
 use Rattle.house_session.specs.Seat.{Seat, StandsForSeated}
@@ -27,11 +26,10 @@ returns-in_default-talk_at-clause-no_memory c k s st =
     let free : ◌≡◌ {A = Option Seat} (get_or i.visitors.items place None) None = subst (λ (n : ℕ). ◌≡◌ {A = Option Seat} (get_or i.visitors.items n None) None) (sym e1) (subst (λ (x : State). ◌≡◌ {A = Option Seat} (get_or x.visitors (c.args.session - 1) None) None) (sym c.self.view_is) c.requires.free.free) in
     let known : has_user i.directory c.args.user.now ≡ true = subst (λ (x : State). has_user x.directory c.args.user.now ≡ true) (sym c.self.view_is) c.requires.free.known in
     let more = subst (λ (n : ℕ). get_or i.entered.items n 0 < most_serials) (sym e1) (subst (λ (x : State). get_or x.entered (c.args.session - 1) 0 < most_serials) (sym c.self.view_is) c.requires.free.more) in
-    let live = subst (λ (x : State). has_ended x.core (length x.callers + (c.args.session - 1)) ≡ false) (sym c.self.view_is) c.requires.free.goes_on in
     let seat : c.session_seat-seat.result ≡ length i.callers.items + place = c.session_seat-seat.ensures ∙ ap (λ (n : ℕ). n + (c.args.session - 1)) (sym first) ∙ ap (λ (n : ℕ). length i.callers.items + n) (sym e1) in
     let serial : c.index-serial.result.now ≡ get_or i.entered.items place 0 = c.index-serial.ensures ∙ get_or-any i.entered.items place c.index-serial.result.now 0 ls in
     let r = entered k false h s place c.session_seat-seat.result c.index-serial.result.now i.max_message c.args.user.now c.in-Ok-admitted.visitor c.talk_at.new.place c.talk_at.new.desk.core c.args.out.now.items c.talk_at.new.out.items
-    st1 lt seat free known serial (subst (λ (n : ℕ). n < most_serials) (sym serial) more) refl (subst (λ (n : ℕ). has_ended i.desk.core n ≡ false) (ap (λ (n : ℕ). length i.callers.items + n) (sym e1) ∙ sym seat) live) c.talk_at.ensures.delivery
+    st1 lt seat free known serial (subst (λ (n : ℕ). n < most_serials) (sym serial) more) refl c.talk_at.ensures.delivery
     (λ next heard l. subst (λ (f : List Folder). StandsForSeated c.session_seat-seat.result next heard c.in-Ok-admitted.visitor (seated_greeted c.index-serial.result.now (Some i.max_message) f)) c.in-Ok.ensures (c.in-Ok-admitted.ensures.1 next heard l))
     (λ next heard w b stands is. subst (λ (n : ℕ). PlaceTalked k false n next heard w b c.talk_at.new.place c.talk_at.new.desk.core c.args.out.now.items c.talk_at.new.out.items) (sym e1)
     (c.in_default-talk_at.ensures.err k next heard w b stands (subst (λ (n : ℕ). StandsForSomebody (session_seat k n) next heard (Some c.in-Ok-admitted.visitor) (Some b)) e1 is))) in
@@ -57,11 +55,10 @@ returns-clause-follows c k s st =
     let free : ◌≡◌ {A = Option Seat} (get_or i.visitors.items place None) None = subst (λ (n : ℕ). ◌≡◌ {A = Option Seat} (get_or i.visitors.items n None) None) (sym e1) (subst (λ (x : State). ◌≡◌ {A = Option Seat} (get_or x.visitors (c.args.session - 1) None) None) (sym c.self.view_is) c.requires.free.free) in
     let known : has_user i.directory c.args.user.now ≡ true = subst (λ (x : State). has_user x.directory c.args.user.now ≡ true) (sym c.self.view_is) c.requires.free.known in
     let more = subst (λ (n : ℕ). get_or i.entered.items n 0 < most_serials) (sym e1) (subst (λ (x : State). get_or x.entered (c.args.session - 1) 0 < most_serials) (sym c.self.view_is) c.requires.free.more) in
-    let live = subst (λ (x : State). has_ended x.core (length x.callers + (c.args.session - 1)) ≡ false) (sym c.self.view_is) c.requires.free.goes_on in
     let seat : c.session_seat-seat.result ≡ length i.callers.items + place = c.session_seat-seat.ensures ∙ ap (λ (n : ℕ). n + (c.args.session - 1)) (sym first) ∙ ap (λ (n : ℕ). length i.callers.items + n) (sym e1) in
     let serial : c.index-serial.result.now ≡ get_or i.entered.items place 0 = c.index-serial.ensures ∙ get_or-any i.entered.items place c.index-serial.result.now 0 ls in
     let r = entered k true h s place c.session_seat-seat.result c.index-serial.result.now i.max_message c.args.user.now c.in-Ok-admitted.visitor c.talk_at.new.place c.talk_at.new.desk.core c.args.out.now.items c.talk_at.new.out.items
-    st1 lt seat free known serial (subst (λ (n : ℕ). n < most_serials) (sym serial) more) refl (subst (λ (n : ℕ). has_ended i.desk.core n ≡ false) (ap (λ (n : ℕ). length i.callers.items + n) (sym e1) ∙ sym seat) live) c.talk_at.ensures.delivery
+    st1 lt seat free known serial (subst (λ (n : ℕ). n < most_serials) (sym serial) more) refl c.talk_at.ensures.delivery
     (λ next heard l. subst (λ (f : List Folder). StandsForSeated c.session_seat-seat.result next heard c.in-Ok-admitted.visitor (seated_greeted c.index-serial.result.now (Some i.max_message) f)) c.in-Ok.ensures (c.in-Ok-admitted.ensures.1 next heard l))
     (λ next heard w b stands is. subst (λ (n : ℕ). PlaceTalked k true n next heard w b c.talk_at.new.place c.talk_at.new.desk.core c.args.out.now.items c.talk_at.new.out.items) (sym e1)
     (c.in-Ok-talk_at.ensures.ok k next heard w b stands (subst (λ (n : ℕ). StandsForSomebody (session_seat k n) next heard (Some c.in-Ok-admitted.visitor) (Some b)) e1 is))) in

@@ -1,9 +1,8 @@
-use Rattle.std.proofs.Common.{◌≡◌, ◌+◌, ◌-◌, ◌<◌, ◌∙◌, ℕ, ap, sym, subst, refl, arith, length, false, None, Some, Option, Err}
+use Rattle.std.proofs.Common.{◌-◌, ap, sym, subst, Err}
 use Rattle.world.specs.World as world
 use Rattle.house.specs.State.{State}
 use Rattle.house.specs.Stands.{StandsFor}
-use Rattle.house.specs.Steps.{is_taken}
-use Rattle.house.proofs.Ended.{end_led, is_number, number_within, vacant_free}
+use Rattle.house.proofs.Ended.{end_led}
 use Rattle.house.proofs.Worldly.{idles}
 use Rattle.house.proofs.house.House.end.Goals as goal
 
@@ -13,15 +12,12 @@ returns-clause-follows c k s old st =
     let h : State = record { core = i.desk.core; callers = i.callers.items; serials = i.serials.items; visitors = i.visitors.items; entered = i.entered.items; directory = i.directory; host = i.host.items; max_message = i.max_message } in
     let st1 = subst (λ (x : State). StandsFor k x s) (sym c.self.view_is) st in
     let seat = c.args.number - 1 in
-    let n = number_within c.args.self.now c.args.number (is_number c.args.self.now c.args.number c.has_no_number.result c.has_no_number.ensures c.if-has_no_number.false) in
-    let vacant : is_taken c.args.self.now seat ≡ false = sym c.is_taken.ensures ∙ c.if-is_taken.false in
-    let away = vacant_free k c.args.self.now s seat st (omega (arith, n.0, n.1)) vacant in
-    let r = end_led k h s c.end.new.self seat c.args.shard old st1 away c.in-Ok.ensures.follows c.in-Ok.ensures.heard c.in-Ok.ensures.next in
-    record { after = r.0; printed = r.1; plays = (r.2, r.3); stands = r.4; out = r.5 }
+    let r = end_led k h s c.end.new.self seat c.args.shard old st1 c.in-Ok.ensures.follows c.in-Ok.ensures.heard c.in-Ok.ensures.next in
+    record { after = r.0; printed = r.1; plays = r.2; stands = r.3; out = r.4 }
 
 pub returns-in-Err-Nothing-clause-idle : goal.returns-in-Err-Nothing-clause-idle
 returns-in-Err-Nothing-clause-idle c x k s st t printed p =
     let i = c.self.inside in
     let h : State = record { core = i.desk.core; callers = i.callers.items; serials = i.serials.items; visitors = i.visitors.items; entered = i.entered.items; directory = i.directory; host = i.host.items; max_message = i.max_message } in
     let st1 = subst (λ (x : State). StandsFor k x s) (sym c.self.view_is) st in
-    idles k h s (world.PutEnd (c.args.number - 1) c.args.shard) st1 (c.in-Err-Nothing.ensures.idle (ap (λ x. Err x) c.in-Err-Nothing.field-0-is)) t printed p.1
+    idles k h s (world.PutEnd (c.args.number - 1) c.args.shard) st1 (c.in-Err-Nothing.ensures.idle (ap (λ x. Err x) c.in-Err-Nothing.field-0-is)) t printed p

@@ -5,8 +5,8 @@ use Rattle.house.specs.inner.Trying.{hears}
 use Rattle.house.proofs.Settlement.{hear_among, seats_step, seats_wants, visits_as}
 use Rattle.house.proofs.house.House.hear_all.Goals as goal
 
-pub returns-in_default : goal.returns-in_default
-returns-in_default c =
+pub returns-in_default-clause-came : goal.returns-in_default-clause-came
+returns-in_default-clause-came c =
     let many = ap (λ (x : State). length x.callers) c.self.view_is in
     let more = ap (λ (x : State). length x.visitors) c.self.view_is in
     let e = c.len.ensures in
@@ -14,7 +14,7 @@ returns-in_default c =
     let t = c.loop-seat-test.true in
     let l : c.loop-seat.seat < (length c.args.self.now.callers + length c.args.self.now.visitors) = omega (arith, t, e, f, many, more) in
     seats_wants (λ n. Hear n ∷ []) ((length c.args.self.now.callers + length c.args.self.now.visitors)) c.loop-seat.seat c.args.self.now c.args.out.now.items c.loop-seat.self c.loop-seat.out.items c.visit.new.self c.visit.new.out.items c.loop-seat.moved
-    (λ k q. hear_among k ((length c.args.self.now.callers + length c.args.self.now.visitors)) c.loop-seat.seat l q) refl c.loop-seat.invariant c.in_default.ensures
+    (λ k q. hear_among k ((length c.args.self.now.callers + length c.args.self.now.visitors)) c.loop-seat.seat l q) refl c.loop-seat.invariant.1 c.in_default.ensures.came
 
 pub loop-seat-preserved : goal.loop-seat-preserved
 loop-seat-preserved c =
@@ -23,12 +23,14 @@ loop-seat-preserved c =
     let e = c.len.ensures in
     let f = c.len-2.ensures in
     let t = c.loop-seat-test.true in
-    let l : c.loop-seat.seat < (length c.args.self.now.callers + length c.args.self.now.visitors) = omega (arith, t, e, f, many, more) in
-    seats_step (λ n. Hear n ∷ []) ((length c.args.self.now.callers + length c.args.self.now.visitors)) c.loop-seat.seat c.args.self.now c.args.out.now.items c.loop-seat.self c.loop-seat.out.items c.visit.new.self c.visit.new.out.items c.loop-seat.moved c.in-Ok.one
-    (λ k q. hear_among k ((length c.args.self.now.callers + length c.args.self.now.visitors)) c.loop-seat.seat l q) c.loop-seat.invariant c.in-Ok.ensures
+    let l : c.loop-seat.seat < (length c.args.self.now.callers + length c.args.self.now.visitors) = omega (arith, t, e, f, many, more) in (
+      c.in-Ok.ensures.marks ∙ c.loop-seat.invariant.0,
+      seats_step (λ n. Hear n ∷ []) ((length c.args.self.now.callers + length c.args.self.now.visitors)) c.loop-seat.seat c.args.self.now c.args.out.now.items c.loop-seat.self c.loop-seat.out.items c.visit.new.self c.visit.new.out.items c.loop-seat.moved c.in-Ok.one
+          (λ k q. hear_among k ((length c.args.self.now.callers + length c.args.self.now.visitors)) c.loop-seat.seat l q) c.loop-seat.invariant.1 c.in-Ok.ensures.came,
+    )
 
-pub returns : goal.returns
-returns c =
+pub returns-clause-came : goal.returns-clause-came
+returns-clause-came c =
     let many = ap (λ (x : State). length x.callers) c.self.view_is in
     let more = ap (λ (x : State). length x.visitors) c.self.view_is in
     let e = c.len.ensures in
@@ -37,4 +39,4 @@ returns c =
     let u = c.loop-seat.auto.seat-end in
     let n : c.loop-seat.seat ≡ (length c.args.self.now.callers + length c.args.self.now.visitors) = omega (arith, t, u, e, f, many, more) in
     visits_as (λ k. k.config.seats ≡ (length c.args.self.now.callers + length c.args.self.now.visitors)) (λ k. hears c.loop-seat.seat) (λ k. hears k.config.seats) c.args.self.now c.args.out.now.items c.loop-seat.self c.loop-seat.out.items c.loop-seat.moved
-    (λ k s st. sym st.seats) (λ k q. ap (λ (x : ℕ). hears x) (n ∙ sym q)) c.loop-seat.invariant
+    (λ k s st. sym st.seats) (λ k q. ap (λ (x : ℕ). hears x) (n ∙ sym q)) c.loop-seat.invariant.1

@@ -1,20 +1,15 @@
-use Rattle.std.proofs.Common.{◌≡◌, ◌+◌, ◌-◌, ◌<◌, ◌∙◌, ap, arith, false, inl, inr, length, ℕ, not, None, Option, Some, Err, refl, subst, sym, true, get_or, [], ◌∷◌}
-use Rattle.std.specs.Option.{is_some, option_map}
+use Rattle.std.proofs.Common.{◌≡◌, ◌+◌, ◌-◌, ◌<◌, ◌∙◌, ap, arith, false, inl, length, ℕ, not, None, Option, Some, Err, subst, sym, true, get_or, [], ◌∷◌}
 use Rattle.delivery_core.proofs.Follow.{get_or-any}
-use Rattle.delivery_core.specs.Changes.{Hears, SameDelivery}
-use Rattle.delivery_core.specs.Held.{Held, notes_of}
+use Rattle.delivery_core.specs.Changes.{Hears}
 use Rattle.delivery_core.specs.Stands as core
 use Rattle.world.specs.World as world
-use Rattle.house_session.specs.Seat.{Seat, noted_put}
-use Rattle.submission.specs.inner.Verdicts.{heard_verdict}
-use Rattle.house.specs.declared.event.HouseFault.TheVariants as house_faults
+use Rattle.house_session.specs.Seat.{Seat}
 use Rattle.house.specs.State.{State}
 use Rattle.house.specs.Setup.{session_seat}
-use Rattle.house.specs.Scene.{HearPlay, PutPlay, session_hears, session_puts}
+use Rattle.house.specs.Scene.{HearPlay, session_hears}
 use Rattle.house.specs.Stands.{StandsFor}
 use Rattle.house.specs.inner.Steps.{PlaceVisited, StandsForSomebody}
-use Rattle.house.proofs.Ended.{due_behind}
-use Rattle.house.proofs.SessionEvents.{heard_at, heard_led, hears_none, put_led, puts_none}
+use Rattle.house.proofs.SessionEvents.{heard_at, heard_led, hears_none}
 use Rattle.house.proofs.Visiting.{some_seat}
 use Rattle.house.proofs.house.House.hear_of_session.Goals as goal
 

@@ -5,7 +5,6 @@ use Rattle.imap_session.specs.Store.{answer}
 use Rattle.delivery_core.proofs.Follow.{get_or-any}
 use Rattle.house_session.specs.Seat.{Seat, with_nobody_there}
 use Rattle.house.specs.State.{State}
-use Rattle.house.specs.Scene.{LeavePlay}
 use Rattle.house.specs.Stands.{StandsFor}
 use Rattle.house.specs.Steps.{is_left}
 use Rattle.house.specs.inner.Steps.{StandsForSomebody}

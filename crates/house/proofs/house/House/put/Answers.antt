@@ -7,11 +7,8 @@ use Rattle.house.specs.Scene.{PutPlay, connection_puts}
 use Rattle.house_connection.specs.Taking.{noted_put}
 use Rattle.submission.specs.inner.Verdicts.{heard_verdict}
 use Rattle.house.specs.Stands.{StandsFor}
-use Rattle.delivery_core.specs.Held.{Held}
-use Rattle.delivery_core.specs.Changes.{SameDelivery}
 use Rattle.session_store.proofs.Serving.{same_delivery}
-use Rattle.house.specs.Steps.{MayWantToPut}
-use Rattle.house.proofs.Ended.{due_first, same_as, vacant_first}
+use Rattle.house.proofs.Ended.{due_first}
 use Rattle.house.proofs.Turns.{put_led, puts_none}
 use Rattle.house.proofs.house.House.put.Goals as goal
 

@@ -5,26 +5,28 @@ use Rattle.house.specs.inner.Trying.{serves}
 use Rattle.house.proofs.Settlement.{shards_of, shards_step, shards_wants, visits_as}
 use Rattle.house.proofs.house.House.serve_all.Goals as goal
 
-pub returns-in_default : goal.returns-in_default
-returns-in_default c =
+pub returns-in_default-clause-came : goal.returns-in_default-clause-came
+returns-in_default-clause-came c =
     let many = ap (λ (x : State). x.directory.shards) c.self.view_is in
     let e = c.shards-shards.ensures.value in
     let t = c.loop-shard-test.true in
     let l : c.loop-shard.shard < c.args.self.now.directory.shards = omega (arith, t, e, many) in
     shards_wants (is_held c.args.held.now) c.loop-shard.shard c.args.self.now c.args.out.now.items c.loop-shard.self c.loop-shard.out.items c.serve.new.self c.serve.new.out.items c.loop-shard.moved l
-    c.loop-shard.invariant c.in_default.ensures
+    c.loop-shard.invariant.1 c.in_default.ensures.came
 
 pub loop-shard-preserved : goal.loop-shard-preserved
 loop-shard-preserved c =
     let many = ap (λ (x : State). x.directory.shards) c.self.view_is in
     let e = c.shards-shards.ensures.value in
     let t = c.loop-shard-test.true in
-    let l : c.loop-shard.shard < c.args.self.now.directory.shards = omega (arith, t, e, many) in
-    shards_step (is_held c.args.held.now) c.args.self.now.directory.shards c.loop-shard.shard c.is_held.result c.args.self.now c.args.out.now.items c.loop-shard.self c.loop-shard.out.items c.serve.new.self c.serve.new.out.items
-    c.loop-shard.moved c.in-Ok.one l c.is_held.ensures c.loop-shard.invariant c.in-Ok.ensures
+    let l : c.loop-shard.shard < c.args.self.now.directory.shards = omega (arith, t, e, many) in (
+      c.in-Ok.ensures.marks ∙ c.loop-shard.invariant.0,
+      shards_step (is_held c.args.held.now) c.args.self.now.directory.shards c.loop-shard.shard c.is_held.result c.args.self.now c.args.out.now.items c.loop-shard.self c.loop-shard.out.items c.serve.new.self c.serve.new.out.items
+          c.loop-shard.moved c.in-Ok.one l c.is_held.ensures c.loop-shard.invariant.1 c.in-Ok.ensures.came,
+    )
 
-pub returns : goal.returns
-returns c =
+pub returns-clause-came : goal.returns-clause-came
+returns-clause-came c =
     let many = ap (λ (x : State). x.directory.shards) c.self.view_is in
     let e = c.shards-shards.ensures.value in
     let t = c.loop-shard-test.false in
@@ -32,4 +34,4 @@ returns c =
     let n : c.loop-shard.shard ≡ c.args.self.now.directory.shards = omega (arith, t, u, e, many) in
     visits_as (λ k. k.config.shards ≡ c.args.self.now.directory.shards) (λ k. serves (is_held c.args.held.now) c.loop-shard.shard) (λ k. serves (is_held c.args.held.now) k.config.shards)
     c.args.self.now c.args.out.now.items c.loop-shard.self c.loop-shard.out.items c.loop-shard.moved
-    (λ k s st. shards_of k s c.args.self.now st) (λ k q. ap (λ (x : ℕ). serves (is_held c.args.held.now) x) (n ∙ sym q)) c.loop-shard.invariant
+    (λ k s st. shards_of k s c.args.self.now st) (λ k q. ap (λ (x : ℕ). serves (is_held c.args.held.now) x) (n ∙ sym q)) c.loop-shard.invariant.1

@@ -1,7 +1,6 @@
 use Rattle.std.proofs.Common.{◌≡◌, ◌+◌, ◌-◌, ◌<◌, inl, refl, sym, subst, ap, ◌∙◌, true, false, None, List, ℕ, length, arith, get_or, set}
 use Rattle.delivery_core.proofs.Follow.{get_or-any}
 use Rattle.house.specs.State.{State}
-use Rattle.delivery_core.specs.Held.{has_ended}
 use Rattle.house.specs.Scene.{BytesPlay, most_serials}
 use Rattle.house.specs.Stands.{StandsFor}
 use Rattle.house.proofs.Events.{welcomed}
@@ -10,7 +9,6 @@ use Rattle.house_connection.specs.ConnectionStands.{StandsForConnection}
 use Rattle.delivery_token.specs.Keys.{AtLeast}
 use Rattle.delivery_token.specs.declared.CopyKey.{CopyKey}
 use Rattle.delivery_token.specs.declared.log.Noted.{Noted}
-use Rattle.house.specs.Setup.{Setup}
 use Rattle.house.proofs.house.House.welcome.Goals as goal
 
 pub returns-in_default-go_on_at-clause-no_memory : goal.returns-in_default-go_on_at-clause-no_memory
@@ -25,7 +23,6 @@ returns-in_default-go_on_at-clause-no_memory c k s st =
     let lt : seat < length i.callers.items = let m = c.requires.vacant.seat in omega (arith, number, m, many) in
     let none : get_or i.callers.items seat None ≡ None = subst (λ (n : ℕ). get_or i.callers.items n None ≡ None) (sym e1) (subst (λ (x : State). get_or x.callers (c.args.connection - 1) None ≡ None) (sym c.self.view_is) c.requires.vacant.empty) in
     let more = subst (λ (n : ℕ). get_or i.serials.items n 0 < most_serials) (sym e1) (subst (λ (x : State). get_or x.serials (c.args.connection - 1) 0 < most_serials) (sym c.self.view_is) c.requires.vacant.more) in
-    let live = subst (λ (n : ℕ). has_ended i.desk.core n ≡ false) (sym e1) (subst (λ (x : State). has_ended x.core (c.args.connection - 1) ≡ false) (sym c.self.view_is) c.requires.vacant.goes_on) in
     let ls : seat < length i.serials.items = let z = c.self.invariant.0 in omega (arith, lt, z) in
     let serial : c.index-serial.result.now ≡ get_or i.serials.items seat 0 = c.index-serial.ensures ∙ get_or-any i.serials.items seat c.index-serial.result.now 0 ls in
     let opened = λ (x : Terms) (next : CopyKey) (heard : List Noted) (a : x.host ≡ i.host.items) (b : x.max_message ≡ i.max_message) (l : AtLeast next (record { seat = seat; serial = get_or i.serials.items seat 0; message = 0; recipient = 0 })).
@@ -34,7 +31,7 @@ returns-in_default-go_on_at-clause-no_memory c k s st =
     (c.in-Ok.ensures x next heard (a ∙ sym c.deref.ensures.value) b
     (subst (λ (n : ℕ). AtLeast next (record { seat = n; serial = c.index-serial.result.now; message = 0; recipient = 0 })) e1 (subst (λ (n : ℕ). AtLeast next (record { seat = seat; serial = n; message = 0; recipient = 0 })) (sym serial) l)))) in
     let r = welcomed k h s c.args.connection seat c.args.piece.now i.directory c.go_on_at.new.place c.in-Ok.caller false c.args.out.now.items c.go_on_at.new.out.items
-    st1 number refl lt none more live opened c.in_default-go_on_at.ensures.err in
+    st1 number refl lt none more opened c.in_default-go_on_at.ensures.err in
     inl (record {
       after = r.0;
       printed = r.1;
@@ -55,7 +52,6 @@ returns-clause-follows c k s st =
     let lt : seat < length i.callers.items = let m = c.requires.vacant.seat in omega (arith, number, m, many) in
     let none : get_or i.callers.items seat None ≡ None = subst (λ (n : ℕ). get_or i.callers.items n None ≡ None) (sym e1) (subst (λ (x : State). get_or x.callers (c.args.connection - 1) None ≡ None) (sym c.self.view_is) c.requires.vacant.empty) in
     let more = subst (λ (n : ℕ). get_or i.serials.items n 0 < most_serials) (sym e1) (subst (λ (x : State). get_or x.serials (c.args.connection - 1) 0 < most_serials) (sym c.self.view_is) c.requires.vacant.more) in
-    let live = subst (λ (n : ℕ). has_ended i.desk.core n ≡ false) (sym e1) (subst (λ (x : State). has_ended x.core (c.args.connection - 1) ≡ false) (sym c.self.view_is) c.requires.vacant.goes_on) in
     let ls : seat < length i.serials.items = let z = c.self.invariant.0 in omega (arith, lt, z) in
     let serial : c.index-serial.result.now ≡ get_or i.serials.items seat 0 = c.index-serial.ensures ∙ get_or-any i.serials.items seat c.index-serial.result.now 0 ls in
     let opened = λ (x : Terms) (next : CopyKey) (heard : List Noted) (a : x.host ≡ i.host.items) (b : x.max_message ≡ i.max_message) (l : AtLeast next (record { seat = seat; serial = get_or i.serials.items seat 0; message = 0; recipient = 0 })).
@@ -64,7 +60,7 @@ returns-clause-follows c k s st =
     (c.in-Ok.ensures x next heard (a ∙ sym c.deref.ensures.value) b
     (subst (λ (n : ℕ). AtLeast next (record { seat = n; serial = c.index-serial.result.now; message = 0; recipient = 0 })) e1 (subst (λ (n : ℕ). AtLeast next (record { seat = seat; serial = n; message = 0; recipient = 0 })) (sym serial) l)))) in
     let r = welcomed k h s c.args.connection seat c.args.piece.now i.directory c.go_on_at.new.place c.in-Ok.caller true c.args.out.now.items c.go_on_at.new.out.items
-    st1 number refl lt none more live opened c.in-Ok-go_on_at.ensures.ok in
+    st1 number refl lt none more opened c.in-Ok-go_on_at.ensures.ok in
     record {
       after = r.0;
       printed = r.1;

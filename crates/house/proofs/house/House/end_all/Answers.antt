@@ -1,0 +1,39 @@
+use Rattle.std.proofs.Common.{◌≡◌, ◌+◌, ◌<◌, length, ap, ◌∙◌, arith, refl}
+use Rattle.house.specs.State.{State}
+use Rattle.house.proofs.Closing.{ends_done, ends_step, ends_wants}
+use Rattle.house.proofs.house.House.end_all.Goals as goal
+
+pub returns-in_default-clause-came : goal.returns-in_default-clause-came
+returns-in_default-clause-came c =
+    let many = ap (λ (x : State). length x.callers) c.self.view_is in
+    let more = ap (λ (x : State). length x.visitors) c.self.view_is in
+    let e = c.len.ensures in
+    let f = c.len-2.ensures in
+    let t = c.loop-seat-test.true in
+    let l : c.loop-seat.seat < (length c.args.self.now.callers + length c.args.self.now.visitors) = omega (arith, t, e, f, many, more) in
+    ends_wants ((length c.args.self.now.callers + length c.args.self.now.visitors)) c.loop-seat.seat c.args.shard c.args.self.now c.args.out.now.items c.loop-seat.self c.loop-seat.out.items c.visit.new.self c.visit.new.out.items c.loop-seat.moved
+    l refl c.loop-seat.invariant.1 c.in_default.ensures.came
+
+pub loop-seat-preserved : goal.loop-seat-preserved
+loop-seat-preserved c =
+    let many = ap (λ (x : State). length x.callers) c.self.view_is in
+    let more = ap (λ (x : State). length x.visitors) c.self.view_is in
+    let e = c.len.ensures in
+    let f = c.len-2.ensures in
+    let t = c.loop-seat-test.true in
+    let l : c.loop-seat.seat < (length c.args.self.now.callers + length c.args.self.now.visitors) = omega (arith, t, e, f, many, more) in (
+      c.in-Ok.ensures.marks ∙ c.loop-seat.invariant.0,
+      ends_step ((length c.args.self.now.callers + length c.args.self.now.visitors)) c.loop-seat.seat c.args.shard c.args.self.now c.args.out.now.items c.loop-seat.self c.loop-seat.out.items c.visit.new.self c.visit.new.out.items c.loop-seat.moved c.in-Ok.one
+          l c.loop-seat.invariant.1 c.in-Ok.ensures.came,
+    )
+
+pub returns-clause-came : goal.returns-clause-came
+returns-clause-came c =
+    let many = ap (λ (x : State). length x.callers) c.self.view_is in
+    let more = ap (λ (x : State). length x.visitors) c.self.view_is in
+    let e = c.len.ensures in
+    let f = c.len-2.ensures in
+    let t = c.loop-seat-test.false in
+    let u = c.loop-seat.auto.seat-end in
+    let n : c.loop-seat.seat ≡ (length c.args.self.now.callers + length c.args.self.now.visitors) = omega (arith, t, u, e, f, many, more) in
+    ends_done ((length c.args.self.now.callers + length c.args.self.now.visitors)) c.loop-seat.seat c.args.shard c.args.self.now c.args.out.now.items c.loop-seat.self c.loop-seat.out.items c.loop-seat.moved n refl c.loop-seat.invariant.1

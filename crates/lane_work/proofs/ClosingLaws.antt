@@ -1,0 +1,171 @@
+-- Which shards are marked before which connection.
+use Rattle.std.proofs.Common.{◌≡◌, ℕ, zero, suc, ◌+◌, ◌<◌, ◌≤◌, ◌∙◌, ◌⊎◌, inl, inr, ◌≢◌, eqb, Bool, true, false, List, [], ◌∷◌, length, refl, ap, sym, subst, arith, take, slice_index_or, slice_set, ◌==◌, ◌&&◌, ◌||◌}
+use Rattle.std.specs.Prelude.{nat_lt, nat_le}
+use Rattle.std.specs.List.{list_any}
+use Rattle.std.proofs.lemmas.Bool.Decides.{eqb_tells, nat_tests}
+use Rattle.std.proofs.lemmas.List.{get_or-set_same, get_or-set_other, length-set}
+use Rattle.envelope.specs.Directory.{Directory, is_shut, marked}
+use Rattle.lane_work.specs.declared.desk.Closing.{Closing}
+use Rattle.lane_work.specs.Account.{IsMarkedBy, is_closed_by}
+use Rattle.lane_work.specs.inner.Closing.{IsMarkedBefore, Marks, is_closed_at, is_closed_before}
+use Rattle.lane_work.specs.declared.desk.LaneSeat.{LaneSeat}
+use Rattle.lane_work.specs.Seats.{AreShutWhereOver}
+use Rattle.lane_work.proofs.RoundLaws.{over_within}
+
+or_assoc : (a b c : Bool) → ((a || b) || c) ≡ (a || (b || c))
+or_assoc true b c = refl
+or_assoc false b c = refl
+
+none_before : (shard : ℕ) (cs : List Closing) → list_any (is_closed_before 0 shard) cs ≡ false
+none_before shard [] = refl
+none_before shard (c ∷ cs) =
+    let first : nat_lt c.connection 0 ≡ false = grind (arith, nat_tests) in
+    ap (λ b. (b && (c.shard == shard)) || list_any (is_closed_before 0 shard) cs) first ∙ none_before shard cs
+
+-- before a connection: before it, or before an earlier one
+one_by : (c i : ℕ) (b : Bool) → ((nat_lt c i && b) || ((c == i) && b)) ≡ (nat_le c i && b)
+one_by c i true = grind (arith, nat_tests)
+one_by c i false = grind (arith, nat_tests)
+
+or_swap : (a b c d : Bool) → ((a || b) || (c || d)) ≡ ((a || c) || (b || d))
+or_swap true b c d = refl
+or_swap false true true d = refl
+or_swap false true false d = refl
+or_swap false false c d = refl
+
+closed_by : (i shard : ℕ) (cs : List Closing) → (list_any (is_closed_before i shard) cs || list_any (is_closed_at i shard) cs) ≡ list_any (is_closed_by i shard) cs
+closed_by i shard [] = refl
+closed_by i shard (c ∷ cs) =
+    or_swap (is_closed_before i shard c) (list_any (is_closed_before i shard) cs) (is_closed_at i shard c) (list_any (is_closed_at i shard) cs)
+    ∙ ap (λ b. b || (list_any (is_closed_before i shard) cs || list_any (is_closed_at i shard) cs)) (one_by c.connection i (c.shard == shard))
+    ∙ ap (λ b. is_closed_by i shard c || b) (closed_by i shard cs)
+
+one_next : (c i : ℕ) → nat_lt c (i + 1) ≡ nat_le c i
+one_next c i = grind (arith, nat_tests)
+
+before_next : (i shard : ℕ) (cs : List Closing) → list_any (is_closed_before (i + 1) shard) cs ≡ list_any (is_closed_by i shard) cs
+before_next i shard [] = refl
+before_next i shard (c ∷ cs) = ap (λ b. (b && (c.shard == shard)) || list_any (is_closed_before (i + 1) shard) cs) (one_next c.connection i) ∙ ap (λ b. is_closed_by i shard c || b) (before_next i shard cs)
+
+or_none : (b : Bool) → (b || false) ≡ b
+or_none true = refl
+or_none false = refl
+
+pub marked_first : (closings : List Closing) (house own : Directory) → own ≡ house → length own.shut ≡ own.shards → IsMarkedBefore closings 0 house own
+marked_first closings house own same as_many = record {
+  same = same ∙ ap (λ (d : Directory). marked d.shut house) (sym same);
+  as_many = as_many;
+  marks = λ shard within. ap (λ (d : Directory). is_shut d shard) same ∙ sym (ap (λ b. is_shut house shard || b) (none_before shard closings) ∙ or_none (is_shut house shard));
+}
+
+-- the shards of this connection are marked
+pub marked_at : (closings : List Closing) (i : ℕ) (house old new : Directory) → IsMarkedBefore closings i house old → Marks i closings old new → IsMarkedBy closings i house new
+marked_at closings i house old new was now = record {
+  same = now.0 ∙ ap (marked new.shut) was.same;
+  marks = λ shard within.
+      let shards : old.shards ≡ house.shards = ap (λ (d : Directory). d.shards) was.same in
+      now.2 shard (omega (arith, within, shards))
+      ∙ ap (λ b. b || list_any (is_closed_at i shard) closings) (was.marks shard within)
+      ∙ or_assoc (is_shut house shard) (list_any (is_closed_before i shard) closings) (list_any (is_closed_at i shard) closings)
+      ∙ ap (λ b. is_shut house shard || b) (closed_by i shard closings);
+}
+
+pub marked_next : (closings : List Closing) (i : ℕ) (house old new : Directory) → IsMarkedBefore closings i house old → Marks i closings old new → IsMarkedBefore closings (i + 1) house new
+marked_next closings i house old new was now =
+    let here = marked_at closings i house old new was now in
+    record {
+      same = here.same;
+      as_many = now.1 ∙ was.as_many ∙ sym (ap (λ (d : Directory). d.shards) now.0);
+      marks = λ shard within. here.marks shard within ∙ ap (λ b. is_shut house shard || b) (sym (before_next i shard closings));
+    }
+
+-- ---- one after another
+
+-- one more closing was looked at: where it is for this connection its shard was marked
+any_next : (i shard : ℕ) (cs : List Closing) (k : ℕ) (c : Closing) → k < length cs → c ≡ slice_index_or cs k c
+    → list_any (is_closed_at i shard) (take (k + 1) cs) ≡ (list_any (is_closed_at i shard) (take k cs) || is_closed_at i shard c)
+any_next i shard [] k c under is = absurd (omega arith)
+any_next i shard (x ∷ cs) zero c under is = or_none (is_closed_at i shard x) ∙ ap (is_closed_at i shard) (sym is)
+any_next i shard (x ∷ cs) (suc k) c under is =
+    let e : suc k + 1 ≡ suc (k + 1) = omega arith in
+    ap (λ n. list_any (is_closed_at i shard) (take n (x ∷ cs))) e
+    ∙ ap (λ b. is_closed_at i shard x || b) (any_next i shard cs k c (omega arith) is)
+    ∙ sym (or_assoc (is_closed_at i shard x) (list_any (is_closed_at i shard) (take k cs)) (is_closed_at i shard c))
+
+one_marked : (d : Directory) (s shard : ℕ) → s < length d.shut → is_shut (marked (slice_set d.shut s true) d) shard ≡ (is_shut d shard || (s == shard))
+one_marked d s shard under = go (eqb_tells s shard) where
+  or_true : (b : Bool) → true ≡ (b || true)
+  or_true true = refl
+  or_true false = refl
+
+  go : ((eqb s shard ≡ true) × (s ≡ shard)) ⊎ ((eqb s shard ≡ false) × (s ≢ shard)) → slice_index_or (slice_set d.shut s true) shard false ≡ (slice_index_or d.shut shard false || (s == shard))
+  go (inl (is, here)) =
+      ap (λ n. slice_index_or (slice_set d.shut s true) n false) (sym here) ∙ get_or-set_same d.shut s true false under ∙ or_true (slice_index_or d.shut shard false) ∙ ap (λ b. slice_index_or d.shut shard false || b) (sym is)
+  go (inr (is, there)) = get_or-set_other d.shut s shard true false (λ same. there (sym same)) ∙ sym (or_none (slice_index_or d.shut shard false)) ∙ ap (λ b. slice_index_or d.shut shard false || b) (sym is)
+
+pub none_marked : (i : ℕ) (d : Directory) → Marks i [] d d
+none_marked i d = (refl, refl, λ shard within. sym (or_none (is_shut d shard)))
+
+-- one was for this connection
+pub is_marked : (i : ℕ) (c : Closing) (old new : Directory) → c.connection ≡ i → c.shard < length old.shut → new ≡ marked (slice_set old.shut c.shard true) old → Marks i (c ∷ []) old new
+is_marked i c old new now there new_is =
+    let shut : new.shut ≡ slice_set old.shut c.shard true = ap (λ (d : Directory). d.shut) new_is in
+    let at_it : (c.connection == i) ≡ true = grind (arith, nat_tests) in (
+      new_is ∙ ap (λ l. marked l old) (sym shut),
+      ap length shut ∙ length-set old.shut c.shard true,
+      λ shard within.
+          ap (λ (d : Directory). is_shut d shard) new_is
+          ∙ one_marked old c.shard shard there
+          ∙ ap (λ b. is_shut old shard || b) (sym (ap (λ b. (b && (c.shard == shard)) || false) at_it ∙ or_none (c.shard == shard))),
+    )
+
+-- it was for another connection, or for a shard that isn't there
+pub passed_over : (i : ℕ) (c : Closing) (d : Directory) → ((shard : ℕ) → shard < d.shards → is_closed_at i shard c ≡ false) → Marks i (c ∷ []) d d
+passed_over i c d other = (
+  refl,
+  refl,
+  λ shard within. sym (ap (λ b. is_shut d shard || b) (or_none (is_closed_at i shard c) ∙ other shard within) ∙ or_none (is_shut d shard)),
+)
+
+pub next_marked : (i : ℕ) (cs : List Closing) (k : ℕ) (c : Closing) (first old new : Directory) → k < length cs → c ≡ slice_index_or cs k c → Marks i (take k cs) first old → Marks i (c ∷ []) old new
+    → Marks i (take (k + 1) cs) first new
+next_marked i cs k c first old new under is was one = (
+  one.0 ∙ ap (marked new.shut) was.0,
+  one.1 ∙ was.1,
+  λ shard within.
+      let shards : old.shards ≡ first.shards = ap (λ (d : Directory). d.shards) was.0 in
+      one.2 shard (omega (arith, within, shards))
+      ∙ ap (λ b. is_shut old shard || b) (or_none (is_closed_at i shard c))
+      ∙ ap (λ b. b || is_closed_at i shard c) (was.2 shard within)
+      ∙ or_assoc (is_shut first shard) (list_any (is_closed_at i shard) (take k cs)) (is_closed_at i shard c)
+      ∙ ap (λ b. is_shut first shard || b) (sym (any_next i shard cs k c under is)),
+)
+
+take_all : (cs : List Closing) (k : ℕ) → k ≡ length cs → take k cs ≡ cs
+take_all [] zero e = refl
+take_all [] (suc k) e = refl
+take_all (c ∷ cs) zero e = absurd (omega arith)
+take_all (c ∷ cs) (suc k) e = ap (λ l. c ∷ l) (take_all cs k (omega arith))
+
+pub all_marked : (i : ℕ) (cs : List Closing) (k : ℕ) (first now : Directory) → k ≡ length cs → Marks i (take k cs) first now → Marks i cs first now
+all_marked i cs k first now e h = subst (λ l. Marks i l first now) (take_all cs k e) h
+
+pub other_connection : (i : ℕ) (c : Closing) (d : Directory) → (c.connection ≡ i → ⊥) → (shard : ℕ) → shard < d.shards → is_closed_at i shard c ≡ false
+other_connection i c d not shard within = go (eqb_tells c.connection i) where
+  go : ((eqb c.connection i ≡ true) × (c.connection ≡ i)) ⊎ ((eqb c.connection i ≡ false) × (c.connection ≢ i)) → ((c.connection == i) && (c.shard == shard)) ≡ false
+  go (inl (is, here)) = absurd (not here)
+  go (inr (is, there)) = ap (λ b. b && (c.shard == shard)) is
+
+pub no_such_shard : (i : ℕ) (c : Closing) (d : Directory) → d.shards ≤ c.shard → (shard : ℕ) → shard < d.shards → is_closed_at i shard c ≡ false
+no_such_shard i c d beyond shard within = go (eqb_tells c.shard shard) (c.connection == i) where
+  go : ((eqb c.shard shard ≡ true) × (c.shard ≡ shard)) ⊎ ((eqb c.shard shard ≡ false) × (c.shard ≢ shard)) → (b : Bool) → (b && (c.shard == shard)) ≡ false
+  go (inl (is, here)) b = absurd (omega (arith, here, within, beyond))
+  go (inr (is, there)) true = is
+  go (inr (is, there)) false = refl
+
+-- ---- seats over such a directory
+
+pub still_shut : (i : ℕ) (cs : List Closing) (old new : Directory) (ss : List LaneSeat) (lanes : ℕ) → length ss ≡ lanes → lanes ≡ old.shards → Marks i cs old new → AreShutWhereOver old ss → AreShutWhereOver new ss
+still_shut i cs old new ss lanes as_many shards marks were lane over =
+    let w = over_within ss lane over in
+    marks.2 lane (omega (arith, w, as_many, shards)) ∙ ap (λ b. b || list_any (is_closed_at i lane) cs) (were lane over)

@@ -1,0 +1,176 @@
+-- Seats that go round: each is taken from the front and put back behind the others.
+use Rattle.std.proofs.Common.{◌≡◌, ℕ, zero, suc, ◌+◌, ◌-◌, ◌<◌, ◌++◌, ◌∙◌, ◌⊎◌, inl, inr, ◌≢◌, eqb, Bool, true, false, List, [], ◌∷◌, length, length-drop, map, take, drop, refl, ap, sym, subst, arith, append_assoc, append-nil, slice_index_or, ◌||◌}
+use Rattle.std.proofs.Math.Seq.{take-append_seam}
+use Rattle.std.proofs.lemmas.Bool.Decides.{eqb_tells}
+use Rattle.std.proofs.lemmas.List.{length-append, length-map, map-append}
+use Rattle.delivery_token.specs.declared.Job.{Job}
+use Rattle.envelope.specs.Directory.{Directory, is_shut}
+use Rattle.shard_queue.specs.declared.queue.ShardQueue.{ShardQueue}
+use Rattle.lane_work.specs.declared.desk.LaneSeat.{LaneSeat}
+use Rattle.lane_work.specs.Seats.{AreSeats, AreShutWhereOver, IsSeat, is_over, overs, put_by, seat_number}
+use Rattle.lane_work.proofs.SeatLaws.{seat_at, seats_length}
+
+pub front_of : {A : Type 0} (xs ys : List A) (y : A) → ys ≡ xs ++ y ∷ [] → take (length ys - 1) ys ≡ xs
+front_of xs ys y is =
+    let n : length ys - 1 ≡ length xs = let l = ap length is ∙ length-append xs (y ∷ []) in omega (arith, l) in
+    ap (λ k. take k ys) n ∙ ap (take (length xs)) is ∙ take-append_seam xs (y ∷ [])
+
+drop_split : {A : Type 0} (xs : List A) (i : ℕ) (d : A) → i < length xs → drop i xs ≡ slice_index_or xs i d ∷ drop (i + 1) xs
+drop_split [] i d under = absurd (omega arith)
+drop_split (x ∷ xs) zero d under = refl
+drop_split (x ∷ xs) (suc i) d under =
+    let e : suc i + 1 ≡ suc (i + 1) = omega arith in
+    drop_split xs i d (omega arith) ∙ ap (λ n. slice_index_or xs i d ∷ drop n (x ∷ xs)) (sym e)
+
+all_dropped : {A : Type 0} (xs : List A) (n : ℕ) → n ≡ length xs → drop n xs ≡ []
+all_dropped [] zero e = refl
+all_dropped [] (suc n) e = refl
+all_dropped (x ∷ xs) zero e = absurd (omega arith)
+all_dropped (x ∷ xs) (suc n) e = all_dropped xs n (omega arith)
+
+all_taken : {A : Type 0} (xs : List A) (n : ℕ) → n ≡ length xs → take n xs ≡ xs
+all_taken [] zero e = refl
+all_taken [] (suc n) e = refl
+all_taken (x ∷ xs) zero e = absurd (omega arith)
+all_taken (x ∷ xs) (suc n) e = ap (λ l. x ∷ l) (all_taken xs n (omega arith))
+
+take_one : {A : Type 0} (xs : List A) (i : ℕ) (d : A) → i < length xs → take (i + 1) xs ≡ take i xs ++ slice_index_or xs i d ∷ []
+take_one [] i d under = absurd (omega arith)
+take_one (x ∷ xs) zero d under = refl
+take_one (x ∷ xs) (suc i) d under = let e : suc i + 1 ≡ suc (i + 1) = omega arith in ap (λ n. take n (x ∷ xs)) e ∙ ap (λ l. x ∷ l) (take_one xs i d (omega arith))
+
+index_front : {A : Type 0} (xs ys : List A) (k : ℕ) (d : A) → k < length xs → slice_index_or (xs ++ ys) k d ≡ slice_index_or xs k d
+index_front [] ys k d under = absurd (omega arith)
+index_front (x ∷ xs) ys zero d under = refl
+index_front (x ∷ xs) ys (suc k) d under = index_front xs ys k d (omega arith)
+
+index_last : {A : Type 0} (xs : List A) (x : A) (k : ℕ) (d : A) → k ≡ length xs → slice_index_or (xs ++ x ∷ []) k d ≡ x
+index_last [] x zero d e = refl
+index_last [] x (suc k) d e = absurd (omega arith)
+index_last (y ∷ xs) x zero d e = absurd (omega arith)
+index_last (y ∷ xs) x (suc k) d e = index_last xs x k d (omega arith)
+
+over_read : (ss : List LaneSeat) (i : ℕ) (d : LaneSeat) → i < length ss → slice_index_or (overs ss) i false ≡ is_over (slice_index_or ss i d)
+over_read [] i d under = absurd (omega arith)
+over_read (x ∷ ss) zero d under = refl
+over_read (x ∷ ss) (suc i) d under = over_read ss i d (omega arith)
+
+seats_push : (qs : List (ShardQueue Job)) (i : ℕ) (p : ℕ) (ss : List LaneSeat) (s : LaneSeat) → i < length qs → AreSeats (take i qs) p ss → (q : ShardQueue Job) → IsSeat (slice_index_or qs i q) s → seat_number s ≡ p
+    → AreSeats (take (i + 1) qs) p (ss ++ s ∷ [])
+seats_push [] i p ss s under h q is number = absurd (omega arith)
+seats_push (x ∷ qs) zero p [] s under h q is number = ((is, number), tt)
+seats_push (x ∷ qs) zero p (y ∷ ss) s under h q is number = absurd h
+seats_push (x ∷ qs) (suc i) p [] s under h q is number = absurd h
+seats_push (x ∷ qs) (suc i) p (y ∷ ss) s under h q is number =
+    let k : suc i + 1 ≡ suc (i + 1) = omega arith in
+    subst (λ n. AreSeats (take n (x ∷ qs)) p (y ∷ ss ++ s ∷ [])) (sym k) (h.0, seats_push qs i p ss s (omega arith) h.1 q is number)
+
+-- The first so many have gone round: they stand behind the others, and are over where they were and where the shard is shut.
+pub record Round (directory : Directory) (lanes : List (ShardQueue Job)) (p : ℕ) (old : List LaneSeat) (gone : ℕ) (now : List LaneSeat) : Type 0 where
+  pub front : List LaneSeat
+  pub stand : now ≡ drop gone old ++ front
+  pub as_many : length front ≡ gone
+  pub seats : AreSeats (take gone lanes) p front
+  pub put : map put_by front ≡ map put_by (take gone old)
+  pub over : (lane : ℕ) → lane < gone → slice_index_or (overs front) lane false ≡ (is_shut directory lane || slice_index_or (overs old) lane false)
+
+pub round_first : (directory : Directory) (lanes : List (ShardQueue Job)) (p : ℕ) (old : List LaneSeat) → Round directory lanes p old 0 old
+round_first directory lanes p old = record {
+  front = [];
+  stand = sym (append-nil old);
+  as_many = refl;
+  seats = none lanes;
+  put = refl;
+  over = λ lane under. absurd (omega (arith, under));
+} where
+  none : (qs : List (ShardQueue Job)) → AreSeats (take 0 qs) p []
+  none [] = tt
+  none (q ∷ qs) = tt
+
+pub some_left : (directory : Directory) (lanes : List (ShardQueue Job)) (p : ℕ) (old : List LaneSeat) (gone : ℕ) (now : List LaneSeat) → AreSeats lanes p old → gone < length lanes → Round directory lanes p old gone now → 0 < length now
+some_left directory lanes p old gone [] seats under round =
+    let n = seats_length lanes p old seats in
+    let l = ap length round.stand ∙ length-append (drop gone old) round.front in
+    let k = length-drop gone old in
+    absurd (omega (arith, l, k, n, under))
+some_left directory lanes p old gone (s ∷ now) seats under round = omega arith
+
+-- the one that is taken is the next of the old ones
+pub round_taken : (directory : Directory) (lanes : List (ShardQueue Job)) (p : ℕ) (old : List LaneSeat) (gone : ℕ) (now : List LaneSeat) (s : LaneSeat) → AreSeats lanes p old → gone < length lanes
+    → (round : Round directory lanes p old gone now) → s ≡ slice_index_or now 0 s → (q : ShardQueue Job) → q ≡ slice_index_or lanes gone q
+    → IsSeat q s × (seat_number s ≡ p) × (s ≡ slice_index_or old gone s) × (drop 1 now ≡ drop (gone + 1) old ++ round.front)
+round_taken directory lanes p old gone now s seats under round is q at_lane =
+    let n = seats_length lanes p old seats in
+    let first : now ≡ slice_index_or old gone s ∷ (drop (gone + 1) old ++ round.front) = round.stand ∙ ap (λ l. l ++ round.front) (drop_split old gone s (omega (arith, under, n))) in
+    let same : s ≡ slice_index_or old gone s = is ∙ ap (λ l. slice_index_or l 0 s) first in
+    let both = seat_at lanes p old seats gone under q s in (
+      subst (λ x. IsSeat x s) (sym at_lane) (subst (IsSeat (slice_index_or lanes gone q)) (sym same) both.0),
+      ap seat_number same ∙ both.1,
+      same,
+      ap (drop 1) first,
+    )
+
+-- and put back
+pub round_next : (directory : Directory) (lanes : List (ShardQueue Job)) (p : ℕ) (old : List LaneSeat) (gone : ℕ) (now rest more : List LaneSeat) (s left : LaneSeat) (shut : Bool) → AreSeats lanes p old → gone < length lanes
+    → (round : Round directory lanes p old gone now) → s ≡ slice_index_or old gone s → rest ≡ drop (gone + 1) old ++ round.front → more ≡ rest ++ left ∷ []
+    → (q : ShardQueue Job) → q ≡ slice_index_or lanes gone q → IsSeat q left → seat_number left ≡ p → put_by left ≡ put_by s
+    → shut ≡ is_shut directory gone → is_over left ≡ (shut || is_over s) → Round directory lanes p old (gone + 1) more
+round_next directory lanes p old gone now rest more s left shut seats under round same rest_is more_is q at_lane is number put marks over =
+    let n = seats_length lanes p old seats in
+    let here : gone < length old = omega (arith, under, n) in
+    record {
+      front = round.front ++ left ∷ [];
+      stand = more_is ∙ ap (λ l. l ++ left ∷ []) rest_is ∙ append_assoc (drop (gone + 1) old) round.front (left ∷ []);
+      as_many = length-append round.front (left ∷ []) ∙ ap (λ k. k + 1) round.as_many;
+      seats = seats_push lanes gone p round.front left under round.seats q (subst (λ x. IsSeat x left) at_lane is) number;
+      put = map-append put_by round.front (left ∷ []) ∙ ap (λ l. l ++ put_by left ∷ []) round.put ∙ ap (λ x. map put_by (take gone old) ++ x ∷ []) (put ∙ ap put_by same)
+          ∙ sym (map-append put_by (take gone old) (slice_index_or old gone s ∷ [])) ∙ ap (map put_by) (sym (take_one old gone s here));
+      over = λ lane within. at_lane_is lane within (eqb_tells lane gone);
+    }
+  where
+    at_lane_is : (lane : ℕ) → lane < gone + 1 → ((eqb lane gone ≡ true) × (lane ≡ gone)) ⊎ ((eqb lane gone ≡ false) × (lane ≢ gone))
+        → slice_index_or (overs (round.front ++ left ∷ [])) lane false ≡ (is_shut directory lane || slice_index_or (overs old) lane false)
+    at_lane_is lane within (inl (e, is_last)) =
+        let n = seats_length lanes p old seats in
+        let l = length-map round.front is_over in
+        let k = round.as_many in
+        ap (λ bs. slice_index_or bs lane false) (map-append is_over round.front (left ∷ []))
+        ∙ index_last (overs round.front) (is_over left) lane false (omega (arith, l, k, is_last))
+        ∙ over ∙ ap (λ b. b || is_over s) (marks ∙ ap (is_shut directory) (sym is_last))
+        ∙ ap (λ b. is_shut directory lane || b) (ap is_over same ∙ sym (over_read old gone s (omega (arith, under, n))) ∙ ap (λ x. slice_index_or (overs old) x false) (sym is_last))
+    at_lane_is lane within (inr (e, earlier)) =
+        let less : lane < gone = below lane within earlier in
+        let l = length-map round.front is_over in
+        let k = round.as_many in
+        ap (λ bs. slice_index_or bs lane false) (map-append is_over round.front (left ∷ []))
+        ∙ index_front (overs round.front) (is_over left ∷ []) lane false (omega (arith, l, k, less))
+        ∙ round.over lane less
+      where
+        below : (x : ℕ) → x < gone + 1 → x ≢ gone → x < gone
+        below x w not = omega (arith, w, not)
+
+pub over_within : (ss : List LaneSeat) (lane : ℕ) → slice_index_or (overs ss) lane false ≡ true → lane < length ss
+over_within [] lane e = absurd (let x : false ≡ true = e in cc)
+over_within (s ∷ ss) zero e = omega arith
+over_within (s ∷ ss) (suc lane) e = let h = over_within ss lane e in omega (arith, h)
+
+is_true : (a b : Bool) → (a || b) ≡ true → (b ≡ true → a ≡ true) → a ≡ true
+is_true true b e f = refl
+is_true false b e f = f e
+
+-- all have gone round
+pub round_last : (directory : Directory) (lanes : List (ShardQueue Job)) (p : ℕ) (old : List LaneSeat) (gone : ℕ) (now : List LaneSeat) → AreSeats lanes p old → AreShutWhereOver directory old → gone ≡ length lanes
+    → Round directory lanes p old gone now
+    → AreSeats lanes p now × AreShutWhereOver directory now × (map put_by now ≡ map put_by old)
+    × ((lane : ℕ) → lane < length lanes → is_shut directory lane ≡ true → slice_index_or (overs now) lane false ≡ true)
+round_last directory lanes p old gone now seats were all round =
+    let n = seats_length lanes p old seats in
+    let same : now ≡ round.front = round.stand ∙ ap (λ l. l ++ round.front) (all_dropped old gone (omega (arith, n, all))) in
+    let over : (lane : ℕ) → lane < gone → slice_index_or (overs now) lane false ≡ (is_shut directory lane || slice_index_or (overs old) lane false) =
+    λ lane under. ap (λ l. slice_index_or (overs l) lane false) same ∙ round.over lane under in
+    let many : length now ≡ gone = ap length same ∙ round.as_many in (
+      subst (AreSeats lanes p) (sym same) (subst (λ l. AreSeats l p round.front) (all_taken lanes gone all) round.seats),
+      (λ lane is. is_true (is_shut directory lane) (slice_index_or (overs old) lane false) (sym (over lane (let w = over_within now lane is in omega (arith, w, many))) ∙ is) (were lane)),
+      ap (map put_by) same ∙ round.put ∙ ap (map put_by) (all_taken old gone (omega (arith, n, all))),
+      (λ lane under shut. over lane (omega (arith, under, all)) ∙ ap (λ b. b || slice_index_or (overs old) lane false) shut),
+    )

@@ -1,0 +1,57 @@
+use Rattle.std.proofs.Common.{◌<◌, ◌∙◌, length, refl, arith}
+use Rattle.lane_work.proofs.RoundLaws.{round_first, round_last, round_next, round_taken, some_left}
+use Rattle.lane_work.proofs.closing.end_where_shut.Goals as goal
+
+pub loop-lane-init : goal.loop-lane-init
+loop-lane-init g c = (round_first c.args.directory.now c.args.office.now.lanes.items c.args.desk.now.number c.args.desk.now.seats.items, refl, refl, refl)
+
+pub remove-seat-requires : goal.remove-seat-requires
+remove-seat-requires g c =
+    let lanes = c.args.office.now.lanes.items in
+    let under : c.loop-lane.lane < length lanes = omega (arith, c.loop-lane-test.true, c.len-lane-end.ensures) in
+    let some = some_left c.args.directory.now lanes c.args.desk.now.number c.args.desk.now.seats.items c.loop-lane.lane c.loop-lane.desk.seats.items c.requires.0 under c.loop-lane.invariant.0 in
+    omega (arith, some, c.loop-lane.desk.seats.ok.0)
+
+pub left_at-left-requires : goal.left_at-left-requires
+left_at-left-requires g c =
+    let lanes = c.args.office.now.lanes.items in
+    let under : c.loop-lane.lane < length lanes = omega (arith, c.loop-lane-test.true, c.len-lane-end.ensures) in
+    (round_taken c.args.directory.now lanes c.args.desk.now.number c.args.desk.now.seats.items c.loop-lane.lane c.loop-lane.desk.seats.items c.remove-seat.result c.requires.0 under c.loop-lane.invariant.0
+    c.remove-seat.ensures.value c.index.result.now c.index.ensures).0
+
+pub loop-lane-preserved : goal.loop-lane-preserved
+loop-lane-preserved g c =
+    let v = c.loop-lane.invariant in
+    let lanes = c.args.office.now.lanes.items in
+    let p = c.args.desk.now.number in
+    let old = c.args.desk.now.seats.items in
+    let under : c.loop-lane.lane < length lanes = omega (arith, c.loop-lane-test.true, c.len-lane-end.ensures) in
+    let t = round_taken c.args.directory.now lanes p old c.loop-lane.lane c.loop-lane.desk.seats.items c.remove-seat.result c.requires.0 under v.0 c.remove-seat.ensures.value c.index.result.now c.index.ensures in (
+      round_next c.args.directory.now lanes p old c.loop-lane.lane c.loop-lane.desk.seats.items c.remove-seat.new.self.items c.push_reserved.new.self.items c.remove-seat.result c.left_at-left.result c.is_shut-shut.result
+          c.requires.0 under v.0 t.2 (c.remove-seat.ensures.items ∙ t.3) c.push_reserved.ensures.items c.index.result.now c.index.ensures c.left_at-left.ensures.seat.0 (c.left_at-left.ensures.seat.1 ∙ t.1)
+          c.left_at-left.ensures.put c.is_shut-shut.ensures c.left_at-left.ensures.over,
+      v.1,
+      v.2,
+      v.3,
+    )
+
+pub returns-clause-seats : goal.returns-clause-seats
+returns-clause-seats g c =
+    let lanes = c.args.office.now.lanes.items in
+    let r = round_last c.args.directory.now lanes c.args.desk.now.number c.args.desk.now.seats.items c.loop-lane.lane c.loop-lane.desk.seats.items c.requires.0 c.requires.1
+    (omega (arith, c.loop-lane-test.false, c.len-lane-end.ensures, c.loop-lane.auto.lane-end)) c.loop-lane.invariant.0 in
+    (r.0, r.1)
+
+pub returns-clause-kept : goal.returns-clause-kept
+returns-clause-kept g c =
+    let lanes = c.args.office.now.lanes.items in
+    let v = c.loop-lane.invariant in
+    let r = round_last c.args.directory.now lanes c.args.desk.now.number c.args.desk.now.seats.items c.loop-lane.lane c.loop-lane.desk.seats.items c.requires.0 c.requires.1
+    (omega (arith, c.loop-lane-test.false, c.len-lane-end.ensures, c.loop-lane.auto.lane-end)) v.0 in
+    (v.1, v.2, v.3, r.2)
+
+pub returns-clause-over : goal.returns-clause-over
+returns-clause-over g c =
+    let lanes = c.args.office.now.lanes.items in
+    (round_last c.args.directory.now lanes c.args.desk.now.number c.args.desk.now.seats.items c.loop-lane.lane c.loop-lane.desk.seats.items c.requires.0 c.requires.1
+    (omega (arith, c.loop-lane-test.false, c.len-lane-end.ensures, c.loop-lane.auto.lane-end)) c.loop-lane.invariant.0).3

@@ -1,0 +1,35 @@
+-- What bodies and proofs say besides: a worker that closes shards before a connection.
+use Rattle.std.specs.Prelude.{◌≡◌, ℕ, Bool, ◌<◌, ◌==◌, ◌&&◌, ◌||◌, nat_lt, List, [], length, map, slice_index_or}
+use Rattle.std.specs.List.{list_any}
+use Rattle.envelope.specs.Directory.{Directory, is_shut, marked}
+use Rattle.lane_work.specs.declared.desk.Closing.{Closing}
+use Rattle.lane_work.specs.declared.desk.Desk.{Desk}
+use Rattle.lane_work.specs.declared.desk.Office.{Office}
+use Rattle.lane_work.specs.Seats.{put_by}
+
+-- the shard is closed just before this connection
+abbrev pub is_closed_at : ℕ → ℕ → Closing → Bool
+is_closed_at connection shard closing = (closing.connection == connection) && (closing.shard == shard)
+
+-- those shards were marked that these closings close just before this connection, and nothing else is changed
+abbrev pub Marks : ℕ → List Closing → Directory → Directory → Type 0
+Marks connection closings old new = (new ≡ marked new.shut old) × (length new.shut ≡ length old.shut)
+    × ((shard : ℕ) → shard < old.shards → is_shut new shard ≡ (is_shut old shard || list_any (is_closed_at connection shard) closings))
+
+-- what the worker of this number closes
+abbrev pub closings_at : Office → ℕ → List Closing
+closings_at office number = slice_index_or (map (λ c. c.items) office.closings.items) number []
+
+-- nothing is put, and nothing is changed but which seats are over
+abbrev pub KeepsDesk : Desk → Desk → Type 0
+KeepsDesk old new = (new.number ≡ old.number) × (new.receiver ≡ old.receiver) × (new.ends ≡ old.ends) × (map put_by new.seats.items ≡ map put_by old.seats.items)
+
+-- the shard is closed before an earlier connection
+abbrev pub is_closed_before : ℕ → ℕ → Closing → Bool
+is_closed_before connection shard closing = nat_lt closing.connection connection && (closing.shard == shard)
+
+-- this is the house's directory as a worker with these closings has it after so many connections
+pub record IsMarkedBefore (closings : List Closing) (connection : ℕ) (house own : Directory) : Type 0 where
+  pub same : own ≡ marked own.shut house
+  pub as_many : length own.shut ≡ own.shards
+  pub marks : (shard : ℕ) → shard < house.shards → is_shut own shard ≡ (is_shut house shard || list_any (is_closed_before connection shard) closings)

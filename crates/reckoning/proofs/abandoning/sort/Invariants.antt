@@ -1,0 +1,10 @@
+use Rattle.std.proofs.Common.{◌≡◌, ◌≤◌, ◌+◌, vec_len, vec_capacity}
+use Rattle.reckoning.proofs.abandoning.sort.Given as goal
+
+abbrev pub invariant-loop-one : goal.invariant-loop-one
+invariant-loop-one l =
+    (vec_len l.seats + vec_len l.from ≤ vec_len l.fn.seats + vec_len l.fn.from) × (vec_capacity l.seats ≡ vec_capacity l.fn.seats)
+    × (vec_len l.ended + vec_len l.from ≤ vec_len l.fn.ended + vec_len l.fn.from) × (vec_capacity l.ended ≡ vec_capacity l.fn.ended)
+
+abbrev pub decreases-loop-one : goal.decreases-loop-one
+decreases-loop-one l = goal.left-loop-one l
