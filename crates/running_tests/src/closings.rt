@@ -32,19 +32,13 @@ const TO_BOTH_TOLD: &[u8] = b"220 mx.example.org LMTP ready\r\n\
 250 2.1.5 Delivered\r\n\
 221 2.0.0 Bye\r\n";
 
-// This worker is to close this shard before this connection.
-fn close(
-    alloc: Global,
-    worker: usize,
-    connection: usize,
-    shard: u8,
-    plan: &mut Plan,
-) -> Result<(), AllocError> {
-    while plan.closings.len() <= worker {
-        plan.closings.push(Vec::new(alloc))?;
+// What each worker is to close, as a plan has it.
+fn closings_of(alloc: Global, workers: &[&[Closing]]) -> Result<Vec<Vec<Closing>>, AllocError> {
+    let mut closings = Vec::new(alloc);
+    for worker in workers {
+        closings.push(Vec::from_slice(alloc, worker)?)?;
     }
-    plan.closings[worker].push(Closing { connection, shard })?;
-    Ok(())
+    Ok(closings)
 }
 
 // Alice is on shard 0, bob on shard 1. Worker 0 has a message for alice, and then one for both; worker 1 has one for bob.
@@ -102,17 +96,35 @@ fn unlike(report: &Report) -> Option<&'static str> {
     None
 }
 
-// Worker 0 closes alice's shard before its second connection, worker 1 before its first; each closes it once more, and before a connection
-// that never comes.
+// Worker 0 closes alice's shard before its second connection, twice, and bob's before one that never comes; worker 1 closes alice's before
+// its first.
+const BOTH_CLOSE_ALICES: &[&[Closing]] = &[
+    &[
+        Closing {
+            connection: 1,
+            shard: 0,
+        },
+        Closing {
+            connection: 1,
+            shard: 0,
+        },
+        Closing {
+            connection: 7,
+            shard: 1,
+        },
+    ],
+    &[Closing {
+        connection: 0,
+        shard: 0,
+    }],
+];
+
 fn one_is_closed<R: Threads + Wait + Sync>(
     rt: &R,
     alloc: Global,
 ) -> Result<Option<&'static str>, Stopped> {
     let mut plan = plan(alloc)?;
-    close(alloc, 0, 1, 0, &mut plan)?;
-    close(alloc, 0, 1, 0, &mut plan)?;
-    close(alloc, 0, 7, 1, &mut plan)?;
-    close(alloc, 1, 0, 0, &mut plan)?;
+    plan.closings = closings_of(alloc, BOTH_CLOSE_ALICES)?;
     let report = run(rt, alloc, &plan, &Turnstile::new(alloc, PATIENCE))?;
     Ok(unlike(&report))
 }
@@ -123,9 +135,18 @@ fn one_shard_is_closed_while_the_other_goes_on(rt: HostRuntime) {
     assert_eq!(rt; seen, Ok(None));
 }
 
+// There are two shards.
+const ONE_THAT_IS_NOT_THERE: &[&[Closing]] = &[
+    &[],
+    &[Closing {
+        connection: 0,
+        shard: 2,
+    }],
+];
+
 fn one_is_not_there<R: Threads + Wait + Sync>(rt: &R, alloc: Global) -> Result<bool, Stopped> {
     let mut plan = plan(alloc)?;
-    close(alloc, 1, 0, 2, &mut plan)?;
+    plan.closings = closings_of(alloc, ONE_THAT_IS_NOT_THERE)?;
     let came = run(rt, alloc, &plan, &Turnstile::new(alloc, PATIENCE));
     let wanted = WorkFault::Config(ConfigFault::TooMany);
     Ok(matches!(came, Err(Stopped::Fault(fault)) if fault == wanted))
