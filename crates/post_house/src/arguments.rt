@@ -189,18 +189,9 @@ fn name<'a>(alloc: Global, name: &'static str, help: &'static str) -> Arg<'a> {
         .action(ArgAction::Set)
 }
 
-// A subcommand with what both have: the options of a house, and its mailboxes.
-fn with_house<'a>(
-    alloc: Global,
-    subcommand: Command<'a>,
-    helps: &'a [String],
-) -> Result<Command<'a>, AllocError> {
-    let mailboxes = Arg::new(alloc, "MAILBOX")
-        .help("A mailbox, `user` or `user/folder`")
-        .action(ArgAction::Append)
-        .num_args(1..)
-        .required(true);
-    let named = subcommand
+// A subcommand with the names that may be set.
+fn with_names_of<'a>(alloc: Global, subcommand: Command<'a>) -> Result<Command<'a>, AllocError> {
+    subcommand
         .arg(name(
             alloc,
             "host",
@@ -210,8 +201,26 @@ fn with_house<'a>(
             alloc,
             "domain",
             "The domain that mail comes for: example.org where it is not given",
-        ))?;
-    with_options(alloc, named, HOUSE_OPTIONS, helps)?.arg(mailboxes)
+        ))
+}
+
+// The mailboxes, of which there is one at least.
+fn mailboxes<'a>(alloc: Global) -> Arg<'a> {
+    Arg::new(alloc, "MAILBOX")
+        .help("A mailbox, `user` or `user/folder`")
+        .action(ArgAction::Append)
+        .num_args(1..)
+        .required(true)
+}
+
+// A subcommand with what both have: the options of a house, and its mailboxes.
+fn with_house<'a>(
+    alloc: Global,
+    subcommand: Command<'a>,
+    helps: &'a [String],
+) -> Result<Command<'a>, AllocError> {
+    let named = with_names_of(alloc, subcommand)?;
+    with_options(alloc, named, HOUSE_OPTIONS, helps)?.arg(mailboxes(alloc))
 }
 
 // `script`, with its options and its mailboxes.
@@ -235,18 +244,22 @@ fn serve_line<'a>(
     with_options(alloc, housed, SERVER_OPTIONS, server_helps)
 }
 
+// The program, with no subcommand yet.
+fn program<'a>(alloc: Global) -> Command<'a> {
+    Command::new(alloc, "post_house")
+        .about("Takes in mail for a few mailboxes")
+        .version(VERSION)
+        .subcommand_required(true)
+}
+
 // What the program takes: one of two subcommands.
 fn command_line<'a>(
     alloc: Global,
     helps: &'a [String],
     server_helps: &'a [String],
 ) -> Result<Command<'a>, AllocError> {
-    Command::new(alloc, "post_house")
-        .about("Takes in mail for a few mailboxes")
-        .version(VERSION)
-        .subcommand_required(true)
-        .subcommand(script_line(alloc, helps)?)?
-        .subcommand(serve_line(alloc, helps, server_helps)?)
+    let with_script = program(alloc).subcommand(script_line(alloc, helps)?)?;
+    with_script.subcommand(serve_line(alloc, helps, server_helps)?)
 }
 
 fn are_digits(text: &str) -> bool {
@@ -271,17 +284,17 @@ fn given<'a>(
     }
 }
 
-// The name that was given, or else the one that stands.
-fn given_name<'a>(
+// A name is set where one was given.
+fn set_name<'a>(
     alloc: Global,
     matches: &ArgMatches<'a>,
     name: &str,
-    standing: Vec<u8>,
-) -> Result<Vec<u8>, AllocError> {
-    match matches.get_str(name) {
-        Some(text) => Vec::from_slice(alloc, text.as_bytes()),
-        None => Ok(standing),
+    standing: &mut Vec<u8>,
+) -> Result<(), AllocError> {
+    if let Some(text) = matches.get_str(name) {
+        *standing = Vec::from_slice(alloc, text.as_bytes())?;
     }
+    Ok(())
 }
 
 // The words of the mailboxes.
@@ -300,50 +313,77 @@ fn mailboxes_of<'a>(alloc: Global, matches: &ArgMatches<'a>) -> Result<Vec<&'a [
     Ok(words)
 }
 
-// The settings with the names that were given.
-fn with_names<'a>(
+// The names that were given are set.
+fn set_names<'a>(
     alloc: Global,
     matches: &ArgMatches<'a>,
-    mut config: Config,
-) -> Result<Config, Refused<'a>>
-    requires { IsInRange config }
-    ensures { IfOk result IsInRange }
+    config: &mut Config,
+) -> Result<(), Refused<'a>>
+    requires { IsInRange config.old }
+    ensures { IsInRange config.new }
 {
-    config.host = given_name(alloc, matches, "host", config.host)?;
-    config.domain = given_name(alloc, matches, "domain", config.domain)?;
-    Ok(config)
+    set_name(alloc, matches, "host", &mut config.host)?;
+    set_name(alloc, matches, "domain", &mut config.domain)?;
+    Ok(())
 }
 
-// The settings with the sizes that were given.
-fn with_sizes<'a>(matches: &ArgMatches<'a>, mut config: Config) -> Result<Config, Refused<'a>>
-    requires { IsInRange config }
-    ensures { IfOk result IsInRange }
+// The sizes that were given are set.
+fn set_sizes<'a>(matches: &ArgMatches<'a>, config: &mut Config) -> Result<(), Refused<'a>>
+    requires { IsInRange config.old }
+    ensures { IsInRange config.new }
 {
     config.shards = given(matches, SHARDS, u64::from(config.shards))? as u8;
     config.depth = given(matches, DEPTH, config.depth as u64)? as usize;
     config.messages = given(matches, MESSAGES, config.messages as u64)? as usize;
     config.max_message = given(matches, MAX_MESSAGE, config.max_message as u64)? as usize;
-    Ok(config)
+    Ok(())
 }
 
-// The settings with the windows' sizes that were given.
-fn with_windows<'a>(matches: &ArgMatches<'a>, mut config: Config) -> Result<Config, Refused<'a>>
-    requires { IsInRange config }
-    ensures { IfOk result IsInRange }
+// The windows' sizes that were given are set.
+fn set_windows<'a>(matches: &ArgMatches<'a>, config: &mut Config) -> Result<(), Refused<'a>>
+    requires { IsInRange config.old }
+    ensures { IsInRange config.new }
 {
     config.ring = given(matches, RING, config.ring as u64)? as usize;
     config.ring_max = given(matches, RING_MAX, config.ring_max as u64)? as usize;
-    Ok(config)
+    Ok(())
 }
 
-// The settings with the UIDs that were given.
-fn with_uids<'a>(matches: &ArgMatches<'a>, mut config: Config) -> Result<Config, Refused<'a>>
-    requires { IsInRange config }
-    ensures { IfOk result IsInRange }
+// The UIDs that were given are set.
+fn set_uids<'a>(matches: &ArgMatches<'a>, config: &mut Config) -> Result<(), Refused<'a>>
+    requires { IsInRange config.old }
+    ensures { IsInRange config.new }
 {
     config.uidvalidity = given(matches, UIDVALIDITY, u64::from(config.uidvalidity))? as u32;
     config.first_uid = given(matches, FIRST_UID, u64::from(config.first_uid))? as u32;
-    Ok(config)
+    Ok(())
+}
+
+// What a server alone is given is set.
+fn set_server<'a>(matches: &ArgMatches<'a>, config: &mut Config) -> Result<(), Refused<'a>>
+    requires { IsInRange config.old }
+    ensures { IsInRange config.new }
+{
+    config.lmtp_port = given(matches, LMTP_PORT, u64::from(config.lmtp_port))? as u16;
+    config.imap_port = given(matches, IMAP_PORT, u64::from(config.imap_port))? as u16;
+    config.workers = given(matches, WORKERS, u64::from(config.workers))? as u8;
+    config.sessions = given(matches, SESSIONS, u64::from(config.sessions))? as u8;
+    Ok(())
+}
+
+// What either subcommand may be given is set.
+fn set_given<'a>(
+    alloc: Global,
+    matches: &ArgMatches<'a>,
+    config: &mut Config,
+) -> Result<(), Refused<'a>>
+    requires { IsInRange config.old }
+    ensures { IsInRange config.new }
+{
+    set_names(alloc, matches, config)?;
+    set_sizes(matches, config)?;
+    set_windows(matches, config)?;
+    set_uids(matches, config)
 }
 
 // The settings that stand where no option is given, with the mailboxes of these words.
@@ -358,22 +398,8 @@ fn standing<'a>(alloc: Global, matches: &ArgMatches<'a>) -> Result<Config, Refus
 fn settings_of<'a>(alloc: Global, matches: &ArgMatches<'a>) -> Result<Config, Refused<'a>>
     ensures { IfOk result IsInRange }
 {
-    let standing = standing(alloc, matches)?;
-    let named = with_names(alloc, matches, standing)?;
-    let sized = with_sizes(matches, named)?;
-    let windowed = with_windows(matches, sized)?;
-    with_uids(matches, windowed)
-}
-
-// The settings with those of a server that were given.
-fn with_server<'a>(matches: &ArgMatches<'a>, mut config: Config) -> Result<Config, Refused<'a>>
-    requires { IsInRange config }
-    ensures { IfOk result IsInRange }
-{
-    config.lmtp_port = given(matches, LMTP_PORT, u64::from(config.lmtp_port))? as u16;
-    config.imap_port = given(matches, IMAP_PORT, u64::from(config.imap_port))? as u16;
-    config.workers = given(matches, WORKERS, u64::from(config.workers))? as u8;
-    config.sessions = given(matches, SESSIONS, u64::from(config.sessions))? as u8;
+    let mut config = standing(alloc, matches)?;
+    set_given(alloc, matches, &mut config)?;
     Ok(config)
 }
 
@@ -389,8 +415,8 @@ fn uidvalidity_of<'a>(matches: &ArgMatches<'a>) -> Uidvalidity {
 fn server_of<'a>(alloc: Global, matches: &ArgMatches<'a>) -> Result<Asked, Refused<'a>>
     ensures { IfOk result IsAskedInRange }
 {
-    let config = settings_of(alloc, matches)?;
-    let config = with_server(matches, config)?;
+    let mut config = settings_of(alloc, matches)?;
+    set_server(matches, &mut config)?;
     Ok(Asked::Serve {
         config,
         uidvalidity: uidvalidity_of(matches),
@@ -410,6 +436,51 @@ fn asked_in<'a>(alloc: Global, matches: &ArgMatches<'a>) -> Result<Asked, Refuse
     server_of(alloc, serve)
 }
 
+// The mistake in a number that is spelled with more than digits.
+fn misspelled<'a>(
+    alloc: Global,
+    command: &mut Command<'a>,
+    name: &str,
+    text: &str,
+) -> Result<Error, AllocError> {
+    let text = format!(in alloc; "invalid value '{text}' for '--{name}': only digits are read")?;
+    command.error(ErrorKind::ValueValidation, &text)
+}
+
+// What clap tells of a mistake that it didn't find itself.
+fn error_of<'a>(
+    alloc: Global,
+    command: &mut Command<'a>,
+    refused: Refused<'a>,
+) -> Result<Error, AllocError> {
+    match refused {
+        Refused::Spelling(name, text) => misspelled(alloc, command, name, text),
+        Refused::NoMailbox => {
+            command.error(ErrorKind::MissingRequiredArgument, "there is no mailbox")
+        }
+        Refused::NothingToDo => command.error(
+            ErrorKind::MissingSubcommand,
+            "there is nothing to do",
+        ),
+        Refused::NoMemory => Err(AllocError),
+    }
+}
+
+// What the words ask for, by this command.
+fn asked_by<'a, S: AsStr>(
+    alloc: Global,
+    mut command: Command<'a>,
+    words: &'a [S],
+) -> Result<Asked, Error>
+    ensures { IfOk result IsAskedInRange }
+{
+    let matches = command.try_get_matches_from_mut(words)?;
+    match asked_in(alloc, &matches) {
+        Ok(asked) => Ok(asked),
+        Err(refused) => Err(error_of(alloc, &mut command, refused)?),
+    }
+}
+
 /// What these words ask for, the first of which is the program's name: `script` or `serve`, options, mailboxes. Each number is in its
 /// range, and there is a mailbox; names are not looked at, nor whether the ports are right.
 ///
@@ -420,24 +491,5 @@ pub fn asked_of<'a, S: AsStr>(alloc: Global, words: &'a [S]) -> Result<Asked, Er
 {
     let helps = helps_of(alloc, HOUSE_OPTIONS)?;
     let server_helps = helps_of(alloc, SERVER_OPTIONS)?;
-    let mut command = command_line(alloc, &helps, &server_helps)?;
-    let matches = command.try_get_matches_from_mut(words)?;
-    match asked_in(alloc, &matches) {
-        Ok(asked) => Ok(asked),
-        Err(Refused::Spelling(name, text)) => {
-            let text = format!(in alloc;
-                "invalid value '{text}' for '--{name}': only digits are read"
-            )?;
-            Err(command.error(ErrorKind::ValueValidation, &text)?)
-        }
-        Err(Refused::NoMailbox) => {
-            let text = "there is no mailbox";
-            Err(command.error(ErrorKind::MissingRequiredArgument, text)?)
-        }
-        Err(Refused::NothingToDo) => {
-            let text = "there is nothing to do";
-            Err(command.error(ErrorKind::MissingSubcommand, text)?)
-        }
-        Err(Refused::NoMemory) => Err(Error::from(AllocError)),
-    }
+    asked_by(alloc, command_line(alloc, &helps, &server_helps)?, words)
 }

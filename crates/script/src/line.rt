@@ -316,74 +316,65 @@ mod tests {
     use super::*;
     use std::alloc::AllocError;
 
+    // A line, and what it asks for.
+    const LINES: &[(&[u8], ScriptLine<'static>)] = &[
+        (b"L1", ScriptLine::Says(1, b"")),
+        (b"L1 ", ScriptLine::Says(1, b"")),
+        (b"L1  x", ScriptLine::Says(1, b" x")),
+        (b"L8 LHLO a", ScriptLine::Says(8, b"LHLO a")),
+        (b"TAIL alice/Work", ScriptLine::Tail(b"alice/Work")),
+        (b"# L1 x", ScriptLine::Skip),
+        (b"", ScriptLine::Skip),
+        (b"L9 x", ScriptLine::Bad),
+        (b"L0 x", ScriptLine::Bad),
+        (b"L1x", ScriptLine::Bad),
+        (b"L1x  00", ScriptLine::SaysInHex(1, b" 00")),
+        (b"L1x 0d0A", ScriptLine::SaysInHex(1, b"0d0A")),
+        (b"L1X 00", ScriptLine::Bad),
+        (b"L1!", ScriptLine::Vanishes(1)),
+        (b"L1! ", ScriptLine::Bad),
+        (b"I1=alice", ScriptLine::Enters(1, b"alice")),
+        (b"I1=", ScriptLine::Enters(1, b"")),
+        (b"I9=alice", ScriptLine::Bad),
+        (b"I1", ScriptLine::Asks(1, b"")),
+        (b"I1  x", ScriptLine::Asks(1, b" x")),
+        (b"I1x 0d0A", ScriptLine::AsksInHex(1, b"0d0A")),
+        (b"I1!", ScriptLine::Leaves(1)),
+        (b"I1! ", ScriptLine::Bad),
+        (b"i1", ScriptLine::Bad),
+        (b"HOLD 00", ScriptLine::Hold(b"00")),
+        (b"FREE 256", ScriptLine::Free(b"256")),
+        (b"CLOSE 01", ScriptLine::Closes(b"01")),
+        (b"CLOSE", ScriptLine::Bad),
+        (b"CLOSE ", ScriptLine::Bad),
+        (b"CLOSE 1 ", ScriptLine::Bad),
+        (b"HOLD  0", ScriptLine::Bad),
+        (b"HOLD 0 ", ScriptLine::Bad),
+        (b"HOLD ", ScriptLine::Bad),
+        (b"HOLD +1", ScriptLine::Bad),
+        (b"hold 0", ScriptLine::Bad),
+        (b"l1", ScriptLine::Bad),
+        (b"TAIL a b", ScriptLine::Bad),
+        (b"TAIL  a", ScriptLine::Bad),
+        (b" TAIL a", ScriptLine::Bad),
+        (b"TAIL", ScriptLine::Bad),
+        (b"TAILS a", ScriptLine::Bad),
+        (b"L1 TAIL a", ScriptLine::Says(1, b"TAIL a")),
+    ];
+
+    // Table tests go through their rows in a function of their own: a test of many asserts takes long to prove.
+    fn first_unlike() -> Option<&'static [u8]> {
+        for (line, wanted) in LINES {
+            if read_line(line) != *wanted {
+                return Some(line);
+            }
+        }
+        None
+    }
+
     #[test]
     fn lines_are_read(rt: HostRuntime) {
-        assert_eq!(rt; read_line(b"L1"), ScriptLine::Says(1, b"".as_slice()));
-        assert_eq!(rt; read_line(b"L1 "), ScriptLine::Says(1, b"".as_slice()));
-        assert_eq!(rt; read_line(b"L1  x"), ScriptLine::Says(1, b" x".as_slice()));
-        assert_eq!(rt;
-            read_line(b"L8 LHLO a"),
-            ScriptLine::Says(8, b"LHLO a".as_slice())
-        );
-        assert_eq!(rt;
-            read_line(b"TAIL alice/Work"),
-            ScriptLine::Tail(b"alice/Work".as_slice())
-        );
-        assert_eq!(rt; read_line(b"# L1 x"), ScriptLine::Skip);
-        assert_eq!(rt; read_line(b""), ScriptLine::Skip);
-        assert_eq!(rt; read_line(b"L9 x"), ScriptLine::Bad);
-        assert_eq!(rt; read_line(b"L0 x"), ScriptLine::Bad);
-        assert_eq!(rt; read_line(b"L1x"), ScriptLine::Bad);
-        assert_eq!(rt;
-            read_line(b"L1x  00"),
-            ScriptLine::SaysInHex(1, b" 00".as_slice())
-        );
-        assert_eq!(rt;
-            read_line(b"L1x 0d0A"),
-            ScriptLine::SaysInHex(1, b"0d0A".as_slice())
-        );
-        assert_eq!(rt; read_line(b"L1X 00"), ScriptLine::Bad);
-        assert_eq!(rt; read_line(b"L1!"), ScriptLine::Vanishes(1));
-        assert_eq!(rt; read_line(b"L1! "), ScriptLine::Bad);
-        assert_eq!(rt;
-            read_line(b"I1=alice"),
-            ScriptLine::Enters(1, b"alice".as_slice())
-        );
-        assert_eq!(rt; read_line(b"I1="), ScriptLine::Enters(1, b"".as_slice()));
-        assert_eq!(rt; read_line(b"I9=alice"), ScriptLine::Bad);
-        assert_eq!(rt; read_line(b"I1"), ScriptLine::Asks(1, b"".as_slice()));
-        assert_eq!(rt; read_line(b"I1  x"), ScriptLine::Asks(1, b" x".as_slice()));
-        assert_eq!(rt;
-            read_line(b"I1x 0d0A"),
-            ScriptLine::AsksInHex(1, b"0d0A".as_slice())
-        );
-        assert_eq!(rt; read_line(b"I1!"), ScriptLine::Leaves(1));
-        assert_eq!(rt; read_line(b"I1! "), ScriptLine::Bad);
-        assert_eq!(rt; read_line(b"i1"), ScriptLine::Bad);
-        assert_eq!(rt; read_line(b"HOLD 00"), ScriptLine::Hold(b"00".as_slice()));
-        assert_eq!(rt; read_line(b"FREE 256"), ScriptLine::Free(b"256".as_slice()));
-        assert_eq!(rt;
-            read_line(b"CLOSE 01"),
-            ScriptLine::Closes(b"01".as_slice())
-        );
-        assert_eq!(rt; read_line(b"CLOSE"), ScriptLine::Bad);
-        assert_eq!(rt; read_line(b"CLOSE "), ScriptLine::Bad);
-        assert_eq!(rt; read_line(b"CLOSE 1 "), ScriptLine::Bad);
-        assert_eq!(rt; read_line(b"HOLD  0"), ScriptLine::Bad);
-        assert_eq!(rt; read_line(b"HOLD 0 "), ScriptLine::Bad);
-        assert_eq!(rt; read_line(b"HOLD "), ScriptLine::Bad);
-        assert_eq!(rt; read_line(b"HOLD +1"), ScriptLine::Bad);
-        assert_eq!(rt; read_line(b"hold 0"), ScriptLine::Bad);
-        assert_eq!(rt; read_line(b"l1"), ScriptLine::Bad);
-        assert_eq!(rt; read_line(b"TAIL a b"), ScriptLine::Bad);
-        assert_eq!(rt; read_line(b"TAIL  a"), ScriptLine::Bad);
-        assert_eq!(rt; read_line(b" TAIL a"), ScriptLine::Bad);
-        assert_eq!(rt; read_line(b"TAIL"), ScriptLine::Bad);
-        assert_eq!(rt; read_line(b"TAILS a"), ScriptLine::Bad);
-        assert_eq!(rt;
-            read_line(b"L1 TAIL a"),
-            ScriptLine::Says(1, b"TAIL a".as_slice())
-        );
+        assert_eq!(rt; first_unlike(), None);
     }
 
     #[test]
