@@ -15,6 +15,32 @@ const MOST_LINES: u32 = 100;
 /// So many seconds a client waits for a line.
 const SILENCE: u64 = 20;
 
+/// What a client says, and what it is to hear then, line by line, up to the first line that begins so.
+#[derive(Clone, Copy)]
+pub struct Step {
+    pub says: &'static [u8],
+    pub hears_to: &'static [u8],
+    pub wanted: Wanted,
+}
+
+/// What is wanted of the lines that were heard.
+#[derive(Clone, Copy)]
+pub enum Wanted {
+    /// They are these.
+    All(&'static [u8]),
+    /// They begin so.
+    Front(&'static [u8]),
+}
+
+impl Wanted {
+    fn is_met(&self, heard: &[u8]) -> bool {
+        match *self {
+            Wanted::All(lines) => heard == lines,
+            Wanted::Front(front) => heard.starts_with(front),
+        }
+    }
+}
+
 /// A client's connection.
 #[derive(Drop)]
 pub struct Peer {
@@ -59,10 +85,8 @@ impl Peer {
         self.output.write_all(bytes)
     }
 
-    /// Hears lines up to the first that begins so, and gives them all.
-    ///
-    /// Errors: where no such line comes.
-    pub fn hear_to(&mut self, alloc: Global, beginning: &[u8]) -> io::Result<Vec<u8>> {
+    // Hears lines up to the first that begins so, and gives them all.
+    fn hear_to(&mut self, alloc: Global, beginning: &[u8]) -> io::Result<Vec<u8>> {
         let mut heard = Vec::new(alloc);
         let mut line = Vec::new(alloc);
         for _ in 0..MOST_LINES {
@@ -76,12 +100,30 @@ impl Peer {
         Err(Error::from(ErrorKind::UnexpectedEof))
     }
 
-    /// Hears all up to the end.
+    fn goes(&mut self, alloc: Global, step: Step) -> io::Result<bool> {
+        self.say(step.says)?;
+        let heard = self.hear_to(alloc, step.hears_to)?;
+        Ok(step.wanted.is_met(&heard))
+    }
+
+    /// Goes through these steps, and gives the place of the first at which something else is heard.
+    ///
+    /// Errors: where the server has gone, or no line comes that begins as it is to.
+    pub fn talk(&mut self, alloc: Global, steps: &[Step]) -> io::Result<Option<usize>> {
+        for (place, step) in steps.iter().enumerate() {
+            if !self.goes(alloc, *step)? {
+                return Ok(Some(place));
+            }
+        }
+        Ok(None)
+    }
+
+    /// Whether it hears this and nothing more up to the end.
     ///
     /// Errors: where the connection doesn't end, or was reset.
-    pub fn hear_out(&mut self, alloc: Global) -> io::Result<Vec<u8>> {
+    pub fn hears_out(&mut self, alloc: Global, wanted: &[u8]) -> io::Result<bool> {
         let mut heard = Vec::new(alloc);
         self.input.read_to_end(&mut heard)?;
-        Ok(heard)
+        Ok(heard.as_slice() == wanted)
     }
 }

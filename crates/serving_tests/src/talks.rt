@@ -1,16 +1,15 @@
 //! What clients hear of a server, and how they are left as it stops (RFC 2033, 4; RFC 9051, 6.3.2, 6.3.13, 7.1.5 and 7.4.1).
 
 use crate::houses::{run, settings, stop_ends};
-use crate::peers::Peer;
+use crate::peers::{Peer, Step, Wanted};
 use house::Config;
 use std::alloc::Global;
+use std::io;
 use std::net::{Net, TcpListener, TcpStream};
-use std::{io, thread};
+use std::sync::Wait;
+use std::thread::{self, Threads};
 
 const ALICE_AND_BOB: &[&[u8]] = &[b"alice", b"alice/Work", b"bob"];
-
-const GREETED: &[u8] =
-    b"220 mx.example.org LMTP ready\r\n250-mx.example.org\r\n250-PIPELINING\r\n250-ENHANCEDSTATUSCODES\r\n250 8BITMIME\r\n";
 
 const MESSAGE: &[u8] =
     b"LHLO c.example\r\nMAIL FROM:<s@a.example>\r\nRCPT TO:<alice@example.org>\r\nDATA\r\nhi\r\n.\r\nQUIT\r\n";
@@ -24,135 +23,157 @@ const HALF: &[u8] =
 // More room than a server's lines want.
 const ROOM: usize = 4096;
 
-// What the clients of a server heard.
-#[derive(Drop)]
-struct Heard {
-    // The replies to a message.
-    taken: Vec<u8>,
-    // The answer to SELECT.
-    selected: Vec<u8>,
-    // What was told of the next message.
-    told: Vec<u8>,
-    // The rest of the session, and of the connection that waits, or stands in a message, as the server stops.
-    bye: Vec<u8>,
-    shut: Vec<u8>,
-}
+// A client that goes in the midst of a message.
+const HALF_A_MESSAGE: Step = Step {
+    says: HALF,
+    hears_to: b"354",
+    wanted: Wanted::Front(b"220 "),
+};
 
-// Delivers a message, and gives the replies.
-fn deliver<R: Net<Listener = TcpListener, Stream = TcpStream>>(
+// One that has said LHLO alone.
+const LHLO: Step = Step {
+    says: b"LHLO c.example\r\n",
+    hears_to: b"250 8BITMIME",
+    wanted: Wanted::Front(b"220 "),
+};
+
+// A client idles in alice's INBOX, where a message stands.
+const IDLES: &[Step] = &[
+    Step {
+        says: b"",
+        hears_to: b"* PREAUTH",
+        wanted: Wanted::Front(b"* PREAUTH"),
+    },
+    Step {
+        says: b"a1 SELECT INBOX\r\n",
+        hears_to: b"* 1 EXISTS",
+        wanted: Wanted::Front(b"* "),
+    },
+    Step {
+        says: b"a2 IDLE\r\n",
+        hears_to: b"a1 ",
+        wanted: Wanted::Front(b"* "),
+    },
+    Step {
+        says: b"",
+        hears_to: b"+ ",
+        wanted: Wanted::Front(b"+ "),
+    },
+];
+
+// And is told of the next.
+const IS_SHOWN: &[Step] = &[Step {
+    says: b"",
+    hears_to: b"* 2 EXISTS",
+    wanted: Wanted::All(b"* 2 EXISTS\r\n"),
+}];
+
+// Delivers a message: whether the replies are those that are due.
+fn delivers<R: Net<Listener = TcpListener, Stream = TcpStream>>(
     rt: &R,
     alloc: Global,
     port: u16,
-) -> io::Result<Vec<u8>> {
+) -> io::Result<bool> {
     let mut peer = Peer::new(rt, alloc, port)?;
     peer.say(MESSAGE)?;
-    peer.hear_out(alloc)
+    peer.hears_out(alloc, TAKEN)
 }
 
-// A client that goes in the midst of a message.
-fn vanish<R: Net<Listener = TcpListener, Stream = TcpStream>>(
+fn vanishes<R: Net<Listener = TcpListener, Stream = TcpStream>>(
     rt: &R,
     alloc: Global,
     port: u16,
-) -> io::Result<()> {
+) -> io::Result<bool> {
     let mut peer = Peer::new(rt, alloc, port)?;
-    peer.say(HALF)?;
-    peer.hear_to(alloc, b"354")?;
-    Ok(())
+    Ok(peer.talk(alloc, &[HALF_A_MESSAGE])?.is_none())
 }
 
-// A client that idles in alice's INBOX, and what it heard of it.
-fn idle<R: Net<Listener = TcpListener, Stream = TcpStream>>(
+// What goes otherwise than it is to: one client goes in the midst of a message, others bring two, and a session is told.
+fn unlike<R: Net<Listener = TcpListener, Stream = TcpStream>>(
     rt: &R,
     alloc: Global,
     port: u16,
-) -> io::Result<(Peer, Vec<u8>)> {
-    let mut peer = Peer::new(rt, alloc, port)?;
-    peer.hear_to(alloc, b"* PREAUTH")?;
-    peer.say(b"a1 SELECT INBOX\r\n")?;
-    let selected = peer.hear_to(alloc, b"a1 ")?;
-    peer.say(b"a2 IDLE\r\n")?;
-    peer.hear_to(alloc, b"+ ")?;
-    Ok((peer, selected))
+    session: &mut Peer,
+) -> io::Result<Option<&'static str>> {
+    if !vanishes(rt, alloc, port)? || !delivers(rt, alloc, port)? {
+        return Ok(Some("first"));
+    }
+    if session.talk(alloc, IDLES)?.is_some() {
+        return Ok(Some("idles"));
+    }
+    if !delivers(rt, alloc, port)? || session.talk(alloc, IS_SHOWN)?.is_some() {
+        return Ok(Some("is shown"));
+    }
+    Ok(None)
 }
 
-// The clients of a server, of which the last has said so much as the server stops, and heard a line that begins so.
+// What is heard otherwise as the server stops: by the session, and by a mail client that has said so much.
+fn unlike_at_the_end<R: Net<Listener = TcpListener, Stream = TcpStream>>(
+    rt: &R,
+    alloc: Global,
+    port: u16,
+    session: &mut Peer,
+    stop: TcpStream,
+    last: (Step, &[u8]),
+) -> io::Result<Option<&'static str>> {
+    let mut peer = Peer::new(rt, alloc, port)?;
+    if peer.talk(alloc, &[last.0])?.is_some() {
+        return Ok(Some("last"));
+    }
+    drop(stop);
+    if !session.hears_out(alloc, b"* BYE Shutting down\r\n")? {
+        return Ok(Some("bye"));
+    }
+    let is_shut = peer.hears_out(alloc, last.1)?;
+    Ok(if is_shut { None } else { Some("shut") })
+}
+
+// The clients of a server, of which the last stands so as the server stops, and hears this then.
 fn visit<R: Net<Listener = TcpListener, Stream = TcpStream>>(
     rt: &R,
     alloc: Global,
     config: &Config,
     stop: TcpStream,
-    last: &[u8],
-    reply: &[u8],
-) -> io::Result<Heard> {
+    last: (Step, &[u8]),
+) -> io::Result<Option<&'static str>> {
+    let mut session = Peer::new(rt, alloc, config.imap_port)?;
     let mail = config.lmtp_port;
-    vanish(rt, alloc, mail)?;
-    let taken = deliver(rt, alloc, mail)?;
-    let (mut session, selected) = idle(rt, alloc, config.imap_port)?;
-    deliver(rt, alloc, mail)?;
-    let told = session.hear_to(alloc, b"* 2 EXISTS")?;
-    let mut peer = Peer::new(rt, alloc, mail)?;
-    peer.say(last)?;
-    peer.hear_to(alloc, reply)?;
-    drop(stop);
-    Ok(Heard {
-        taken,
-        selected,
-        told,
-        bye: session.hear_out(alloc)?,
-        shut: peer.hear_out(alloc)?,
-    })
+    match unlike(rt, alloc, mail, &mut session)? {
+        None => unlike_at_the_end(rt, alloc, mail, &mut session, stop, last),
+        unlike => Ok(unlike),
+    }
 }
 
-// Whether a line stands in the text.
-fn has_line(text: &[u8], line: &[u8]) -> bool {
-    text.split(|b| *b == b'\n').any(|one| one == line)
+// What goes otherwise than it is to, of the clients and of the server.
+fn seen<R: Net<Listener = TcpListener, Stream = TcpStream> + Threads + Wait + Sync>(
+    rt: &R,
+    alloc: Global,
+    last: (Step, &[u8]),
+) -> io::Result<Option<&'static str>> {
+    let config = settings(rt, alloc, ALICE_AND_BOB)?;
+    let (stop, end) = stop_ends(rt)?;
+    let (ran, seen) = thread::join(
+        rt,
+        || run(rt, alloc, &config, stop, ROOM),
+        || visit(rt, alloc, &config, end, last),
+    );
+    match ran.result {
+        Ok(()) => seen,
+        Err(_) => Ok(Some("server")),
+    }
 }
 
 #[test]
 fn mail_is_taken_and_shown_until_the_server_stops(rt: HostRuntime) -> io::Result<()> {
-    let alloc = rt.alloc();
-    let config = settings(&rt, alloc, ALICE_AND_BOB)?;
-    let (stop, end) = stop_ends(&rt)?;
-    let (ran, heard) = thread::join(
-        &rt,
-        || run(&rt, alloc, &config, stop, ROOM),
-        || visit(
-            &rt,
-            alloc,
-            &config,
-            end,
-            b"LHLO c.example\r\n",
-            b"250 8BITMIME",
-        ),
-    );
-    let heard = heard?;
-    assert_eq!(rt; heard.taken.as_slice(), TAKEN);
-    assert!(rt; has_line(&heard.selected, b"* 1 EXISTS\r"));
-    assert_eq!(rt; heard.told.as_slice(), b"* 2 EXISTS\r\n".as_slice());
-    assert_eq!(rt; heard.bye.as_slice(), b"* BYE Shutting down\r\n".as_slice());
-    assert_eq!(rt;
-        heard.shut.as_slice(),
-        b"421 4.3.2 Shutting down\r\n".as_slice()
-    );
-    assert!(rt; ran.result.is_ok());
+    let seen = seen(&rt, rt.alloc(), (LHLO, b"421 4.3.2 Shutting down\r\n"))?;
+    assert_eq!(rt; seen, None);
     Ok(())
 }
 
 #[test]
 fn a_message_that_is_not_whole_is_dropped_as_the_server_stops(rt: HostRuntime) -> io::Result<()> {
-    let alloc = rt.alloc();
-    let config = settings(&rt, alloc, ALICE_AND_BOB)?;
-    let (stop, end) = stop_ends(&rt)?;
-    let (ran, heard) = thread::join(
-        &rt,
-        || run(&rt, alloc, &config, stop, ROOM),
-        || visit(&rt, alloc, &config, end, HALF, b"354"),
-    );
-    let heard = heard?;
-    assert!(rt; heard.shut.is_empty());
-    assert_eq!(rt; heard.bye.as_slice(), b"* BYE Shutting down\r\n".as_slice());
-    assert!(rt; ran.result.is_ok());
+    let seen = seen(&rt, rt.alloc(), (HALF_A_MESSAGE, b""))?;
+    assert_eq!(rt; seen, None);
     Ok(())
 }
 
