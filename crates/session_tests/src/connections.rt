@@ -16,8 +16,6 @@ fn connection(alloc: Global) -> Result<ImapConnection, AllocError> {
     ImapConnection::new(alloc, folders, Some(1_048_576))
 }
 
-const GREETING: &[u8] = b"* PREAUTH IMAP4rev2 server ready\r\n";
-
 // What a piece comes to, where the connection may take one.
 fn took(
     alloc: Global,
@@ -47,72 +45,6 @@ fn goes(
     took(alloc, connection, piece, out) == Some(wanted)
 }
 
-// What isn't as it is to be where a line comes in three pieces.
-fn unlike_in_pieces(alloc: Global) -> Result<Option<&'static str>, AllocError> {
-    let mut connection = connection(alloc)?;
-    let mut out = Vec::new(alloc);
-    connection.greet(&mut out)?;
-    if out.as_slice() != GREETING {
-        return Ok(Some("greeting"));
-    }
-    out.clear();
-    for piece in [b"a1 CAPA".as_slice(), b"BILITY\r", b"\na2 CLOSE\r\na3"] {
-        if !goes(
-            alloc,
-            &mut connection,
-            piece,
-            piece.len(),
-            After::Go,
-            &mut out,
-        ) {
-            return Ok(Some("progress"));
-        }
-    }
-    let said =
-        b"* CAPABILITY IMAP4rev2 IDLE\r\na1 OK CAPABILITY completed\r\na2 BAD Wrong state\r\n".as_slice();
-    if out.as_slice() != said {
-        return Ok(Some("answers"));
-    }
-    Ok(connection.selected().map(|_| "selected"))
-}
-
-#[test]
-fn a_line_comes_in_pieces(rt: HostRuntime) -> Result<(), AllocError> {
-    assert_eq!(rt; unlike_in_pieces(rt.alloc())?, None);
-    Ok(())
-}
-
-fn unlike_behind_the_end(alloc: Global) -> Result<Option<&'static str>, AllocError> {
-    let mut connection = connection(alloc)?;
-    let mut out = Vec::new(alloc);
-    let lines = b"a1 LOGOUT\r\na2 CAPABILITY\r\n".as_slice();
-    if !goes(alloc, &mut connection, lines, 11, After::Bye, &mut out) {
-        return Ok(Some("progress"));
-    }
-    if !connection.has_ended() {
-        return Ok(Some("goes on"));
-    }
-    let said = b"* BYE Logging out\r\na1 OK LOGOUT completed\r\n".as_slice();
-    Ok(if out.as_slice() == said {
-        None
-    } else {
-        Some("answers")
-    })
-}
-
-#[test]
-fn what_follows_the_end_is_left(rt: HostRuntime) -> Result<(), AllocError> {
-    assert_eq!(rt; unlike_behind_the_end(rt.alloc())?, None);
-    Ok(())
-}
-
-const DONE: [(&[u8], After); 4] = [
-    (b"a1 IDLE\r\nDO", After::Idle),
-    (b"", After::Idle),
-    (b"NE\r", After::Idle),
-    (b"\na2 ID", After::Go),
-];
-
 // Whether a piece is taken whole, it is as told whether the session idles then, and there is nothing to show.
 fn idles(
     alloc: Global,
@@ -126,28 +58,6 @@ fn idles(
         && connection.idle_turn(&mut Nowhere, out) == Ok(0)
 }
 
-fn unlike_while_idling(alloc: Global) -> Result<Option<&'static str>, AllocError> {
-    let mut connection = connection(alloc)?;
-    let mut out = Vec::new(alloc);
-    for (piece, after) in DONE {
-        if !idles(alloc, &mut connection, piece, after, &mut out) {
-            return Ok(Some("progress"));
-        }
-    }
-    let said = b"+ idling\r\na1 OK IDLE completed\r\n".as_slice();
-    Ok(if out.as_slice() == said {
-        None
-    } else {
-        Some("answers")
-    })
-}
-
-#[test]
-fn done_comes_in_pieces(rt: HostRuntime) -> Result<(), AllocError> {
-    assert_eq!(rt; unlike_while_idling(rt.alloc())?, None);
-    Ok(())
-}
-
 // A line of so many bytes, without its CRLF, and that.
 fn long_line(alloc: Global, length: usize) -> Result<Vec<u8>, AllocError> {
     let mut line = Vec::from_slice(alloc, b"a1 LOGIN ")?;
@@ -156,49 +66,18 @@ fn long_line(alloc: Global, length: usize) -> Result<Vec<u8>, AllocError> {
     Ok(line)
 }
 
-// Whether the connection says this to these bytes.
-fn says(
+// Takes such a line.
+fn takes_long(
     alloc: Global,
     connection: &mut ImapConnection,
-    bytes: &[u8],
-    wanted: &[u8],
+    length: usize,
     out: &mut Vec<u8>,
 ) -> bool {
-    out.clear();
-    took(alloc, connection, bytes, out).is_some() && out.as_slice() == wanted
-}
-
-fn unlike_for_long_lines(alloc: Global) -> Result<Option<&'static str>, AllocError> {
-    let mut connection = connection(alloc)?;
-    let mut out = Vec::new(alloc);
-    let longest = long_line(alloc, 8_190)?;
-    let longer = long_line(alloc, 8_191)?;
-    let steps = [
-        (longest.as_slice(), b"a1 BAD Wrong state\r\n".as_slice()),
-        (longer.as_slice(), b"* BAD Line too long\r\n"),
-        (b"a2 IDLE\r\n", b"+ idling\r\n"),
-        (longer.as_slice(), b"a2 BAD Expected DONE\r\n"),
-    ];
-    for (bytes, wanted) in steps {
-        if !says(alloc, &mut connection, bytes, wanted, &mut out) {
-            return Ok(Some("answer"));
-        }
+    match long_line(alloc, length) {
+        Ok(line) => took(alloc, connection, &line, out).is_some(),
+        Err(_) => false,
     }
-    Ok(None)
 }
-
-#[test]
-fn a_line_has_8192_bytes_at_most(rt: HostRuntime) -> Result<(), AllocError> {
-    assert_eq!(rt; unlike_for_long_lines(rt.alloc())?, None);
-    Ok(())
-}
-
-// A literal with a line's end in it, one that is asked for, and a line behind them.
-const APPENDS: &[u8] =
-    b"a1 APPEND INBOX (\\Seen) {7+}\r\nhe\r\nllo\r\na2 APPEND INBOX {2}\r\n\r\nx\r\na3 CLOSE\r\n";
-
-const ANSWERS: &[u8] =
-    b"a1 NO Shard full\r\n+ ready\r\na2 BAD Invalid arguments\r\na3 BAD Wrong state\r\n";
 
 // Refuses the message that was submitted, which is to have this text.
 fn refuse(connection: &mut ImapConnection, text: &[u8], out: &mut Vec<u8>) -> bool {
@@ -211,6 +90,150 @@ fn refuse(connection: &mut ImapConnection, text: &[u8], out: &mut Vec<u8>) -> bo
         && connection.awaits_verdict()
         && connection.appended(refused, &mut Nowhere, out) == Ok(After::Go)
 }
+
+// What was said since this was last asked.
+fn said(out: &mut Vec<u8>, wanted: &[u8]) -> bool {
+    let is_said = out.as_slice() == wanted;
+    out.clear();
+    is_said
+}
+
+// What is done with a connection, and what is wanted of it.
+#[derive(Clone, Copy)]
+enum Step {
+    Greets,
+    // Of a piece so many bytes are taken, and the client may send this then.
+    Takes(&'static [u8], usize, After),
+    // A piece is taken whole, the session idles then or doesn't, and has nothing to show.
+    Idles(&'static [u8], After),
+    // A line of so many bytes without its CRLF is taken.
+    TakesLong(usize),
+    // The message that was submitted has this text, and is refused.
+    Refuses(&'static [u8]),
+    // What was said since this was last asked.
+    Said(&'static [u8]),
+    HasEnded,
+    HasSelectedNone,
+}
+
+// Whether a step comes to what is wanted.
+fn comes(alloc: Global, connection: &mut ImapConnection, step: Step, out: &mut Vec<u8>) -> bool {
+    match step {
+        Step::Greets => connection.greet(out).is_ok(),
+        Step::Takes(piece, used, after) => goes(alloc, connection, piece, used, after, out),
+        Step::Idles(piece, after) => idles(alloc, connection, piece, after, out),
+        Step::TakesLong(length) => takes_long(alloc, connection, length, out),
+        Step::Refuses(text) => refuse(connection, text, out),
+        Step::Said(wanted) => said(out, wanted),
+        Step::HasEnded => connection.has_ended(),
+        Step::HasSelectedNone => connection.selected().is_none(),
+    }
+}
+
+// The first step that doesn't come to what is wanted.
+fn first_unlike(
+    alloc: Global,
+    connection: &mut ImapConnection,
+    steps: &[Step],
+    out: &mut Vec<u8>,
+) -> Option<usize> {
+    for (place, step) in steps.iter().enumerate() {
+        if !comes(alloc, connection, *step, out) {
+            return Some(place);
+        }
+    }
+    None
+}
+
+fn play(alloc: Global, steps: &[Step]) -> Result<Option<usize>, AllocError> {
+    let mut connection = connection(alloc)?;
+    Ok(first_unlike(alloc, &mut connection, steps, &mut Vec::new(alloc)))
+}
+
+const IN_PIECES: &[Step] = &[
+    Step::Greets,
+    Step::Said(b"* PREAUTH IMAP4rev2 server ready\r\n"),
+    Step::Takes(b"a1 CAPA", 7, After::Go),
+    Step::Takes(b"BILITY\r", 7, After::Go),
+    Step::Takes(b"\na2 CLOSE\r\na3", 13, After::Go),
+    Step::Said(
+        b"* CAPABILITY IMAP4rev2 IDLE\r\na1 OK CAPABILITY completed\r\na2 BAD Wrong state\r\n",
+    ),
+    Step::HasSelectedNone,
+];
+
+#[test]
+fn a_line_comes_in_pieces(rt: HostRuntime) -> Result<(), AllocError> {
+    assert_eq!(rt; play(rt.alloc(), IN_PIECES)?, None);
+    Ok(())
+}
+
+const BEHIND_THE_END: &[Step] = &[
+    Step::Takes(b"a1 LOGOUT\r\na2 CAPABILITY\r\n", 11, After::Bye),
+    Step::HasEnded,
+    Step::Said(b"* BYE Logging out\r\na1 OK LOGOUT completed\r\n"),
+];
+
+#[test]
+fn what_follows_the_end_is_left(rt: HostRuntime) -> Result<(), AllocError> {
+    assert_eq!(rt; play(rt.alloc(), BEHIND_THE_END)?, None);
+    Ok(())
+}
+
+const DONE: &[Step] = &[
+    Step::Idles(b"a1 IDLE\r\nDO", After::Idle),
+    Step::Idles(b"", After::Idle),
+    Step::Idles(b"NE\r", After::Idle),
+    Step::Idles(b"\na2 ID", After::Go),
+    Step::Said(b"+ idling\r\na1 OK IDLE completed\r\n"),
+];
+
+#[test]
+fn done_comes_in_pieces(rt: HostRuntime) -> Result<(), AllocError> {
+    assert_eq!(rt; play(rt.alloc(), DONE)?, None);
+    Ok(())
+}
+
+const LONG_LINES: &[Step] = &[
+    Step::TakesLong(8_190),
+    Step::Said(b"a1 BAD Wrong state\r\n"),
+    Step::TakesLong(8_191),
+    Step::Said(b"* BAD Line too long\r\n"),
+    Step::Idles(b"a2 IDLE\r\n", After::Idle),
+    Step::Said(b"+ idling\r\n"),
+    Step::TakesLong(8_191),
+    Step::Said(b"a2 BAD Expected DONE\r\n"),
+];
+
+#[test]
+fn a_line_has_8192_bytes_at_most(rt: HostRuntime) -> Result<(), AllocError> {
+    assert_eq!(rt; play(rt.alloc(), LONG_LINES)?, None);
+    Ok(())
+}
+
+// A literal ends with its piece, and the rest of its line comes in two more; what comes behind that waits for the verdict.
+const UP_TO_THE_END: &[Step] = &[
+    Step::Takes(b"a1 APPEND INBOX {2+}\r\nok", 24, After::Literal(0)),
+    Step::Takes(b"", 0, After::Literal(0)),
+    Step::Takes(b"\r", 1, After::Literal(0)),
+    Step::Takes(b"\na2 NOOP\r\n", 1, After::Submit),
+    Step::Said(b""),
+    Step::Refuses(b"ok"),
+    Step::Said(b"a1 NO Shard full\r\n"),
+];
+
+#[test]
+fn a_literal_ends_with_its_piece(rt: HostRuntime) -> Result<(), AllocError> {
+    assert_eq!(rt; play(rt.alloc(), UP_TO_THE_END)?, None);
+    Ok(())
+}
+
+// A literal with a line's end in it, one that is asked for, and a line behind them.
+const APPENDS: &[u8] =
+    b"a1 APPEND INBOX (\\Seen) {7+}\r\nhe\r\nllo\r\na2 APPEND INBOX {2}\r\n\r\nx\r\na3 CLOSE\r\n";
+
+const ANSWERS: &[u8] =
+    b"a1 NO Shard full\r\n+ ready\r\na2 BAD Invalid arguments\r\na3 BAD Wrong state\r\n";
 
 // How much of a piece is taken, up to a message that is submitted.
 fn taken(
@@ -246,15 +269,23 @@ fn take_whole(
 }
 
 // Whether the answers are as wanted where these come one after the other.
-fn answers_to(alloc: Global, pieces: &[&[u8]]) -> Result<bool, AllocError> {
-    let mut connection = connection(alloc)?;
-    let mut out = Vec::new(alloc);
+fn are_answered<'a>(
+    alloc: Global,
+    connection: &mut ImapConnection,
+    pieces: &[&'a [u8]],
+    out: &mut Vec<u8>,
+) -> bool {
     for piece in pieces {
-        if !take_whole(alloc, &mut connection, piece, &mut out) {
-            return Ok(false);
+        if !take_whole(alloc, connection, piece, out) {
+            return false;
         }
     }
-    Ok(out.as_slice() == ANSWERS)
+    out.as_slice() == ANSWERS
+}
+
+fn answers_to(alloc: Global, pieces: &[&[u8]]) -> Result<bool, AllocError> {
+    let mut connection = connection(alloc)?;
+    Ok(are_answered(alloc, &mut connection, pieces, &mut Vec::new(alloc)))
 }
 
 // The first place at which a cut makes a difference.
@@ -269,56 +300,13 @@ fn first_cut(alloc: Global) -> Result<Option<usize>, AllocError> {
 
 // Whether the answers are as wanted where each byte comes alone.
 fn answers_byte_by_byte(alloc: Global) -> Result<bool, AllocError> {
-    let mut connection = connection(alloc)?;
-    let mut out = Vec::new(alloc);
-    for i in 0..APPENDS.len() {
-        if !take_whole(alloc, &mut connection, &APPENDS[i..i + 1], &mut out) {
-            return Ok(false);
-        }
-    }
-    Ok(out.as_slice() == ANSWERS)
+    let bytes: Vec<&[u8]> = APPENDS.chunks(1).collect(alloc)?;
+    answers_to(alloc, &bytes)
 }
 
 #[test]
 fn a_literal_is_cut_anywhere(rt: HostRuntime) -> Result<(), AllocError> {
     assert_eq!(rt; first_cut(rt.alloc())?, None);
     assert!(rt; answers_byte_by_byte(rt.alloc())?);
-    Ok(())
-}
-
-const UP_TO_THE_END: [(&[u8], usize, After); 4] = [
-    (b"a1 APPEND INBOX {2+}\r\nok", 24, After::Literal(0)),
-    (b"", 0, After::Literal(0)),
-    (b"\r", 1, After::Literal(0)),
-    (b"\na2 NOOP\r\n", 1, After::Submit),
-];
-
-// What isn't as it is to be where a literal ends with its piece, and the rest of its line comes in two more; what comes behind that waits
-// for the verdict.
-fn unlike_at_the_end(alloc: Global) -> Result<Option<&'static str>, AllocError> {
-    let mut connection = connection(alloc)?;
-    let mut out = Vec::new(alloc);
-    for (piece, used, after) in UP_TO_THE_END {
-        if !goes(alloc, &mut connection, piece, used, after, &mut out) {
-            return Ok(Some("progress"));
-        }
-    }
-    if !out.is_empty() {
-        return Ok(Some("said too early"));
-    }
-    if !refuse(&mut connection, b"ok", &mut out) {
-        return Ok(Some("submission"));
-    }
-    let said = b"a1 NO Shard full\r\n".as_slice();
-    Ok(if out.as_slice() == said {
-        None
-    } else {
-        Some("answer")
-    })
-}
-
-#[test]
-fn a_literal_ends_with_its_piece(rt: HostRuntime) -> Result<(), AllocError> {
-    assert_eq!(rt; unlike_at_the_end(rt.alloc())?, None);
     Ok(())
 }

@@ -15,53 +15,93 @@ fn opened(alloc: Global) -> Result<HouseSession, AllocError> {
     HouseSession::open(alloc, folders, None)
 }
 
-// What a session said goes out, and it is told so.
-fn print(session: &mut HouseSession, out: &mut Vec<u8>) -> Result<(), AllocError> {
-    out.extend_from_slice(session.unsaid())?;
-    session.note_printed();
-    Ok(())
+// What is done with a session, and what is wanted of it.
+#[derive(Clone, Copy)]
+enum Step {
+    // These bytes come.
+    Comes(&'static [u8]),
+    GoesOn,
+    // It has nothing to show.
+    IdleTurn,
+    // What is still to be printed of it.
+    Unsaid(&'static [u8]),
+    Prints,
+    IsIdling(bool),
+    HasEnded(bool),
+    HasSelectedNone,
 }
+
+// Whether a step comes to what is wanted.
+fn goes(alloc: Global, session: &mut HouseSession, step: Step) -> bool {
+    match step {
+        Step::Comes(bytes) => session.append(bytes).is_ok(),
+        Step::GoesOn => session.go_on(alloc, &mut Nowhere).is_ok(),
+        Step::IdleTurn => session.idle_turn(&mut Nowhere) == Ok(0),
+        Step::Unsaid(lines) => session.unsaid() == lines,
+        Step::Prints => {
+            session.note_printed();
+            true
+        }
+        Step::IsIdling(wanted) => session.is_idling() == wanted,
+        Step::HasEnded(wanted) => session.has_ended() == wanted,
+        Step::HasSelectedNone => session.selected().is_none(),
+    }
+}
+
+// The first step that doesn't come to what is wanted.
+fn first_unlike(alloc: Global, session: &mut HouseSession, steps: &[Step]) -> Option<usize> {
+    for (place, step) in steps.iter().enumerate() {
+        if !goes(alloc, session, *step) {
+            return Some(place);
+        }
+    }
+    None
+}
+
+fn play(alloc: Global, steps: &[Step]) -> Result<Option<usize>, AllocError> {
+    let mut session = opened(alloc)?;
+    Ok(first_unlike(alloc, &mut session, steps))
+}
+
+const IS_PRINTED: &[Step] = &[
+    Step::GoesOn,
+    Step::Comes(b"a1 CLOSE\r\na2 LIST \"\" %\r\na3 LOG"),
+    Step::GoesOn,
+    Step::HasSelectedNone,
+    Step::Unsaid(
+        b"* PREAUTH IMAP4rev2 server ready\r\na1 BAD Wrong state\r\n* LIST () \"/\" INBOX\r\na2 OK LIST completed\r\n",
+    ),
+    Step::Prints,
+    Step::Unsaid(b""),
+    Step::Comes(b"OUT\r\na4 NOOP\r\n"),
+    Step::HasEnded(false),
+    Step::GoesOn,
+    Step::HasEnded(true),
+    Step::GoesOn,
+    Step::Unsaid(b"* BYE Logging out\r\na3 OK LOGOUT completed\r\n"),
+];
 
 #[test]
 fn words_are_kept_until_they_are_printed(rt: HostRuntime) -> Result<(), AllocError> {
-    let alloc = rt.alloc();
-    let mut session = opened(alloc)?;
-    let mut out = Vec::new(alloc);
-    session.go_on(alloc, &mut Nowhere)?;
-    session.append(b"a1 CLOSE\r\na2 LIST \"\" %\r\na3 LOG")?;
-    session.go_on(alloc, &mut Nowhere)?;
-    assert_eq!(rt; session.selected(), None);
-    print(&mut session, &mut out)?;
-    assert!(rt; session.unsaid().is_empty());
-    session.append(b"OUT\r\na4 NOOP\r\n")?;
-    assert!(rt; !session.has_ended());
-    session.go_on(alloc, &mut Nowhere)?;
-    assert!(rt; session.has_ended());
-    session.go_on(alloc, &mut Nowhere)?;
-    print(&mut session, &mut out)?;
-    assert_eq!(rt;
-        out.as_slice(),
-        b"* PREAUTH IMAP4rev2 server ready\r\na1 BAD Wrong state\r\n* LIST () \"/\" INBOX\r\na2 OK LIST completed\r\n* BYE Logging out\r\na3 OK LOGOUT completed\r\n".as_slice()
-    );
+    assert_eq!(rt; play(rt.alloc(), IS_PRINTED)?, None);
     Ok(())
 }
 
+const IDLES: &[Step] = &[
+    Step::IsIdling(false),
+    Step::Comes(b"a1 IDLE\r\n"),
+    Step::GoesOn,
+    Step::IsIdling(true),
+    Step::IdleTurn,
+    Step::Comes(b"DONE\r\n"),
+    Step::GoesOn,
+    Step::IsIdling(false),
+    Step::Unsaid(b"* PREAUTH IMAP4rev2 server ready\r\n+ idling\r\na1 OK IDLE completed\r\n"),
+];
+
 #[test]
 fn a_session_idles(rt: HostRuntime) -> Result<(), AllocError> {
-    let alloc = rt.alloc();
-    let mut session = opened(alloc)?;
-    assert!(rt; !session.is_idling());
-    session.append(b"a1 IDLE\r\n")?;
-    session.go_on(alloc, &mut Nowhere)?;
-    assert!(rt; session.is_idling());
-    assert_eq!(rt; session.idle_turn(&mut Nowhere)?, 0);
-    session.append(b"DONE\r\n")?;
-    session.go_on(alloc, &mut Nowhere)?;
-    assert!(rt; !session.is_idling());
-    assert_eq!(rt;
-        session.unsaid(),
-        b"* PREAUTH IMAP4rev2 server ready\r\n+ idling\r\na1 OK IDLE completed\r\n".as_slice()
-    );
+    assert_eq!(rt; play(rt.alloc(), IDLES)?, None);
     Ok(())
 }
 
@@ -79,37 +119,52 @@ fn two_users(alloc: Global) -> Result<Directory, DirectoryFault> {
     )
 }
 
+// A name, and whether a user has it.
+const USERS: &[(&[u8], bool)] = &[
+    (b"alice", true),
+    (b"bob", true),
+    (b"", false),
+    (b"Alice", false),
+    (b"alice/Work", false),
+    (b"Work", false),
+    (b"bobby", false),
+];
+
+fn first_unlike_user(directory: &Directory) -> Option<&'static [u8]> {
+    for (user, wanted) in USERS {
+        if has_user(directory, user) != *wanted {
+            return Some(user);
+        }
+    }
+    None
+}
+
 #[test]
 fn users_are_known_by_their_own_names(rt: HostRuntime) -> Result<(), DirectoryFault> {
     let directory = two_users(rt.alloc())?;
-    for user in [b"alice".as_slice(), b"bob".as_slice()] {
-        assert!(rt; has_user(&directory, user));
-    }
-    let others = [
-        b"".as_slice(),
-        b"Alice".as_slice(),
-        b"alice/Work".as_slice(),
-        b"Work".as_slice(),
-        b"bobby".as_slice(),
-    ];
-    for other in others {
-        assert!(rt; !has_user(&directory, other));
-    }
+    assert_eq!(rt; first_unlike_user(&directory), None);
     Ok(())
+}
+
+// Whether a user has these folders, by their names and their mailboxes, and no others.
+fn has_folders(
+    alloc: Global,
+    directory: &Directory,
+    user: &[u8],
+    wanted: &[(&[u8], u8)],
+) -> Result<bool, AllocError> {
+    let folders = folders_of(alloc, directory, user)?;
+    let are_same = folders.iter().zip(wanted).all(|(folder, (name, mailbox))| folder.name() == *name
+        && folder.mailbox() == *mailbox);
+    Ok(are_same && folders.len() == wanted.len())
 }
 
 #[test]
 fn a_user_has_folders(rt: HostRuntime) -> Result<(), DirectoryFault> {
     let directory = two_users(rt.alloc())?;
-    let folders = folders_of(rt.alloc(), &directory, b"alice")?;
-    assert_eq!(rt; folders.len(), 2);
-    if let [inbox, work] = folders.as_slice() {
-        assert_eq!(rt; inbox.name(), b"INBOX".as_slice());
-        assert_eq!(rt; inbox.mailbox(), 0);
-        assert_eq!(rt; work.name(), b"Work".as_slice());
-        assert_eq!(rt; work.mailbox(), 1);
-    }
-    let folders = folders_of(rt.alloc(), &directory, b"Alice")?;
-    assert_eq!(rt; folders.len(), 0);
+    let alices: &[(&[u8], u8)] = &[(b"INBOX", 0), (b"Work", 1)];
+    let has_hers = has_folders(rt.alloc(), &directory, b"alice", alices)?;
+    let has_none = has_folders(rt.alloc(), &directory, b"Alice", &[])?;
+    assert!(rt; has_hers && has_none);
     Ok(())
 }
