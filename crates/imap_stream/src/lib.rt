@@ -3,11 +3,7 @@
 //! `imap_session`, what a call does to a mailbox in `session_thread`; sockets stand above.
 #![tactic(auto)]
 
-#[cfg(test)]
-mod courier_tests;
 mod place;
-#[cfg(test)]
-mod tests;
 mod turns;
 mod visit;
 

@@ -8,8 +8,6 @@ mod piece;
 mod reading;
 mod shutting;
 mod talk;
-#[cfg(test)]
-mod tests;
 
 pub use outcome::{Ending, TalkFault};
 pub use talk::converse;

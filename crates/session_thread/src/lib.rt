@@ -3,15 +3,11 @@
 //! client is answered in `imap_session`; who starts the threads stands above.
 #![tactic(auto)]
 
-#[cfg(test)]
-mod courier_tests;
 mod desk;
 mod laws;
 mod life;
 mod locked;
 mod speaking;
-#[cfg(test)]
-mod tests;
 
 pub use desk::LockedDesk;
 pub use laws::pieces_abut;

@@ -1,9 +1,7 @@
 //! Sessions that read what another thread delivers, their gate and their bells. What they are shown is
 //! written in RFC 9051, 6.3.2, 6.4.5 and 7.4.
 
-use crate::courier_tests::{TestCourier, Way};
-use crate::desk::LockedDesk;
-use crate::life::{Step, live, takes_more};
+use crate::couriers::{TestCourier, Way};
 use change_ring::{FlagOp, Flags, NO_FLAGS};
 use courier::Lost;
 use delivery_token::{CopyKey, Job, Text};
@@ -13,6 +11,7 @@ use imap_session::{Folder, Store};
 use mailbox::{History, Limits, MailFault, Mailbox};
 use pace::{Actor, Gate};
 use session_bells::{SessionBell, Sleeper, ring_each};
+use session_thread::{LockedDesk, Step, live, takes_more};
 use std::alloc::{AllocError, Global};
 use std::mem;
 use std::sync::atomic::{AtomicBool, AtomicU64, Ordering};

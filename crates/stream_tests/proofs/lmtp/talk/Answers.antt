@@ -1,5 +1,5 @@
 use Rattle.lane_work.proofs.SeatLaws.{seats_length}
-use Rattle.lmtp_stream.proofs.tests.talk.Goals as goal
+use Rattle.stream_tests.proofs.lmtp.talk.Goals as goal
 
 pub returns-in_err-out : goal.returns-in_err-out
 returns-in_err-out g c = seats_length c.args.office.now.lanes.items c.args.desk.now.number c.args.desk.now.seats.items c.requires.seats.0

@@ -4,7 +4,7 @@ use Rattle.delivery_token.specs.declared.Job.{Job}
 use Rattle.shard_queue.specs.declared.queue.ShardQueue.{ShardQueue}
 use Rattle.shard_queue.specs.declared.queue.ProducerSeat.{ProducerSeat}
 use Rattle.shard_queue.specs.Seats.{IsProducer, number_of, sent}
-use Rattle.lmtp_stream.proofs.tests.make_seats.Goals as goal
+use Rattle.stream_tests.proofs.lmtp.make_seats.Goals as goal
 
 -- the one seat of one lane
 one_seat : (q : ShardQueue Job) (ss : List (ProducerSeat Job)) → map number_of ss ≡ 0 ∷ [] → All (λ s. IsProducer q s × (sent s ≡ [])) ss → (s : ProducerSeat Job) → s ≡ slice_index_or ss 0 s → IsProducer q s × (number_of s ≡ 0)

@@ -3,13 +3,12 @@
 
 ghost use Rattle.std.specs.Prelude.{◌≡◌, false};
 
-use crate::place::Place;
-use crate::tests::{Marks, Tally, Wire, a_mailbox, folders, is_greeting_and};
-use crate::visit::{Visit, VisitFault};
+use crate::imap::{Marks, Tally, Wire, a_mailbox, folders, is_greeting_and};
 use change_ring::Flags;
 use courier::{Courier, Lost};
 use delivery_token::{CopyKey, Job, Text, Verdict};
 use imap_session::After;
+use imap_stream::{Place, Visit, VisitFault};
 use mailbox::Mailbox;
 use pace::{Gate, Pace};
 use session_thread::LockedDesk;

@@ -6,11 +6,11 @@ ghost use Rattle.shard_queue.specs.Seats.{IsConsumer, IsProducer, number_of};
 ghost use Rattle.shard_queue.specs.Reply.{IsReceiver, IsSender};
 ghost use Rattle.lane_work.specs.Seats.{AreSeated};
 
-use crate::{Ending, TalkFault, converse};
 use delivery_token::{Job, Noted, Verdict};
 use envelope::Directory;
 use lane_work::{Desk, LaneSeat, Office, Summons, Unkept};
 use line_io::Sink;
+use lmtp_stream::{Ending, TalkFault, converse};
 use pace::{Actor, Gate, Pace};
 use shard_queue::{
     ConsumerSeat, Ended, ProducerSeat, ReceiverSeat, ReplyChannel, SenderSeat, ShardQueue, Taken,

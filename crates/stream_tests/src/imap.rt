@@ -3,13 +3,12 @@
 
 ghost use Rattle.std.specs.Prelude.{◌≡◌, false};
 
-use crate::courier_tests::TestCourier;
-use crate::place::{Hush, Place};
-use crate::visit::{Visit, VisitFault};
+use crate::couriers::TestCourier;
 use change_ring::NO_FLAGS;
 use courier::Lost;
 use delivery_token::{CopyKey, Job, Text};
 use imap_session::{After, Folder};
+use imap_stream::{Hush, Place, Visit, VisitFault};
 use line_io::{Sink, Watched};
 use mailbox::{History, Limits, Mailbox};
 use pace::{Actor, Gate};

@@ -1,15 +1,14 @@
 //! Sessions whose clients append messages, over couriers that bring a verdict, or none. What they are
 //! told is written in RFC 9051, 6.3.12 and 7.1, and in RFC 4315, 3.
 
-use crate::desk::LockedDesk;
-use crate::life::{Step, live};
-use crate::tests::{Tally, folders, saying, two_mailboxes};
+use crate::sessions::{Tally, folders, saying, two_mailboxes};
 use change_ring::Flags;
 use courier::{Courier, Lost};
 use delivery_token::{CopyKey, Job, Refusal, Text, Verdict};
 use imap_session::Store;
 use mailbox::{MailFault, Mailbox};
 use pace::{Gate, Pace};
+use session_thread::{LockedDesk, Step, live};
 use std::alloc::{AllocError, Global};
 use std::sync::{Mutex, Wait};
 
