@@ -3,18 +3,17 @@
 
 ghost use Rattle.std.specs.Prelude.{◌≡◌, false};
 
-use crate::imap::{Marks, Tally, Wire, a_mailbox, folders, is_greeting_and};
+use crate::imap::{Marks, Tally, Wire, a_mailbox, attend_one, is_greeting_and, open};
 use change_ring::Flags;
 use courier::{Courier, Lost};
 use delivery_token::{CopyKey, Job, Text, Verdict};
 use imap_session::After;
-use imap_stream::{Place, Visit, VisitFault};
+use imap_stream::{Visit, VisitFault};
 use mailbox::Mailbox;
 use pace::{Gate, Pace};
-use session_thread::LockedDesk;
 use std::alloc::{AllocError, Global};
 use std::sync::atomic::AtomicBool;
-use std::sync::{Arc, Mutex, Wait};
+use std::sync::{Mutex, Wait};
 
 // The most bytes of a message.
 const MOST: u32 = 64;
@@ -142,38 +141,45 @@ const CASES: &[Case] = &[
     },
 ];
 
-// What a visit answers to two pieces, and how many messages it gave to its courier.
-fn answers<'x, R: Wait>(
+// What a visit answers to two pieces.
+fn answers<R: Wait>(
+    alloc: Global,
+    visit: &mut Visit<'_, R, Tally, Wire<'_, R>>,
+    courier: &mut TestCourier<'_, R>,
+    case: &Case,
+) -> Answers {
+    let idles = AtomicBool::new(false);
+    let first = visit.hear(alloc, courier, case.first, &idles);
+    let second = visit.hear(alloc, courier, case.second, &idles);
+    visit.leave();
+    (first, second)
+}
+
+// The same, and how many messages it gave to its courier.
+fn visited<'x, R: Wait>(
     rt: &'x R,
     alloc: Global,
     mailboxes: &'x [Mutex<Mailbox>],
     case: &Case,
+    tally: &'x Tally,
     wire: Wire<'x, R>,
 ) -> Option<(Answers, u32)>
     requires { wire.has_failed ≡ false }
 {
-    let Ok(folders) = folders(alloc) else {
-        return None;
-    };
-    let tally = Tally::new();
-    let desk = LockedDesk::new(rt, &tally, 0, mailboxes, &[]);
     let mut courier = TestCourier::new(rt, mailboxes, case.loses);
-    let Ok(mut visit) = Visit::open(rt, alloc, desk, folders, Some(MOST), wire) else {
+    let Some(mut visit) = open(rt, alloc, mailboxes, tally, Some(MOST), wire) else {
         return None;
     };
-    let idles = AtomicBool::new(false);
-    let first = visit.hear(alloc, &mut courier, case.first, &idles);
-    let second = visit.hear(alloc, &mut courier, case.second, &idles);
-    visit.leave();
-    Some(((first, second), courier.asked))
+    let answered = answers(alloc, &mut visit, &mut courier, case);
+    Some((answered, courier.asked))
 }
 
 fn is_as_wanted<R: Wait>(rt: &R, alloc: Global, case: &Case) -> Result<bool, AllocError> {
     let mailboxes = a_mailbox(rt, alloc, false)?;
     let told = Mutex::new(Vec::new(alloc));
-    let marks = Marks::new();
+    let (tally, marks) = (Tally::new(), Marks::new());
     let wire = Wire::new(rt, &told, 9, &marks.told);
-    let answered = answers(rt, alloc, &mailboxes, case, wire);
+    let answered = visited(rt, alloc, &mailboxes, case, &tally, wire);
     Ok(answered == case.wanted && is_greeting_and(&told.into_inner(), case.told))
 }
 
@@ -191,39 +197,22 @@ fn attend<'x, R: Wait>(
     rt: &'x R,
     alloc: Global,
     mailboxes: &'x [Mutex<Mailbox>],
-    tally: &'x Tally,
     loses: Option<Lost>,
     bytes: &[u8],
-    wire: Wire<'x, R>,
-) -> Option<u32>
-    requires { wire.has_failed ≡ false }
-{
-    let Ok(folders) = folders(alloc) else {
-        return None;
-    };
-    let desk = LockedDesk::new(rt, tally, 0, mailboxes, &[]);
-    let Ok(idles) = Arc::new(alloc, AtomicBool::new(false)) else {
-        return None;
-    };
+    visit: Visit<'x, R, Tally, Wire<'x, R>>,
+) -> Option<u32> {
     let mut courier = TestCourier::new(rt, mailboxes, loses);
-    let place = Place::new(idles);
-    let (mut input, mut buffer) = (bytes, [0; 16]);
-    let never = AtomicBool::new(false);
-    let Ok(visit) = Visit::open(rt, alloc, desk, folders, Some(MOST), wire) else {
-        return None;
-    };
-    match place.attend(
+    let (mut input, never) = (bytes, AtomicBool::new(false));
+    let is_done = attend_one(
         rt,
         alloc,
         visit,
         &mut courier,
         &mut input,
-        &mut buffer,
+        &mut [0; 16],
         &never,
-    ) {
-        Ok(()) => Some(courier.asked),
-        Err(_) => None,
-    }
+    );
+    if is_done { Some(courier.asked) } else { None }
 }
 
 // Whether a client that sends these bytes is told this, and that many messages are carried.
@@ -239,7 +228,10 @@ fn is_attended<R: Wait>(
     let told = Mutex::new(Vec::new(alloc));
     let (tally, marks) = (Tally::new(), Marks::new());
     let wire = Wire::new(rt, &told, 9, &marks.told);
-    let asked = attend(rt, alloc, &mailboxes, &tally, loses, bytes, wire);
+    let asked = match open(rt, alloc, &mailboxes, &tally, Some(MOST), wire) {
+        Some(visit) => attend(rt, alloc, &mailboxes, loses, bytes, visit),
+        None => None,
+    };
     Ok(asked == Some(carried) && is_greeting_and(&told.into_inner(), rest))
 }
 

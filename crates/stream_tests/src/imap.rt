@@ -5,7 +5,7 @@ ghost use Rattle.std.specs.Prelude.{◌≡◌, false};
 
 use crate::couriers::TestCourier;
 use change_ring::NO_FLAGS;
-use courier::Lost;
+use courier::{Courier, Lost};
 use delivery_token::{CopyKey, Job, Text};
 use imap_session::{After, Folder};
 use imap_stream::{Hush, Place, Visit, VisitFault};
@@ -275,6 +275,65 @@ pub(crate) fn is_greeting_and(told: &[u8], rest: &[u8]) -> bool {
     told.starts_with(GREETING) && &told[GREETING.len()..] == rest
 }
 
+// A visit to the first mailbox, of a client that may append messages of so many bytes, if any; none where it couldn't be greeted.
+pub(crate) fn open<'x, R: Wait>(
+    rt: &'x R,
+    alloc: Global,
+    mailboxes: &'x [Mutex<Mailbox>],
+    tally: &'x Tally,
+    most: Option<u32>,
+    wire: Wire<'x, R>,
+) -> Option<Visit<'x, R, Tally, Wire<'x, R>>>
+    requires { wire.has_failed ≡ false }
+{
+    let Ok(folders) = folders(alloc) else {
+        return None;
+    };
+    let desk = LockedDesk::new(rt, tally, 0, mailboxes, &[]);
+    match Visit::open(rt, alloc, desk, folders, most, wire) {
+        Ok(visit) => Some(visit),
+        Err(_) => None,
+    }
+}
+
+// Whether the place was free for the visit, and its client was attended.
+pub(crate) fn attend_one<'x, R: Wait, I: Read, C: Courier>(
+    rt: &'x R,
+    alloc: Global,
+    visit: Visit<'x, R, Tally, Wire<'x, R>>,
+    courier: &mut C,
+    input: &mut I,
+    buffer: &mut [u8],
+    stop: &AtomicBool,
+) -> bool
+    requires { C.ready courier.old }
+{
+    let Ok(idles) = Arc::new(alloc, AtomicBool::new(false)) else {
+        return false;
+    };
+    Place::new(idles)
+        .attend(rt, alloc, visit, courier, input, buffer, stop)
+        .is_ok()
+}
+
+// Whether the client was greeted, and then served until its stream or its output ended.
+fn serve_over<'x, R: Wait, I: Read>(
+    rt: &'x R,
+    alloc: Global,
+    mailboxes: &'x [Mutex<Mailbox>],
+    tally: &'x Tally,
+    wire: Wire<'x, R>,
+    input: &mut I,
+    stop: &AtomicBool,
+) -> bool
+    requires { wire.has_failed ≡ false }
+{
+    match open(rt, alloc, mailboxes, tally, None, wire) {
+        Some(visit) => attend_one(rt, alloc, visit, &mut nobody(rt), input, &mut [0; 64], stop),
+        None => false,
+    }
+}
+
 // A client is served by one thread: what it was told, before its output failed after so many sends, and how many
 // events its session made.
 fn served<R: Wait, I: Read>(
@@ -292,36 +351,6 @@ fn served<R: Wait, I: Read>(
         return Err(AllocError);
     }
     Ok((bytes.into_inner(), tally.asked.load(Ordering::SeqCst)))
-}
-
-// Whether the visit was opened and the place was free.
-fn serve_over<'x, R: Wait, I: Read>(
-    rt: &'x R,
-    alloc: Global,
-    mailboxes: &'x [Mutex<Mailbox>],
-    tally: &'x Tally,
-    wire: Wire<'x, R>,
-    input: &mut I,
-    stop: &AtomicBool,
-) -> bool
-    requires { wire.has_failed ≡ false }
-{
-    let Ok(folders) = folders(alloc) else {
-        return false;
-    };
-    let desk = LockedDesk::new(rt, tally, 0, mailboxes, &[]);
-    let Ok(idles) = Arc::new(alloc, AtomicBool::new(false)) else {
-        return false;
-    };
-    let place = Place::new(idles);
-    let mut buffer = [0; 64];
-    let mut courier = nobody(rt);
-    match Visit::open(rt, alloc, desk, folders, None, wire) {
-        Ok(visit) => place
-            .attend(rt, alloc, visit, &mut courier, input, &mut buffer, stop)
-            .is_ok(),
-        Err(_) => false,
-    }
 }
 
 #[test]
@@ -435,32 +464,61 @@ fn bring<R: Wait>(
     are_stored
 }
 
-// The three threads of a place whose client idles: whether the client was served, and the messages brought.
+// A place whose client idles, and what those share who are about it.
+#[derive(Drop)]
+struct Scene<'a, R: Wait> {
+    mailboxes: &'a [Mutex<Mailbox>],
+    tally: &'a Tally,
+    job: &'a Job,
+    marks: &'a Marks,
+    nap: &'a Nap,
+    place: Place<'a, R, Tally, Wire<'a, R>>,
+    bell: SessionBell,
+}
+
+// The three threads of the place: whether the client was served, and the messages brought.
 fn serve_idler<'a, R: Threads + Wait + Sync>(
     rt: &'a R,
     alloc: Global,
-    mailboxes: &'a [Mutex<Mailbox>],
+    scene: &Scene<'a, R>,
     visit: Visit<'a, R, Tally, Wire<'a, R>>,
-    marks: &'a Marks,
-    nap: &'a Nap,
-) -> Result<bool, AllocError> {
-    let job = copy(alloc)?;
-    let sleeper = Sleeper::new(alloc)?;
-    let bell = sleeper.bell()?;
-    let place = Place::new(sleeper.idling()?);
-    let (shared, rung, brought) = (&place, &bell, &job);
+    sleeper: Sleeper,
+) -> bool {
+    let Scene {
+        mailboxes,
+        job,
+        marks,
+        nap,
+        place,
+        bell,
+        ..
+    } = scene;
     let (_watched, (is_done, are_stored)) = join(
         rt,
-        move || shared.keep_watch(rt, &sleeper, &marks.over, marks),
+        move || place.keep_watch(rt, &sleeper, &marks.over, *marks),
         move || {
             join(
                 rt,
-                move || attend(rt, alloc, shared, visit, marks, nap, rung),
-                move || bring(rt, mailboxes, brought, nap.messages, marks, rung),
+                move || attend(rt, alloc, place, visit, marks, nap, bell),
+                move || bring(rt, mailboxes, job, nap.messages, marks, bell),
             )
         },
     );
-    Ok(is_done && are_stored)
+    is_done && are_stored
+}
+
+fn idle_in<'a, R: Threads + Wait + Sync>(
+    rt: &'a R,
+    alloc: Global,
+    scene: &Scene<'a, R>,
+    bytes: &'a Mutex<Vec<u8>>,
+    sleeper: Sleeper,
+) -> bool {
+    let wire = Wire::new(rt, bytes, scene.nap.sends, &scene.marks.told);
+    match open(rt, alloc, scene.mailboxes, scene.tally, None, wire) {
+        Some(visit) => serve_idler(rt, alloc, scene, visit, sleeper),
+        None => false,
+    }
 }
 
 // Whether a client that idles so was served to its end, and its line was hushed where it said nothing.
@@ -471,13 +529,19 @@ fn idle_through<R: Threads + Wait + Sync>(
     nap: &Nap,
 ) -> Result<bool, AllocError> {
     let mailboxes = a_mailbox(rt, alloc, false)?;
+    let job = copy(alloc)?;
     let (tally, marks) = (Tally::new(), Marks::new());
-    let desk = LockedDesk::new(rt, &tally, 0, &mailboxes, &[]);
-    let wire = Wire::new(rt, bytes, nap.sends, &marks.told);
-    let is_served = match Visit::open(rt, alloc, desk, folders(alloc)?, None, wire) {
-        Ok(visit) => serve_idler(rt, alloc, &mailboxes, visit, &marks, nap)?,
-        Err(_) => false,
+    let sleeper = Sleeper::new(alloc)?;
+    let scene = Scene {
+        mailboxes: &mailboxes,
+        tally: &tally,
+        job: &job,
+        marks: &marks,
+        nap,
+        place: Place::new(sleeper.idling()?),
+        bell: sleeper.bell()?,
     };
+    let is_served = idle_in(rt, alloc, &scene, bytes, sleeper);
     Ok(is_served && marks.hushed.load(Ordering::SeqCst) == nap.says.is_empty())
 }
 
@@ -546,31 +610,20 @@ fn an_idling_client_that_cannot_be_shown_is_let_go(rt: HostRuntime) -> Result<()
     Ok(())
 }
 
-// What a visit answers to a piece, to a look behind it, and as it is dismissed; `None` where its client couldn't
-// be greeted.
+// What a visit answers to a piece, to a look behind it, and as it is dismissed.
+type Answers = (
+    Result<After, VisitFault>,
+    Result<After, VisitFault>,
+    Result<(), VisitFault>,
+);
+
+// None where it isn't as told whether the client idles.
 fn answers<'x, R: Wait>(
     rt: &'x R,
     alloc: Global,
-    mailboxes: &'x [Mutex<Mailbox>],
+    visit: &mut Visit<'x, R, Tally, Wire<'x, R>>,
     piece: &[u8],
-    wire: Wire<'x, R>,
-) -> Option<
-    (
-        Result<After, VisitFault>,
-        Result<After, VisitFault>,
-        Result<(), VisitFault>,
-    ),
->
-    requires { wire.has_failed ≡ false }
-{
-    let Ok(folders) = folders(alloc) else {
-        return None;
-    };
-    let tally = Tally::new();
-    let desk = LockedDesk::new(rt, &tally, 0, mailboxes, &[]);
-    let Ok(mut visit) = Visit::open(rt, alloc, desk, folders, None, wire) else {
-        return None;
-    };
+) -> Option<Answers> {
     let idles = AtomicBool::new(false);
     let heard = visit.hear(alloc, &mut nobody(rt), piece, &idles);
     if idles.load(Ordering::SeqCst) != (heard == Ok(After::Idle)) {
@@ -586,13 +639,8 @@ struct Case {
     piece: &'static [u8],
     // So many sends reach the client.
     sends: usize,
-    wanted: Option<
-        (
-            Result<After, VisitFault>,
-            Result<After, VisitFault>,
-            Result<(), VisitFault>,
-        ),
-    >,
+    // None where the client couldn't be greeted.
+    wanted: Option<Answers>,
     told: &'static [u8],
 }
 
@@ -631,9 +679,12 @@ const CASES: &[Case] = &[
 
 fn is_as_wanted<R: Wait>(rt: &R, alloc: Global, mailboxes: &[Mutex<Mailbox>], case: &Case) -> bool {
     let told = Mutex::new(Vec::new(alloc));
-    let marks = Marks::new();
+    let (tally, marks) = (Tally::new(), Marks::new());
     let wire = Wire::new(rt, &told, case.sends, &marks.told);
-    let answered = answers(rt, alloc, mailboxes, case.piece, wire);
+    let answered = match open(rt, alloc, mailboxes, &tally, None, wire) {
+        Some(mut visit) => answers(rt, alloc, &mut visit, case.piece),
+        None => None,
+    };
     answered == case.wanted && told.into_inner().as_slice() == case.told
 }
 
