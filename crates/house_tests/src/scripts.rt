@@ -28,23 +28,24 @@ const PRINTED: [&[u8]; 7] = [
     b"T alice add 1\nT alice total 1\n",
 ];
 
-// Gives the script line by line, and fails once its calls are used up.
+// Gives a script line by line, and fails in this way once its calls are used up.
 #[derive(Drop)]
-struct Torn {
-    rest: &'static [u8],
+struct Torn<'a> {
+    rest: &'a [u8],
     calls: usize,
+    kind: ErrorKind,
 }
 
-impl Read for Torn {
+impl Read for Torn<'_> {
     fn read(&mut self, _buf: &mut [u8]) -> std::io::Result<usize> {
-        Err(Error::from(ErrorKind::BrokenPipe))
+        Err(Error::from(self.kind))
     }
 }
 
-impl BufRead for Torn {
+impl BufRead for Torn<'_> {
     fn fill_buf(&mut self) -> std::io::Result<&[u8]> {
         if self.calls == 0 {
-            return Err(Error::from(ErrorKind::BrokenPipe));
+            return Err(Error::from(self.kind));
         }
         match self.rest.split_inclusive(|b| *b == b'\n').next() {
             Some(line) => Ok(line),
@@ -83,27 +84,37 @@ impl Sink for Narrow {
     }
 }
 
-// What a run of the script answers and writes, where the reader gives so many lines and the writer takes so many bytes.
-fn run(
+// What a run of a script answers and writes, where the writer takes so many bytes.
+fn run_over(
     alloc: Global,
-    lines: usize,
+    reader: &mut Torn<'_>,
     room: usize,
 ) -> Result<(Result<(), RunFault>, Vec<u8>), AllocError> {
     let config = Config::new(alloc, &[b"alice".as_slice()])?;
     let Ok(mut house) = House::new(alloc, &config) else {
         return Err(AllocError);
     };
-    let mut reader = Torn {
-        rest: SCRIPT,
-        calls: lines,
-    };
     let mut writer = Narrow {
         bytes: Vec::new(alloc),
         room,
         has_failed: false,
     };
-    let done = drive(alloc, &mut house, &mut reader, &mut writer);
+    let done = drive(alloc, &mut house, reader, &mut writer);
     Ok((done, writer.bytes))
+}
+
+// The same of the script above, of which the reader gives so many lines.
+fn run(
+    alloc: Global,
+    lines: usize,
+    room: usize,
+) -> Result<(Result<(), RunFault>, Vec<u8>), AllocError> {
+    let mut reader = Torn {
+        rest: SCRIPT,
+        calls: lines,
+        kind: ErrorKind::BrokenPipe,
+    };
+    run_over(alloc, &mut reader, room)
 }
 
 // What the first lines print.
@@ -146,5 +157,52 @@ fn a_writer_that_fails_is_told_to_the_byte(rt: HostRuntime) -> Result<(), AllocE
             }
         }
     }
+    Ok(())
+}
+
+#[test]
+fn a_reader_that_wants_memory_is_told_so(rt: HostRuntime) -> Result<(), AllocError> {
+    let mut reader = Torn {
+        rest: SCRIPT,
+        calls: 1,
+        kind: ErrorKind::OutOfMemory,
+    };
+    let (done, _written) = run_over(rt.alloc(), &mut reader, 1_000)?;
+    assert_eq!(rt; done, Err(RunFault::NoMemory));
+    Ok(())
+}
+
+// Lines of a script that begin so and have so many bytes, and whether they are taken. Any but a comment has 65,536 at most.
+const LONG_LINES: &[(&[u8], usize, bool)] = &[
+    (b"L1 ", 65_536, true),
+    (b"L1 ", 65_537, false),
+    (b"# ", 65_537, true),
+    (b"# ", 70_000, true),
+];
+
+fn is_taken(alloc: Global, front: &[u8], length: usize) -> Result<bool, AllocError> {
+    let mut line = Vec::from_slice(alloc, front)?;
+    line.resize(length, b'x')?;
+    let mut reader = Torn {
+        rest: &line,
+        calls: 9,
+        kind: ErrorKind::BrokenPipe,
+    };
+    let (done, written) = run_over(alloc, &mut reader, 1_000)?;
+    Ok(done == Ok(()) && !written.starts_with(b"? "))
+}
+
+fn first_unlike(alloc: Global) -> Result<Option<usize>, AllocError> {
+    for (place, (front, length, wanted)) in LONG_LINES.iter().enumerate() {
+        if is_taken(alloc, front, *length)? != *wanted {
+            return Ok(Some(place));
+        }
+    }
+    Ok(None)
+}
+
+#[test]
+fn a_line_has_65536_bytes_at_most(rt: HostRuntime) -> Result<(), AllocError> {
+    assert_eq!(rt; first_unlike(rt.alloc())?, None);
     Ok(())
 }

@@ -2,3 +2,4 @@ pub mod Script
 pub mod Promise
 pub mod Leaving
 pub mod inner
+pub mod rows
