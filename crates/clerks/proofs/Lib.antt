@@ -1,3 +1,2 @@
 mod KeepLaws
-mod StaffLaws
-mod RoundLaws
+pub mod StaffLaws

@@ -5,8 +5,6 @@
 mod clerk;
 mod helping;
 mod staff;
-#[cfg(test)]
-mod tests;
 mod turn;
 
 pub use clerk::{Clerk, Hall};

@@ -10,8 +10,6 @@ mod floor;
 mod joining;
 mod opening;
 mod stock;
-#[cfg(test)]
-mod tests;
 mod users;
 
 pub use floor::{Crew, Floor, Post, Stand, Visit};

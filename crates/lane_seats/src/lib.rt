@@ -7,8 +7,6 @@ mod channels;
 mod lanes;
 mod laws;
 mod rooms;
-#[cfg(test)]
-mod tests;
 
 pub use channels::{
     Channels, abandon_channels, close_channels, collect_all_senders, collect_senders,

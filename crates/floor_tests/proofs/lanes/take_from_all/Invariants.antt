@@ -1,0 +1,5 @@
+use Rattle.lane_seats.specs.rows.Rows.{AreConsumers}
+use Rattle.floor_tests.proofs.lanes.take_from_all.Given as goal
+
+abbrev pub invariant-loop-lane : goal.invariant-loop-lane
+invariant-loop-lane g l = AreConsumers l.lanes l.consumers.items

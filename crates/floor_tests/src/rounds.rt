@@ -1,0 +1,598 @@
+//! A whole round: three workers in threads of their own, who put copies for three mailboxes on two
+//! lanes and make the clerks' steps; then all lanes are closed.
+
+ghost use Rattle.std.specs.Prelude.{◌≡◌, ◌<◌, ◌≤◌, ◌+◌, ℕ, suc, [], All, IfOk, Some, length, map, vec_len, vec_capacity};
+ghost use Rattle.std.specs.Mem.{manually_drop_value};
+ghost use Rattle.std.specs.Thread.{IsSync};
+ghost use Rattle.shard_queue.specs.Reply.{IsReceiver};
+ghost use Rattle.shard_queue.specs.Seats.{IsProducer, number_of};
+ghost use Rattle.lane_work.specs.Seats.{AreEnded, AreSeats, IsSeat, seat_number};
+ghost use Rattle.lane_seats.specs.Rooms.{AreRooms};
+ghost use Rattle.lane_seats.specs.rows.Rows.{AreConsumers, EndedRows};
+ghost use Rattle.house_floor.specs.Crew.{AllAt, IsCrew, IsPost, IsStand};
+ghost use Rattle.house_floor.specs.Opening.{AreBaskets};
+ghost use Rattle.floor_tests.specs.inner.Rounds.{AreSomeones, IsOwnPost};
+ghost use Rattle.floor_tests.specs.declared.rounds.Left.{Left};
+
+use change_ring::NO_FLAGS;
+use clerks::{
+    Clerk, Clerks, Dismissed, Hall, Staff, Unhindered, dismiss_all, hire_all, stand_down,
+};
+use delivery_token::{CopyKey, Job, Noted, Text, Verdict};
+use envelope::Directory;
+use house_floor::{Baskets, Crew, Floor, Opened, Post, Sizes, Stand, open};
+use lane_seats::{close_lanes, collect, spend_lists};
+use lane_work::{Closing, Consumed, Depot, Desk, LaneSeat, Office, end_all};
+use mailbox::{History, Limits, Mailbox};
+use pace::{Actor, Pace};
+use shard_queue::{
+    ConsumerSeat, Ended, Entry, Full, ProducerSeat, ReceiverSeat, ReplyChannel, SenderEnded,
+    ShardQueue,
+};
+use std::alloc::{AllocError, AllocGlobal, Global};
+use std::marker::Brand;
+use std::mem::ManuallyDrop;
+use std::process::Abort;
+use std::sync::{Mutex, Wait};
+use std::test::Fail;
+use std::thread;
+use std::thread::Threads;
+
+const WORKERS: u8 = 3;
+
+const COPIES: u8 = 16;
+
+const MAILBOXES: u8 = 3;
+
+// What a worker leaves: its ended seats, its end of its channel, and how many copies were stored.
+struct Left {
+    ended: Vec<Ended<Job>>,
+    receiver: ReceiverSeat<Noted>,
+    stored: usize,
+}
+
+fn packed<T>(value: T) -> ManuallyDrop<T>
+    ensures { manually_drop_value result ≡ value }
+{
+    unsafe { ManuallyDrop::new_unchecked(value) }
+}
+
+fn job_of(alloc: Global, seat: u8, serial: u8) -> Result<Job, AllocError> {
+    let key = CopyKey {
+        seat,
+        serial: u64::from(serial),
+        message: 0,
+        recipient: 0,
+    };
+    Ok(Job {
+        key,
+        mailbox: serial % MAILBOXES,
+        text: Text::new(Vec::new(alloc))?,
+        flags: NO_FLAGS,
+    })
+}
+
+// Puts a copy on a lane. Whether there was room.
+fn put_on<R: Wait>(rt: &R, lane: &ShardQueue<Job>, seat: &mut ProducerSeat<Job>, job: Job) -> bool
+    requires { IsProducer lane.now seat.old }
+    ensures { IsProducer lane.now seat.new × (number_of seat.new ≡ number_of seat.old) }
+{
+    match lane.put_as(rt, seat, job) {
+        Ok(()) => true,
+        Err(Full(_)) => false,
+    }
+}
+
+// The same at a seat that may be over: then nothing is put.
+fn put_at<R: Wait>(rt: &R, lane: &ShardQueue<Job>, seat: &mut LaneSeat, job: Job) -> bool
+    requires { IsSeat lane.now seat.old }
+    ensures { IsSeat lane.now seat.new × (seat_number seat.new ≡ seat_number seat.old) }
+{
+    match seat {
+        LaneSeat::Live(live) => put_on(rt, lane, live, job),
+        LaneSeat::Over(_) => false,
+    }
+}
+
+// The same, on the lane of the copy's mailbox. The number of its shard, where there was room.
+fn put_copy<R: Wait>(
+    rt: &R,
+    office: &Office,
+    seats: &mut Vec<LaneSeat>,
+    number: u8,
+    job: Job,
+) -> Option<usize>
+    requires seats { AreSeats office.now.lanes.items number seats.old.items }
+    requires lanes { office.now.directory.shards ≡ length office.now.lanes.items }
+    ensures { AreSeats office.now.lanes.items number seats.new.items }
+{
+    let shard = office.directory.shard_of(job.mailbox);
+    let was_put = put_at(rt, &office.lanes[shard], &mut seats[shard], job);
+    if was_put { Some(shard) } else { None }
+}
+
+// Makes a copy, and puts it. The number of its shard, where there was memory and room.
+fn put_next<R: Wait>(
+    rt: &R,
+    floor: &Floor,
+    seats: &mut Vec<LaneSeat>,
+    number: u8,
+    serial: u8,
+) -> Option<usize>
+    requires seats { AreSeats floor.now.office.lanes.items number seats.old.items }
+    requires lanes { floor.now.office.directory.shards ≡ length floor.now.office.lanes.items }
+    ensures { AreSeats floor.now.office.lanes.items number seats.new.items }
+{
+    let Ok(job) = job_of(floor.alloc, number, serial) else {
+        return None;
+    };
+    put_copy(rt, &floor.office, seats, number, job)
+}
+
+// Whether the next verdict that waits tells that a copy was stored.
+fn hears_stored<R: Wait>(
+    rt: &R,
+    channel: &ReplyChannel<Noted>,
+    receiver: &mut ReceiverSeat<Noted>,
+) -> bool
+    requires { IsReceiver channel.now receiver.old }
+    ensures { IsReceiver channel.now receiver.new }
+{
+    match channel.recv_as(rt, receiver) {
+        Entry::Item(_, noted) => matches!(noted.verdict, Verdict::Stored { uid: _ }),
+        Entry::End(_) => false,
+    }
+}
+
+// Puts each of its copies, helps, and hears the verdict. How many were stored.
+fn put_all<H: Hall, R: Wait>(
+    rt: &R,
+    floor: &Floor,
+    clerks: &[Mutex<Clerk<H>>],
+    channel: &ReplyChannel<Noted>,
+    desk: &mut Desk,
+) -> usize
+    requires lanes { H.lanes ≡ Some floor.now.office.lanes.items }
+    requires depot { H.depot ≡ Some floor.now.depot }
+    requires shards { floor.now.office.directory.shards ≡ length floor.now.office.lanes.items }
+    requires seats { AreSeats floor.now.office.lanes.items desk.old.number desk.old.seats.items }
+    requires receiver { IsReceiver channel.now desk.old.receiver }
+    ensures number { desk.new.number ≡ desk.old.number }
+    ensures seats { AreSeats floor.now.office.lanes.items desk.old.number desk.new.seats.items }
+{
+    let help = Clerks::new(clerks, &floor.office.lanes, &floor.depot, &Unhindered);
+    let number = desk.number;
+    let mut stored = 0usize;
+    for serial in 0..COPIES {
+        if let Some(shard) = put_next(rt, floor, &mut desk.seats, number, serial) {
+            help.help(rt, shard);
+            if hears_stored(rt, channel, &mut desk.receiver) {
+                stored = stored.saturating_add(1);
+            }
+        }
+    }
+    stored
+}
+
+// A worker's whole life.
+fn labour<H: Hall, R: Wait + Abort>(
+    rt: &R,
+    floor: &Floor,
+    clerks: &[Mutex<Clerk<H>>],
+    parcel: ManuallyDrop<Post>,
+) -> ManuallyDrop<Left>
+    requires lanes { H.lanes ≡ Some floor.now.office.lanes.items }
+    requires depot { H.depot ≡ Some floor.now.depot }
+    requires shards { floor.now.office.directory.shards ≡ length floor.now.office.lanes.items }
+    requires post { IsOwnPost floor.now (manually_drop_value parcel) }
+    ensures { AreSomeones floor.now.office.lanes.items (manually_drop_value {X = Left} result).ended.items }
+{
+    let Post { mut desk, room } = ManuallyDrop::into_inner(parcel);
+    let place = usize::from(desk.number);
+    let channel = floor.depot.channels.get(place).expect(rt, "a channel");
+    let stored = put_all(rt, floor, clerks, channel, &mut desk);
+    let Desk {
+        number,
+        seats,
+        receiver,
+        ends: _,
+    } = desk;
+    let mut pace = Pace::new(&Unhindered, Actor::Worker(number));
+    let help = Clerks::new(clerks, &floor.office.lanes, &floor.depot, &Unhindered);
+    let ended = end_all(rt, &mut pace, &floor.office, &help, number, seats, room);
+    packed(Left {
+        ended,
+        receiver,
+        stored,
+    })
+}
+
+// The posts, for a closure to hold.
+fn pack_all(
+    floor: &Floor,
+    mut posts: Vec<Post>,
+    mut parcels: Vec<ManuallyDrop<Post>>,
+) -> Vec<ManuallyDrop<Post>>
+    requires posts { AllAt (IsPost floor.now) 0 posts.items }
+    requires room { (parcels.items ≡ []) × (vec_len posts ≤ vec_capacity parcels) }
+    ensures posts { All (λ p. IsOwnPost floor.now (manually_drop_value p)) result.items }
+    ensures count { vec_len result ≡ vec_len posts }
+{
+    while let Some(post) = posts.pop() {
+        parcels.push_reserved(packed(post));
+    }
+    posts.destroy_empty();
+    parcels
+}
+
+// The clerks' ends of the lanes, in their order; what is left of their senders is spent with the
+// channels.
+fn part(
+    mut consumed: Vec<Consumed>,
+    mut seats: Vec<ConsumerSeat<Job>>,
+    hands: &mut Vec<Vec<SenderEnded<Noted>>>,
+) -> Vec<ConsumerSeat<Job>>
+    requires seats { (seats.items ≡ []) × (vec_len consumed ≤ vec_capacity seats) }
+    requires hands { vec_len hands.old + vec_len consumed ≤ vec_capacity hands.old }
+    ensures seats { result.items ≡ map (λ c. c.seat) consumed.items }
+    ensures hands { vec_len hands.new ≡ vec_len hands.old + vec_len consumed }
+{
+    for done in 0..consumed.len() {
+        let Consumed {
+            seat,
+            senders,
+            copies: _,
+            kept: _,
+            torn: _,
+        } = consumed.remove(0);
+        seats.push_reserved(seat);
+        hands.push_reserved(senders);
+    }
+    consumed.destroy_empty();
+    seats
+}
+
+// What a round comes to.
+#[derive(Drop)]
+struct Round {
+    // Whether all lanes could be closed.
+    closed: bool,
+    // How many copies were told as stored.
+    told: usize,
+    // The copies that the mailboxes accepted.
+    accepted: Vec<CopyKey>,
+}
+
+// Collects what is left of the workers' seats, and how many copies were told as stored.
+fn collect_all(
+    floor: &Floor,
+    mut left: Vec<ManuallyDrop<Left>>,
+    lists: &mut Vec<Vec<Ended<Job>>>,
+    receivers: &mut Vec<ReceiverSeat<Noted>>,
+) -> usize
+    requires ended { All (λ l. AreSomeones floor.now.office.lanes.items (manually_drop_value {X = Left} l).ended.items) left.items }
+    requires lists { EndedRows floor.now.office.lanes.items (map (λ v. v.items) lists.old.items) }
+    requires count { vec_len lists.old ≡ length floor.now.office.lanes.items }
+    requires room { All (λ v. vec_len v + vec_len left ≤ vec_capacity v) lists.old.items }
+    requires receivers { vec_len receivers.old + vec_len left ≤ vec_capacity receivers.old }
+    ensures lists { EndedRows floor.now.office.lanes.items (map (λ v. v.items) lists.new.items) }
+    ensures receivers { vec_len receivers.new ≡ vec_len receivers.old + vec_len left }
+{
+    let mut told = 0usize;
+    while let Some(parcel) = left.pop() {
+        let Left {
+            ended,
+            receiver,
+            stored,
+        } = ManuallyDrop::into_inner(parcel);
+        collect(lists, ended);
+        receivers.push_reserved(receiver);
+        told = told.saturating_add(stored);
+    }
+    told
+}
+
+// Spends the channels with all that is left of their seats.
+fn spend_channels(
+    alloc: Global,
+    mut channels: Vec<ReplyChannel<Noted>>,
+    mut hands: Vec<Vec<SenderEnded<Noted>>>,
+    mut receivers: Vec<ReceiverSeat<Noted>>,
+)
+    requires hands { vec_len hands ≤ vec_len channels }
+    requires receivers { vec_len receivers ≡ vec_len channels }
+{
+    while let Some(channel) = channels.pop() {
+        let ended = hands.pop().unwrap_or_else(|| Vec::new(alloc));
+        channel.abandon(Vec::new(alloc), ended, receivers.remove(0));
+    }
+    channels.destroy_empty();
+    hands.destroy_empty();
+    receivers.destroy_empty();
+}
+
+// The keys of all copies that the mailboxes accepted.
+fn accepted_by_all(
+    alloc: Global,
+    mailboxes: Vec<Mutex<Mailbox>>,
+) -> Result<Vec<CopyKey>, AllocError> {
+    let mut keys = Vec::new(alloc);
+    for lock in mailboxes {
+        let mailbox = lock.into_inner();
+        for entry in mailbox.accepted() {
+            keys.push(entry.0)?;
+        }
+    }
+    Ok(keys)
+}
+
+// Each worker's life in a thread of its own.
+fn work_all<H: Hall + Send, T: Threads + Wait + Sync + Abort>(
+    rt: &T,
+    floor: &Floor,
+    clerks: &[Mutex<Clerk<H>>],
+    parcels: Vec<ManuallyDrop<Post>>,
+) -> Vec<ManuallyDrop<Left>>
+    requires lanes { H.lanes ≡ Some floor.now.office.lanes.items }
+    requires depot { H.depot ≡ Some floor.now.depot }
+    requires shards { floor.now.office.directory.shards ≡ length floor.now.office.lanes.items }
+    requires posts { All (λ p. IsOwnPost floor.now (manually_drop_value p)) parcels.items }
+    ensures left { All (λ l. AreSomeones floor.now.office.lanes.items (manually_drop_value {X = Left} l).ended.items) result.items }
+    ensures count { vec_len result ≡ vec_len parcels }
+{
+    thread::map_vec(
+        rt,
+        parcels,
+        &|parcel| labour::<H, T>(rt, floor, clerks, parcel),
+    )
+    .expect(rt, "memory")
+}
+
+// The whole round over a house that was opened.
+fn run_in<H: Hall + Send, T: Threads + Wait + Sync + Abort>(
+    rt: &T,
+    floor: Floor,
+    crew: Crew,
+    baskets: Baskets,
+) -> Round
+    requires lanes { H.lanes ≡ Some floor.office.lanes.items }
+    requires depot { H.depot ≡ Some floor.depot }
+    requires shards { floor.office.directory.shards ≡ length floor.office.lanes.items }
+    requires few { length floor.office.lanes.items ≤ length floor.depot.channels.items }
+    requires crew { IsCrew floor (length floor.depot.channels.items) crew }
+    requires baskets { AreBaskets (length floor.depot.channels.items) (length floor.office.lanes.items) baskets }
+{
+    let alloc = floor.alloc;
+    let Crew {
+        stands,
+        posts,
+        consumed,
+        worked,
+        unmanned,
+    } = crew;
+    worked.destroy_empty();
+    unmanned.destroy_empty();
+    let Baskets {
+        hands,
+        mut lists,
+        mut sender_hands,
+        sender_lists,
+        consumers,
+        mut receivers,
+        replies: _,
+        logs: _,
+        copies: _,
+        lanes: closed,
+        channels: _,
+        spares,
+    } = baskets;
+    hands.destroy_empty();
+    spend_lists(sender_lists);
+    spares.spend();
+    let staff = Staff::<H>::with_room(alloc, floor.office.lanes.len()).expect(rt, "memory");
+    let staff = hire_all(&floor, stands, staff);
+    let parcels = Vec::with_capacity(alloc, posts.len()).expect(rt, "memory");
+    let parcels = pack_all(&floor, posts, parcels);
+    let left = work_all::<H, T>(rt, &floor, &staff.clerks, parcels);
+    let told = collect_all(&floor, left, &mut lists, &mut receivers);
+    let Dismissed { consumed, in_order } = dismiss_all(rt, &Unhindered, &floor, staff, consumed);
+    if !in_order {
+        panic!(rt; "a clerk stood at another's place")
+    }
+    let seats = part(consumed, consumers, &mut sender_hands);
+    let Floor {
+        office,
+        depot,
+        bells: _,
+        turns: _,
+        alloc: _,
+    } = floor;
+    let Office {
+        directory: _,
+        host: _,
+        max_message: _,
+        lanes,
+        closings: _,
+    } = office;
+    let Depot {
+        mailboxes,
+        channels,
+        sessions: _,
+    } = depot;
+    let closed = close_lanes(alloc, lanes, lists, seats, closed).is_some();
+    spend_channels(alloc, channels, sender_hands, receivers);
+    let accepted = accepted_by_all(alloc, mailboxes).expect(rt, "memory");
+    Round {
+        closed,
+        told,
+        accepted,
+    }
+}
+
+// Whether no key stands there twice.
+fn each_once(keys: &[CopyKey]) -> bool {
+    for (place, key) in keys.iter().enumerate() {
+        if keys[place + 1..].contains(key) {
+            return false;
+        }
+    }
+    true
+}
+
+const LIMITS: Limits = Limits {
+    messages: 100,
+    ring: 16,
+    ring_max: 0,
+};
+
+// How large its parts are. Nobody closes a shard before the end.
+fn sizes<'a>(closings: &'a [Vec<Closing>]) -> Sizes<'a>
+    ensures host { length result.host.now < 256 }
+    ensures sizes { (result.producers ≡ 3) × (result.depth ≡ 4) × (0 < result.limits.ring) }
+{
+    Sizes {
+        host: b"mx.example.org",
+        max_message: 1000,
+        producers: WORKERS,
+        depth: 4,
+        uidvalidity: 7,
+        first_uid: 1,
+        limits: LIMITS,
+        history: History::Kept,
+        turns: 10,
+        closings,
+    }
+}
+
+// Three mailboxes on two shards.
+fn directory(alloc: Global) -> Result<Directory, Fail>
+    ensures { IfOk result (λ d. d.shards ≡ 2) }
+{
+    let Ok(directory) = Directory::new(
+        alloc,
+        &[b"example.org".as_slice()],
+        &[
+            b"alice".as_slice(),
+            b"alice/Work".as_slice(),
+            b"bob".as_slice(),
+        ],
+        2,
+    ) else {
+        return Err(Fail::new("directory"));
+    };
+    Ok(directory)
+}
+
+#[test]
+fn each_copy_is_stored_once_and_all_lanes_close(rt: HostRuntime) -> Result<(), Fail> {
+    let alloc = rt.alloc();
+    let directory = directory(alloc)?;
+    let Opened {
+        floor,
+        crew,
+        baskets,
+        sleepers: _,
+    } = open(alloc, directory, sizes(&[]), &[])?;
+    let round = run_in::<Brand, HostRuntime>(&rt, floor, crew, baskets);
+    let copies = usize::from(WORKERS) * usize::from(COPIES);
+    assert!(&rt; round.closed);
+    assert!(&rt; round.told == copies);
+    assert!(&rt; round.accepted.len() == copies);
+    assert!(&rt; each_once(&round.accepted));
+    Ok(())
+}
+
+fn help_once<H: Hall, T: Wait>(rt: &T, floor: &Floor, clerks: &[Mutex<Clerk<H>>], shard: usize)
+    requires lanes { H.lanes ≡ Some floor.now.office.lanes.items }
+    requires depot { H.depot ≡ Some floor.now.depot }
+{
+    let help = Clerks::new(clerks, &floor.office.lanes, &floor.depot, &Unhindered);
+    help.help(rt, shard);
+}
+
+// Helps on so many shards from the first on, in a thread for each. How many threads there were.
+fn help_each<H: Hall + Send, T: Threads + Wait + Sync>(
+    rt: &T,
+    floor: &Floor,
+    clerks: &[Mutex<Clerk<H>>],
+    shards: usize,
+) -> usize
+    requires lanes { H.lanes ≡ Some floor.now.office.lanes.items }
+    requires depot { H.depot ≡ Some floor.now.depot }
+{
+    thread::scope(
+        thread::scope_env(),
+        rt,
+        |scope| -> usize
+            requires { IsSync T.row × (H.lanes ≡ Some floor.now.office.lanes.items) × (H.depot ≡ Some floor.now.depot) }
+        {
+            let mut made = 0usize;
+            for shard in 0..shards {
+                let started = scope.spawn(
+                    move || -> ()
+                        requires { IsSync T.row × (H.lanes ≡ Some floor.now.office.lanes.items) × (H.depot ≡ Some floor.now.depot) }
+                    { help_once::<H, T>(rt, floor, clerks, shard) },
+                );
+                if started.is_ok() {
+                    made = made.saturating_add(1);
+                }
+            }
+            made
+        },
+    )
+}
+
+// Hires clerks who find nothing to do, and stands them down: the number of the last one's shard, the
+// ends that it took, and how many stands there are again.
+fn idle_in<H: Hall + Send, T: Threads + Wait + Sync + Abort>(
+    rt: &T,
+    floor: &Floor,
+    stands: Vec<Stand>,
+) -> (u8, usize, Vec<Stand>)
+    requires lanes { H.lanes ≡ Some floor.now.office.lanes.items }
+    requires depot { H.depot ≡ Some floor.now.depot }
+    requires some { 0 < length floor.now.office.lanes.items }
+    requires stands { AllAt (IsStand floor.now) 0 stands.items × (vec_len stands ≡ length floor.now.office.lanes.items) }
+{
+    let staff = Staff::<H>::with_room(floor.alloc, stands.len()).expect(rt, "memory");
+    let staff = hire_all(floor, stands, staff);
+    // The third shard isn't there.
+    let threads = help_each(rt, floor, &staff.clerks, 3);
+    assert!(rt; threads == 3);
+    let (shard, ends) = seen_behind(rt, &staff.clerks[staff.clerks.len() - 1]);
+    (shard, ends, stand_down(floor, staff))
+}
+
+fn seen_behind<H: Hall, T: Wait>(rt: &T, lock: &Mutex<Clerk<H>>) -> (u8, usize) {
+    let clerk = lock.lock(rt);
+    (clerk.shard(), clerk.ends())
+}
+
+#[test]
+fn clerks_with_nothing_to_do_are_stood_down(rt: HostRuntime) -> Result<(), Fail> {
+    let alloc = rt.alloc();
+    let directory = directory(alloc)?;
+    let Opened {
+        floor,
+        crew,
+        baskets,
+        sleepers: _,
+    } = open(alloc, directory, sizes(&[]), &[])?;
+    let Crew {
+        stands,
+        posts,
+        consumed,
+        worked,
+        unmanned,
+    } = crew;
+    let (shard, ends, stands) = idle_in::<Brand, HostRuntime>(&rt, &floor, stands);
+    let count = stands.len();
+    // A house whose seats haven't ended can't be closed, and is left where it is.
+    let _floor = packed(floor);
+    let _baskets = packed(baskets);
+    let _stands = packed(stands);
+    let _posts = packed(posts);
+    let _lists = packed((consumed, worked, unmanned));
+    assert!(&rt; (shard, ends, count) == (1, 0, 2));
+    Ok(())
+}

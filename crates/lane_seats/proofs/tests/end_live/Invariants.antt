@@ -1,6 +1,0 @@
-use Rattle.std.proofs.Common.{◌≡◌}
-use Rattle.shard_queue.specs.Seats.{IsProducer, number_of}
-use Rattle.lane_seats.proofs.tests.end_live.Given as goal
-
-abbrev pub invariant-loop : goal.invariant-loop
-invariant-loop g l = IsProducer l.lane l.seat × (number_of l.seat ≡ number_of l.fn.seat)

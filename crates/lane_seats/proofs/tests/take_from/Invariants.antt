@@ -1,5 +1,0 @@
-use Rattle.shard_queue.specs.Seats.{IsConsumer}
-use Rattle.lane_seats.proofs.tests.take_from.Given as goal
-
-abbrev pub invariant-loop : goal.invariant-loop
-invariant-loop g l = IsConsumer l.lane l.seat
