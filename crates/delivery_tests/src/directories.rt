@@ -85,20 +85,32 @@ const NUMBERS: &[(&[u8], Option<u8>)] = &[
     (b"alice/", None),
 ];
 
+fn first_unlike_number(directory: &Directory) -> Option<&'static [u8]> {
+    for (word, wanted) in NUMBERS {
+        if directory.number_of(word) != *wanted {
+            return Some(word);
+        }
+    }
+    None
+}
+
+// Whether the three mailboxes stand on their shards, and are the users' and the folders' that the words name.
+fn are_homes_right(directory: &Directory) -> bool {
+    directory.mailboxes() == 3
+        && directory.shards() == 2
+        && directory.shard_of(2) == 0
+        && directory.user_of(1) == b"alice".as_slice()
+        && directory.folder_of(1) == Some(b"Work".as_slice())
+        && directory.folder_of(2).is_none()
+}
+
 #[test]
 fn words_have_numbers(rt: HostRuntime) -> Result<(), DirectoryFault> {
     let directory = house(rt.alloc())?;
-    for (word, want) in NUMBERS {
-        assert_eq!(rt; directory.number_of(word), *want);
-    }
-    let counts = (directory.mailboxes(), directory.shards());
-    assert_eq!(rt; counts, (3, 2));
-    assert_eq!(rt; directory.shard_of(2), 0);
-    if directory.mailboxes() == 3 {
-        assert_eq!(rt; directory.user_of(1), b"alice".as_slice());
-        assert_eq!(rt; directory.folder_of(1), Some(b"Work".as_slice()));
-        assert_eq!(rt; directory.folder_of(2), None);
-    }
+    assert_eq!(rt;
+        (first_unlike_number(&directory), are_homes_right(&directory)),
+        (None, true)
+    );
     Ok(())
 }
 

@@ -48,22 +48,28 @@ enum Act {
     Lines(&'static [u8]),
 }
 
+fn copy_for(alloc: Global, recipient: u8) -> Result<Job, AllocError> {
+    Ok(Job {
+        key: CopyKey { recipient, ..KEY },
+        mailbox: 3,
+        text: Text::new(Vec::from_slice(alloc, b"hi\r\n")?)?,
+        flags: NO_FLAGS,
+    })
+}
+
 // Whether a copy is delivered as it should be.
 fn delivers(
     alloc: Global,
     mailbox: &mut Mailbox,
     recipient: u8,
     wanted: Result<(u32, usize), Refusal>,
-) -> Result<bool, AllocError> {
-    let copy = Job {
-        key: CopyKey { recipient, ..KEY },
-        mailbox: 3,
-        text: Text::new(Vec::from_slice(alloc, b"hi\r\n")?)?,
-        flags: NO_FLAGS,
+) -> bool {
+    let Ok(copy) = copy_for(alloc, recipient) else {
+        return false;
     };
     match deliver(mailbox, &copy) {
-        Ok(r) => Ok(r.key() == copy.key && r.mailbox() == 3 && wanted == Ok((r.uid(), r.place()))),
-        Err(refusal) => Ok(wanted == Err(refusal)),
+        Ok(r) => r.key() == copy.key && r.mailbox() == 3 && wanted == Ok((r.uid(), r.place())),
+        Err(refusal) => wanted == Err(refusal),
     }
 }
 
@@ -111,16 +117,16 @@ fn step(
     seat: &mut CursorSeat,
     out: &mut Vec<u8>,
     act: &Act,
-) -> Result<bool, AllocError> {
+) -> bool {
     match act {
         Act::Deliver(recipient, wanted) => delivers(alloc, mailbox, *recipient, *wanted),
-        Act::Count(status) => Ok(count(mailbox) == *status),
-        Act::View(wanted) => Ok(counts(mailbox, seat, *wanted)),
-        Act::Read(uid, mark, wanted) => Ok(reads(mailbox, seat, *uid, *mark) == *wanted),
-        Act::Alter(uid, op, wanted) => Ok(alter(mailbox, seat, *uid, *op) == *wanted),
-        Act::Feed(limit, wanted) => Ok(feed(mailbox, seat, *limit, out) == *wanted),
-        Act::Expunge(set, wanted) => Ok(expunge(mailbox, seat, *set, out) == *wanted),
-        Act::Lines(wanted) => Ok(lines_are(out, wanted)),
+        Act::Count(status) => count(mailbox) == *status,
+        Act::View(wanted) => counts(mailbox, seat, *wanted),
+        Act::Read(uid, mark, wanted) => reads(mailbox, seat, *uid, *mark) == *wanted,
+        Act::Alter(uid, op, wanted) => alter(mailbox, seat, *uid, *op) == *wanted,
+        Act::Feed(limit, wanted) => feed(mailbox, seat, *limit, out) == *wanted,
+        Act::Expunge(set, wanted) => expunge(mailbox, seat, *set, out) == *wanted,
+        Act::Lines(wanted) => lines_are(out, wanted),
     }
 }
 
@@ -129,15 +135,15 @@ fn play(
     alloc: Global,
     mailbox: &mut Mailbox,
     seat: &mut CursorSeat,
+    out: &mut Vec<u8>,
     acts: &[Act],
-) -> Result<Option<usize>, AllocError> {
-    let mut out = Vec::new(alloc);
-    for k in 0..acts.len() {
-        if !step(alloc, mailbox, seat, &mut out, &acts[k])? {
-            return Ok(Some(k));
+) -> Option<usize> {
+    for (place, act) in acts.iter().enumerate() {
+        if !step(alloc, mailbox, seat, out, act) {
+            return Some(place);
         }
     }
-    Ok(None)
+    None
 }
 
 // A client's seat, where one can be had and the mailbox is told as it should be.
@@ -193,11 +199,17 @@ const ACTS: &[Act] = &[
 ];
 
 // Whether each call answers as the table tells, and one message goes as the client leaves.
+fn answers(alloc: Global, mailbox: &mut Mailbox) -> bool {
+    let Ok(mut seat) = seated(mailbox, EMPTY) else {
+        return false;
+    };
+    let at = play(alloc, mailbox, &mut seat, &mut Vec::new(alloc), ACTS);
+    at.is_none() && leaves(mailbox, seat, true) == Ok(1)
+}
+
 fn plays(alloc: Global) -> Result<bool, AllocError> {
     let mut mailbox = Mailbox::new(alloc, 3, 7, 1, LIMITS, History::Kept)?;
-    let mut seat = seated(&mut mailbox, EMPTY)?;
-    let at = play(alloc, &mut mailbox, &mut seat, ACTS)?;
-    Ok(at.is_none() && leaves(&mut mailbox, seat, true) == Ok(1))
+    Ok(answers(alloc, &mut mailbox))
 }
 
 #[test]
@@ -218,12 +230,18 @@ const STRANGER: &[Act] = &[
 ];
 
 // Whether a mailbox of another number refuses each call of a client's seat.
+fn refuses_each(alloc: Global, own: &mut Mailbox, other: &mut Mailbox) -> bool {
+    let Ok(mut seat) = seated(own, EMPTY) else {
+        return false;
+    };
+    let at = play(alloc, other, &mut seat, &mut Vec::new(alloc), STRANGER);
+    at.is_none() && leaves(other, seat, true) == Err(MailFault::Stranger)
+}
+
 fn refuses(alloc: Global) -> Result<bool, AllocError> {
     let mut own = Mailbox::new(alloc, 3, 7, 1, LIMITS, History::Kept)?;
     let mut other = Mailbox::new(alloc, 4, 7, 1, LIMITS, History::Kept)?;
-    let mut seat = seated(&mut own, EMPTY)?;
-    let at = play(alloc, &mut other, &mut seat, STRANGER)?;
-    Ok(at.is_none() && leaves(&mut other, seat, true) == Err(MailFault::Stranger))
+    Ok(refuses_each(alloc, &mut own, &mut other))
 }
 
 #[test]
