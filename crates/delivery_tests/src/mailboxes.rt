@@ -522,20 +522,24 @@ const HALF_GOES: &[Act] = &[
     }),
 ];
 
-// Whether all is answered as a case tells.
+// Whether all is answered as a case tells, in this mailbox.
+fn goes(alloc: Global, mailbox: &mut Mailbox, case: &Case) -> Result<bool, AllocError> {
+    fill(alloc, mailbox, case.messages)?;
+    let (mut seat, opening) = seated(mailbox)?;
+    let at = play(alloc, mailbox, &mut seat, case.acts)?;
+    let gone = leaves(mailbox, seat, case.remove);
+    let (count, window) = case.left;
+    let left = gone == Ok(count) && kept(mailbox) == window;
+    Ok(opening == case.opening && at.is_none() && left)
+}
+
 fn plays(alloc: Global, case: &Case) -> Result<bool, AllocError> {
     if case.limits.ring == 0 {
         return Ok(false);
     }
     let (uidvalidity, first_uid) = (case.opening.uidvalidity, case.first_uid);
     let mut mailbox = Mailbox::new(alloc, 3, uidvalidity, first_uid, case.limits, case.history)?;
-    fill(alloc, &mut mailbox, case.messages)?;
-    let (mut seat, opening) = seated(&mut mailbox)?;
-    let at = play(alloc, &mut mailbox, &mut seat, case.acts)?;
-    let gone = leaves(&mut mailbox, seat, case.remove);
-    let (count, window) = case.left;
-    let left = gone == Ok(count) && kept(&mailbox) == window;
-    Ok(opening == case.opening && at.is_none() && left)
+    goes(alloc, &mut mailbox, case)
 }
 
 #[test]
@@ -555,17 +559,19 @@ const STRANGER: &[Act] = &[
     Act::Lines(b""),
 ];
 
-// A seat of another mailbox is refused by one of this number, which keeps all that it had: the seat
-// as it was given back.
-fn refused_by(alloc: Global, number: u8, own: CursorSeat) -> Result<CursorSeat, AllocError> {
-    let mut mailbox = filled(alloc, number, SMALL, 1)?;
+// A seat of another mailbox is refused by this one, which keeps all that it had: the seat as it was given back.
+fn refused_by(
+    alloc: Global,
+    mailbox: &mut Mailbox,
+    own: CursorSeat,
+) -> Result<CursorSeat, AllocError> {
     let mut seat = own;
     let before = mailbox.status();
-    let at = play(alloc, &mut mailbox, &mut seat, STRANGER)?;
+    let at = play(alloc, mailbox, &mut seat, STRANGER)?;
     let Err((back, fault)) = mailbox.close_cursor(seat, true) else {
         return Err(AllocError);
     };
-    let same = mailbox.status() == before && kept(&mailbox) == (0, 1);
+    let same = mailbox.status() == before && kept(mailbox) == (0, 1);
     if at.is_none() && fault == MailFault::Stranger && same {
         Ok(back)
     } else {
@@ -573,12 +579,17 @@ fn refused_by(alloc: Global, number: u8, own: CursorSeat) -> Result<CursorSeat, 
     }
 }
 
+fn is_refused(alloc: Global, own: &mut Mailbox, other: &mut Mailbox) -> Result<bool, AllocError> {
+    let (seat, _opening) = seated(own)?;
+    let back = refused_by(alloc, other, seat)?;
+    Ok(leaves(own, back, true) == Ok(0))
+}
+
 #[test]
 fn a_seat_of_another_mailbox_is_a_stranger(rt: HostRuntime) -> Result<(), AllocError> {
     let mut own = filled(rt.alloc(), 0, SMALL, 1)?;
-    let (seat, _opening) = seated(&mut own)?;
-    let back = refused_by(rt.alloc(), 1, seat)?;
-    assert_eq!(rt; leaves(&mut own, back, true), Ok(0));
+    let mut other = filled(rt.alloc(), 1, SMALL, 1)?;
+    assert!(rt; is_refused(rt.alloc(), &mut own, &mut other)?);
     Ok(())
 }
 
@@ -600,18 +611,18 @@ const LAPPED: &[Act] = &[
 ];
 
 // Whether two clients are told what their tables say, of whom the second is shown nothing.
-fn falls_behind(alloc: Global) -> Result<bool, AllocError> {
-    let mut mailbox = filled(alloc, 0, GROWING, 8)?;
-    let (mut seat, _opening) = seated(&mut mailbox)?;
-    let (mut behind, _opening) = seated(&mut mailbox)?;
-    let ahead = play(alloc, &mut mailbox, &mut seat, GROWS)?;
-    let lapped = play(alloc, &mut mailbox, &mut behind, LAPPED)?;
-    let gone = leaves(&mut mailbox, behind, true) == Ok(0);
-    Ok(ahead.is_none() && lapped.is_none() && gone && leaves(&mut mailbox, seat, false) == Ok(0))
+fn falls_behind(alloc: Global, mailbox: &mut Mailbox) -> Result<bool, AllocError> {
+    let (mut seat, _opening) = seated(mailbox)?;
+    let (mut behind, _opening) = seated(mailbox)?;
+    let ahead = play(alloc, mailbox, &mut seat, GROWS)?;
+    let lapped = play(alloc, mailbox, &mut behind, LAPPED)?;
+    let gone = leaves(mailbox, behind, true) == Ok(0);
+    Ok(ahead.is_none() && lapped.is_none() && gone && leaves(mailbox, seat, false) == Ok(0))
 }
 
 #[test]
 fn a_window_grows_for_a_client_that_falls_behind(rt: HostRuntime) -> Result<(), AllocError> {
-    assert!(rt; falls_behind(rt.alloc())?);
+    let mut mailbox = filled(rt.alloc(), 0, GROWING, 8)?;
+    assert!(rt; falls_behind(rt.alloc(), &mut mailbox)?);
     Ok(())
 }

@@ -125,64 +125,108 @@ fn leave<S: Store>(store: &mut S) -> Result<usize, MailFault> {
     store.leave(true)
 }
 
-#[test]
-fn two_sessions_are_in_one_mailbox(rt: HostRuntime) -> Result<(), AllocError> {
-    let alloc = rt.alloc();
-    let mut desk = Desk {
+// A desk over a core with nothing in it.
+fn desk(alloc: Global) -> Result<Desk, AllocError> {
+    Ok(Desk {
         core: DeliveryCore::new(alloc, SMALL)?,
         session: 0,
-    };
-    let opening = Opening {
-        count: 0,
-        uidnext: 1,
-        uidvalidity: 7,
-    };
-    assert_eq!(rt; enter(&mut desk, 1), Ok(opening));
-    desk.session = 1;
-    assert_eq!(rt; enter(&mut desk, 1), Ok(opening));
-    deliver(&mut desk.core, alloc, 1)?;
-    let mut out = Vec::new(alloc);
-    let Ok(found) = remove_first(&mut desk, alloc, &mut out) else {
-        return Err(AllocError);
-    };
-    assert_eq!(rt; (found.shown, found.flags, found.gone), (1, DELETED, 1));
-    assert!(rt; found.messages.as_slice() == [Named { place: 1, uid: 1 }].as_slice());
-    assert_eq!(rt;
-        (found.row.uid, found.row.flags, found.row.newly_seen),
-        (1, SEEN, true)
-    );
-    assert!(rt; found.row.text.as_slice() == b"hi\r\n".as_slice());
-    assert_eq!(rt; feed(&mut desk, 64, &mut out), Ok(1));
-    let told =
-        b"* 1 EXISTS\r\n* 1 FETCH (UID 1 FLAGS (\\Seen))\r\n* 1 FETCH (UID 1 FLAGS (\\Deleted))\r\n* 1 EXPUNGE\r\n";
-    assert!(rt; out.as_slice() == told.as_slice());
+    })
+}
+
+const EMPTY: Opening = Opening {
+    count: 0,
+    uidnext: 1,
+    uidvalidity: 7,
+};
+
+// What both sessions are shown of a message that came and went.
+const TOLD: &[u8] =
+    b"* 1 EXISTS\r\n* 1 FETCH (UID 1 FLAGS (\\Seen))\r\n* 1 FETCH (UID 1 FLAGS (\\Deleted))\r\n* 1 EXPUNGE\r\n";
+
+fn are_entered(desk: &mut Desk) -> bool {
     desk.session = 0;
-    let mut behind = Vec::new(alloc);
-    assert_eq!(rt; feed(&mut desk, 3, &mut behind), Ok(3));
-    assert_eq!(rt; feed(&mut desk, 3, &mut behind), Ok(1));
-    assert!(rt; behind.as_slice() == told.as_slice());
-    assert_eq!(rt; leave(&mut desk), Ok(0));
-    assert_eq!(rt; leave(&mut desk), Err(MailFault::Stranger));
+    let is_first = enter(desk, 1) == Ok(EMPTY);
+    desk.session = 1;
+    is_first && enter(desk, 1) == Ok(EMPTY)
+}
+
+fn is_as_sent(row: &Row) -> bool {
+    row.uid == 1
+        && row.flags == SEEN
+        && row.newly_seen
+        && row.text.as_slice() == b"hi\r\n".as_slice()
+}
+
+fn is_found(found: &Found) -> bool {
+    (found.shown, found.flags, found.gone) == (1, DELETED, 1)
+        && found.messages.as_slice() == [Named { place: 1, uid: 1 }].as_slice()
+        && is_as_sent(&found.row)
+}
+
+// The second session removes the message.
+fn removes(alloc: Global, desk: &mut Desk, out: &mut Vec<u8>) -> bool {
+    let is_removed = match remove_first(desk, alloc, out) {
+        Ok(found) => is_found(&found),
+        Err(_) => false,
+    };
+    is_removed && feed(desk, 64, out) == Ok(1) && out.as_slice() == TOLD
+}
+
+// The first one is shown the same, three changes at a time, and leaves.
+fn follows(desk: &mut Desk, out: &mut Vec<u8>) -> bool {
+    desk.session = 0;
+    out.clear();
+    feed(desk, 3, out) == Ok(3)
+        && feed(desk, 3, out) == Ok(1)
+        && out.as_slice() == TOLD
+        && leave(desk) == Ok(0)
+        && leave(desk) == Err(MailFault::Stranger)
+}
+
+// What goes otherwise than it is to.
+fn unlike(alloc: Global, desk: &mut Desk, out: &mut Vec<u8>) -> Option<&'static str> {
+    if !are_entered(desk) {
+        return Some("enter");
+    }
+    if deliver(&mut desk.core, alloc, 1).is_err() {
+        return Some("deliver");
+    }
+    if !removes(alloc, desk, out) {
+        return Some("remove");
+    }
+    if follows(desk, out) {
+        None
+    } else {
+        Some("follow")
+    }
+}
+
+#[test]
+fn two_sessions_are_in_one_mailbox(rt: HostRuntime) -> Result<(), AllocError> {
+    let mut desk = desk(rt.alloc())?;
+    let seen = unlike(rt.alloc(), &mut desk, &mut Vec::new(rt.alloc()));
+    assert_eq!(rt; seen, None);
     Ok(())
+}
+
+const ONE: Status = Status {
+    messages: 1,
+    uidnext: 2,
+    uidvalidity: 7,
+    unseen: 1,
+    deleted: 0,
+    size: 4,
+};
+
+fn is_counted(alloc: Global, desk: &mut Desk) -> bool {
+    deliver(&mut desk.core, alloc, 1).is_ok()
+        && count(desk, 1) == Ok(ONE)
+        && count(desk, 2) == Err(MailFault::Stranger)
 }
 
 #[test]
 fn a_mailbox_is_counted(rt: HostRuntime) -> Result<(), AllocError> {
-    let alloc = rt.alloc();
-    let mut desk = Desk {
-        core: DeliveryCore::new(alloc, SMALL)?,
-        session: 0,
-    };
-    deliver(&mut desk.core, alloc, 1)?;
-    let status = Status {
-        messages: 1,
-        uidnext: 2,
-        uidvalidity: 7,
-        unseen: 1,
-        deleted: 0,
-        size: 4,
-    };
-    assert_eq!(rt; count(&mut desk, 1), Ok(status));
-    assert_eq!(rt; count(&mut desk, 2), Err(MailFault::Stranger));
+    let mut desk = desk(rt.alloc())?;
+    assert!(rt; is_counted(rt.alloc(), &mut desk));
     Ok(())
 }

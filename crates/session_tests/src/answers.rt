@@ -25,16 +25,21 @@ fn small_row(alloc: Global) -> Result<Row, AllocError> {
     })
 }
 
-// The answer to a FETCH line for a message at place 2, behind what was written before.
-fn answered(alloc: Global, line: &[u8]) -> Result<Vec<u8>, AllocError> {
+// Appends the answer to a FETCH line for a message at place 2.
+fn answer(alloc: Global, line: &[u8], row: &Row, out: &mut Vec<u8>) -> Result<(), AllocError> {
     let Some(fetch) = fetch_of(line) else {
         return Err(AllocError);
     };
+    let items = fetch.items.list(alloc)?;
+    write_row(2, fetch.by_uid, &items, row, out)
+}
+
+// Whether a FETCH line is answered so, behind what was written before.
+fn is_answered(alloc: Global, line: &[u8], wanted: &[u8]) -> Result<bool, AllocError> {
     let row = small_row(alloc)?;
     let mut out = Vec::from_slice(alloc, b"before\r\n")?;
-    let items = fetch.items.list(alloc)?;
-    write_row(2, fetch.by_uid, &items, &row, &mut out)?;
-    Ok(out)
+    answer(alloc, line, &row, &mut out)?;
+    Ok(out.as_slice() == wanted)
 }
 
 // A line, and its answer.
@@ -53,12 +58,18 @@ const ROWS: &[(&[u8], &[u8])] = &[
     ),
 ];
 
+fn first_unlike_row(alloc: Global) -> Result<Option<usize>, AllocError> {
+    for (place, (line, wanted)) in ROWS.iter().enumerate() {
+        if !is_answered(alloc, line, wanted)? {
+            return Ok(Some(place));
+        }
+    }
+    Ok(None)
+}
+
 #[test]
 fn rows_are_written(rt: HostRuntime) -> Result<(), AllocError> {
-    for (line, wanted) in ROWS {
-        let text = answered(rt.alloc(), line)?;
-        assert_eq!(rt; text.as_slice(), *wanted);
-    }
+    assert_eq!(rt; first_unlike_row(rt.alloc())?, None);
     Ok(())
 }
 
