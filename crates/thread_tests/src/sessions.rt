@@ -154,58 +154,91 @@ fn session<R: Wait>(
     }
 }
 
+// The bells of a user whose one session idles.
+fn bells_of(alloc: Global, bell: &Sleeper) -> Result<Vec<SessionBell>, AllocError> {
+    bell.idling()?.store(true, Ordering::SeqCst);
+    let mut bells = Vec::new(alloc);
+    bells.push(bell.bell()?)?;
+    Ok(bells)
+}
+
+// What the session says beside the thread that delivers a copy; none where that isn't stored.
+fn run_in<R: Threads + Wait + Sync>(
+    rt: &R,
+    alloc: Global,
+    order: &Order,
+    mailboxes: &[Mutex<Mailbox>],
+    job: &Job,
+    bells: &[SessionBell],
+    steps: &[Step],
+) -> Option<Vec<u8>> {
+    let (is_stored, said) = join(
+        rt,
+        || deliver(rt, mailboxes, order, bells, job),
+        || session(rt, alloc, mailboxes, order, bells, steps),
+    );
+    if is_stored { said } else { None }
+}
+
 fn run_both<R: Threads + Wait + Sync>(
     rt: &R,
     alloc: Global,
     order: &Order,
     steps: &[Step],
-) -> Result<Vec<u8>, AllocError> {
+) -> Result<Option<Vec<u8>>, AllocError> {
     let mailboxes = two_mailboxes(alloc)?;
     let job = copy(alloc)?;
     let bell = Sleeper::new(alloc)?;
-    bell.idling()?.store(true, Ordering::SeqCst);
-    let mut bells = Vec::new(alloc);
-    bells.push(bell.bell()?)?;
-    let (is_stored, said) = join(
-        rt,
-        || deliver(rt, &mailboxes, order, &bells, &job),
-        || session(rt, alloc, &mailboxes, order, &bells, steps),
-    );
-    match said {
-        Some(said) if is_stored => Ok(said),
-        _ => Err(AllocError),
+    let bells = bells_of(alloc, &bell)?;
+    Ok(run_in(rt, alloc, order, &mailboxes, &job, &bells, steps))
+}
+
+// Whether the session says this and no more.
+fn says<R: Threads + Wait + Sync>(
+    rt: &R,
+    alloc: Global,
+    first: Actor,
+    steps: &[Step],
+    wanted: &[u8],
+) -> Result<bool, AllocError> {
+    match run_both(rt, alloc, &Order::new(first), steps)? {
+        Some(said) => Ok(said.as_slice() == wanted),
+        None => Ok(false),
     }
 }
 
-#[test]
-fn threads_text(rt: HostRuntime) -> Result<(), AllocError> {
-    let alloc = rt.alloc();
-    let order = Order::new(Actor::Consumer(0));
+// Selects a mailbox and fetches a message.
+fn fetching(alloc: Global) -> Result<Vec<Step>, AllocError> {
     let mut steps = Vec::new(alloc);
     saying(alloc, &mut steps, b"a1 SELECT INBOX\r\n")?;
     saying(alloc, &mut steps, b"a2 FETCH 1 BODY.PEEK[]\r\n")?;
-    let said = run_both(&rt, alloc, &order, &steps)?;
-    let wanted = b"* PREAUTH IMAP4rev2 server ready\r\n\
-          * FLAGS (\\Answered \\Flagged \\Deleted \\Seen \\Draft)\r\n\
-          * 1 EXISTS\r\n\
-          * OK [UIDVALIDITY 7] UIDs valid\r\n\
-          * OK [UIDNEXT 2] Predicted next UID\r\n\
-          * OK [PERMANENTFLAGS (\\Answered \\Flagged \\Deleted \\Seen \\Draft)] Flags kept\r\n\
-          * LIST () \"/\" INBOX\r\n\
-          a1 OK [READ-WRITE] SELECT completed\r\n\
-          * 1 FETCH (BODY[] {32}\r\n\
-          Return-Path: <s@a.example>\r\n\
-          hi\r\n\
-          )\r\n\
-          a2 OK FETCH completed\r\n";
-    assert_eq!(rt; said.as_slice(), wanted.as_slice());
+    Ok(steps)
+}
+
+const FETCHED: &[u8] = b"* PREAUTH IMAP4rev2 server ready\r\n\
+      * FLAGS (\\Answered \\Flagged \\Deleted \\Seen \\Draft)\r\n\
+      * 1 EXISTS\r\n\
+      * OK [UIDVALIDITY 7] UIDs valid\r\n\
+      * OK [UIDNEXT 2] Predicted next UID\r\n\
+      * OK [PERMANENTFLAGS (\\Answered \\Flagged \\Deleted \\Seen \\Draft)] Flags kept\r\n\
+      * LIST () \"/\" INBOX\r\n\
+      a1 OK [READ-WRITE] SELECT completed\r\n\
+      * 1 FETCH (BODY[] {32}\r\n\
+      Return-Path: <s@a.example>\r\n\
+      hi\r\n\
+      )\r\n\
+      a2 OK FETCH completed\r\n";
+
+#[test]
+fn threads_text(rt: HostRuntime) -> Result<(), AllocError> {
+    let steps = fetching(rt.alloc())?;
+    let first = Actor::Consumer(0);
+    assert!(rt; says(&rt, rt.alloc(), first, &steps, FETCHED)?);
     Ok(())
 }
 
-#[test]
-fn an_idling_session_awaits_a_message(rt: HostRuntime) -> Result<(), AllocError> {
-    let alloc = rt.alloc();
-    let order = Order::new(Actor::Session(0));
+// Awaits a change before it is in a mailbox, while it idles there, and behind its end.
+fn awaiting(alloc: Global) -> Result<Vec<Step>, AllocError> {
     let mut steps = Vec::new(alloc);
     steps.push(Step::Await(1))?;
     saying(alloc, &mut steps, b"a1 EXAMINE INBOX\r\na2 IDLE\r\n")?;
@@ -213,21 +246,28 @@ fn an_idling_session_awaits_a_message(rt: HostRuntime) -> Result<(), AllocError>
     saying(alloc, &mut steps, b"DONE\r\na3 LOGOUT\r\na4 NOOP\r\n")?;
     steps.push(Step::Await(2))?;
     saying(alloc, &mut steps, b"a5 NOOP\r\n")?;
-    let said = run_both(&rt, alloc, &order, &steps)?;
-    let wanted = b"* PREAUTH IMAP4rev2 server ready\r\n\
-          * FLAGS (\\Answered \\Flagged \\Deleted \\Seen \\Draft)\r\n\
-          * 0 EXISTS\r\n\
-          * OK [UIDVALIDITY 7] UIDs valid\r\n\
-          * OK [UIDNEXT 1] Predicted next UID\r\n\
-          * OK [PERMANENTFLAGS ()] Flags kept\r\n\
-          * LIST () \"/\" INBOX\r\n\
-          a1 OK [READ-ONLY] EXAMINE completed\r\n\
-          + idling\r\n\
-          * 1 EXISTS\r\n\
-          a2 OK IDLE completed\r\n\
-          * BYE Logging out\r\n\
-          a3 OK LOGOUT completed\r\n";
-    assert_eq!(rt; said.as_slice(), wanted.as_slice());
+    Ok(steps)
+}
+
+const AWAITED: &[u8] = b"* PREAUTH IMAP4rev2 server ready\r\n\
+      * FLAGS (\\Answered \\Flagged \\Deleted \\Seen \\Draft)\r\n\
+      * 0 EXISTS\r\n\
+      * OK [UIDVALIDITY 7] UIDs valid\r\n\
+      * OK [UIDNEXT 1] Predicted next UID\r\n\
+      * OK [PERMANENTFLAGS ()] Flags kept\r\n\
+      * LIST () \"/\" INBOX\r\n\
+      a1 OK [READ-ONLY] EXAMINE completed\r\n\
+      + idling\r\n\
+      * 1 EXISTS\r\n\
+      a2 OK IDLE completed\r\n\
+      * BYE Logging out\r\n\
+      a3 OK LOGOUT completed\r\n";
+
+#[test]
+fn an_idling_session_awaits_a_message(rt: HostRuntime) -> Result<(), AllocError> {
+    let steps = awaiting(rt.alloc())?;
+    let first = Actor::Session(0);
+    assert!(rt; says(&rt, rt.alloc(), first, &steps, AWAITED)?);
     Ok(())
 }
 
@@ -253,30 +293,47 @@ fn sleep_and_look<R: Wait>(
     Some(said)
 }
 
-fn ring_once<R: Threads + Wait + Sync>(rt: &R, alloc: Global) -> Result<Vec<u8>, AllocError> {
+// What the session says that one thread wakes as it delivers a copy; none where that isn't stored.
+fn ring_in<R: Threads + Wait + Sync>(
+    rt: &R,
+    alloc: Global,
+    mailboxes: &[Mutex<Mailbox>],
+    job: &Job,
+    bells: &[SessionBell],
+    bell: Sleeper,
+) -> Option<Vec<u8>> {
     let order = Order::new(Actor::Session(0));
-    let mailboxes = two_mailboxes(alloc)?;
-    let job = copy(alloc)?;
-    let bell = Sleeper::new(alloc)?;
-    bell.idling()?.store(true, Ordering::SeqCst);
-    let mut bells = Vec::new(alloc);
-    bells.push(bell.bell()?)?;
-    let (boxes, held, rung) = (mailboxes.as_slice(), &order, bells.as_slice());
+    let held = &order;
     let (said, is_stored) = join(
         rt,
-        move || sleep_and_look(rt, alloc, boxes, held, rung, bell),
-        || deliver(rt, boxes, held, rung, &job),
+        move || sleep_and_look(rt, alloc, mailboxes, held, bells, bell),
+        || deliver(rt, mailboxes, held, bells, job),
     );
-    match said {
-        Some(said) if is_stored => Ok(said),
-        _ => Err(AllocError),
+    if is_stored { said } else { None }
+}
+
+fn ring_once<R: Threads + Wait + Sync>(
+    rt: &R,
+    alloc: Global,
+    mailboxes: &[Mutex<Mailbox>],
+) -> Result<Option<Vec<u8>>, AllocError> {
+    let job = copy(alloc)?;
+    let bell = Sleeper::new(alloc)?;
+    let bells = bells_of(alloc, &bell)?;
+    Ok(ring_in(rt, alloc, mailboxes, &job, &bells, bell))
+}
+
+fn is_woken<R: Threads + Wait + Sync>(rt: &R, alloc: Global) -> Result<bool, AllocError> {
+    let mailboxes = two_mailboxes(alloc)?;
+    match ring_once(rt, alloc, &mailboxes)? {
+        Some(said) => Ok(said.as_slice() == b"* 1 EXISTS\r\n".as_slice()),
+        None => Ok(false),
     }
 }
 
 #[test]
 fn a_bell_wakes_a_session(rt: HostRuntime) -> Result<(), AllocError> {
-    let said = ring_once(&rt, rt.alloc())?;
-    assert_eq!(rt; said.as_slice(), b"* 1 EXISTS\r\n".as_slice());
+    assert!(rt; is_woken(&rt, rt.alloc())?);
     Ok(())
 }
 
@@ -472,15 +529,20 @@ fn wakes_each_time<R: Wait>(
     gone == Ok(1)
 }
 
+fn rings_each_time<R: Wait>(
+    rt: &R,
+    alloc: Global,
+    mailboxes: &[Mutex<Mailbox>],
+) -> Result<bool, AllocError> {
+    let bell = Sleeper::new(alloc)?;
+    let bells = bells_of(alloc, &bell)?;
+    Ok(wakes_each_time(rt, alloc, mailboxes, &bells, &bell))
+}
+
 #[test]
 fn a_change_rings_the_users_bells(rt: HostRuntime) -> Result<(), AllocError> {
-    let alloc = rt.alloc();
-    let mailboxes = with_a_message(&rt, alloc)?;
-    let bell = Sleeper::new(alloc)?;
-    bell.idling()?.store(true, Ordering::SeqCst);
-    let mut bells = Vec::new(alloc);
-    bells.push(bell.bell()?)?;
-    assert!(rt; wakes_each_time(&rt, alloc, &mailboxes, &bells, &bell));
+    let mailboxes = with_a_message(&rt, rt.alloc())?;
+    assert!(rt; rings_each_time(&rt, rt.alloc(), &mailboxes)?);
     Ok(())
 }
 
@@ -535,27 +597,39 @@ fn a_session_of_another_mailbox_is_told_so_and_ends(rt: HostRuntime) -> Result<(
 }
 
 // The seat of a mailbox is a stranger to each call on another, and still its own mailbox's afterwards.
+// Whether each call of a seat of another mailbox is a stranger's.
+fn is_a_stranger<R: Wait>(
+    desk: &mut LockedDesk<'_, R, Tally>,
+    alloc: Global,
+    out: &mut Vec<u8>,
+) -> bool {
+    has_chosen(desk, alloc) == Some(false)
+        && desk.read(1, true).err() == Some(MailFault::Stranger)
+        && desk.store(1, FlagOp::Insert(FLAGGED)) == Err(MailFault::Stranger)
+        && desk.expunge(None, out) == Err(MailFault::Stranger)
+        && desk.feed(64, out) == Err(MailFault::Stranger)
+        && desk.leave(true) == Err(MailFault::Stranger)
+        && out.is_empty()
+}
+
+// Whether it is so while another mailbox stands behind its lock, and no longer.
+fn is_a_stranger_meanwhile<R: Wait>(rt: &R, alloc: Global, mailboxes: &[Mutex<Mailbox>]) -> bool {
+    let tally = Tally::new();
+    let mut desk = LockedDesk::new(rt, &tally, 0, mailboxes, &[]);
+    if desk.enter(0).is_err() {
+        return false;
+    }
+    exchange(rt, mailboxes);
+    let is_refused = is_a_stranger(&mut desk, alloc, &mut Vec::new(alloc));
+    exchange(rt, mailboxes);
+    is_refused
+        && desk.store(1, FlagOp::Insert(FLAGGED)) == Ok(Some(FLAGGED))
+        && desk.leave(false) == Ok(0)
+}
+
 #[test]
 fn a_seat_of_another_mailbox_is_a_stranger_to_each_call(rt: HostRuntime) -> Result<(), AllocError> {
-    let alloc = rt.alloc();
-    let mailboxes = with_a_message(&rt, alloc)?;
-    let tally = Tally::new();
-    let mut out = Vec::new(alloc);
-    let mut desk = LockedDesk::new(&rt, &tally, 0, &mailboxes, &[]);
-    assert!(rt; desk.enter(0).is_ok());
-    exchange(&rt, &mailboxes);
-    assert_eq!(rt; has_chosen(&desk, alloc), Some(false));
-    assert_eq!(rt; desk.read(1, true).map(|_row| ()), Err(MailFault::Stranger));
-    assert_eq!(rt;
-        desk.store(1, FlagOp::Insert(FLAGGED)),
-        Err(MailFault::Stranger)
-    );
-    assert_eq!(rt; desk.expunge(None, &mut out), Err(MailFault::Stranger));
-    assert_eq!(rt; desk.feed(64, &mut out), Err(MailFault::Stranger));
-    assert_eq!(rt; desk.leave(true), Err(MailFault::Stranger));
-    assert!(rt; out.is_empty());
-    exchange(&rt, &mailboxes);
-    assert_eq!(rt; desk.store(1, FlagOp::Insert(FLAGGED)), Ok(Some(FLAGGED)));
-    assert_eq!(rt; desk.leave(false), Ok(0));
+    let mailboxes = with_a_message(&rt, rt.alloc())?;
+    assert!(rt; is_a_stranger_meanwhile(&rt, rt.alloc(), &mailboxes));
     Ok(())
 }
