@@ -298,21 +298,31 @@ fn shuts(
 // What `submits` answers, and whether the machine shuts down after.
 fn submits_and_shuts(
     alloc: Global,
+    machine: &mut LmtpMachine,
     directory: &Directory,
-    begun: &[u8],
-    bytes: &[u8],
-    text: &[u8],
+    said: (&[u8], &[u8], &[u8]),
     out: &mut Vec<u8>,
+) -> Result<((usize, usize), bool), DirectoryFault>
+    requires { machine.old.pending ≡ [] }
+{
+    let (begun, bytes, text) = said;
+    hear_opening(alloc, machine, directory, begun, out)?;
+    let submitted = submits(machine, directory, bytes, text, out)?;
+    let is_shut = shuts(machine, directory, out)?;
+    Ok((submitted, is_shut))
+}
+
+fn submitted(
+    alloc: Global,
+    directory: &Directory,
+    said: (&[u8], &[u8], &[u8]),
 ) -> Result<((usize, usize), bool), DirectoryFault> {
     let limits = Limits {
         host: b"mx.example.org",
         max_message: 100,
     };
     let mut machine = LmtpMachine::new(alloc, 3, 9, limits)?;
-    hear_opening(alloc, &mut machine, directory, begun, out)?;
-    let submitted = submits(&mut machine, directory, bytes, text, out)?;
-    let is_shut = shuts(&mut machine, directory, out)?;
-    Ok((submitted, is_shut))
+    submits_and_shuts(alloc, &mut machine, directory, said, &mut Vec::new(alloc))
 }
 
 // What is said after DATA in pieces of its own, the piece that ends the message and how many of its bytes are used, and the text and its size.
@@ -351,8 +361,7 @@ const SUBMITTED: &[(&[u8], &[u8], usize, &[u8], usize)] = &[
 // The place of the first of these at which something else is submitted.
 fn first_unlike(alloc: Global, directory: &Directory) -> Result<Option<usize>, DirectoryFault> {
     for (place, (begun, bytes, used, text, size)) in SUBMITTED.iter().enumerate() {
-        let went = submits_and_shuts(alloc, directory, begun, bytes, text, &mut Vec::new(alloc))?;
-        if went != ((*used, *size), true) {
+        if submitted(alloc, directory, (begun, bytes, text))? != ((*used, *size), true) {
             return Ok(Some(place));
         }
     }
