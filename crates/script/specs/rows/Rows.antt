@@ -1,5 +1,6 @@
 -- Lines of a script and what they ask for, each by computing.
 use Rattle.std.specs.Prelude.{◌≡◌, codes, [], ◌∷◌, ◌++◌, refl}
+use Rattle.hex.specs.Hex.{decode_pairs}
 use Rattle.line_io.specs.Wire.{crlf}
 use Rattle.script.specs.Script.{Sends, Vanishes, Enters, Asks, Leaves, Hold, Free, Closes, Tail, Skip, Bad, asked, line_of, pieces}
 
@@ -37,6 +38,7 @@ two_spaces_before_digits : asked (codes "L1x  00") ≡ Bad
 two_spaces_before_digits = refl
 
 digits_in_either_case : asked (codes "L1x 0d0A") ≡ Sends 1 (13 ∷ 10 ∷ [])
+unfolding decode_pairs
 digits_in_either_case = refl
 
 a_capital_x : asked (codes "L1X 00") ≡ Bad
@@ -64,6 +66,7 @@ a_session_says : asked (codes "I1  x") ≡ Asks 1 (codes " x" ++ crlf)
 a_session_says = refl
 
 a_session_in_digits : asked (codes "I1x 0d0A") ≡ Asks 1 (13 ∷ 10 ∷ [])
+unfolding decode_pairs
 a_session_in_digits = refl
 
 a_client_is_gone : asked (codes "I1!") ≡ Leaves 1
