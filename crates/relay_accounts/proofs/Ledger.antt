@@ -1,0 +1,166 @@
+-- What a worker's log has of each copy, by the number of its connection, its message and its recipient.
+use Rattle.std.proofs.Common.{◌≡◌, ℕ, zero, suc, ◌+◌, ◌<◌, List, [], ◌∷◌, length, map, Option, None, Some, refl, ap, ap₂, sym, subst, ◌∙◌, Contains, arith}
+use Rattle.std.specs.Prelude.{All, flat_map, slice_get, slice_index_or}
+use Rattle.std.proofs.lemmas.List.Elements.{All-contains, All-weaker}
+use Rattle.delivery_token.specs.declared.CopyKey.{CopyKey}
+use Rattle.delivery_token.specs.declared.Verdict.{Verdict}
+use Rattle.delivery_token.specs.declared.log.Noted.{Noted}
+use Rattle.envelope.specs.Directory.{Directory}
+use Rattle.lane_work.specs.Account.{Premises, setting_at}
+use Rattle.lane_work.specs.Talk.{Judged}
+use Rattle.lmtp_machine.specs.declared.reply.Reply.{Reply}
+use Rattle.lmtp_machine.specs.Dialogue.{Setting, Submission, dialogue, fresh, keys_from}
+use Rattle.lmtp_machine.specs.Kept.{AreMessages, IsMessage}
+use Rattle.lmtp_machine.proofs.Kept.{dialogue_keeps, fresh_kept}
+use Rattle.account_laws.specs.Conversing.{AreDialogues, IsConnection}
+use Rattle.account_laws.specs.Storing.{AreVerdicts, IsFull}
+use Rattle.account_laws.specs.Woven.{IsWholeDialogue}
+use Rattle.relay_accounts.specs.Concluding.{key_at}
+use Rattle.relay_accounts.proofs.Places.{at_contains, at_map, at_or, at_unmap, at_within, contains_at, none_at, place_of, placed, same_some, unplaced, within_at}
+
+-- ---- the messages of a connection, by number
+
+-- the key of the i-th copy
+keys_at : (setting : Setting) (n first : ℕ) (mailboxes : List ℕ) (i mailbox : ℕ) → slice_get mailboxes i ≡ Some mailbox
+    → slice_get (keys_from setting n first mailboxes) i ≡ Some (key_at setting.seat setting.serial n (first + i))
+keys_at setting n first [] i mailbox e = absurd (none_at e)
+keys_at setting n first (m ∷ ms) zero mailbox e = ap (λ (r : ℕ). Some (key_at setting.seat setting.serial n r)) (let z : first ≡ first + 0 = omega arith in z)
+keys_at setting n first (m ∷ ms) (suc i) mailbox e =
+    keys_at setting n (first + 1) ms i mailbox e ∙ ap (λ (r : ℕ). Some (key_at setting.seat setting.serial n r)) (let z : (first + 1) + i ≡ first + suc i = omega arith in z)
+
+message_of : (setting : Setting) (homes first last : ℕ) (judged : List Judged) → AreMessages setting homes first (map (λ (j : Judged). j.message) judged) last
+    → (n : ℕ) (j : Judged) → slice_get judged n ≡ Some j → IsMessage setting homes (first + n) j.message
+message_of setting homes first last [] are n j e = absurd (none_at e)
+message_of setting homes first last (x ∷ xs) are zero j e =
+    let z : first ≡ first + 0 = omega arith in
+    subst (λ (m : ℕ). IsMessage setting homes m j.message) z (subst (λ (y : Judged). IsMessage setting homes first y.message) (same_some e) are.0)
+message_of setting homes first last (x ∷ xs) are (suc n) j e =
+    let z : (first + 1) + n ≡ first + suc n = omega arith in
+    subst (λ (m : ℕ). IsMessage setting homes m j.message) z (message_of setting homes (first + 1) last xs are.1 n j e)
+
+whole_message : (setting : Setting) (directory : Directory) (bytes : List ℕ) (said : List Reply) (judged : List Judged) → IsWholeDialogue setting directory bytes said judged
+    → (n : ℕ) (j : Judged) → slice_get judged n ≡ Some j → IsMessage setting (length directory.homes) n j.message
+whole_message setting directory bytes said judged d n j e =
+    let last : ℕ = (dialogue setting directory fresh d.events).standing.submitted in
+    let keeps = dialogue_keeps setting directory fresh d.events (fresh_kept directory) in
+    let all : AreMessages setting (length directory.homes) 0 (map (λ (j : Judged). j.message) judged) last =
+    subst (λ (ms : List Submission). AreMessages setting (length directory.homes) 0 ms last) (sym d.messages) keeps.numbered.are in
+    let z : 0 + n ≡ n = omega arith in
+    subst (λ (m : ℕ). IsMessage setting (length directory.homes) m j.message) z (message_of setting (length directory.homes) 0 last judged all n j e)
+
+pub connection_message : (house : Premises) (seat serial : ℕ) (bytes replied : List ℕ) (judged : List Judged) → IsConnection house seat serial bytes replied judged
+    → (n : ℕ) (j : Judged) → slice_get judged n ≡ Some j → IsMessage (setting_at house seat serial) (length house.directory.homes) n j.message
+connection_message house seat serial bytes replied judged is n j e =
+    subst (λ (homes : ℕ). IsMessage (setting_at house seat serial) homes n j.message) (ap (λ (d : Directory). length d.homes) is.marked.same)
+    (whole_message (setting_at house seat serial) is.own bytes is.said judged is.dialogue n j e)
+
+-- ---- all of them
+
+abbrev pub part_at : List (List Judged) → ℕ → List Judged
+part_at parts c = slice_index_or parts c []
+
+inner_at : (parts : List (List Judged)) (c n : ℕ) (j : Judged) → slice_get (part_at parts c) n ≡ Some j → slice_get parts c ≡ Some (part_at parts c)
+inner_at [] c n j e = absurd (none_at e)
+inner_at (part ∷ parts) zero n j e = refl
+inner_at (part ∷ parts) (suc c) n j e = inner_at parts c n j e
+
+-- The note is of the copy of its key: that of a recipient of a message of a connection.
+pub record IsNoted (seat count : ℕ) (parts : List (List Judged)) (noted : Noted) : Type 0 where
+  pub seat_is : noted.key.seat ≡ seat
+  pub serial : noted.key.serial < count
+  pub judged : Judged
+  pub there : slice_get (part_at parts noted.key.serial) noted.key.message ≡ Some judged
+  pub mailbox : slice_get judged.message.mailboxes noted.key.recipient ≡ Some noted.mailbox
+  pub verdict : slice_get judged.verdicts noted.key.recipient ≡ Some noted.verdict
+
+noted_is : (noted : Noted) (key : CopyKey) (mailbox : ℕ) (verdict : Verdict) → noted.key ≡ key → noted.mailbox ≡ mailbox → noted.verdict ≡ verdict
+    → noted ≡ (let r : Noted = record { key = key; mailbox = mailbox; verdict = verdict } in r)
+noted_is noted key mailbox verdict ek em ev =
+    ap₂ (λ (x : CopyKey × ℕ) (v : Verdict). let r : Noted = record { key = x.0; mailbox = x.1; verdict = v } in r) (ap₂ (λ (a : CopyKey) (b : ℕ). (a, b)) ek em) ev
+
+abbrev keys_in : Judged → List CopyKey
+keys_in j = j.message.keys
+
+abbrev mailboxes_in : Judged → List ℕ
+mailboxes_in j = j.message.mailboxes
+
+abbrev verdicts_in : Judged → List Verdict
+verdicts_in j = j.verdicts
+
+abbrev itself : List Judged → List Judged
+itself part = part
+
+-- each copy of each message is noted with its verdict
+pub copy_noted : (house : Premises) (seat : ℕ) (connections replies : List (List ℕ)) (judged : List Judged) (notes : List Noted)
+    → (d : AreDialogues house seat connections replies judged) → AreVerdicts judged notes
+    → (c n i : ℕ) (j : Judged) (mailbox : ℕ) (verdict : Verdict) → slice_get (part_at d.parts c) n ≡ Some j → slice_get j.message.mailboxes i ≡ Some mailbox → slice_get j.verdicts i ≡ Some verdict
+    → Contains notes (let r : Noted = record { key = key_at seat c n i; mailbox = mailbox; verdict = verdict } in r)
+copy_noted house seat connections replies judged notes d v c n i j mailbox verdict there at_mailbox at_verdict =
+    let part = inner_at d.parts c n j there in
+    let under : c < length connections = (let u = at_within d.parts c (part_at d.parts c) part in let many = d.as_many_parts in omega (arith, u, many)) in
+    let q : ℕ = place_of itself d.parts c n in
+    let whole : slice_get judged q ≡ Some j = ap (λ (js : List Judged). slice_get js q) d.together ∙ placed itself itself d.parts (λ k e h. refl) c (part_at d.parts c) part n j there in
+    let p : ℕ = place_of keys_in judged q i in
+    let is = connection_message house seat c _ _ _ (d.each c under) n j there in
+    let z : 0 + i ≡ i = omega arith in
+    let key : slice_get j.message.keys i ≡ Some (key_at seat c n i) =
+    ap (λ (ks : List CopyKey). slice_get ks i) is.keys ∙ keys_at (setting_at house seat c) n 0 j.message.mailboxes i mailbox at_mailbox ∙ ap (λ (r : ℕ). Some (key_at seat c n r)) z in
+    let of_key : slice_get (map (λ (x : Noted). x.key) notes) p ≡ Some (key_at seat c n i) =
+    ap (λ (ks : List CopyKey). slice_get ks p) v.keys ∙ placed keys_in keys_in judged (λ k e h. refl) q j whole i (key_at seat c n i) key in
+    let of_mailbox : slice_get (map (λ (x : Noted). x.mailbox) notes) p ≡ Some mailbox =
+    ap (λ (ms : List ℕ). slice_get ms p) v.mailboxes
+    ∙ placed keys_in mailboxes_in judged (All-weaker IsFull (λ (x : Judged). length x.message.mailboxes ≡ length x.message.keys) (λ x h. h.mailboxes) judged v.full) q j whole i mailbox at_mailbox in
+    let of_verdict : slice_get (map (λ (x : Noted). x.verdict) notes) p ≡ Some verdict =
+    ap (λ (vs : List Verdict). slice_get vs p) v.verdicts
+    ∙ placed keys_in verdicts_in judged (All-weaker IsFull (λ (x : Judged). length x.verdicts ≡ length x.message.keys) (λ x h. h.verdicts) judged v.full) q j whole i verdict at_verdict in
+    let note = at_unmap (λ (x : Noted). x.key) notes p (key_at seat c n i) of_key in
+    subst (Contains notes) (noted_is note.0 (key_at seat c n i) mailbox verdict note.2
+    (same_some (sym (at_map (λ (x : Noted). x.mailbox) notes p note.0 note.1) ∙ of_mailbox))
+    (same_some (sym (at_map (λ (x : Noted). x.verdict) notes p note.0 note.1) ∙ of_verdict)))
+    (at_contains notes p note.0 note.1)
+
+-- and each note is of such a copy
+noted_as : (seat count : ℕ) (parts : List (List Judged)) (noted : Noted) (c n i : ℕ) (j : Judged) → noted.key ≡ key_at seat c n i → c < count → slice_get (part_at parts c) n ≡ Some j
+    → slice_get j.message.mailboxes i ≡ Some noted.mailbox → slice_get j.verdicts i ≡ Some noted.verdict → IsNoted seat count parts noted
+noted_as seat count parts noted c n i j e under there at_mailbox at_verdict =
+    let serial : noted.key.serial ≡ c = ap (λ (k : CopyKey). k.serial) e in
+    let message : noted.key.message ≡ n = ap (λ (k : CopyKey). k.message) e in
+    let recipient : noted.key.recipient ≡ i = ap (λ (k : CopyKey). k.recipient) e in
+    record {
+      seat_is = ap (λ (k : CopyKey). k.seat) e;
+      serial = subst (λ (x : ℕ). x < count) (sym serial) under;
+      judged = j;
+      there = ap₂ (λ (x y : ℕ). slice_get (part_at parts x) y) serial message ∙ there;
+      mailbox = ap (λ (x : ℕ). slice_get j.message.mailboxes x) recipient ∙ at_mailbox;
+      verdict = ap (λ (x : ℕ). slice_get j.verdicts x) recipient ∙ at_verdict;
+    }
+
+pub note_copied : (house : Premises) (seat : ℕ) (connections replies : List (List ℕ)) (judged : List Judged) (notes : List Noted)
+    → (d : AreDialogues house seat connections replies judged) → AreVerdicts judged notes
+    → (noted : Noted) → Contains notes noted → IsNoted seat (length connections) d.parts noted
+note_copied house seat connections replies judged notes d v noted there =
+    let at = contains_at notes noted there in
+    let p : ℕ = at.0 in
+    let of_key : slice_get (flat_map keys_in judged) p ≡ Some noted.key = ap (λ (ks : List CopyKey). slice_get ks p) (sym v.keys) ∙ at_map (λ (x : Noted). x.key) notes p noted at.1 in
+    let u = unplaced keys_in judged p noted.key of_key in
+    let j : Judged = u.x in
+    let w = unplaced itself d.parts u.k j (ap (λ (js : List Judged). slice_get js u.k) (sym d.together) ∙ u.one) in
+    let c : ℕ = w.k in
+    let same_part : part_at d.parts c ≡ w.x = at_or d.parts c w.x [] w.one in
+    let in_part : slice_get (part_at d.parts c) w.i ≡ Some j = ap (λ (js : List Judged). slice_get js w.i) same_part ∙ w.within in
+    let under : c < length connections = (let b = at_within d.parts c w.x w.one in let many = d.as_many_parts in omega (arith, b, many)) in
+    let is = connection_message house seat c _ _ _ (d.each c under) w.i j in_part in
+    let full : IsFull j = All-contains IsFull judged j v.full (at_contains judged u.k j u.one) in
+    let within : u.i < length j.message.keys = at_within j.message.keys u.i noted.key u.within in
+    let m = within_at j.message.mailboxes u.i (let many = full.mailboxes in omega (arith, within, many)) in
+    let t = within_at j.verdicts u.i (let many = full.verdicts in omega (arith, within, many)) in
+    let z : 0 + u.i ≡ u.i = omega arith in
+    let key : Some noted.key ≡ Some (key_at seat c w.i u.i) =
+    sym u.within ∙ ap (λ (ks : List CopyKey). slice_get ks u.i) is.keys ∙ keys_at (setting_at house seat c) w.i 0 j.message.mailboxes u.i m.0 m.1 ∙ ap (λ (r : ℕ). Some (key_at seat c w.i r)) z in
+    let mailbox : Some m.0 ≡ Some noted.mailbox =
+    sym (placed keys_in mailboxes_in judged (All-weaker IsFull (λ (x : Judged). length x.message.mailboxes ≡ length x.message.keys) (λ x h. h.mailboxes) judged v.full) u.k j u.one u.i m.0 m.1)
+    ∙ ap (λ (x : ℕ). slice_get (flat_map mailboxes_in judged) x) (sym u.is) ∙ ap (λ (ms : List ℕ). slice_get ms p) (sym v.mailboxes) ∙ at_map (λ (x : Noted). x.mailbox) notes p noted at.1 in
+    let verdict : Some t.0 ≡ Some noted.verdict =
+    sym (placed keys_in verdicts_in judged (All-weaker IsFull (λ (x : Judged). length x.verdicts ≡ length x.message.keys) (λ x h. h.verdicts) judged v.full) u.k j u.one u.i t.0 t.1)
+    ∙ ap (λ (x : ℕ). slice_get (flat_map verdicts_in judged) x) (sym u.is) ∙ ap (λ (vs : List Verdict). slice_get vs p) (sym v.verdicts) ∙ at_map (λ (x : Noted). x.verdict) notes p noted at.1 in
+    noted_as seat (length connections) d.parts noted c w.i u.i j (same_some key) under in_part (m.1 ∙ mailbox) (t.1 ∙ verdict)

@@ -1,0 +1,5 @@
+mod Places
+mod EntryLaws
+mod FateLaws
+mod Ledger
+mod Spoken

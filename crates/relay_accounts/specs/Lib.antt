@@ -1,0 +1,3 @@
+pub mod Entries
+pub mod Concluding
+pub mod Laws
