@@ -2,11 +2,14 @@
 use Rattle.std.proofs.Common.{◌≡◌, ℕ, zero, suc, ◌+◌, ◌<◌, List, [], ◌∷◌, length, map, Option, None, Some, refl, ap, ap₂, sym, subst, ◌∙◌, Contains, arith}
 use Rattle.std.specs.Prelude.{All, flat_map, slice_get, slice_index_or}
 use Rattle.std.proofs.lemmas.List.Elements.{All-contains, All-weaker}
+use Rattle.change_ring.specs.Log.{no_flags}
 use Rattle.delivery_token.specs.declared.CopyKey.{CopyKey}
+use Rattle.delivery_token.specs.declared.Job.{Job}
 use Rattle.delivery_token.specs.declared.Verdict.{Verdict}
 use Rattle.delivery_token.specs.declared.log.Noted.{Noted}
 use Rattle.envelope.specs.Directory.{Directory}
 use Rattle.lane_work.specs.Account.{Premises, setting_at}
+use Rattle.lane_work.specs.Copies.{copies, copies_of}
 use Rattle.lane_work.specs.Talk.{Judged}
 use Rattle.lmtp_machine.specs.declared.reply.Reply.{Reply}
 use Rattle.lmtp_machine.specs.Dialogue.{Setting, Submission, dialogue, fresh, keys_from}
@@ -90,6 +93,37 @@ verdicts_in j = j.verdicts
 abbrev itself : List Judged → List Judged
 itself part = part
 
+-- where one of a connection stands among all
+whole_at : (house : Premises) (seat : ℕ) (connections replies : List (List ℕ)) (judged : List Judged) → (d : AreDialogues house seat connections replies judged)
+    → (c n : ℕ) (j : Judged) → slice_get (part_at d.parts c) n ≡ Some j → slice_get judged (place_of itself d.parts c n) ≡ Some j
+whole_at house seat connections replies judged d c n j there =
+    ap (λ (js : List Judged). slice_get js (place_of itself d.parts c n)) d.together ∙ placed itself itself d.parts (λ k e h. refl) c (part_at d.parts c) (inner_at d.parts c n j there) n j there
+
+-- and of which connection one of all is
+record OfConnection (count : ℕ) (parts : List (List Judged)) (j : Judged) : Type 0 where
+  c : ℕ
+  n : ℕ
+  under : c < count
+  there : slice_get (part_at parts c) n ≡ Some j
+
+of_connection : (house : Premises) (seat : ℕ) (connections replies : List (List ℕ)) (judged : List Judged) → (d : AreDialogues house seat connections replies judged)
+    → (q : ℕ) (j : Judged) → slice_get judged q ≡ Some j → OfConnection (length connections) d.parts j
+of_connection house seat connections replies judged d q j there =
+    let w = unplaced itself d.parts q j (ap (λ (js : List Judged). slice_get js q) (sym d.together) ∙ there) in
+    let same_part : part_at d.parts w.k ≡ w.x = at_or d.parts w.k w.x [] w.one in
+    record {
+      c = w.k;
+      n = w.i;
+      under = (let b = at_within d.parts w.k w.x w.one in let many = d.as_many_parts in omega (arith, b, many));
+      there = ap (λ (js : List Judged). slice_get js w.i) same_part ∙ w.within;
+    }
+
+-- a message of a connection has a verdict and a mailbox for each of its keys
+pub full_at : (house : Premises) (seat : ℕ) (connections replies : List (List ℕ)) (judged : List Judged) (notes : List Noted)
+    → (d : AreDialogues house seat connections replies judged) → AreVerdicts judged notes → (c n : ℕ) (j : Judged) → slice_get (part_at d.parts c) n ≡ Some j → IsFull j
+full_at house seat connections replies judged notes d v c n j there =
+    All-contains IsFull judged j v.full (at_contains judged (place_of itself d.parts c n) j (whole_at house seat connections replies judged d c n j there))
+
 -- each copy of each message is noted with its verdict
 pub copy_noted : (house : Premises) (seat : ℕ) (connections replies : List (List ℕ)) (judged : List Judged) (notes : List Noted)
     → (d : AreDialogues house seat connections replies judged) → AreVerdicts judged notes
@@ -99,7 +133,7 @@ copy_noted house seat connections replies judged notes d v c n i j mailbox verdi
     let part = inner_at d.parts c n j there in
     let under : c < length connections = (let u = at_within d.parts c (part_at d.parts c) part in let many = d.as_many_parts in omega (arith, u, many)) in
     let q : ℕ = place_of itself d.parts c n in
-    let whole : slice_get judged q ≡ Some j = ap (λ (js : List Judged). slice_get js q) d.together ∙ placed itself itself d.parts (λ k e h. refl) c (part_at d.parts c) part n j there in
+    let whole : slice_get judged q ≡ Some j = whole_at house seat connections replies judged d c n j there in
     let p : ℕ = place_of keys_in judged q i in
     let is = connection_message house seat c _ _ _ (d.each c under) n j there in
     let z : 0 + i ≡ i = omega arith in
@@ -144,23 +178,62 @@ note_copied house seat connections replies judged notes d v noted there =
     let of_key : slice_get (flat_map keys_in judged) p ≡ Some noted.key = ap (λ (ks : List CopyKey). slice_get ks p) (sym v.keys) ∙ at_map (λ (x : Noted). x.key) notes p noted at.1 in
     let u = unplaced keys_in judged p noted.key of_key in
     let j : Judged = u.x in
-    let w = unplaced itself d.parts u.k j (ap (λ (js : List Judged). slice_get js u.k) (sym d.together) ∙ u.one) in
-    let c : ℕ = w.k in
-    let same_part : part_at d.parts c ≡ w.x = at_or d.parts c w.x [] w.one in
-    let in_part : slice_get (part_at d.parts c) w.i ≡ Some j = ap (λ (js : List Judged). slice_get js w.i) same_part ∙ w.within in
-    let under : c < length connections = (let b = at_within d.parts c w.x w.one in let many = d.as_many_parts in omega (arith, b, many)) in
-    let is = connection_message house seat c _ _ _ (d.each c under) w.i j in_part in
+    let w = of_connection house seat connections replies judged d u.k j u.one in
+    let c : ℕ = w.c in
+    let is = connection_message house seat c _ _ _ (d.each c w.under) w.n j w.there in
     let full : IsFull j = All-contains IsFull judged j v.full (at_contains judged u.k j u.one) in
     let within : u.i < length j.message.keys = at_within j.message.keys u.i noted.key u.within in
     let m = within_at j.message.mailboxes u.i (let many = full.mailboxes in omega (arith, within, many)) in
     let t = within_at j.verdicts u.i (let many = full.verdicts in omega (arith, within, many)) in
     let z : 0 + u.i ≡ u.i = omega arith in
-    let key : Some noted.key ≡ Some (key_at seat c w.i u.i) =
-    sym u.within ∙ ap (λ (ks : List CopyKey). slice_get ks u.i) is.keys ∙ keys_at (setting_at house seat c) w.i 0 j.message.mailboxes u.i m.0 m.1 ∙ ap (λ (r : ℕ). Some (key_at seat c w.i r)) z in
+    let key : Some noted.key ≡ Some (key_at seat c w.n u.i) =
+    sym u.within ∙ ap (λ (ks : List CopyKey). slice_get ks u.i) is.keys ∙ keys_at (setting_at house seat c) w.n 0 j.message.mailboxes u.i m.0 m.1 ∙ ap (λ (r : ℕ). Some (key_at seat c w.n r)) z in
     let mailbox : Some m.0 ≡ Some noted.mailbox =
     sym (placed keys_in mailboxes_in judged (All-weaker IsFull (λ (x : Judged). length x.message.mailboxes ≡ length x.message.keys) (λ x h. h.mailboxes) judged v.full) u.k j u.one u.i m.0 m.1)
     ∙ ap (λ (x : ℕ). slice_get (flat_map mailboxes_in judged) x) (sym u.is) ∙ ap (λ (ms : List ℕ). slice_get ms p) (sym v.mailboxes) ∙ at_map (λ (x : Noted). x.mailbox) notes p noted at.1 in
     let verdict : Some t.0 ≡ Some noted.verdict =
     sym (placed keys_in verdicts_in judged (All-weaker IsFull (λ (x : Judged). length x.verdicts ≡ length x.message.keys) (λ x h. h.verdicts) judged v.full) u.k j u.one u.i t.0 t.1)
     ∙ ap (λ (x : ℕ). slice_get (flat_map verdicts_in judged) x) (sym u.is) ∙ ap (λ (vs : List Verdict). slice_get vs p) (sym v.verdicts) ∙ at_map (λ (x : Noted). x.verdict) notes p noted at.1 in
-    noted_as seat (length connections) d.parts noted c w.i u.i j (same_some key) under in_part (m.1 ∙ mailbox) (t.1 ∙ verdict)
+    noted_as seat (length connections) d.parts noted c w.n u.i j (same_some key) w.under w.there (m.1 ∙ mailbox) (t.1 ∙ verdict)
+
+-- two notes of one copy are alike
+pub same_note : (seat count : ℕ) (parts : List (List Judged)) (a b : Noted) → IsNoted seat count parts a → IsNoted seat count parts b → a.key ≡ b.key → (a.mailbox ≡ b.mailbox) × (a.verdict ≡ b.verdict)
+same_note seat count parts a b h k e =
+    let one : h.judged ≡ k.judged =
+    same_some (sym h.there ∙ ap (λ (x : CopyKey). slice_get (part_at parts x.serial) x.message) e ∙ k.there) in (
+      same_some (sym h.mailbox ∙ ap₂ (λ (x : Judged) (y : CopyKey). slice_get x.message.mailboxes y.recipient) one e ∙ k.mailbox),
+      same_some (sym h.verdict ∙ ap₂ (λ (x : Judged) (y : CopyKey). slice_get x.verdicts y.recipient) one e ∙ k.verdict),
+    )
+
+-- ---- copies
+
+record IsCopyAt (keys : List CopyKey) (text : List ℕ) (i : ℕ) (copy : Job) : Type 0 where
+  key : slice_get keys i ≡ Some copy.key
+  text_is : copy.text ≡ text
+
+copy_at : (keys : List CopyKey) (mailboxes text : List ℕ) (i : ℕ) (copy : Job) → slice_get (copies keys mailboxes text) i ≡ Some copy → IsCopyAt keys text i copy
+copy_at [] mailboxes text i copy e = absurd (none_at e)
+copy_at (k ∷ ks) [] text i copy e = absurd (none_at e)
+copy_at (k ∷ ks) (m ∷ ms) text zero copy e =
+    let first : Job = record { key = k; mailbox = m; text = text; flags = no_flags } in
+    let same : first ≡ copy = same_some e in
+    record { key = ap (λ (c : Job). Some c.key) same; text_is = sym (ap (λ (c : Job). c.text) same) }
+copy_at (k ∷ ks) (m ∷ ms) text (suc i) copy e = let r = copy_at ks ms text i copy e in record { key = r.key; text_is = r.text_is }
+
+-- a copy of a message that was judged is of the message of its key
+pub copied_from : (house : Premises) (seat : ℕ) (connections replies : List (List ℕ)) (judged : List Judged) (notes : List Noted)
+    → (d : AreDialogues house seat connections replies judged) → AreVerdicts judged notes
+    → (j : Judged) (copy : Job) → Contains judged j → Contains (copies_of j.message) copy
+    → (slice_get (part_at d.parts copy.key.serial) copy.key.message ≡ Some j) × (copy.text ≡ j.message.text)
+copied_from house seat connections replies judged notes d v j copy there among =
+    let at = contains_at judged j there in
+    let w = of_connection house seat connections replies judged d at.0 j at.1 in
+    let i = contains_at (copies_of j.message) copy among in
+    let one = copy_at j.message.keys j.message.mailboxes j.message.text i.0 copy i.1 in
+    let is = connection_message house seat w.c _ _ _ (d.each w.c w.under) w.n j w.there in
+    let full : IsFull j = All-contains IsFull judged j v.full there in
+    let within : i.0 < length j.message.keys = at_within j.message.keys i.0 copy.key one.key in
+    let m = within_at j.message.mailboxes i.0 (let many = full.mailboxes in omega (arith, within, many)) in
+    let key : copy.key ≡ key_at seat w.c w.n (0 + i.0) =
+    same_some (sym one.key ∙ ap (λ (ks : List CopyKey). slice_get ks i.0) is.keys ∙ keys_at (setting_at house seat w.c) w.n 0 j.message.mailboxes i.0 m.0 m.1) in
+    (ap (λ (k : CopyKey). slice_get (part_at d.parts k.serial) k.message) key ∙ w.there, one.text_is)

@@ -3,3 +3,5 @@ mod EntryLaws
 mod FateLaws
 mod Ledger
 mod Spoken
+mod Joined
+mod Concluded

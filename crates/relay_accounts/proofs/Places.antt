@@ -36,6 +36,10 @@ contains_at xs x c =
     let r = within_at xs c.0 c.1 in
     let same : r.0 ≡ x = sym (at_or xs c.0 r.0 x r.1) ∙ c.2 in (c.0, r.1 ∙ ap Some same)
 
+pub the_one : {A : Type 0} (x y : A) → Contains (x ∷ []) y → x ≡ y
+the_one x y (zero, u, is) = is
+the_one x y (suc k, u, is) = absurd (omega (arith, u))
+
 pub at_map : {A B : Type 0} (f : A → B) (xs : List A) (i : ℕ) (x : A) → slice_get xs i ≡ Some x → slice_get (map f xs) i ≡ Some (f x)
 at_map f [] i x e = absurd (none_at e)
 at_map f (y ∷ ys) zero x e = ap (λ z. Some (f z)) (same_some e)
