@@ -1,17 +1,22 @@
 -- Of each connection of an account beside lists that agree a relay may conclude.
 use Rattle.std.proofs.Common.{◌≡◌, ℕ, zero, suc, ◌+◌, ◌<◌, Bool, true, false, List, [], ◌∷◌, ◌++◌, length, map, Option, None, Some, refl, ap, ap₂, sym, subst, ◌∙◌, append-nil, Contains, arith}
 use Rattle.std.specs.Prelude.{◌==◌, All, slice_get, slice_index_or}
+use Rattle.std.specs.List.{list_any}
 use Rattle.std.proofs.lemmas.Bool.{false≢true}
 use Rattle.std.proofs.lemmas.Bool.Decides.{Decides-eqb}
+use Rattle.std.proofs.lemmas.List.{length-map}
 use Rattle.std.proofs.lemmas.List.Elements.{All-contains}
 use Rattle.delivery_token.specs.declared.CopyKey.{CopyKey}
 use Rattle.delivery_token.specs.declared.Verdict.{Verdict}
 use Rattle.delivery_token.specs.declared.Verdict.TheVariants.{Stored}
 use Rattle.delivery_token.specs.declared.log.Noted.{Noted}
+use Rattle.envelope.specs.Directory.{shard_of}
+use Rattle.lane_work.specs.Account.{closings_of, is_closed_by}
 use Rattle.lane_work.specs.Talk.{Judged}
 use Rattle.lmtp_machine.specs.Dialogue.{Submission}
 use Rattle.lmtp_machine.specs.Message.{stored_text}
 use Rattle.account_laws.specs.Conversing.{IsConnection}
+use Rattle.account_laws.specs.Laws.{ClosedGetNothing}
 use Rattle.relay_replies.specs.Laws.{IsInLine, is_stored}
 use Rattle.relay_replies.specs.Handed.{Handed, handed_over, is_taken}
 use Rattle.relay_replies.specs.Fates.{AreCut, IsSender, IsSubmitted, Names}
@@ -19,7 +24,7 @@ use Rattle.relay_replies.specs.Conclusions.{FrontsAreCut, TakenAreStored, WhatIs
 use Rattle.relay_replies.specs.Numbers.{MessagesAreNumbered}
 use Rattle.relay_accounts.specs.Concluding.{ConnectionConcludes, IsStored, IsTextOf, RelaysConclude, key_at, message_at}
 use Rattle.relay_accounts.specs.Entries.{StandsNowhere, StandsOnce, with_uid}
-use Rattle.relay_accounts.specs.Laws.{AccountsConclude, ConnectionsAreKnown}
+use Rattle.relay_accounts.specs.Laws.{AccountsConclude, AccountsKeepClosed, ConnectionsAreKnown, TakenIsItsOwn}
 use Rattle.relay_accounts.proofs.Places.{at_contains, at_map, at_unmap, at_within, kept, same_some, the_one, within_at}
 use Rattle.relay_accounts.proofs.FateLaws.{IsSame, Knows, front_read, front_same, front_taken, knows, named_at, one_number, stored_at, stored_is, taken_there}
 use Rattle.relay_accounts.proofs.Ledger.{IsNoted, connection_message, copy_noted, full_at, part_at}
@@ -43,7 +48,9 @@ knows_part : (laws : Grounds) (g : Joined) → IsInLine g.house.host → (serial
 knows_part laws g i serial under more =
     let bytes : List ℕ = slice_index_or g.connections serial [] in
     let replied : List ℕ = slice_index_or g.replies serial [] in
+    let part : List Judged = part_at (parts_in g) serial in
     knows laws.numbers laws.taken g.house.host g.house.directory (handed_over (bytes ++ more) replied) (handed_over (bytes ++ more) replied) _ _
+    (length-map part (λ (j : Judged). j.verdicts) ∙ sym (length-map part (λ (j : Judged). j.message)))
     (laws.known g.house g.seat serial bytes replied (part_at (parts_in g) serial) i (g.account.dialogues.each serial under) more replied [] (append-nil replied))
 
 -- ---- a message and its part
@@ -134,10 +141,10 @@ same_text a b text s t = record {
 }
 
 -- where just one copy was accepted under a UID, the text with it is that copy's
-text_alone : (g : Joined) (serial : ℕ) (messages : List Handed) (h : KnowsPart g serial messages) (k n i mailbox uid : ℕ) → h.number k ≡ Some n
+text_alone : (g : Joined) → TakenIsItsOwn g.seat g.copies g.said → (serial : ℕ) (messages : List Handed) (h : KnowsPart g serial messages) (k n i mailbox uid : ℕ) → h.number k ≡ Some n
     → with_uid uid (entries_at g mailbox) ≡ (key_at g.seat serial n i, uid) ∷ [] → (text : List ℕ) → Contains (slice_index_or g.texts mailbox []) (uid, text) → IsTextOf (message_at messages k) text
-text_alone g serial messages h k n i mailbox uid e alone text there =
-    let from = text_from g mailbox uid text there in
+text_alone g own serial messages h k n i mailbox uid e alone text there =
+    let from = text_from g own mailbox uid text there in
     let under : Contains (with_uid uid (entries_at g mailbox)) (from.key, uid) = kept (λ (pair : CopyKey × ℕ). pair.1 == uid) (entries_at g mailbox) (from.key, uid) from.entry ((Decides-eqb uid uid).1 refl) in
     let only : Contains ((key_at g.seat serial n i, uid) ∷ []) (from.key, uid) = subst (λ (ps : List (CopyKey × ℕ)). Contains ps (from.key, uid)) alone under in
     let key : from.key ≡ key_at g.seat serial n i = ap (λ (p : CopyKey × ℕ). p.0) (sym (the_one (key_at g.seat serial n i, uid) (from.key, uid) only)) in
@@ -145,10 +152,10 @@ text_alone g serial messages h k n i mailbox uid e alone text there =
     let same : w.0 ≡ k = one_number g.house.directory messages _ _ h w.0 k from.key.message n w.1 e (ap (λ (x : CopyKey). x.message) key) in
     subst (λ (x : ℕ). IsTextOf (message_at messages x) text) same w.2
 
-front_stored : (laws : Grounds) (g : Joined) (serial : ℕ) → serial < length g.connections → (messages known : List Handed) (h : KnowsPart g serial messages) → AreCut known messages
+front_stored : (laws : Grounds) (g : Joined) → TakenIsItsOwn g.seat g.copies g.said → (serial : ℕ) → serial < length g.connections → (messages known : List Handed) (h : KnowsPart g serial messages) → AreCut known messages
     → (k i : ℕ) → is_taken (message_at known k) i ≡ true
     → (n : ℕ) × (h.number k ≡ Some n) × IsStored g.house.directory g.accepted g.texts (key_at g.seat serial n i) (message_at known k) i
-front_stored laws g serial under messages known h c k i t =
+front_stored laws g own serial under messages known h c k i t =
     let t_all : is_taken (message_at messages k) i ≡ true = front_taken laws.stays known messages c k i t in
     let n = h.taken k i t_all in
     let is = had g serial under messages h k n.0 i n.1 t_all in
@@ -159,14 +166,14 @@ front_stored laws g serial under messages known h c k i t =
       names = subst (λ (rs : List (List ℕ)). Names g.house.directory (slice_index_or rs i []) is.mailbox) (sym same.recipients) is.names;
       uid = is.uid;
       once = is.once;
-      text = λ alone text there. same_text (message_at known k) (message_at messages k) text same (text_alone g serial messages h k n.0 i is.mailbox is.uid n.1 alone text there);
+      text = λ alone text there. same_text (message_at known k) (message_at messages k) text same (text_alone g own serial messages h k n.0 i is.mailbox is.uid n.1 alone text there);
     })
 
 -- ---- a connection, and all
 
-connection_concludes : (laws : Grounds) (g : Joined) → IsInLine g.house.host → (serial : ℕ) → serial < length g.connections → (more : List ℕ)
+connection_concludes : (laws : Grounds) (g : Joined) → TakenIsItsOwn g.seat g.copies g.said → IsInLine g.house.host → (serial : ℕ) → serial < length g.connections → (more : List ℕ)
     → ConnectionConcludes g.house.directory g.seat serial (slice_index_or g.connections serial [] ++ more) (slice_index_or g.replies serial []) g.accepted g.texts
-connection_concludes laws g i serial under more =
+connection_concludes laws g own i serial under more =
     let sent : List ℕ = slice_index_or g.connections serial [] ++ more in
     let replied : List ℕ = slice_index_or g.replies serial [] in
     let messages : List Handed = handed_over sent replied in
@@ -176,14 +183,15 @@ connection_concludes laws g i serial under more =
     record {
       number = h.number;
       rises = h.rises;
-      taken = λ told untold e k r t. front_stored laws g serial under messages (handed_over sent told) h (front told untold e) k r t;
+      taken = λ told untold e k r t. front_stored laws g own serial under messages (handed_over sent told) h (front told untold e) k r t;
       refused = λ told untold e k r u f n num.
       not_had g serial messages h k n r num (sym (front_read laws.stays (handed_over sent told) messages (front told untold e) k r u) ∙ f);
+      answered = h.answered;
       different = λ k m a b r s ea eb same.
       (one_number g.house.directory messages _ _ h k m a b ea eb (ap (λ (x : CopyKey). x.message) same), ap (λ (x : CopyKey). x.recipient) same);
       nothing_else = λ mailbox uid key there seat of_serial. whose g serial messages h mailbox uid key there seat of_serial;
       texts_are = λ mailbox uid text there.
-      (let from = text_from g mailbox uid text there in
+      (let from = text_from g own mailbox uid text there in
       (from.key, from.entry, λ seat of_serial. whose_text g serial messages h mailbox uid text from seat of_serial));
     }
 
@@ -191,11 +199,30 @@ pub accounts_conclude : (laws : Grounds) → AccountsConclude
 accounts_conclude laws house seat connections replies heard said all logs copies accepted texts i under account lists own =
     let g : Joined = record {
       house = house; seat = seat; connections = connections; replies = replies; heard = heard; said = said; whole = all; logs = logs; copies = copies; accepted = accepted; texts = texts;
-      under = under; account = account; lists = lists; own = own;
+      under = under; account = account; lists = lists;
     } in
     record {
-      each = λ serial below more. connection_concludes laws g i serial below more;
+      replied = account.dialogues.as_many_replies;
+      each = λ serial below more. connection_concludes laws g own i serial below more;
       nothing_else = λ mailbox uid key there of_seat.
       (let e = entered g mailbox uid key there of_seat in subst (λ (k : CopyKey). k.serial < length connections) e.stored.key_is e.of.serial);
       in_order = stands_in_order g;
     }
+
+-- ---- shards that were closed
+
+pub accounts_keep_closed : (closed : ClosedGetNothing) → AccountsKeepClosed
+accounts_keep_closed closed house seat connections replies heard said all logs copies accepted texts some under account lists mailbox uid key there of_seat =
+    let g : Joined = record {
+      house = house; seat = seat; connections = connections; replies = replies; heard = heard; said = said; whole = all; logs = logs; copies = copies; accepted = accepted; texts = texts;
+      under = under; account = account; lists = lists;
+    } in
+    let e = entered g mailbox uid key there of_seat in
+    let serial : ℕ = e.noted.key.serial in
+    let IsOpen : ℕ → Type 0 = λ box. list_any (is_closed_by serial (shard_of house.directory box)) (closings_of house seat) ≡ false in
+    let part : List Judged = part_at (parts_in g) serial in
+    let each : All (λ (j : Judged). All IsOpen j.message.mailboxes) part = closed house seat serial _ _ part (account.dialogues.each serial e.of.serial) some in
+    let one : All IsOpen e.of.judged.message.mailboxes = All-contains (λ (j : Judged). All IsOpen j.message.mailboxes) part e.of.judged each (at_contains part e.noted.key.message e.of.judged e.of.there) in
+    let box : IsOpen e.noted.mailbox = All-contains IsOpen e.of.judged.message.mailboxes e.noted.mailbox one (at_contains e.of.judged.message.mailboxes e.noted.key.recipient e.noted.mailbox e.of.mailbox) in
+    subst (λ (n : ℕ). list_any (is_closed_by n (shard_of house.directory mailbox)) (closings_of house seat) ≡ false) (ap (λ (k : CopyKey). k.serial) e.stored.key_is)
+    (subst IsOpen e.stored.mailbox_is box)

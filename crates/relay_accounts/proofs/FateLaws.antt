@@ -2,14 +2,15 @@
 use Rattle.std.proofs.Common.{◌≡◌, ◌⊎◌, inl, inr, ℕ, zero, suc, ◌+◌, ◌<◌, Bool, true, false, List, [], ◌∷◌, ◌++◌, length, map, Option, None, Some, refl, ap, sym, subst, ◌∙◌, arith}
 use Rattle.std.specs.Prelude.{codes, slice_get, slice_index_or}
 use Rattle.std.proofs.lemmas.Bool.{false≢true}
+use Rattle.std.proofs.lemmas.List.{length-map}
 use Rattle.delivery_token.specs.declared.Verdict.{Verdict}
 use Rattle.delivery_token.specs.declared.Verdict.TheVariants.{Stored, Refused}
 use Rattle.envelope.specs.Directory.{Directory}
-use Rattle.lmtp_machine.specs.Dialogue.{Submission}
+use Rattle.lmtp_machine.specs.Dialogue.{Submission, verdict_reply}
 use Rattle.relay_replies.specs.Relay.{is_code}
-use Rattle.relay_replies.specs.Laws.{is_stored}
+use Rattle.relay_replies.specs.Laws.{is_stored, last_line}
 use Rattle.relay_replies.specs.Handed.{Handed, is_taken, no_message}
-use Rattle.relay_replies.specs.Fates.{Fate, Awaited, Judged, TurnedAway, Unheard, AreCut, AreNamed, IsSubmitted, Names, all_submitted, all_told, cut, none, same, was_stored}
+use Rattle.relay_replies.specs.Fates.{Fate, Awaited, Judged, TurnedAway, Unheard, AreCut, AreNamed, HaveFates, IsSubmitted, Names, all_submitted, all_told, awaited, cut, judged, none, same, turned_away, unheard, was_stored}
 use Rattle.relay_replies.specs.Conclusions.{MayForget, TakenAreStored, WhatIsReadStays}
 use Rattle.relay_replies.specs.Numbers.{AreNumbered, MessagesAreNumbered, no_submission, number_of, was_submitted}
 use Rattle.relay_accounts.specs.Concluding.{message_at}
@@ -60,10 +61,24 @@ pub record Knows (directory : Directory) (messages : List Handed) (submissions :
   pub verdict : (k n i : ℕ) (verdicts : List Verdict) → number k ≡ Some n → slice_get answers n ≡ Some verdicts
       → is_taken (message_at messages k) i ≡ slice_index_or (map is_stored verdicts) i false
   pub each : (n : ℕ) (s : Submission) → slice_get submissions n ≡ Some s → (k : ℕ) × (number k ≡ Some n)
+  pub answered : (k n : ℕ) → number k ≡ Some n → length (message_at messages k).replies ≡ length (message_at messages k).recipients
+
+-- where as many were answered as were submitted, each of these has all its replies
+all_answered : (host : List ℕ) (directory : Directory) {messages : List Handed} {fates : List Fate} → HaveFates host directory messages fates → length (all_told fates) ≡ length (all_submitted fates)
+    → (k : ℕ) → was_submitted (fate_at fates k) ≡ true → length (message_at messages k).replies ≡ length (message_at messages k).recipients
+all_answered host directory none many k e = absurd (false≢true e)
+all_answered host directory (judged message submission verdicts is as_many r h) many zero e =
+    ap (λ (rs : List (List ℕ)). length rs) r ∙ length-map (map verdict_reply verdicts) (last_line host) ∙ length-map verdicts verdict_reply ∙ as_many
+all_answered host directory (judged message submission verdicts is as_many r h) many (suc k) e = all_answered host directory h (omega (arith, many)) k e
+all_answered host directory (turned_away message as_many r h) many zero e = absurd (false≢true e)
+all_answered host directory (turned_away message as_many r h) many (suc k) e = all_answered host directory h many k e
+all_answered host directory (awaited message submission is r) many k e = absurd (omega (arith, many))
+all_answered host directory (unheard message r) many zero e = absurd (false≢true e)
+all_answered host directory (unheard message r) many (suc k) e = absurd (false≢true e)
 
 pub knows : (numbers : MessagesAreNumbered) (taken : TakenAreStored) (host : List ℕ) (directory : Directory) (known all : List Handed) (submissions : List Submission) (answers : List (List Verdict))
-    → MayForget host directory known all submissions answers → Knows directory all submissions answers
-knows numbers taken host directory known all submissions answers m =
+    → length answers ≡ length submissions → MayForget host directory known all submissions answers → Knows directory all submissions answers
+knows numbers taken host directory known all submissions answers many m =
     let are : AreNumbered directory all m.fates = numbers host directory all m.fates m.each in
     let is : (k n : ℕ) → number_given m.fates k ≡ Some n → (was_submitted (fate_at m.fates k) ≡ true) × (number_of m.fates k ≡ n) = λ k n e. given_is (was_submitted (fate_at m.fates k)) (number_of m.fates k) n e in
     record {
@@ -93,6 +108,7 @@ knows numbers taken host directory known all submissions answers m =
       (let within : n < length (all_submitted m.fates) = subst (λ (l : List Submission). n < length l) (sym m.submissions_are) (at_within submissions n s there) in
       let p = are.each n within in
       (p.0, ap (λ (b : Bool). given_if b (number_of m.fates p.0)) p.2 ∙ ap Some p.3));
+      answered = λ k n e. all_answered host directory m.each (ap (λ (l : List (List Verdict)). length l) m.answers_are ∙ many ∙ sym (ap (λ (l : List Submission). length l) m.submissions_are)) k (is k n e).0;
     }
 
 -- different messages have different numbers

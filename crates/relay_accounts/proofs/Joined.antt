@@ -38,7 +38,6 @@ pub record Joined : Type 0 where
   pub under : seat < length logs
   pub account : AccountOfLines house seat connections replies (slice_index_or logs seat []) heard said
   pub lists : ListsAgree house.directory whole logs copies accepted texts
-  pub own : TakenIsItsOwn seat copies said
 
 abbrev pub notes_in : Joined → List Noted
 notes_in g = slice_index_or g.logs g.seat []
@@ -116,8 +115,8 @@ pub record IsFrom (g : Joined) (mailbox uid : ℕ) (text : List ℕ) : Type 0 wh
   pub entry : Contains (entries_at g mailbox) (key, uid)
   pub own : key.seat ≡ g.seat → (j : Judged) × (slice_get (part_at (parts_in g) key.serial) key.message ≡ Some j) × (text ≡ j.message.text)
 
-pub text_from : (g : Joined) (mailbox uid : ℕ) (text : List ℕ) → Contains (slice_index_or g.texts mailbox []) (uid, text) → IsFrom g mailbox uid text
-text_from g mailbox uid text there =
+pub text_from : (g : Joined) → TakenIsItsOwn g.seat g.copies g.said → (mailbox uid : ℕ) (text : List ℕ) → Contains (slice_index_or g.texts mailbox []) (uid, text) → IsFrom g mailbox uid text
+text_from g taken mailbox uid text there =
     let within : mailbox < homes_in g = (let u = in_some g.texts mailbox (uid, text) there in let many = g.lists.mailboxes.1 in omega (arith, u, many)) in
     let lane : ℕ = shard_of g.house.directory mailbox in
     let is = All-contains (IsOfCopy mailbox (entries_at g mailbox) (slice_index_or g.copies lane [])) (slice_index_or g.texts mailbox []) (uid, text) (g.lists.mailbox mailbox within).there there in
@@ -125,7 +124,7 @@ text_from g mailbox uid text there =
       key = is.copy.key;
       entry = is.pair;
       own = λ seat.
-      (let put = g.own lane is.copy is.taken seat in
+      (let put = taken lane is.copy is.taken seat in
       let was = (g.account.put lane g.seat is.copy (in_some g.said lane (Item g.seat is.copy) put) put).1 in
       let from = copied_from g.house g.seat g.connections g.replies g.account.judged (notes_in g) g.account.dialogues g.account.verdicts was.message is.copy was.there was.among in
       (was.message, from.0, is.text ∙ from.1));

@@ -5,3 +5,5 @@ mod Ledger
 mod Spoken
 mod Joined
 mod Concluded
+mod Hosts
+mod Put

@@ -48,6 +48,8 @@ pub record ConnectionConcludes (directory : Directory) (seat serial : ℕ) (sent
   -- and one whose reply is another has none of this message
   pub refused : (told untold : List ℕ) → told ++ untold ≡ replied → (k i : ℕ) → i < length (message_at (handed_over sent told) k).replies → is_taken (message_at (handed_over sent told) k) i ≡ false
       → (n : ℕ) → number k ≡ Some n → StandsNowhere accepted (key_at seat serial n i)
+  -- in the end each message that was submitted is answered, for each recipient
+  pub answered : (k n : ℕ) → number k ≡ Some n → length (message_at (handed_over sent replied) k).replies ≡ length (message_at (handed_over sent replied) k).recipients
   -- different recipients, also of one message, have different copies
   pub different : (k m a b i j : ℕ) → number k ≡ Some a → number m ≡ Some b → key_at seat serial a i ≡ key_at seat serial b j → (k ≡ m) × (i ≡ j)
   -- whatever was accepted with a key of this connection is the copy of a recipient to whose message it was replied by 250
@@ -62,6 +64,7 @@ pub record ConnectionConcludes (directory : Directory) (seat serial : ℕ) (sent
 
 -- All connections of a worker, by the bytes that were sent on each, and perhaps more behind them, and by what was replied.
 pub record RelaysConclude (directory : Directory) (seat : ℕ) (connections replies : List (List ℕ)) (accepted : List (List (CopyKey × ℕ))) (texts : List (List (ℕ × List ℕ))) : Type 0 where
+  pub replied : length replies ≡ length connections
   pub each : (serial : ℕ) → serial < length connections → (more : List ℕ)
       → ConnectionConcludes directory seat serial (slice_index_or connections serial [] ++ more) (slice_index_or replies serial []) accepted texts
   -- whatever was accepted of this worker is of one of these connections

@@ -1,9 +1,9 @@
 //! Laws of what a relay may conclude of a house that ran, as functions that do nothing but rest on the
 //! laws of the crates below.
 
-ghost use Rattle.relay_accounts.specs.Laws.{AccountsConclude, ConnectionsAreKnown};
+ghost use Rattle.relay_accounts.specs.Laws.{AccountsConclude, AccountsKeepClosed, ConnectionsAreKnown};
 
-use account_laws::lines_are_told;
+use account_laws::{connections_are_of_lines, lines_are_told};
 use relay_replies::messages_are_known;
 
 /// A connection of a worker's account is one of which a relay may conclude by the bytes alone: it sent the
@@ -16,10 +16,15 @@ pub fn connections_are_known()
 }
 
 /// Where what the mailboxes accepted agrees with the workers' logs, a relay on a connection of a worker may
-/// conclude of the mailboxes themselves.
+/// conclude of the mailboxes themselves: a recipient whose reply is 250 has its copy in the mailbox that its RCPT
+/// line names, once and nowhere else; one whose reply is another has none; and nothing else was
+/// accepted of this worker. Copies stand in the order in which they were sent. Nothing was accepted
+/// for a shard that the worker had closed.
 pub fn accounts_conclude()
-    ensures { AccountsConclude }
+    ensures concludes { AccountsConclude }
+    ensures closed { AccountsKeepClosed }
 {
     messages_are_known();
     connections_are_known();
+    connections_are_of_lines();
 }

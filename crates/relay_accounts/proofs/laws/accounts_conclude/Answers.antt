@@ -1,8 +1,8 @@
-use Rattle.relay_accounts.proofs.Concluded.{Grounds, accounts_conclude}
+use Rattle.relay_accounts.proofs.Concluded.{Grounds, accounts_conclude, accounts_keep_closed}
 use Rattle.relay_accounts.proofs.laws.accounts_conclude.Goals as goal
 
-pub returns : goal.returns
-returns c =
+pub returns-clause-concludes : goal.returns-clause-concludes
+returns-clause-concludes c =
     let laws : Grounds = record {
       known = c.connections_are_known.ensures;
       fronts = c.messages_are_known.ensures.fronts;
@@ -11,3 +11,6 @@ returns c =
       numbers = c.messages_are_known.ensures.numbers;
     } in
     accounts_conclude laws
+
+pub returns-clause-closed : goal.returns-clause-closed
+returns-clause-closed c = accounts_keep_closed c.connections_are_of_lines.ensures.closed
