@@ -1,5 +1,5 @@
 -- Of each connection of an account beside lists that agree a relay may conclude.
-use Rattle.std.proofs.Common.{◌≡◌, ℕ, zero, suc, ◌+◌, ◌<◌, Bool, true, false, List, [], ◌∷◌, ◌++◌, length, map, Option, None, Some, refl, ap, ap₂, sym, subst, ◌∙◌, append-nil, Contains, arith}
+use Rattle.std.proofs.Common.{◌≡◌, ℕ, ◌<◌, true, false, List, [], ◌∷◌, ◌++◌, length, map, Some, refl, ap, ap₂, sym, subst, ◌∙◌, append-nil, Contains, arith}
 use Rattle.std.specs.Prelude.{◌==◌, All, slice_get, slice_index_or}
 use Rattle.std.specs.List.{list_any}
 use Rattle.std.proofs.lemmas.Bool.{false≢true}
@@ -7,7 +7,6 @@ use Rattle.std.proofs.lemmas.Bool.Decides.{Decides-eqb}
 use Rattle.std.proofs.lemmas.List.{length-map}
 use Rattle.std.proofs.lemmas.List.Elements.{All-contains}
 use Rattle.delivery_token.specs.declared.CopyKey.{CopyKey}
-use Rattle.delivery_token.specs.declared.Verdict.{Verdict}
 use Rattle.delivery_token.specs.declared.Verdict.TheVariants.{Stored}
 use Rattle.delivery_token.specs.declared.log.Noted.{Noted}
 use Rattle.envelope.specs.Directory.{shard_of}
@@ -15,20 +14,19 @@ use Rattle.lane_work.specs.Account.{closings_of, is_closed_by}
 use Rattle.lane_work.specs.Talk.{Judged}
 use Rattle.lmtp_machine.specs.Dialogue.{Submission}
 use Rattle.lmtp_machine.specs.Message.{stored_text}
-use Rattle.account_laws.specs.Conversing.{IsConnection}
 use Rattle.account_laws.specs.Laws.{ClosedGetNothing}
 use Rattle.relay_replies.specs.Laws.{IsInLine, is_stored}
 use Rattle.relay_replies.specs.Handed.{Handed, handed_over, is_taken}
 use Rattle.relay_replies.specs.Fates.{AreCut, IsSender, IsSubmitted, Names}
 use Rattle.relay_replies.specs.Conclusions.{FrontsAreCut, TakenAreStored, WhatIsReadStays}
 use Rattle.relay_replies.specs.Numbers.{MessagesAreNumbered}
-use Rattle.relay_accounts.specs.Concluding.{ConnectionConcludes, IsStored, IsTextOf, RelaysConclude, key_at, message_at}
+use Rattle.relay_accounts.specs.Concluding.{ConnectionConcludes, IsStored, IsTextOf, key_at, message_at}
 use Rattle.relay_accounts.specs.Entries.{StandsNowhere, StandsOnce, with_uid}
 use Rattle.relay_accounts.specs.Laws.{AccountsConclude, AccountsKeepClosed, ConnectionsAreKnown, TakenIsItsOwn}
 use Rattle.relay_accounts.proofs.Places.{at_contains, at_map, at_unmap, at_within, kept, same_some, the_one, within_at}
 use Rattle.relay_accounts.proofs.FateLaws.{IsSame, Knows, front_read, front_same, front_taken, knows, named_at, one_number, stored_at, stored_is, taken_there}
-use Rattle.relay_accounts.proofs.Ledger.{IsNoted, connection_message, copy_noted, full_at, part_at}
-use Rattle.relay_accounts.proofs.Joined.{IsEntered, IsFrom, Joined, entered, entries_at, homes_in, note_of_copy, noted_stands, notes_in, parts_in, stands_in_order, stands_nowhere, text_from}
+use Rattle.relay_accounts.proofs.Ledger.{connection_message, copy_noted, full_at, part_at}
+use Rattle.relay_accounts.proofs.Joined.{IsFrom, Joined, entered, entries_at, homes_in, noted_stands, notes_in, parts_in, stands_in_order, stands_nowhere, text_from}
 
 -- the laws on which this rests
 pub record Grounds : Type 0 where

@@ -1,5 +1,5 @@
 -- What a mailbox accepted of one seat, beside that seat's log.
-use Rattle.std.proofs.Common.{◌≡◌, ◌⊎◌, inl, inr, ℕ, zero, suc, ◌+◌, ◌<◌, ◌==◌, ◌&&◌, Bool, true, false, cond, List, [], ◌∷◌, length, map, slice_index_or, Option, None, Some, refl, ap, ap₂, sym, subst, ◌∙◌, Contains, arith, if◌then◌else◌}
+use Rattle.std.proofs.Common.{◌≡◌, inl, inr, ℕ, zero, suc, ◌==◌, Bool, true, false, List, [], ◌∷◌, map, Option, None, Some, refl, ap, ap₂, sym, subst, ◌∙◌, Contains, arith, if◌then◌else◌}
 use Rattle.std.specs.Prelude.{All, AllPairs, filter}
 use Rattle.std.proofs.lemmas.Bool.Decides.{Decides-and, Decides-eqb}
 use Rattle.std.proofs.lemmas.List.Elements.{All-cons, All-head, All-nil, All-tail, All-weaker}

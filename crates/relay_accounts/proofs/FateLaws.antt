@@ -1,5 +1,5 @@
 -- What a relay knows of the messages that it handed over, by the numbers of those that were submitted.
-use Rattle.std.proofs.Common.{◌≡◌, ◌⊎◌, inl, inr, ℕ, zero, suc, ◌+◌, ◌<◌, Bool, true, false, List, [], ◌∷◌, ◌++◌, length, map, Option, None, Some, refl, ap, sym, subst, ◌∙◌, arith}
+use Rattle.std.proofs.Common.{◌≡◌, ◌⊎◌, inl, inr, ℕ, zero, suc, ◌<◌, Bool, true, false, List, [], ◌∷◌, length, map, Option, None, Some, refl, ap, sym, subst, ◌∙◌, arith}
 use Rattle.std.specs.Prelude.{codes, slice_get, slice_index_or}
 use Rattle.std.proofs.lemmas.Bool.{false≢true}
 use Rattle.std.proofs.lemmas.List.{length-map}
@@ -9,7 +9,7 @@ use Rattle.envelope.specs.Directory.{Directory}
 use Rattle.lmtp_machine.specs.Dialogue.{Submission, verdict_reply}
 use Rattle.relay_replies.specs.Relay.{is_code}
 use Rattle.relay_replies.specs.Laws.{is_stored, last_line}
-use Rattle.relay_replies.specs.Handed.{Handed, is_taken, no_message}
+use Rattle.relay_replies.specs.Handed.{Handed, is_taken}
 use Rattle.relay_replies.specs.Fates.{Fate, Awaited, Judged, TurnedAway, Unheard, AreCut, AreNamed, HaveFates, IsSubmitted, Names, all_submitted, all_told, awaited, cut, judged, none, same, turned_away, unheard, was_stored}
 use Rattle.relay_replies.specs.Conclusions.{MayForget, TakenAreStored, WhatIsReadStays}
 use Rattle.relay_replies.specs.Numbers.{AreNumbered, MessagesAreNumbered, no_submission, number_of, was_submitted}

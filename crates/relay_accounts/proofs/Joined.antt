@@ -1,10 +1,9 @@
 -- A worker's account beside lists that agree: which entries are of which copies.
-use Rattle.std.proofs.Common.{◌≡◌, ◌⊎◌, inl, inr, ℕ, zero, suc, ◌+◌, ◌<◌, Bool, List, [], ◌∷◌, length, map, Option, None, Some, refl, ap, ap₂, sym, subst, ◌∙◌, Contains, arith}
-use Rattle.std.specs.Prelude.{All, AllPairs, slice_get, slice_index_or}
+use Rattle.std.proofs.Common.{◌≡◌, ◌⊎◌, inl, inr, ℕ, zero, suc, ◌<◌, Bool, List, [], ◌∷◌, length, Some, refl, sym, subst, ◌∙◌, Contains, arith}
+use Rattle.std.specs.Prelude.{AllPairs, slice_get, slice_index_or}
 use Rattle.std.proofs.lemmas.List.Elements.{All-contains}
 use Rattle.delivery_token.specs.declared.CopyKey.{CopyKey}
 use Rattle.delivery_token.specs.declared.Job.{Job}
-use Rattle.delivery_token.specs.declared.Verdict.{Verdict}
 use Rattle.delivery_token.specs.declared.Verdict.TheVariants.{Stored}
 use Rattle.delivery_token.specs.declared.log.Noted.{Noted}
 use Rattle.delivery_token.specs.Keys.{Precedes}
@@ -15,12 +14,10 @@ use Rattle.shard_queue.specs.declared.lane.Entry.{Entry}
 use Rattle.shard_queue.specs.declared.lane.Entry.TheVariants.{Item}
 use Rattle.account_laws.specs.Accounting.{AccountOfLines}
 use Rattle.agreement.specs.Lists.{IsOfCopy, IsTold, ListsAgree, Rise, keys_of, of_seat}
-use Rattle.relay_accounts.specs.Concluding.{key_at}
 use Rattle.relay_accounts.specs.Entries.{StandsNowhere, StandsOnce}
 use Rattle.relay_accounts.specs.Laws.{TakenIsItsOwn}
-use Rattle.relay_accounts.proofs.Places.{at_within, none_at, same_some}
 use Rattle.relay_accounts.proofs.EntryLaws.{NotesStored, entry_noted, note_entered, rise_pairs, stands_not, stands_once}
-use Rattle.relay_accounts.proofs.Ledger.{IsNoted, copied_from, copy_noted, note_copied, part_at, same_note}
+use Rattle.relay_accounts.proofs.Ledger.{IsNoted, copied_from, note_copied, part_at, same_note}
 
 -- all that is given
 pub record Joined : Type 0 where

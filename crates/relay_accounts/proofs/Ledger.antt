@@ -1,6 +1,6 @@
 -- What a worker's log has of each copy, by the number of its connection, its message and its recipient.
-use Rattle.std.proofs.Common.{◌≡◌, ℕ, zero, suc, ◌+◌, ◌<◌, List, [], ◌∷◌, length, map, Option, None, Some, refl, ap, ap₂, sym, subst, ◌∙◌, Contains, arith}
-use Rattle.std.specs.Prelude.{All, flat_map, slice_get, slice_index_or}
+use Rattle.std.proofs.Common.{◌≡◌, ℕ, zero, suc, ◌+◌, ◌<◌, List, [], ◌∷◌, length, map, Some, refl, ap, ap₂, sym, subst, ◌∙◌, Contains, arith}
+use Rattle.std.specs.Prelude.{flat_map, slice_get, slice_index_or}
 use Rattle.std.proofs.lemmas.List.Elements.{All-contains, All-weaker}
 use Rattle.change_ring.specs.Log.{no_flags}
 use Rattle.delivery_token.specs.declared.CopyKey.{CopyKey}

@@ -7,3 +7,4 @@ mod Joined
 mod Concluded
 mod Hosts
 mod Put
+mod Refuted

@@ -1,5 +1,5 @@
 -- Places in lists, and in lists that are made of lists.
-use Rattle.std.proofs.Common.{◌≡◌, ◌⊎◌, inl, inr, ℕ, zero, suc, ◌+◌, ◌<◌, Bool, true, false, cond, List, [], ◌∷◌, ◌++◌, length, map, slice_index_or, Option, None, Some, refl, ap, sym, subst, ◌∙◌, Contains, arith}
+use Rattle.std.proofs.Common.{◌≡◌, ◌⊎◌, inl, inr, ℕ, zero, suc, ◌<◌, Bool, true, false, cond, List, [], ◌∷◌, ◌++◌, length, map, slice_index_or, Option, None, Some, refl, ap, sym, subst, ◌∙◌, Contains, arith}
 use Rattle.std.specs.Prelude.{All, flat_map, slice_get}
 use Rattle.std.specs.List.{cons_option, filter, filter_map}
 use Rattle.std.proofs.lemmas.Bool.{false≢true}

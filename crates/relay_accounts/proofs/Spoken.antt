@@ -1,18 +1,17 @@
 -- A connection of a worker's account is one of which a relay may conclude.
-use Rattle.std.proofs.Common.{◌≡◌, ℕ, Bool, List, [], ◌∷◌, ◌++◌, length, map, refl, ap, sym, subst, ◌∙◌, append_assoc}
+use Rattle.std.proofs.Common.{◌≡◌, ℕ, Bool, List, [], ◌∷◌, ◌++◌, map, refl, ap, sym, subst, ◌∙◌, append_assoc}
 use Rattle.std.specs.Prelude.{codes}
 use Rattle.delivery_token.specs.declared.Verdict.{Verdict}
 use Rattle.envelope.specs.Directory.{Directory, marked}
-use Rattle.lane_work.specs.Account.{Premises, setting_at}
+use Rattle.lane_work.specs.Account.{setting_at}
 use Rattle.lane_work.specs.Talk.{Judged}
 use Rattle.line_io.specs.Wire.{joined, wire_lines, wire_rest}
 use Rattle.line_io.specs.inner.WireLaws.{reading_cut, wire_join, wire_joined}
 use Rattle.lmtp_machine.specs.declared.reply.Reply.{Reply}
 use Rattle.lmtp_machine.specs.declared.reply.Reply.TheVariants.{Greeting}
 use Rattle.lmtp_machine.specs.Conversation.{MayHear}
-use Rattle.lmtp_machine.specs.Dialogue.{Phase, Setting, Standing, Submission, Event, Opened, Line, Starved, Answered, Shut, Turn, dialogue, fresh, on_event}
+use Rattle.lmtp_machine.specs.Dialogue.{Phase, Setting, Standing, Event, Opened, Line, Starved, Answered, Shut, Turn, dialogue, fresh, on_event}
 use Rattle.lmtp_machine.specs.Replies.{wire}
-use Rattle.account_laws.specs.Conversing.{IsConnection}
 use Rattle.account_laws.specs.Laws.{LinesAreTold}
 use Rattle.account_laws.specs.Woven.{IsWholeDialogue, Woven, line, none, submits}
 use Rattle.account_laws.specs.Woven as woven

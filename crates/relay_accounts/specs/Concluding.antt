@@ -1,5 +1,5 @@
 -- What a relay may conclude of a house that ran, by the bytes that it sent and was told on a connection.
-use Rattle.std.specs.Prelude.{◌≡◌, ◌<◌, ℕ, Bool, true, false, List, [], ◌∷◌, ◌++◌, length, AllPairs, Contains, Option, Some, slice_index_or}
+use Rattle.std.specs.Prelude.{◌≡◌, ◌<◌, ℕ, true, false, List, [], ◌∷◌, ◌++◌, length, AllPairs, Contains, Option, Some, slice_index_or}
 use Rattle.delivery_token.specs.declared.CopyKey.{CopyKey}
 use Rattle.delivery_token.specs.Keys.{Precedes}
 use Rattle.envelope.specs.Directory.{Directory}

@@ -1,3 +1,4 @@
 pub mod Entries
 pub mod Concluding
 pub mod Laws
+pub mod rows
