@@ -157,15 +157,18 @@ front_stored laws g own serial under messages known h c k i t =
     let t_all : is_taken (message_at messages k) i ≡ true = front_taken laws.stays known messages c k i t in
     let n = h.taken k i t_all in
     let is = had g serial under messages h k n.0 i n.1 t_all in
-    let same : IsSame (message_at known k) (message_at messages k) = front_same c k (taken_there known k i t) in
-    (n.0, n.1, record {
-      mailbox = is.mailbox;
-      there = is.there;
-      names = subst (λ (rs : List (List ℕ)). Names g.house.directory (slice_index_or rs i []) is.mailbox) (sym same.recipients) is.names;
-      uid = is.uid;
-      once = is.once;
-      text = λ alone text there. same_text (message_at known k) (message_at messages k) text same (text_alone g own serial messages h k n.0 i is.mailbox is.uid n.1 alone text there);
-    })
+    let same : IsSame (message_at known k) (message_at messages k) = front_same c k (taken_there known k i t) in (
+      n.0,
+      n.1,
+      record {
+        mailbox = is.mailbox;
+        there = is.there;
+        names = subst (λ (rs : List (List ℕ)). Names g.house.directory (slice_index_or rs i []) is.mailbox) (sym same.recipients) is.names;
+        uid = is.uid;
+        once = is.once;
+        text = λ alone text there. same_text (message_at known k) (message_at messages k) text same (text_alone g own serial messages h k n.0 i is.mailbox is.uid n.1 alone text there);
+      },
+    )
 
 -- ---- a connection, and all
 
@@ -183,27 +186,39 @@ connection_concludes laws g own i serial under more =
       rises = h.rises;
       taken = λ told untold e k r t. front_stored laws g own serial under messages (handed_over sent told) h (front told untold e) k r t;
       refused = λ told untold e k r u f n num.
-      not_had g serial messages h k n r num (sym (front_read laws.stays (handed_over sent told) messages (front told untold e) k r u) ∙ f);
+          not_had g serial messages h k n r num (sym (front_read laws.stays (handed_over sent told) messages (front told untold e) k r u) ∙ f);
       answered = h.answered;
       different = λ k m a b r s ea eb same.
-      (one_number g.house.directory messages _ _ h k m a b ea eb (ap (λ (x : CopyKey). x.message) same), ap (λ (x : CopyKey). x.recipient) same);
+          (one_number g.house.directory messages _ _ h k m a b ea eb (ap (λ (x : CopyKey). x.message) same), ap (λ (x : CopyKey). x.recipient) same);
       nothing_else = λ mailbox uid key there seat of_serial. whose g serial messages h mailbox uid key there seat of_serial;
       texts_are = λ mailbox uid text there.
-      (let from = text_from g own mailbox uid text there in
-      (from.key, from.entry, λ seat of_serial. whose_text g serial messages h mailbox uid text from seat of_serial));
+          (let from = text_from g own mailbox uid text there in
+          (from.key, from.entry, λ seat of_serial. whose_text g serial messages h mailbox uid text from seat of_serial));
     }
 
 pub accounts_conclude : (laws : Grounds) → AccountsConclude
 accounts_conclude laws house seat connections replies heard said all logs copies accepted texts i under account lists own =
     let g : Joined = record {
-      house = house; seat = seat; connections = connections; replies = replies; heard = heard; said = said; whole = all; logs = logs; copies = copies; accepted = accepted; texts = texts;
-      under = under; account = account; lists = lists;
+      house = house;
+      seat = seat;
+      connections = connections;
+      replies = replies;
+      heard = heard;
+      said = said;
+      whole = all;
+      logs = logs;
+      copies = copies;
+      accepted = accepted;
+      texts = texts;
+      under = under;
+      account = account;
+      lists = lists;
     } in
     record {
       replied = account.dialogues.as_many_replies;
       each = λ serial below more. connection_concludes laws g own i serial below more;
       nothing_else = λ mailbox uid key there of_seat.
-      (let e = entered g mailbox uid key there of_seat in subst (λ (k : CopyKey). k.serial < length connections) e.stored.key_is e.of.serial);
+          (let e = entered g mailbox uid key there of_seat in subst (λ (k : CopyKey). k.serial < length connections) e.stored.key_is e.of.serial);
       in_order = stands_in_order g;
     }
 
@@ -212,8 +227,20 @@ accounts_conclude laws house seat connections replies heard said all logs copies
 pub accounts_keep_closed : (closed : ClosedGetNothing) → AccountsKeepClosed
 accounts_keep_closed closed house seat connections replies heard said all logs copies accepted texts some under account lists mailbox uid key there of_seat =
     let g : Joined = record {
-      house = house; seat = seat; connections = connections; replies = replies; heard = heard; said = said; whole = all; logs = logs; copies = copies; accepted = accepted; texts = texts;
-      under = under; account = account; lists = lists;
+      house = house;
+      seat = seat;
+      connections = connections;
+      replies = replies;
+      heard = heard;
+      said = said;
+      whole = all;
+      logs = logs;
+      copies = copies;
+      accepted = accepted;
+      texts = texts;
+      under = under;
+      account = account;
+      lists = lists;
     } in
     let e = entered g mailbox uid key there of_seat in
     let serial : ℕ = e.noted.key.serial in

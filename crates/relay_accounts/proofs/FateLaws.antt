@@ -84,30 +84,30 @@ knows numbers taken host directory known all submissions answers many m =
     record {
       number = number_given m.fates;
       rises = λ k l a b below ea eb.
-      (let n : number_of m.fates k < number_of m.fates l = are.rises k l below (is k a ea).0 in
-      let ia : number_of m.fates k ≡ a = (is k a ea).1 in
-      let ib : number_of m.fates l ≡ b = (is l b eb).1 in omega (arith, n, ia, ib));
+          (let n : number_of m.fates k < number_of m.fates l = are.rises k l below (is k a ea).0 in
+          let ia : number_of m.fates k ≡ a = (is k a ea).1 in
+          let ib : number_of m.fates l ≡ b = (is l b eb).1 in omega (arith, n, ia, ib));
       submitted = λ k n e.
-      (let o = are.of_message k (is k n e).0 in
-      let within : number_of m.fates k < length submissions = subst (λ (l : List Submission). number_of m.fates k < length l) m.submissions_are o.0 in
-      let here : n < length submissions = subst (λ (x : ℕ). x < length submissions) (is k n e).1 within in
-      let s = within_at submissions n here in
-      let one : slice_index_or (all_submitted m.fates) (number_of m.fates k) no_submission ≡ s.0 =
-      ap (λ (l : List Submission). slice_index_or l (number_of m.fates k) no_submission) m.submissions_are
-      ∙ ap (λ (x : ℕ). slice_index_or submissions x no_submission) (is k n e).1 ∙ at_or submissions n s.0 no_submission s.1 in
-      (s.0, s.1, subst (λ (x : Submission). IsSubmitted directory (message_at all k) x) one o.1));
+          (let o = are.of_message k (is k n e).0 in
+          let within : number_of m.fates k < length submissions = subst (λ (l : List Submission). number_of m.fates k < length l) m.submissions_are o.0 in
+          let here : n < length submissions = subst (λ (x : ℕ). x < length submissions) (is k n e).1 within in
+          let s = within_at submissions n here in
+          let one : slice_index_or (all_submitted m.fates) (number_of m.fates k) no_submission ≡ s.0 =
+          ap (λ (l : List Submission). slice_index_or l (number_of m.fates k) no_submission) m.submissions_are
+          ∙ ap (λ (x : ℕ). slice_index_or submissions x no_submission) (is k n e).1 ∙ at_or submissions n s.0 no_submission s.1 in
+          (s.0, s.1, subst (λ (x : Submission). IsSubmitted directory (message_at all k) x) one o.1));
       taken = λ k i e.
-      (let w : was_submitted (fate_at m.fates k) ≡ true = stored_submitted (fate_at m.fates k) i (sym (taken host directory all m.fates m.each k i) ∙ e) in
-      (number_of m.fates k, ap (λ (b : Bool). given_if b (number_of m.fates k)) w));
+          (let w : was_submitted (fate_at m.fates k) ≡ true = stored_submitted (fate_at m.fates k) i (sym (taken host directory all m.fates m.each k i) ∙ e) in
+          (number_of m.fates k, ap (λ (b : Bool). given_if b (number_of m.fates k)) w));
       verdict = λ k n i verdicts e there.
-      (taken host directory all m.fates m.each k i ∙ are.of_verdicts k i (is k n e).0
-      ∙ ap (λ (l : List (List Verdict)). slice_index_or (map is_stored (slice_index_or l (number_of m.fates k) [])) i false) m.answers_are
-      ∙ ap (λ (x : ℕ). slice_index_or (map is_stored (slice_index_or answers x [])) i false) (is k n e).1
-      ∙ ap (λ (vs : List Verdict). slice_index_or (map is_stored vs) i false) (at_or answers n verdicts [] there));
+          (taken host directory all m.fates m.each k i ∙ are.of_verdicts k i (is k n e).0
+          ∙ ap (λ (l : List (List Verdict)). slice_index_or (map is_stored (slice_index_or l (number_of m.fates k) [])) i false) m.answers_are
+          ∙ ap (λ (x : ℕ). slice_index_or (map is_stored (slice_index_or answers x [])) i false) (is k n e).1
+          ∙ ap (λ (vs : List Verdict). slice_index_or (map is_stored vs) i false) (at_or answers n verdicts [] there));
       each = λ n s there.
-      (let within : n < length (all_submitted m.fates) = subst (λ (l : List Submission). n < length l) (sym m.submissions_are) (at_within submissions n s there) in
-      let p = are.each n within in
-      (p.0, ap (λ (b : Bool). given_if b (number_of m.fates p.0)) p.2 ∙ ap Some p.3));
+          (let within : n < length (all_submitted m.fates) = subst (λ (l : List Submission). n < length l) (sym m.submissions_are) (at_within submissions n s there) in
+          let p = are.each n within in
+          (p.0, ap (λ (b : Bool). given_if b (number_of m.fates p.0)) p.2 ∙ ap Some p.3));
       answered = λ k n e. all_answered host directory m.each (ap (λ (l : List (List Verdict)). length l) m.answers_are ∙ many ∙ sym (ap (λ (l : List Submission). length l) m.submissions_are)) k (is k n e).0;
     }
 
@@ -126,9 +126,9 @@ pub one_number : (directory : Directory) (messages : List Handed) (submissions :
 one_number directory messages submissions answers h k m a b ea eb e = elim (apart k m) [
   | inl below ↦ absurd (let l : a < b = h.rises k m a b below ea eb in omega (arith, l, e))
   | inr o ↦ elim o [
-      | inl is ↦ is
-      | inr above ↦ absurd (let l : b < a = h.rises m k b a above eb ea in omega (arith, l, e))
-    ]
+    | inl is ↦ is
+    | inr above ↦ absurd (let l : b < a = h.rises m k b a above eb ea in omega (arith, l, e))
+  ]
 ]
 
 -- ---- the recipients of a submission

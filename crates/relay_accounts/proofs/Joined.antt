@@ -50,7 +50,7 @@ homes_in g = length g.house.directory.homes
 
 -- ---- mailboxes
 
-in_some : {A : Type 0} (xs : List (List A)) (m : ℕ) (x : A) → Contains (slice_index_or xs m []) x → m < length xs
+pub in_some : {A : Type 0} (xs : List (List A)) (m : ℕ) (x : A) → Contains (slice_index_or xs m []) x → m < length xs
 in_some [] m x c = absurd (let u = c.1 in omega (arith, u))
 in_some (y ∷ ys) zero x c = omega arith
 in_some (y ∷ ys) (suc m) x c = let u : m < length ys = in_some ys m x c in omega (arith, u)
@@ -94,9 +94,9 @@ noted_stands g noted key mailbox uid there ek em ev own within =
     record {
       here = stands_once key uid (entries_at g mailbox) (subst (λ (s : ℕ). Rise (keys_of (of_seat s (entries_at g mailbox)))) (sym own) told.rising) entry;
       elsewhere = λ other differs. stands_not key (entries_at g other) (λ n c.
-      (let e = entered g other n key c own in
-      let same = same_note g.seat (length g.connections) (parts_in g) e.noted noted e.of (note_of_copy g noted there) (e.stored.key_is ∙ sym ek) in
-      differs (sym e.stored.mailbox_is ∙ same.0 ∙ em)));
+          (let e = entered g other n key c own in
+          let same = same_note g.seat (length g.connections) (parts_in g) e.noted noted e.of (note_of_copy g noted there) (e.stored.key_is ∙ sym ek) in
+          differs (sym e.stored.mailbox_is ∙ same.0 ∙ em)));
     }
 
 -- where no note says that a copy is stored, it stands nowhere
@@ -121,10 +121,10 @@ text_from g taken mailbox uid text there =
       key = is.copy.key;
       entry = is.pair;
       own = λ seat.
-      (let put = taken lane is.copy is.taken seat in
-      let was = (g.account.put lane g.seat is.copy (in_some g.said lane (Item g.seat is.copy) put) put).1 in
-      let from = copied_from g.house g.seat g.connections g.replies g.account.judged (notes_in g) g.account.dialogues g.account.verdicts was.message is.copy was.there was.among in
-      (was.message, from.0, is.text ∙ from.1));
+          (let put = taken lane is.copy is.taken seat in
+          let was = (g.account.put lane g.seat is.copy (in_some g.said lane (Item g.seat is.copy) put) put).1 in
+          let from = copied_from g.house g.seat g.connections g.replies g.account.judged (notes_in g) g.account.dialogues g.account.verdicts was.message is.copy was.there was.among in
+          (was.message, from.0, is.text ∙ from.1));
     }
 
 -- ---- order

@@ -220,12 +220,12 @@ copy_at (k ∷ ks) (m ∷ ms) text zero copy e =
     record { key = ap (λ (c : Job). Some c.key) same; text_is = sym (ap (λ (c : Job). c.text) same) }
 copy_at (k ∷ ks) (m ∷ ms) text (suc i) copy e = let r = copy_at ks ms text i copy e in record { key = r.key; text_is = r.text_is }
 
--- a copy of a message that was judged is of the message of its key
-pub copied_from : (house : Premises) (seat : ℕ) (connections replies : List (List ℕ)) (judged : List Judged) (notes : List Noted)
+-- a copy of a message that was judged has the key of its recipient
+copy_key : (house : Premises) (seat : ℕ) (connections replies : List (List ℕ)) (judged : List Judged) (notes : List Noted)
     → (d : AreDialogues house seat connections replies judged) → AreVerdicts judged notes
     → (j : Judged) (copy : Job) → Contains judged j → Contains (copies_of j.message) copy
-    → (slice_get (part_at d.parts copy.key.serial) copy.key.message ≡ Some j) × (copy.text ≡ j.message.text)
-copied_from house seat connections replies judged notes d v j copy there among =
+    → (w : OfConnection (length connections) d.parts j) × (i : ℕ) × (copy.key ≡ key_at seat w.c w.n i) × (copy.text ≡ j.message.text)
+copy_key house seat connections replies judged notes d v j copy there among =
     let at = contains_at judged j there in
     let w = of_connection house seat connections replies judged d at.0 j at.1 in
     let i = contains_at (copies_of j.message) copy among in
@@ -236,4 +236,20 @@ copied_from house seat connections replies judged notes d v j copy there among =
     let m = within_at j.message.mailboxes i.0 (let many = full.mailboxes in omega (arith, within, many)) in
     let key : copy.key ≡ key_at seat w.c w.n (0 + i.0) =
     same_some (sym one.key ∙ ap (λ (ks : List CopyKey). slice_get ks i.0) is.keys ∙ keys_at (setting_at house seat w.c) w.n 0 j.message.mailboxes i.0 m.0 m.1) in
-    (ap (λ (k : CopyKey). slice_get (part_at d.parts k.serial) k.message) key ∙ w.there, one.text_is)
+    (w, 0 + i.0, key, one.text_is)
+
+-- it is of the message of its key
+pub copied_from : (house : Premises) (seat : ℕ) (connections replies : List (List ℕ)) (judged : List Judged) (notes : List Noted)
+    → (d : AreDialogues house seat connections replies judged) → AreVerdicts judged notes
+    → (j : Judged) (copy : Job) → Contains judged j → Contains (copies_of j.message) copy
+    → (slice_get (part_at d.parts copy.key.serial) copy.key.message ≡ Some j) × (copy.text ≡ j.message.text)
+copied_from house seat connections replies judged notes d v j copy there among =
+    let r = copy_key house seat connections replies judged notes d v j copy there among in
+    (ap (λ (k : CopyKey). slice_get (part_at d.parts k.serial) k.message) r.2 ∙ r.0.there, r.3)
+
+-- and of this seat
+pub copied_seat : (house : Premises) (seat : ℕ) (connections replies : List (List ℕ)) (judged : List Judged) (notes : List Noted)
+    → AreDialogues house seat connections replies judged → AreVerdicts judged notes
+    → (j : Judged) (copy : Job) → Contains judged j → Contains (copies_of j.message) copy → copy.key.seat ≡ seat
+copied_seat house seat connections replies judged notes d v j copy there among =
+    ap (λ (k : CopyKey). k.seat) (copy_key house seat connections replies judged notes d v j copy there among).2
