@@ -8,3 +8,4 @@ mod Concluded
 mod Hosts
 mod Put
 mod Refuted
+mod Worked
