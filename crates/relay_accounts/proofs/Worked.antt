@@ -143,9 +143,11 @@ account = record {
 
     put : (lane p : ℕ) (c : Job) → lane < 1 → Contains (slice_index_or (entries ∷ []) lane []) (Item p c) → (p ≡ 0) × WasSubmitted alice judged (note ∷ []) heard lane c
     put zero p c under there =
-        let o = on_lane p c there in
-        (o.0, subst (WasSubmitted alice judged (note ∷ []) heard 0) o.1
-        (record { message = _; there = first_of _ []; among = first_of copy []; shard = refl; verdict = Stored 7; told = (0, [], [], refl); noted = first_of note [] }))
+        let o = on_lane p c there in (
+          o.0,
+          subst (WasSubmitted alice judged (note ∷ []) heard 0) o.1
+              (record { message = _; there = first_of _ []; among = first_of copy []; shard = refl; verdict = Stored 7; told = (0, [], [], refl); noted = first_of note [] }),
+        )
     put (suc lane) p c under there = absurd (omega (arith, under))
 
 -- ---- the lists
