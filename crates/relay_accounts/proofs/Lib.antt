@@ -9,3 +9,4 @@ mod Hosts
 mod Put
 mod Refuted
 mod Worked
+mod Reported

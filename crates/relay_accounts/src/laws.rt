@@ -2,9 +2,11 @@
 //! laws of the crates below.
 
 ghost use Rattle.relay_accounts.specs.Laws.{AccountsConclude, AccountsKeepClosed, ConnectionsAreKnown};
+ghost use Rattle.relay_accounts.specs.Reports.{ReportsConclude};
 
 use account_laws::{connections_are_of_lines, lines_are_told};
 use relay_replies::messages_are_known;
+use running_house::reports_tell_of_each_copy;
 
 /// A connection of a worker's account is one of which a relay may conclude by the bytes alone: it sent the
 /// connection's bytes, and perhaps more behind them, and was told any front of the replies.
@@ -27,4 +29,14 @@ pub fn accounts_conclude()
     messages_are_known();
     connections_are_known();
     connections_are_of_lines();
+}
+
+/// So it is of each worker and each of its connections in a report of `run_house`, by the bytes of the plan and
+/// the replies of the report, whatever the plan. What else was accepted are messages that
+/// clients of sessions appended.
+pub fn reports_conclude()
+    ensures { ReportsConclude }
+{
+    accounts_conclude();
+    reports_tell_of_each_copy();
 }
