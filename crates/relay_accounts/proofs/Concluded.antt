@@ -75,7 +75,8 @@ record IsHad (g : Joined) (serial n i : ℕ) (message : Handed) : Type 0 where
   uid : ℕ
   once : StandsOnce g.accepted (key_at g.seat serial n i) mailbox uid
 
-had : (g : Joined) (serial : ℕ) → serial < length g.connections → (messages : List Handed) (h : KnowsPart g serial messages) (k n i : ℕ) → h.number k ≡ Some n → is_taken (message_at messages k) i ≡ true
+had : (g : Joined) (serial : ℕ) → serial < length g.connections → (messages : List Handed) (h : KnowsPart g serial messages) (k n i : ℕ) → h.number k ≡ Some n
+    → is_taken (message_at messages k) i ≡ true
     → IsHad g serial n i (message_at messages k)
 had g serial under messages h k n i e t =
     let part : List Judged = part_at (parts_in g) serial in
@@ -106,7 +107,8 @@ not_had g serial messages h k n i e f = stands_nowhere g (key_at g.seat serial n
     false≢true (sym f ∙ read_verdict g serial messages h k n i of.judged e there ∙ stored_is of.judged.verdicts i uid verdict))
 
 -- an entry is of a recipient whose reply is 250
-whose : (g : Joined) (serial : ℕ) (messages : List Handed) (h : KnowsPart g serial messages) (mailbox uid : ℕ) (key : CopyKey) → Contains (entries_at g mailbox) (key, uid) → key.seat ≡ g.seat → key.serial ≡ serial
+whose : (g : Joined) (serial : ℕ) (messages : List Handed) (h : KnowsPart g serial messages) (mailbox uid : ℕ) (key : CopyKey) → Contains (entries_at g mailbox) (key, uid)
+    → key.seat ≡ g.seat → key.serial ≡ serial
     → (k : ℕ) × (h.number k ≡ Some key.message) × (is_taken (message_at messages k) key.recipient ≡ true)
 whose g serial messages h mailbox uid key there seat of_serial =
     let e = entered g mailbox uid key there seat in
@@ -119,7 +121,8 @@ whose g serial messages h mailbox uid key there seat of_serial =
     (k.0, k.1, read_verdict g serial messages h k.0 key.message key.recipient e.of.judged k.1 in_part ∙ stored_is e.of.judged.verdicts key.recipient uid verdict)
 
 -- and a message that is there has the text of a message that was handed over, where its entry is of this connection
-whose_text : (g : Joined) (serial : ℕ) (messages : List Handed) (h : KnowsPart g serial messages) (mailbox uid : ℕ) (text : List ℕ) → (from : IsFrom g mailbox uid text) → from.key.seat ≡ g.seat → from.key.serial ≡ serial
+whose_text : (g : Joined) (serial : ℕ) (messages : List Handed) (h : KnowsPart g serial messages) (mailbox uid : ℕ) (text : List ℕ) → (from : IsFrom g mailbox uid text)
+    → from.key.seat ≡ g.seat → from.key.serial ≡ serial
     → (k : ℕ) × (h.number k ≡ Some from.key.message) × IsTextOf (message_at messages k) text
 whose_text g serial messages h mailbox uid text from seat of_serial =
     let own = from.own seat in
@@ -143,14 +146,16 @@ text_alone : (g : Joined) → TakenIsItsOwn g.seat g.copies g.said → (serial :
     → with_uid uid (entries_at g mailbox) ≡ (key_at g.seat serial n i, uid) ∷ [] → (text : List ℕ) → Contains (slice_index_or g.texts mailbox []) (uid, text) → IsTextOf (message_at messages k) text
 text_alone g own serial messages h k n i mailbox uid e alone text there =
     let from = text_from g own mailbox uid text there in
-    let under : Contains (with_uid uid (entries_at g mailbox)) (from.key, uid) = kept (λ (pair : CopyKey × ℕ). pair.1 == uid) (entries_at g mailbox) (from.key, uid) from.entry ((Decides-eqb uid uid).1 refl) in
+    let under : Contains (with_uid uid (entries_at g mailbox)) (from.key, uid) =
+    kept (λ (pair : CopyKey × ℕ). pair.1 == uid) (entries_at g mailbox) (from.key, uid) from.entry ((Decides-eqb uid uid).1 refl) in
     let only : Contains ((key_at g.seat serial n i, uid) ∷ []) (from.key, uid) = subst (λ (ps : List (CopyKey × ℕ)). Contains ps (from.key, uid)) alone under in
     let key : from.key ≡ key_at g.seat serial n i = ap (λ (p : CopyKey × ℕ). p.0) (sym (the_one (key_at g.seat serial n i, uid) (from.key, uid) only)) in
     let w = whose_text g serial messages h mailbox uid text from (ap (λ (x : CopyKey). x.seat) key) (ap (λ (x : CopyKey). x.serial) key) in
     let same : w.0 ≡ k = one_number g.house.directory messages _ _ h w.0 k from.key.message n w.1 e (ap (λ (x : CopyKey). x.message) key) in
     subst (λ (x : ℕ). IsTextOf (message_at messages x) text) same w.2
 
-front_stored : (laws : Grounds) (g : Joined) → TakenIsItsOwn g.seat g.copies g.said → (serial : ℕ) → serial < length g.connections → (messages known : List Handed) (h : KnowsPart g serial messages) → AreCut known messages
+front_stored : (laws : Grounds) (g : Joined) → TakenIsItsOwn g.seat g.copies g.said → (serial : ℕ) → serial < length g.connections
+    → (messages known : List Handed) (h : KnowsPart g serial messages) → AreCut known messages
     → (k i : ℕ) → is_taken (message_at known k) i ≡ true
     → (n : ℕ) × (h.number k ≡ Some n) × IsStored g.house.directory g.accepted g.texts (key_at g.seat serial n i) (message_at known k) i
 front_stored laws g own serial under messages known h c k i t =
@@ -247,7 +252,9 @@ accounts_keep_closed closed house seat connections replies heard said all logs c
     let IsOpen : ℕ → Type 0 = λ box. list_any (is_closed_by serial (shard_of house.directory box)) (closings_of house seat) ≡ false in
     let part : List Judged = part_at (parts_in g) serial in
     let each : All (λ (j : Judged). All IsOpen j.message.mailboxes) part = closed house seat serial _ _ part (account.dialogues.each serial e.of.serial) some in
-    let one : All IsOpen e.of.judged.message.mailboxes = All-contains (λ (j : Judged). All IsOpen j.message.mailboxes) part e.of.judged each (at_contains part e.noted.key.message e.of.judged e.of.there) in
-    let box : IsOpen e.noted.mailbox = All-contains IsOpen e.of.judged.message.mailboxes e.noted.mailbox one (at_contains e.of.judged.message.mailboxes e.noted.key.recipient e.noted.mailbox e.of.mailbox) in
+    let one : All IsOpen e.of.judged.message.mailboxes =
+    All-contains (λ (j : Judged). All IsOpen j.message.mailboxes) part e.of.judged each (at_contains part e.noted.key.message e.of.judged e.of.there) in
+    let box : IsOpen e.noted.mailbox =
+    All-contains IsOpen e.of.judged.message.mailboxes e.noted.mailbox one (at_contains e.of.judged.message.mailboxes e.noted.key.recipient e.noted.mailbox e.of.mailbox) in
     subst (λ (n : ℕ). list_any (is_closed_by n (shard_of house.directory mailbox)) (closings_of house seat) ≡ false) (ap (λ (k : CopyKey). k.serial) e.stored.key_is)
     (subst IsOpen e.stored.mailbox_is box)

@@ -20,7 +20,8 @@ use Rattle.relay_accounts.proofs.Places.{kept, kept_twice, made, nothing_there, 
 -- keys that are equal field by field
 pub same_key : (a b : CopyKey) → is_key a b ≡ true → a ≡ b
 same_key a b h =
-    let e = (Decides-and _ _ (Decides-eqb a.seat b.seat) (Decides-and _ _ (Decides-eqb a.serial b.serial) (Decides-and _ _ (Decides-eqb a.message b.message) (Decides-eqb a.recipient b.recipient)))).0 h in
+    let e =
+    (Decides-and _ _ (Decides-eqb a.seat b.seat) (Decides-and _ _ (Decides-eqb a.serial b.serial) (Decides-and _ _ (Decides-eqb a.message b.message) (Decides-eqb a.recipient b.recipient)))).0 h in
     ap₂ (λ (x : ℕ × ℕ) (y : ℕ × ℕ). record { seat = x.0; serial = x.1; message = y.0; recipient = y.1 }) (ap₂ (λ s t. (s, t)) e.0 e.1.0) (ap₂ (λ s t. (s, t)) e.1.1.0 e.1.1.1)
 
 pub is_itself : (a : CopyKey) → is_key a a ≡ true
@@ -108,7 +109,8 @@ pub record NotesStored (mailbox uid : ℕ) (key : CopyKey) (noted : Noted) : Typ
   pub mailbox_is : noted.mailbox ≡ mailbox
   pub verdict_is : noted.verdict ≡ Stored uid
 
-pair_of : (mailbox : ℕ) (noted : Noted) (verdict : Verdict) (key : CopyKey) (uid : ℕ) → noted.verdict ≡ verdict → stored_pair mailbox noted verdict ≡ Some (key, uid) → NotesStored mailbox uid key noted
+pair_of : (mailbox : ℕ) (noted : Noted) (verdict : Verdict) (key : CopyKey) (uid : ℕ) → noted.verdict ≡ verdict → stored_pair mailbox noted verdict ≡ Some (key, uid)
+    → NotesStored mailbox uid key noted
 pair_of mailbox noted (Refused why) key uid v e = absurd (none_at e)
 pair_of mailbox noted (Stored n) key uid v e = by_test (noted.mailbox == mailbox) refl e
   where

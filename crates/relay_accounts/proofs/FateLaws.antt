@@ -80,7 +80,8 @@ pub knows : (numbers : MessagesAreNumbered) (taken : TakenAreStored) (host : Lis
     → length answers ≡ length submissions → MayForget host directory known all submissions answers → Knows directory all submissions answers
 knows numbers taken host directory known all submissions answers many m =
     let are : AreNumbered directory all m.fates = numbers host directory all m.fates m.each in
-    let is : (k n : ℕ) → number_given m.fates k ≡ Some n → (was_submitted (fate_at m.fates k) ≡ true) × (number_of m.fates k ≡ n) = λ k n e. given_is (was_submitted (fate_at m.fates k)) (number_of m.fates k) n e in
+    let is : (k n : ℕ) → number_given m.fates k ≡ Some n → (was_submitted (fate_at m.fates k) ≡ true) × (number_of m.fates k ≡ n) =
+    λ k n e. given_is (was_submitted (fate_at m.fates k)) (number_of m.fates k) n e in
     record {
       number = number_given m.fates;
       rises = λ k l a b below ea eb.

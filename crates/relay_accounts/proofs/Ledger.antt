@@ -197,7 +197,8 @@ note_copied house seat connections replies judged notes d v noted there =
     noted_as seat (length connections) d.parts noted c w.n u.i j (same_some key) w.under w.there (m.1 ∙ mailbox) (t.1 ∙ verdict)
 
 -- two notes of one copy are alike
-pub same_note : (seat count : ℕ) (parts : List (List Judged)) (a b : Noted) → IsNoted seat count parts a → IsNoted seat count parts b → a.key ≡ b.key → (a.mailbox ≡ b.mailbox) × (a.verdict ≡ b.verdict)
+pub same_note : (seat count : ℕ) (parts : List (List Judged)) (a b : Noted) → IsNoted seat count parts a → IsNoted seat count parts b → a.key ≡ b.key
+    → (a.mailbox ≡ b.mailbox) × (a.verdict ≡ b.verdict)
 same_note seat count parts a b h k e =
     let one : h.judged ≡ k.judged =
     same_some (sym h.there ∙ ap (λ (x : CopyKey). slice_get (part_at parts x.serial) x.message) e ∙ k.there) in (

@@ -45,7 +45,8 @@ only_end seat p copy c = elim (contains_cases (Item p copy) (End seat) [] c) [
 ]
 
 -- of a list that is these copies and then the end
-pub put_one_told : (d : Directory) (room : Room) (seat lane : ℕ) (heard : List (Entry Noted)) (jobs : List Job) (ts : List (Job × Verdict)) (entries : List (Entry Job)) → WerePut d room seat lane heard [] ts jobs
+pub put_one_told : (d : Directory) (room : Room) (seat lane : ℕ) (heard : List (Entry Noted)) (jobs : List Job) (ts : List (Job × Verdict)) (entries : List (Entry Job))
+    → WerePut d room seat lane heard [] ts jobs
     → entries ≡ map (λ (job : Job). Item seat job) jobs ++ End seat ∷ [] → (p : ℕ) (copy : Job) → Contains entries (Item p copy) → (verdict : Verdict) × Contains ts (copy, verdict)
 put_one_told d room seat lane heard jobs ts entries were_put is p copy there =
     elim (Contains-append_cases (map (λ (job : Job). Item seat job) jobs) (End seat ∷ []) (Item p copy) (subst (λ (es : List (Entry Job)). Contains es (Item p copy)) is there)) [

@@ -1,6 +1,6 @@
 -- A report that agrees says of each worker what its account beside the lists comes to.
-use Rattle.std.proofs.Common.{◌≡◌, ◌⊎◌, inl, inr, ℕ, zero, suc, ◌+◌, ◌-◌, ◌<◌, ◌≤◌, ◌==◌, true, List, [], ◌∷◌, length, map, Option, None, Some, refl, ap, sym, subst, ◌∙◌, Contains, arith}
-use Rattle.std.specs.Prelude.{All, Result, Ok, Err, slice_index_or}
+use Rattle.std.proofs.Common.{◌≡◌, inl, inr, ℕ, zero, suc, ◌+◌, ◌-◌, ◌<◌, ◌==◌, List, [], ◌∷◌, length, map, Option, None, Some, refl, ap, sym, subst, ◌∙◌, Contains, arith}
+use Rattle.std.specs.Prelude.{Result, Ok, Err, slice_index_or}
 use Rattle.std.proofs.lemmas.Bool.Decides.{Decides-eqb}
 use Rattle.std.proofs.lemmas.List.{length-map}
 use Rattle.std.proofs.lemmas.List.Elements.{All-contains}
@@ -11,7 +11,6 @@ use Rattle.delivery_token.specs.declared.Verdict.{Verdict}
 use Rattle.envelope.specs.Directory.{Home}
 use Rattle.envelope.specs.Names.{words_read}
 use Rattle.envelope.specs.declared.directory.DirectoryFault.{DirectoryFault}
-use Rattle.shard_queue.specs.declared.lane.Entry.{Entry}
 use Rattle.shard_queue.specs.declared.lane.Entry.TheVariants.{Item}
 use Rattle.shard_queue.specs.Lane.{of}
 use Rattle.account_laws.proofs.ListLaws.{unmapped}
@@ -19,7 +18,6 @@ use Rattle.agreement.specs.Lists.{AreTold}
 use Rattle.house.specs.Settings.{config_fault, fault_named, fault_of_numbers, names_first, words_of}
 use Rattle.house.specs.declared.config.Config.{Config}
 use Rattle.house.specs.declared.config.ConfigFault.{ConfigFault}
-use Rattle.lane_work.specs.Account.{Premises}
 use Rattle.lane_work.specs.Copies.{room_at}
 use Rattle.lane_work.specs.Consuming.{items_of}
 use Rattle.reckoning.proofs.Parts.{some_at}
@@ -31,7 +29,7 @@ use Rattle.running_house.specs.declared.plan.Plan.{Plan}
 use Rattle.running_house.specs.declared.plan.Report.{Report}
 use Rattle.running_house.proofs.TellLaws.{less_or_not, so_many}
 use Rattle.relay_accounts.specs.Laws.{AccountsConclude, AccountsKeepClosed, TakenIsItsOwn}
-use Rattle.relay_accounts.specs.Reports.{IsSessions, ReportConcludes, ReportsConclude}
+use Rattle.relay_accounts.specs.Reports.{ReportsConclude}
 use Rattle.relay_accounts.proofs.Hosts.{host_in_line}
 use Rattle.relay_accounts.proofs.Ledger.{copied_seat}
 use Rattle.relay_accounts.proofs.Joined.{in_some}
@@ -89,7 +87,8 @@ taken_seat accounts plan r agrees lane p copy under there = elim (less_or_not p 
       let visit = some_at plan.sessions.items n (omega (arith, session, under)) in
       let a = agrees.sessions n visit.0 visit.1 in
       let i : ℕ = length plan.workers.items + n in
-      let here : Contains (slice_index_or (map (of i) (histories r)) lane []) (Item p copy) = subst (λ (x : ℕ). Contains (slice_index_or (map (of x) (histories r)) lane []) (Item p copy)) (sym e) there in
+      let here : Contains (slice_index_or (map (of i) (histories r)) lane []) (Item p copy) =
+      subst (λ (x : ℕ). Contains (slice_index_or (map (of x) (histories r)) lane []) (Item p copy)) (sym e) there in
       let on = a.copies.lanes lane (in_some (map (of i) (histories r)) lane (Item p copy) here) in
       let t = put_one_told (premises_for plan).directory (room_at (premises_for plan).rooms lane) i lane (slice_index_or (answers r) i []) on.0 (map (judged_of i 0) a.carried)
       (slice_index_or (map (of i) (histories r)) lane []) on.1 on.2 p copy here in
@@ -109,7 +108,8 @@ taken_is_its_own accounts taken plan r agrees w lane copy there seat =
 -- ---- the report
 
 pub reports_conclude : (concludes : AccountsConclude) (closed : AccountsKeepClosed) (accounts : AccountsAreOfLines) (taken : TakenIsAProducers) → ReportsConclude
-reports_conclude concludes closed accounts taken plan r agrees right some =
+reports_conclude concludes closed accounts taken plan r range right agrees =
+    let some : 0 < plan.config.shards = (let least = range.shards.0 in omega (arith, least)) in
     let logs = logs_are plan r agrees in
     let many = workers_are plan in
     record {
@@ -120,13 +120,14 @@ reports_conclude concludes closed accounts taken plan r agrees right some =
           (length plan.sessions.items == 0) (notes_of r) (copies_taken r) (accepted_of r) (texts_of r)
           some (omega (arith, under, logs, many)) (accounts plan r agrees w under) agrees.lists;
       nobody_else = λ mailbox uid key there.
-      (let boxes = agrees.lists.mailboxes.0 in
-      let within = in_some (accepted_of r) mailbox (key, uid) there in
-      let told : AreTold (notes_of r) mailbox (slice_index_or (accepted_of r) mailbox []) = (agrees.lists.mailbox mailbox (omega (arith, boxes, within))).told in
-      let owned : key.seat < length (notes_of r) = All-contains (λ (pair : CopyKey × ℕ). pair.0.seat < length (notes_of r)) (slice_index_or (accepted_of r) mailbox []) (key, uid) told.owned there in
-      elim (less_or_not key.seat (length (connections_of plan))) [
-        | inl worker ↦ inl worker
-        | inr session ↦ inr (key.seat - length plan.workers.items, omega (arith, session, owned, logs, many), omega (arith, session, many))
-      ]);
+          (let boxes = agrees.lists.mailboxes.0 in
+          let within = in_some (accepted_of r) mailbox (key, uid) there in
+          let told : AreTold (notes_of r) mailbox (slice_index_or (accepted_of r) mailbox []) = (agrees.lists.mailbox mailbox (omega (arith, boxes, within))).told in
+          let owned : key.seat < length (notes_of r) =
+          All-contains (λ (pair : CopyKey × ℕ). pair.0.seat < length (notes_of r)) (slice_index_or (accepted_of r) mailbox []) (key, uid) told.owned there in
+          elim (less_or_not key.seat (length (connections_of plan))) [
+            | inl worker ↦ inl worker
+            | inr session ↦ inr (key.seat - length plan.workers.items, omega (arith, session, owned, logs, many), omega (arith, session, many))
+          ]);
       all_there = λ none mailbox within. (agrees.lists.mailbox mailbox within).each ((Decides-eqb (length plan.sessions.items) 0).1 none);
     }

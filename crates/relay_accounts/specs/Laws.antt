@@ -17,7 +17,8 @@ use Rattle.relay_replies.specs.Handed.{handed_over}
 use Rattle.relay_replies.specs.Conclusions.{MayForget}
 use Rattle.relay_accounts.specs.Concluding.{RelaysConclude}
 
--- A connection of a worker's account is one of which a relay may conclude: it sent the connection's bytes, and perhaps more, and was told a front of the replies. What was judged on it is what was submitted.
+-- A connection of a worker's account is one of which a relay may conclude: it sent the connection's bytes, and perhaps more,
+-- and was told a front of the replies. What was judged on it is what was submitted.
 abbrev pub ConnectionsAreKnown : Type 0
 ConnectionsAreKnown = (house : Premises) (seat serial : ℕ) (bytes replied : List ℕ) (judged : List Judged) → IsInLine house.host
     → IsConnection house seat serial bytes replied judged

@@ -1,7 +1,8 @@
 -- What a report of a run says to those who sent mail.
-use Rattle.std.specs.Prelude.{◌≡◌, ◌⊎◌, ◌+◌, ◌<◌, ℕ, None, List, [], length, Contains, slice_index_or}
+use Rattle.std.specs.Prelude.{◌≡◌, ◌⊎◌, ◌+◌, ◌<◌, ℕ, None, [], length, Contains, slice_index_or}
 use Rattle.delivery_token.specs.declared.CopyKey.{CopyKey}
 use Rattle.agreement.specs.Lists.{IsEachThere}
+use Rattle.house.specs.Settings.{IsInRange}
 use Rattle.running_house.specs.Agree.{Agrees, accepted_of, replies_of, texts_of}
 use Rattle.running_house.specs.Plan.{connections_of, plan_fault, premises_for}
 use Rattle.running_house.specs.declared.plan.Plan.{Plan}
@@ -25,6 +26,6 @@ pub record ReportConcludes (plan : Plan) (r : Report) : Type 0 where
   pub all_there : length plan.sessions.items ≡ 0 → (mailbox : ℕ) → mailbox < length (premises_for plan).directory.homes
       → IsEachThere (slice_index_or (accepted_of r) mailbox []) (slice_index_or (texts_of r) mailbox [])
 
--- So it is of each report that agrees, of a plan with nothing wrong: and `run_house` gives no other.
+-- So it is of each report that `run_house` gives: it asks for settings that are in range, and answers Ok only of a plan with nothing wrong, with a report that agrees.
 abbrev pub ReportsConclude : Type 0
-ReportsConclude = (plan : Plan) (r : Report) → Agrees plan r → plan_fault plan ≡ None → 0 < plan.config.shards → ReportConcludes plan r
+ReportsConclude = (plan : Plan) (r : Report) → IsInRange plan.config → plan_fault plan ≡ None → Agrees plan r → ReportConcludes plan r
