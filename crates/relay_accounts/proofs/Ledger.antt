@@ -1,6 +1,6 @@
 -- What a worker's log has of each copy, by the number of its connection, its message and its recipient.
 use Rattle.std.proofs.Common.{◌≡◌, ℕ, zero, suc, ◌+◌, ◌<◌, List, [], ◌∷◌, length, map, Some, refl, ap, ap₂, sym, subst, ◌∙◌, Contains, arith}
-use Rattle.std.specs.Prelude.{flat_map, slice_get, slice_index_or}
+use Rattle.std.specs.Prelude.{All, flat_map, slice_get, slice_index_or}
 use Rattle.std.proofs.lemmas.List.Elements.{All-contains, All-weaker}
 use Rattle.change_ring.specs.Log.{no_flags}
 use Rattle.delivery_token.specs.declared.CopyKey.{CopyKey}
@@ -19,7 +19,7 @@ use Rattle.account_laws.specs.Conversing.{AreDialogues, IsConnection}
 use Rattle.account_laws.specs.Storing.{AreVerdicts, IsFull}
 use Rattle.account_laws.specs.Woven.{IsWholeDialogue}
 use Rattle.relay_accounts.specs.Concluding.{key_at}
-use Rattle.relay_accounts.proofs.Places.{at_contains, at_map, at_or, at_unmap, at_within, contains_at, none_at, place_of, placed, same_some, unplaced, within_at}
+use Rattle.relay_accounts.proofs.Places.{AsMany, at_contains, at_map, at_or, at_unmap, at_within, contains_at, none_at, place_of, placed, same_some, unplaced, within_at}
 
 -- ---- the messages of a connection, by number
 
@@ -124,6 +124,42 @@ pub full_at : (house : Premises) (seat : ℕ) (connections replies : List (List 
 full_at house seat connections replies judged notes d v c n j there =
     All-contains IsFull judged j v.full (at_contains judged (place_of itself d.parts c n) j (whole_at house seat connections replies judged d c n j there))
 
+-- ---- what stands at a copy's place in the log
+
+-- the key of the i-th copy of a message
+copy_key_at : (setting : Setting) (homes n i mailbox : ℕ) (j : Judged) → IsMessage setting homes n j.message → slice_get j.message.mailboxes i ≡ Some mailbox
+    → slice_get j.message.keys i ≡ Some (key_at setting.seat setting.serial n i)
+copy_key_at setting homes n i mailbox j is there =
+    let z : 0 + i ≡ i = omega arith in
+    let all : slice_get j.message.keys i ≡ slice_get (keys_from setting n 0 j.message.mailboxes) i = ap (λ (ks : List CopyKey). slice_get ks i) is.keys in
+    let one : slice_get (keys_from setting n 0 j.message.mailboxes) i ≡ Some (key_at setting.seat setting.serial n i) =
+    keys_at setting n 0 j.message.mailboxes i mailbox there ∙ ap (λ (r : ℕ). Some (key_at setting.seat setting.serial n r)) z in
+    all ∙ one
+
+noted_key : (judged : List Judged) (notes : List Noted) → AreVerdicts judged notes → (q i : ℕ) (j : Judged) (key : CopyKey) → slice_get judged q ≡ Some j → slice_get j.message.keys i ≡ Some key
+    → slice_get (map (λ (x : Noted). x.key) notes) (place_of keys_in judged q i) ≡ Some key
+noted_key judged notes v q i j key there here =
+    let all : slice_get (flat_map keys_in judged) (place_of keys_in judged q i) ≡ Some key = placed keys_in keys_in judged (λ k e h. refl) q j there i key here in
+    ap (λ (ks : List CopyKey). slice_get ks (place_of keys_in judged q i)) v.keys ∙ all
+
+noted_mailbox : (judged : List Judged) (notes : List Noted) → AreVerdicts judged notes → (q i : ℕ) (j : Judged) (mailbox : ℕ) → slice_get judged q ≡ Some j → slice_get j.message.mailboxes i ≡ Some mailbox
+    → slice_get (map (λ (x : Noted). x.mailbox) notes) (place_of keys_in judged q i) ≡ Some mailbox
+noted_mailbox judged notes v q i j mailbox there here =
+    let many : All (AsMany keys_in mailboxes_in) judged = All-weaker IsFull (AsMany keys_in mailboxes_in) (λ x h. h.mailboxes) judged v.full in
+    let all : slice_get (flat_map mailboxes_in judged) (place_of keys_in judged q i) ≡ Some mailbox = placed keys_in mailboxes_in judged many q j there i mailbox here in
+    ap (λ (ms : List ℕ). slice_get ms (place_of keys_in judged q i)) v.mailboxes ∙ all
+
+noted_verdict : (judged : List Judged) (notes : List Noted) → AreVerdicts judged notes → (q i : ℕ) (j : Judged) (verdict : Verdict) → slice_get judged q ≡ Some j → slice_get j.verdicts i ≡ Some verdict
+    → slice_get (map (λ (x : Noted). x.verdict) notes) (place_of keys_in judged q i) ≡ Some verdict
+noted_verdict judged notes v q i j verdict there here =
+    let many : All (AsMany keys_in verdicts_in) judged = All-weaker IsFull (AsMany keys_in verdicts_in) (λ x h. h.verdicts) judged v.full in
+    let all : slice_get (flat_map verdicts_in judged) (place_of keys_in judged q i) ≡ Some verdict = placed keys_in verdicts_in judged many q j there i verdict here in
+    ap (λ (vs : List Verdict). slice_get vs (place_of keys_in judged q i)) v.verdicts ∙ all
+
+-- what the note has that stands there
+same_at : {A : Type 0} (f : Noted → A) (notes : List Noted) (p : ℕ) (noted : Noted) (x : A) → slice_get notes p ≡ Some noted → slice_get (map f notes) p ≡ Some x → f noted ≡ x
+same_at f notes p noted x there e = same_some (sym (at_map f notes p noted there) ∙ e)
+
 -- each copy of each message is noted with its verdict
 pub copy_noted : (house : Premises) (seat : ℕ) (connections replies : List (List ℕ)) (judged : List Judged) (notes : List Noted)
     → (d : AreDialogues house seat connections replies judged) → AreVerdicts judged notes
@@ -133,24 +169,14 @@ copy_noted house seat connections replies judged notes d v c n i j mailbox verdi
     let part = inner_at d.parts c n j there in
     let under : c < length connections = (let u = at_within d.parts c (part_at d.parts c) part in let many = d.as_many_parts in omega (arith, u, many)) in
     let q : ℕ = place_of itself d.parts c n in
-    let whole : slice_get judged q ≡ Some j = whole_at house seat connections replies judged d c n j there in
+    let all : slice_get judged q ≡ Some j = whole_at house seat connections replies judged d c n j there in
     let p : ℕ = place_of keys_in judged q i in
     let is = connection_message house seat c _ _ _ (d.each c under) n j there in
-    let z : 0 + i ≡ i = omega arith in
-    let key : slice_get j.message.keys i ≡ Some (key_at seat c n i) =
-    ap (λ (ks : List CopyKey). slice_get ks i) is.keys ∙ keys_at (setting_at house seat c) n 0 j.message.mailboxes i mailbox at_mailbox ∙ ap (λ (r : ℕ). Some (key_at seat c n r)) z in
-    let of_key : slice_get (map (λ (x : Noted). x.key) notes) p ≡ Some (key_at seat c n i) =
-    ap (λ (ks : List CopyKey). slice_get ks p) v.keys ∙ placed keys_in keys_in judged (λ k e h. refl) q j whole i (key_at seat c n i) key in
-    let of_mailbox : slice_get (map (λ (x : Noted). x.mailbox) notes) p ≡ Some mailbox =
-    ap (λ (ms : List ℕ). slice_get ms p) v.mailboxes
-    ∙ placed keys_in mailboxes_in judged (All-weaker IsFull (λ (x : Judged). length x.message.mailboxes ≡ length x.message.keys) (λ x h. h.mailboxes) judged v.full) q j whole i mailbox at_mailbox in
-    let of_verdict : slice_get (map (λ (x : Noted). x.verdict) notes) p ≡ Some verdict =
-    ap (λ (vs : List Verdict). slice_get vs p) v.verdicts
-    ∙ placed keys_in verdicts_in judged (All-weaker IsFull (λ (x : Judged). length x.verdicts ≡ length x.message.keys) (λ x h. h.verdicts) judged v.full) q j whole i verdict at_verdict in
+    let of_key = noted_key judged notes v q i j (key_at seat c n i) all (copy_key_at (setting_at house seat c) _ n i mailbox j is at_mailbox) in
     let note = at_unmap (λ (x : Noted). x.key) notes p (key_at seat c n i) of_key in
     subst (Contains notes) (noted_is note.0 (key_at seat c n i) mailbox verdict note.2
-    (same_some (sym (at_map (λ (x : Noted). x.mailbox) notes p note.0 note.1) ∙ of_mailbox))
-    (same_some (sym (at_map (λ (x : Noted). x.verdict) notes p note.0 note.1) ∙ of_verdict)))
+    (same_at (λ (x : Noted). x.mailbox) notes p note.0 mailbox note.1 (noted_mailbox judged notes v q i j mailbox all at_mailbox))
+    (same_at (λ (x : Noted). x.verdict) notes p note.0 verdict note.1 (noted_verdict judged notes v q i j verdict all at_verdict)))
     (at_contains notes p note.0 note.1)
 
 -- and each note is of such a copy
@@ -185,16 +211,11 @@ note_copied house seat connections replies judged notes d v noted there =
     let within : u.i < length j.message.keys = at_within j.message.keys u.i noted.key u.within in
     let m = within_at j.message.mailboxes u.i (let many = full.mailboxes in omega (arith, within, many)) in
     let t = within_at j.verdicts u.i (let many = full.verdicts in omega (arith, within, many)) in
-    let z : 0 + u.i ≡ u.i = omega arith in
-    let key : Some noted.key ≡ Some (key_at seat c w.n u.i) =
-    sym u.within ∙ ap (λ (ks : List CopyKey). slice_get ks u.i) is.keys ∙ keys_at (setting_at house seat c) w.n 0 j.message.mailboxes u.i m.0 m.1 ∙ ap (λ (r : ℕ). Some (key_at seat c w.n r)) z in
-    let mailbox : Some m.0 ≡ Some noted.mailbox =
-    sym (placed keys_in mailboxes_in judged (All-weaker IsFull (λ (x : Judged). length x.message.mailboxes ≡ length x.message.keys) (λ x h. h.mailboxes) judged v.full) u.k j u.one u.i m.0 m.1)
-    ∙ ap (λ (x : ℕ). slice_get (flat_map mailboxes_in judged) x) (sym u.is) ∙ ap (λ (ms : List ℕ). slice_get ms p) (sym v.mailboxes) ∙ at_map (λ (x : Noted). x.mailbox) notes p noted at.1 in
-    let verdict : Some t.0 ≡ Some noted.verdict =
-    sym (placed keys_in verdicts_in judged (All-weaker IsFull (λ (x : Judged). length x.verdicts ≡ length x.message.keys) (λ x h. h.verdicts) judged v.full) u.k j u.one u.i t.0 t.1)
-    ∙ ap (λ (x : ℕ). slice_get (flat_map verdicts_in judged) x) (sym u.is) ∙ ap (λ (vs : List Verdict). slice_get vs p) (sym v.verdicts) ∙ at_map (λ (x : Noted). x.verdict) notes p noted at.1 in
-    noted_as seat (length connections) d.parts noted c w.n u.i j (same_some key) w.under w.there (m.1 ∙ mailbox) (t.1 ∙ verdict)
+    let key : Some noted.key ≡ Some (key_at seat c w.n u.i) = sym u.within ∙ copy_key_at (setting_at house seat c) _ w.n u.i m.0 j is m.1 in
+    let here : slice_get notes (place_of keys_in judged u.k u.i) ≡ Some noted = subst (λ (x : ℕ). slice_get notes x ≡ Some noted) u.is at.1 in
+    let mailbox : noted.mailbox ≡ m.0 = same_at (λ (x : Noted). x.mailbox) notes (place_of keys_in judged u.k u.i) noted m.0 here (noted_mailbox judged notes v u.k u.i j m.0 u.one m.1) in
+    let verdict : noted.verdict ≡ t.0 = same_at (λ (x : Noted). x.verdict) notes (place_of keys_in judged u.k u.i) noted t.0 here (noted_verdict judged notes v u.k u.i j t.0 u.one t.1) in
+    noted_as seat (length connections) d.parts noted c w.n u.i j (same_some key) w.under w.there (m.1 ∙ ap Some (sym mailbox)) (t.1 ∙ ap Some (sym verdict))
 
 -- two notes of one copy are alike
 pub same_note : (seat count : ℕ) (parts : List (List Judged)) (a b : Noted) → IsNoted seat count parts a → IsNoted seat count parts b → a.key ≡ b.key
@@ -235,9 +256,8 @@ copy_key house seat connections replies judged notes d v j copy there among =
     let full : IsFull j = All-contains IsFull judged j v.full there in
     let within : i.0 < length j.message.keys = at_within j.message.keys i.0 copy.key one.key in
     let m = within_at j.message.mailboxes i.0 (let many = full.mailboxes in omega (arith, within, many)) in
-    let key : copy.key ≡ key_at seat w.c w.n (0 + i.0) =
-    same_some (sym one.key ∙ ap (λ (ks : List CopyKey). slice_get ks i.0) is.keys ∙ keys_at (setting_at house seat w.c) w.n 0 j.message.mailboxes i.0 m.0 m.1) in
-    (w, 0 + i.0, key, one.text_is)
+    let key : copy.key ≡ key_at seat w.c w.n i.0 = same_some (sym one.key ∙ copy_key_at (setting_at house seat w.c) _ w.n i.0 m.0 j is m.1) in
+    (w, i.0, key, one.text_is)
 
 -- it is of the message of its key
 pub copied_from : (house : Premises) (seat : ℕ) (connections replies : List (List ℕ)) (judged : List Judged) (notes : List Noted)
