@@ -1,9 +1,11 @@
 -- What a mailbox accepted of one seat, beside that seat's log.
-use Rattle.std.proofs.Common.{◌≡◌, inl, inr, ℕ, zero, suc, ◌==◌, Bool, true, false, List, [], ◌∷◌, map, Option, None, Some, refl, ap, ap₂, sym, subst, ◌∙◌, Contains, arith, if◌then◌else◌}
+use Rattle.std.proofs.Common.{◌≡◌, inl, inr, ℕ, ◌<◌, zero, suc, ◌==◌, Bool, true, false, List, [], ◌∷◌, map, Option, None, Some, refl, ap, ap₂, sym, subst, ◌∙◌, Contains, slice_index_or, arith, if◌then◌else◌}
 use Rattle.std.specs.Prelude.{All, AllPairs, filter}
 use Rattle.std.proofs.lemmas.Bool.Decides.{Decides-and, Decides-eqb}
+use Rattle.std.specs.List.Sorted.{IsStrictlyIncreasing}
+use Rattle.std.proofs.lemmas.List.{length-map}
 use Rattle.std.proofs.lemmas.List.Elements.{All-cons, All-head, All-nil, All-tail, All-weaker}
-use Rattle.std.proofs.lemmas.List.Kept.{AllPairs-cons, AllPairs-filter}
+use Rattle.std.proofs.lemmas.List.Kept.{AllPairs-cons, AllPairs-filter, AllPairs-from_increasing}
 use Rattle.delivery_token.specs.declared.CopyKey.{CopyKey}
 use Rattle.delivery_token.specs.declared.Verdict.{Verdict}
 use Rattle.delivery_token.specs.declared.Verdict.TheVariants.{Stored, Refused}
@@ -12,7 +14,7 @@ use Rattle.delivery_token.specs.Keys.{Below, Precedes}
 use Rattle.delivery_token.specs.Log.{stored_for, stored_in, stored_pair}
 use Rattle.agreement.specs.Lists.{IsTold, Rise, keys_of, of_seat}
 use Rattle.agreement.specs.Walk.{is_key}
-use Rattle.relay_accounts.specs.Entries.{with_key}
+use Rattle.relay_accounts.specs.Entries.{with_key, with_uid}
 use Rattle.relay_accounts.proofs.Places.{kept, kept_twice, made, nothing_there, at_contains, contains_at, same_some, none_at, unkept, unmade_at}
 
 -- ---- keys
@@ -139,3 +141,34 @@ note_entered mailbox accepted seat notes told noted uid there here stored =
     ap (λ (v : Verdict). stored_pair mailbox noted v) stored ∙ ap (λ (b : Bool). let o : Option (CopyKey × ℕ) = (if b then Some (noted.key, uid) else None) in o) same in
     (unkept (λ (pair : CopyKey × ℕ). pair.0.seat == seat) accepted (noted.key, uid)
     (subst (λ ps. Contains ps (noted.key, uid)) (sym told.stored) (made (stored_for mailbox) notes noted (noted.key, uid) there pair))).0
+
+-- ---- UIDs
+
+abbrev IsUnder : CopyKey × ℕ → CopyKey × ℕ → Type 0
+IsUnder p q = p.1 < q.1
+
+-- what rises along a list rises along what it is of
+pairs_rise : (pairs : List (CopyKey × ℕ)) → AllPairs (λ x y. x < y) (map (λ (pair : CopyKey × ℕ). pair.1) pairs) → AllPairs IsUnder pairs
+pairs_rise pairs h i j d below within =
+    let uid : CopyKey × ℕ → ℕ = λ pair. pair.1 in
+    let many = length-map pairs uid in
+    let up : slice_index_or (map uid pairs) i d.1 < slice_index_or (map uid pairs) j d.1 = h i j d.1 below (omega (arith, within, many)) in
+    let a : slice_index_or (map uid pairs) i d.1 ≡ (slice_index_or pairs i d).1 = mapped_at uid pairs i d in
+    let b : slice_index_or (map uid pairs) j d.1 ≡ (slice_index_or pairs j d).1 = mapped_at uid pairs j d in
+    omega (arith, up, a, b)
+  where
+    mapped_at : {A B : Type 0} (f : A → B) (xs : List A) (i : ℕ) (d : A) → slice_index_or (map f xs) i (f d) ≡ f (slice_index_or xs i d)
+    mapped_at f [] i d = refl
+    mapped_at f (x ∷ xs) zero d = refl
+    mapped_at f (x ∷ xs) (suc i) d = mapped_at f xs i d
+
+-- no two copies of a mailbox have one UID, where they rise
+pub uids_alone : (pairs : List (CopyKey × ℕ)) → IsStrictlyIncreasing (map (λ (pair : CopyKey × ℕ). pair.1) pairs) → (key : CopyKey) (uid : ℕ) → Contains pairs (key, uid) → with_uid uid pairs ≡ (key, uid) ∷ []
+uids_alone pairs rises key uid there =
+    let Has : CopyKey × ℕ → Bool = λ pair. pair.1 == uid in
+    let all : AllPairs IsUnder (with_uid uid pairs) = AllPairs-filter IsUnder Has pairs (pairs_rise pairs (AllPairs-from_increasing (map (λ (pair : CopyKey × ℕ). pair.1) pairs) rises)) in
+    only_one IsUnder (with_uid uid pairs) all
+    (λ x y cx cy r.
+    (let a : x.1 ≡ uid = (Decides-eqb x.1 uid).0 (unkept Has pairs x cx).1 in
+    let b : y.1 ≡ uid = (Decides-eqb y.1 uid).0 (unkept Has pairs y cy).1 in omega (arith, r, a, b)))
+    (key, uid) (kept Has pairs (key, uid) there ((Decides-eqb uid uid).1 refl))

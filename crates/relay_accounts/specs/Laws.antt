@@ -1,6 +1,7 @@
 -- What holds of every connection and of every worker's account.
-use Rattle.std.specs.Prelude.{◌≡◌, ◌<◌, ℕ, Bool, false, List, [], ◌++◌, length, map, Contains, slice_index_or}
+use Rattle.std.specs.Prelude.{◌≡◌, ◌<◌, ℕ, Bool, false, List, [], ◌∷◌, ◌++◌, length, map, Contains, slice_index_or}
 use Rattle.std.specs.List.{list_any}
+use Rattle.std.specs.List.Sorted.{IsStrictlyIncreasing}
 use Rattle.delivery_token.specs.declared.CopyKey.{CopyKey}
 use Rattle.delivery_token.specs.declared.Job.{Job}
 use Rattle.delivery_token.specs.declared.log.Noted.{Noted}
@@ -16,6 +17,7 @@ use Rattle.relay_replies.specs.Laws.{IsInLine}
 use Rattle.relay_replies.specs.Handed.{handed_over}
 use Rattle.relay_replies.specs.Conclusions.{MayForget}
 use Rattle.relay_accounts.specs.Concluding.{RelaysConclude}
+use Rattle.relay_accounts.specs.Entries.{with_uid}
 
 -- A connection of a worker's account is one of which a relay may conclude: it sent the connection's bytes, and perhaps more,
 -- and was told a front of the replies. What was judged on it is what was submitted.
@@ -52,3 +54,8 @@ AccountsKeepClosed = (house : Premises) (seat : ℕ) (connections replies : List
     → AccountOfLines house seat connections replies (slice_index_or logs seat []) heard said
     → ListsAgree house.directory whole logs copies accepted texts
     → ClosedHaveNothing house seat accepted
+
+-- Where the UIDs of what a mailbox accepted rise, no two of its copies have one.
+abbrev pub RisingUidsAreAlone : Type 0
+RisingUidsAreAlone = (accepted : List (CopyKey × ℕ)) → IsStrictlyIncreasing (map (λ (pair : CopyKey × ℕ). pair.1) accepted)
+    → (key : CopyKey) (uid : ℕ) → Contains accepted (key, uid) → with_uid uid accepted ≡ (key, uid) ∷ []

@@ -1,7 +1,7 @@
 //! Laws of what a relay may conclude of a house that ran, as functions that do nothing but rest on the
 //! laws of the crates below.
 
-ghost use Rattle.relay_accounts.specs.Laws.{AccountsConclude, AccountsKeepClosed, ConnectionsAreKnown};
+ghost use Rattle.relay_accounts.specs.Laws.{AccountsConclude, AccountsKeepClosed, ConnectionsAreKnown, RisingUidsAreAlone};
 ghost use Rattle.relay_accounts.specs.Reports.{ReportsConclude};
 
 use account_laws::{connections_are_of_lines, lines_are_told};
@@ -30,6 +30,12 @@ pub fn accounts_conclude()
     connections_are_known();
     connections_are_of_lines();
 }
+
+/// Of a mailbox whose accepted copies have UIDs that rise, none shares its UID with another: then a message that
+/// is there has the text of the copy with its UID.
+pub fn uids_are_alone()
+    ensures { RisingUidsAreAlone }
+{}
 
 /// So it is of each worker and each of its connections in a report of `run_house`, by the bytes of the plan and
 /// the replies of the report, whatever the plan. What else was accepted are messages that

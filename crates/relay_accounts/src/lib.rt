@@ -4,4 +4,4 @@
 
 mod laws;
 
-pub use laws::{accounts_conclude, connections_are_known, reports_conclude};
+pub use laws::{accounts_conclude, connections_are_known, reports_conclude, uids_are_alone};
