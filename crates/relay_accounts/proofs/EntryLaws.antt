@@ -1,6 +1,6 @@
 -- What a mailbox accepted of one seat, beside that seat's log.
-use Rattle.std.proofs.Common.{◌≡◌, inl, inr, ℕ, ◌<◌, zero, suc, ◌==◌, Bool, true, false, List, [], ◌∷◌, map, Option, None, Some, refl, ap, ap₂, sym, subst, ◌∙◌, Contains, slice_index_or, arith, if◌then◌else◌}
-use Rattle.std.specs.Prelude.{All, AllPairs, filter}
+use Rattle.std.proofs.Common.{◌≡◌, ◌⊎◌, inl, inr, ℕ, ◌<◌, zero, suc, ◌==◌, Bool, true, false, List, [], ◌∷◌, map, Option, None, Some, refl, ap, ap₂, sym, subst, ◌∙◌, Contains, slice_index_or, arith, if◌then◌else◌}
+use Rattle.std.specs.Prelude.{All, AllPairs, filter, slice_get}
 use Rattle.std.proofs.lemmas.Bool.Decides.{Decides-and, Decides-eqb}
 use Rattle.std.specs.List.Sorted.{IsStrictlyIncreasing}
 use Rattle.std.proofs.lemmas.List.{length-map}
@@ -15,7 +15,7 @@ use Rattle.delivery_token.specs.Log.{stored_for, stored_in, stored_pair}
 use Rattle.agreement.specs.Lists.{IsTold, Rise, keys_of, of_seat}
 use Rattle.agreement.specs.Walk.{is_key}
 use Rattle.relay_accounts.specs.Entries.{with_key, with_uid}
-use Rattle.relay_accounts.proofs.Places.{kept, kept_twice, made, nothing_there, at_contains, contains_at, same_some, none_at, unkept, unmade_at}
+use Rattle.relay_accounts.proofs.Places.{at_or, at_within, kept, kept_order, kept_twice, made, nothing_there, at_contains, contains_at, same_some, none_at, unkept, unmade_at}
 
 -- ---- keys
 
@@ -56,11 +56,6 @@ rise_behind : (a : CopyKey) (keys : List CopyKey) → Rise (a ∷ keys) → Rise
 rise_behind a [] h = tt
 rise_behind a (b ∷ keys) h = h.1
 
--- each comes before each later one
-pub rise_pairs : (keys : List CopyKey) → Rise keys → AllPairs Precedes keys
-rise_pairs [] h = λ i j d below within. absurd (omega (arith, within))
-rise_pairs (a ∷ keys) h = AllPairs-cons Precedes a keys (rise_above a keys h) (rise_pairs keys (rise_behind a keys h))
-
 abbrev Before : CopyKey × ℕ → CopyKey × ℕ → Type 0
 Before p q = Precedes p.0 q.0
 
@@ -74,6 +69,37 @@ all_above a pairs h = All-unmapped (Precedes a) (λ (q : CopyKey × ℕ). q.0) p
 rise_entries : (pairs : List (CopyKey × ℕ)) → Rise (keys_of pairs) → AllPairs Before pairs
 rise_entries [] h = λ i j d below within. absurd (omega (arith, within))
 rise_entries (p ∷ pairs) h = AllPairs-cons Before p pairs (all_above p.0 pairs (rise_above p.0 (keys_of pairs) h)) (rise_entries pairs (rise_behind p.0 (keys_of pairs) h))
+
+pub apart : (k m : ℕ) → (k < m) ⊎ (k ≡ m) ⊎ (m < k)
+apart zero zero = inr (inl refl)
+apart zero (suc m) = inl (omega arith)
+apart (suc k) zero = inr (inr (omega arith))
+apart (suc k) (suc m) = elim (apart k m) [
+  | inl h ↦ inl (omega (arith, h))
+  | inr o ↦ elim o [ inl e ↦ inr (inl (ap suc e)) | inr h ↦ inr (inr (omega (arith, h))) ]
+]
+
+-- of two entries of a seat that of the earlier key stands first
+pub entries_in_order : (seat : ℕ) (pairs : List (CopyKey × ℕ)) → Rise (keys_of (of_seat seat pairs)) → (i j uid other : ℕ) (earlier later : CopyKey)
+    → slice_get pairs i ≡ Some (earlier, uid) → slice_get pairs j ≡ Some (later, other) → earlier.seat ≡ seat → later.seat ≡ seat → Below earlier later → i < j
+entries_in_order seat pairs rises i j uid other earlier later ei ej own also below = elim (apart i j) [
+  | inl u ↦ u
+  | inr o ↦ elim o [
+    | inl e ↦ absurd (
+        let same : (earlier, uid) ≡ (later, other) = same_some (sym ei ∙ ap (λ (n : ℕ). slice_get pairs n) e ∙ ej) in
+        never_below earlier (subst (λ (k : CopyKey). Below earlier k) (sym (ap (λ (p : CopyKey × ℕ). p.0) same)) below)
+        )
+    | inr u ↦ absurd (
+        let Own : CopyKey × ℕ → Bool = λ pair. pair.0.seat == seat in
+        let r = kept_order Own pairs j i (later, other) (earlier, uid) ej ei ((Decides-eqb later.seat seat).1 also) ((Decides-eqb earlier.seat seat).1 own) u in
+        let up = rise_entries (of_seat seat pairs) rises r.first r.second (later, other) r.below (at_within (of_seat seat pairs) r.second (earlier, uid) r.at_second) in
+        let a = at_or (of_seat seat pairs) r.first (later, other) (later, other) r.at_first in
+        let b = at_or (of_seat seat pairs) r.second (earlier, uid) (later, other) r.at_second in
+        let turned : Precedes later earlier = subst (λ (p : CopyKey × ℕ). Before (later, other) p) b (subst (λ (p : CopyKey × ℕ). Before p (slice_index_or (of_seat seat pairs) r.second (later, other))) a up) in
+        never_below earlier (below_trans earlier later earlier below turned.1)
+        )
+  ]
+]
 
 -- ---- one entry at most
 

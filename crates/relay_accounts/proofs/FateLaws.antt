@@ -1,5 +1,5 @@
 -- What a relay knows of the messages that it handed over, by the numbers of those that were submitted.
-use Rattle.std.proofs.Common.{◌≡◌, ◌⊎◌, inl, inr, ℕ, zero, suc, ◌<◌, Bool, true, false, List, [], ◌∷◌, length, map, Option, None, Some, refl, ap, sym, subst, ◌∙◌, arith}
+use Rattle.std.proofs.Common.{◌≡◌, inl, inr, ℕ, zero, suc, ◌<◌, Bool, true, false, List, [], ◌∷◌, length, map, Option, None, Some, refl, ap, sym, subst, ◌∙◌, arith}
 use Rattle.std.specs.Prelude.{codes, slice_get, slice_index_or}
 use Rattle.std.proofs.lemmas.Bool.{false≢true}
 use Rattle.std.proofs.lemmas.List.{length-map}
@@ -14,6 +14,7 @@ use Rattle.relay_replies.specs.Fates.{Fate, Awaited, Judged, TurnedAway, Unheard
 use Rattle.relay_replies.specs.Conclusions.{MayForget, TakenAreStored, WhatIsReadStays}
 use Rattle.relay_replies.specs.Numbers.{AreNumbered, MessagesAreNumbered, no_submission, number_of, was_submitted}
 use Rattle.relay_accounts.specs.Concluding.{message_at}
+use Rattle.relay_accounts.proofs.EntryLaws.{apart}
 use Rattle.relay_accounts.proofs.Places.{at_or, at_within, none_at, same_some, within_at}
 
 -- ---- the number of a message, where it was submitted
@@ -113,15 +114,6 @@ knows numbers taken host directory known all submissions answers many m =
     }
 
 -- different messages have different numbers
-apart : (k m : ℕ) → (k < m) ⊎ (k ≡ m) ⊎ (m < k)
-apart zero zero = inr (inl refl)
-apart zero (suc m) = inl (omega arith)
-apart (suc k) zero = inr (inr (omega arith))
-apart (suc k) (suc m) = elim (apart k m) [
-  | inl h ↦ inl (omega (arith, h))
-  | inr o ↦ elim o [ inl e ↦ inr (inl (ap suc e)) | inr h ↦ inr (inr (omega (arith, h))) ]
-]
-
 pub one_number : (directory : Directory) (messages : List Handed) (submissions : List Submission) (answers : List (List Verdict)) (h : Knows directory messages submissions answers)
     → (k m a b : ℕ) → h.number k ≡ Some a → h.number m ≡ Some b → a ≡ b → k ≡ m
 one_number directory messages submissions answers h k m a b ea eb e = elim (apart k m) [

@@ -1,12 +1,12 @@
 -- A worker's account beside lists that agree: which entries are of which copies.
 use Rattle.std.proofs.Common.{◌≡◌, ◌⊎◌, inl, inr, ℕ, zero, suc, ◌<◌, Bool, List, [], ◌∷◌, length, Some, refl, sym, subst, ◌∙◌, Contains, arith}
-use Rattle.std.specs.Prelude.{AllPairs, slice_get, slice_index_or}
+use Rattle.std.specs.Prelude.{slice_get, slice_index_or}
 use Rattle.std.proofs.lemmas.List.Elements.{All-contains}
 use Rattle.delivery_token.specs.declared.CopyKey.{CopyKey}
 use Rattle.delivery_token.specs.declared.Job.{Job}
 use Rattle.delivery_token.specs.declared.Verdict.TheVariants.{Stored}
 use Rattle.delivery_token.specs.declared.log.Noted.{Noted}
-use Rattle.delivery_token.specs.Keys.{Precedes}
+use Rattle.delivery_token.specs.Keys.{Below}
 use Rattle.envelope.specs.Directory.{shard_of}
 use Rattle.lane_work.specs.Account.{Premises}
 use Rattle.lane_work.specs.Talk.{Judged}
@@ -16,7 +16,7 @@ use Rattle.account_laws.specs.Accounting.{AccountOfLines}
 use Rattle.agreement.specs.Lists.{IsOfCopy, IsTold, ListsAgree, Rise, keys_of, of_seat}
 use Rattle.relay_accounts.specs.Entries.{StandsNowhere, StandsOnce}
 use Rattle.relay_accounts.specs.Laws.{TakenIsItsOwn}
-use Rattle.relay_accounts.proofs.EntryLaws.{NotesStored, entry_noted, note_entered, rise_pairs, stands_not, stands_once}
+use Rattle.relay_accounts.proofs.EntryLaws.{NotesStored, entry_noted, note_entered, entries_in_order, stands_not, stands_once}
 use Rattle.relay_accounts.proofs.Ledger.{IsNoted, copied_from, note_copied, part_at, same_note}
 
 -- all that is given
@@ -129,8 +129,12 @@ text_from g taken mailbox uid text there =
 
 -- ---- order
 
-pub stands_in_order : (g : Joined) (mailbox : ℕ) → AllPairs Precedes (keys_of (of_seat g.seat (entries_at g mailbox)))
-stands_in_order g mailbox = elim (in_or_none g.accepted mailbox) [
-  | inl u ↦ rise_pairs (keys_of (of_seat g.seat (entries_at g mailbox))) (told_at g mailbox (mailbox_there g mailbox u)).rising
-  | inr e ↦ subst (λ (ps : List (CopyKey × ℕ)). AllPairs Precedes (keys_of (of_seat g.seat ps))) (sym e) (rise_pairs [] tt)
+rises_at : (g : Joined) (mailbox : ℕ) → Rise (keys_of (of_seat g.seat (entries_at g mailbox)))
+rises_at g mailbox = elim (in_or_none g.accepted mailbox) [
+  | inl u ↦ (told_at g mailbox (mailbox_there g mailbox u)).rising
+  | inr e ↦ subst (λ (ps : List (CopyKey × ℕ)). Rise (keys_of (of_seat g.seat ps))) (sym e) tt
 ]
+
+pub stands_in_order : (g : Joined) (mailbox i j uid other : ℕ) (earlier later : CopyKey) → slice_get (entries_at g mailbox) i ≡ Some (earlier, uid) → slice_get (entries_at g mailbox) j ≡ Some (later, other)
+    → earlier.seat ≡ g.seat → later.seat ≡ g.seat → Below earlier later → i < j
+stands_in_order g mailbox i j uid other earlier later ei ej own also below = entries_in_order g.seat (entries_at g mailbox) (rises_at g mailbox) i j uid other earlier later ei ej own also below

@@ -166,6 +166,27 @@ unkept_at {A} f (z ∷ zs) j x e = by_test (λ k s. unkept_at f zs k x s) (f z) 
 pub unkept : {A : Type 0} (f : A → Bool) (xs : List A) (x : A) → Contains (filter f xs) x → Contains xs x × (f x ≡ true)
 unkept f xs x c = let p = contains_at (filter f xs) x c in let r = unkept_at f xs p.0 x p.1 in (at_contains xs r.0 x r.1, r.2)
 
+-- what stands before another stands before it among what is kept
+pub record InOrder {A : Type 0} (xs : List A) (x y : A) : Type 0 where
+  pub first : ℕ
+  pub second : ℕ
+  pub below : first < second
+  pub at_first : slice_get xs first ≡ Some x
+  pub at_second : slice_get xs second ≡ Some y
+
+later_order : {A : Type 0} (b : Bool) (z : A) (ys : List A) (x y : A) → InOrder ys x y → InOrder (cond b (z ∷ ys) ys) x y
+later_order true z ys x y h = record { first = suc h.first; second = suc h.second; below = (let u = h.below in omega (arith, u)); at_first = h.at_first; at_second = h.at_second }
+later_order false z ys x y h = h
+
+pub kept_order : {A : Type 0} (f : A → Bool) (xs : List A) (i j : ℕ) (x y : A) → slice_get xs i ≡ Some x → slice_get xs j ≡ Some y → f x ≡ true → f y ≡ true → i < j → InOrder (filter f xs) x y
+kept_order f [] i j x y ex ey fx fy u = absurd (none_at ex)
+kept_order f (z ∷ zs) i zero x y ex ey fx fy u = absurd (omega (arith, u))
+kept_order {A} f (z ∷ zs) zero (suc j) x y ex ey fx fy u =
+    let r = kept_at f zs j y ey fy in
+    let test : f z ≡ true = ap f (same_some ex) ∙ fx in
+    subst (λ (b : Bool). InOrder (cond b (z ∷ filter f zs) (filter f zs)) x y) (sym test) (record { first = 0; second = suc r.0; below = omega arith; at_first = ex; at_second = r.1 })
+kept_order f (z ∷ zs) (suc i) (suc j) x y ex ey fx fy u = later_order (f z) z (filter f zs) x y (kept_order f zs i j x y ex ey fx fy (omega (arith, u)))
+
 pub nothing_there : {A : Type 0} (xs : List A) → ((x : A) → Contains xs x → ⊥) → xs ≡ []
 nothing_there [] h = refl
 nothing_there (x ∷ xs) h = absurd (h x (0, omega arith, refl))

@@ -13,7 +13,7 @@ use Rattle.lmtp_machine.specs.Message.{stored_text}
 use Rattle.relay_replies.specs.Handed.{Handed, handed_over, is_taken}
 use Rattle.relay_replies.specs.Fates.{Names}
 use Rattle.relay_replies.specs.rows.HandedRows.{alice, greeting, home, path_to, three}
-use Rattle.relay_accounts.specs.Concluding.{ConnectionConcludes, IsTextOf, key_at, message_at}
+use Rattle.relay_accounts.specs.Concluding.{ConnectionConcludes, IsTextOf, RelaysConclude, key_at, message_at}
 use Rattle.relay_accounts.specs.Entries.{StandsOnce, with_key}
 use Rattle.relay_accounts.specs.rows.Rows.{accepted, alice_is_taken, for_alice, for_bob, known, replied, the_message}
 use Rattle.relay_accounts.proofs.Places.{unkept}
@@ -154,3 +154,10 @@ one_for_two texts c =
     let nb : b.0 ≡ 0 = its_number b.2.mailbox b.0 b.2.uid (only_key _ b.2.uid _ b.2.once.here) in
     let below : a.0 < b.0 = c.rises 0 1 a.0 b.0 (omega arith) a.1 b.1 in
     omega (arith, below, na, nb)
+
+-- ---- another order
+
+-- the second message's copy stands before the first one's
+later_first : (connections replies : List (List ℕ)) (texts : Texts) → RelaysConclude home 2 connections replies (((key_at 2 4 1 0, 7) ∷ (for_alice, 8) ∷ []) ∷ [] ∷ []) texts → ⊥
+later_first connections replies texts c =
+    let below : 1 < 0 = c.in_order 0 1 0 8 7 for_alice (key_at 2 4 1 0) refl refl refl refl (inr (refl, inl (omega arith))) in omega (arith, below)

@@ -1,12 +1,11 @@
 -- What a relay may conclude of a house that ran, by the bytes that it sent and was told on a connection.
-use Rattle.std.specs.Prelude.{◌≡◌, ◌<◌, ℕ, true, false, List, [], ◌∷◌, ◌++◌, length, AllPairs, Contains, Option, Some, slice_index_or}
+use Rattle.std.specs.Prelude.{◌≡◌, ◌<◌, ℕ, true, false, List, [], ◌∷◌, ◌++◌, length, Contains, Option, Some, slice_get, slice_index_or}
 use Rattle.delivery_token.specs.declared.CopyKey.{CopyKey}
-use Rattle.delivery_token.specs.Keys.{Precedes}
+use Rattle.delivery_token.specs.Keys.{Below}
 use Rattle.envelope.specs.Directory.{Directory}
 use Rattle.lmtp_machine.specs.Message.{stored_text}
 use Rattle.relay_replies.specs.Handed.{Handed, handed_over, is_taken, no_message}
 use Rattle.relay_replies.specs.Fates.{IsSender, Names}
-use Rattle.agreement.specs.Lists.{keys_of, of_seat}
 use Rattle.relay_accounts.specs.Entries.{StandsNowhere, StandsOnce, with_uid}
 
 -- ---- a message that it handed over
@@ -69,5 +68,7 @@ pub record RelaysConclude (directory : Directory) (seat : ℕ) (connections repl
       → ConnectionConcludes directory seat serial (slice_index_or connections serial [] ++ more) (slice_index_or replies serial []) accepted texts
   -- whatever was accepted of this worker is of one of these connections
   pub nothing_else : (mailbox uid : ℕ) (key : CopyKey) → Contains (slice_index_or accepted mailbox []) (key, uid) → key.seat ≡ seat → key.serial < length connections
-  -- Copies stand in each mailbox in the order in which they were sent: by connection, by message, by recipient.
-  pub in_order : (mailbox : ℕ) → AllPairs Precedes (keys_of (of_seat seat (slice_index_or accepted mailbox [])))
+  -- Of two copies of this worker in a mailbox that which was sent earlier stands first: by connection, by message, by recipient.
+  pub in_order : (mailbox i j uid other : ℕ) (earlier later : CopyKey)
+      → slice_get (slice_index_or accepted mailbox []) i ≡ Some (earlier, uid) → slice_get (slice_index_or accepted mailbox []) j ≡ Some (later, other)
+      → earlier.seat ≡ seat → later.seat ≡ seat → Below earlier later → i < j
