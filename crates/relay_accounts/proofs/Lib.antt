@@ -1,0 +1,12 @@
+mod Places
+mod EntryLaws
+mod FateLaws
+mod Ledger
+mod Spoken
+mod Joined
+mod Concluded
+mod Hosts
+mod Put
+mod Refuted
+mod Worked
+mod Reported
