@@ -69,12 +69,12 @@ fn add_line(lines: &mut Vec<u8>, who: &[u8], said: &[u8]) -> Result<(), AllocErr
     lines.extend_from_slice(b"\n")
 }
 
-// A connection or a session, by the mark of its lines: what it says over and over, and what is left of that.
+// A connection or a session, by the mark of its lines: what it says over and over, and where it stands in that.
 #[derive(Drop)]
 struct Speaker {
     mark: &'static [u8],
     talk: &'static [&'static [u8]],
-    left: &'static [&'static [u8]],
+    place: usize,
 }
 
 impl Speaker {
@@ -82,19 +82,19 @@ impl Speaker {
         Speaker {
             mark,
             talk,
-            left: talk,
+            place: 0,
         }
     }
 
     // It says its next line.
     fn speak(&mut self, lines: &mut Vec<u8>) -> Result<(), AllocError> {
-        if self.left.is_empty() {
-            self.left = self.talk;
+        if self.place == self.talk.len() {
+            self.place = 0;
         }
-        let Some((line, left)) = self.left.split_first() else {
+        let Some(line) = self.talk.get(self.place) else {
             return Ok(());
         };
-        self.left = left;
+        self.place = self.place.wrapping_add(1);
         add_line(lines, self.mark, line)
     }
 }
