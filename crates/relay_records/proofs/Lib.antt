@@ -1,0 +1,2 @@
+mod Marked
+mod Seated
