@@ -1,2 +1,3 @@
 mod Marked
 mod Seated
+mod Moving

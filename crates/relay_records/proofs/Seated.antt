@@ -1,5 +1,5 @@
 -- What is known of a connection that stands at a seat, by what came for it and what it was told, and how it goes on there.
-use Rattle.std.proofs.Common.{◌≡◌, ℕ, zero, suc, ◌+◌, ◌<◌, ◌≤◌, Bool, true, false, List, [], ◌∷◌, ◌++◌, length, map, refl, ap, ap₂, sym, subst, ◌∙◌, append_assoc, append-nil, arith}
+use Rattle.std.proofs.Common.{◌≡◌, ℕ, zero, suc, ◌+◌, ◌<◌, ◌≤◌, Bool, true, false, List, [], ◌∷◌, ◌++◌, length, map, refl, ap, ap₂, sym, subst, ◌∙◌, append_assoc, append-nil, arith, ◌⊎◌, inl, inr}
 use Rattle.std.specs.Prelude.{Contains, slice_index_or}
 use Rattle.std.proofs.lemmas.Bool.{false≢true}
 use Rattle.std.proofs.lemmas.Grind.{flat_map-append}
@@ -86,9 +86,9 @@ IsOneOf serial these (End p) = Unit {0}
 abbrev pub IsOwn : ℕ → List Job → Job → Type 0
 IsOwn serial these job = (job.key.serial ≡ serial) × Contains these job
 
--- what a seat put is among the copies of its connections also later
-abbrev pub SentGrows : (sent later : ℕ → List (Entry Job)) → Type 0
-SentGrows sent later = (serial : ℕ) (these : List Job) (t : ℕ) → Every (IsOneOf serial these) (sent t) → Every (IsOneOf serial these) (later t)
+-- what a seat put of the connection of this serial is among the same copies also later
+abbrev pub SentGrows : (serial : ℕ) → (sent later : ℕ → List (Entry Job)) → Type 0
+SentGrows serial sent later = (these : List Job) (t : ℕ) → Every (IsOneOf serial these) (sent t) → Every (IsOneOf serial these) (later t)
 
 one_of_more : (serial : ℕ) (these more : List Job) → ((job : Job) → Contains these job → Contains more job) → (e : Entry Job) → IsOneOf serial these e → IsOneOf serial more e
 one_of_more serial these more grows (Item p job) h = λ same. grows job (h same)
@@ -171,7 +171,7 @@ pub record IsKnown (g : Terms) (seat : ℕ) (heard : List Noted) (sent : ℕ →
 
 -- more was heard, and others put what they had
 pub known_grows : (g : Terms) (seat : ℕ) (heard more : List Noted) (sent later : ℕ → List (Entry Job)) (came told : List ℕ) (b : HouseConnection)
-    → ((n : Noted) → Contains heard n → Contains more n) → SentGrows sent later → IsKnown g seat heard sent came told b → IsKnown g seat more later came told b
+    → ((n : Noted) → Contains heard n → Contains more n) → SentGrows b.serial sent later → IsKnown g seat heard sent came told b → IsKnown g seat more later came told b
 known_grows g seat heard more sent later came told b grows puts h = record {
   taken = h.taken;
   waited = h.waited;
@@ -191,7 +191,7 @@ known_grows g seat heard more sent later came told b grows puts h = record {
   awaited = h.awaited;
   parts = h.parts;
   heard_each = are_heard_grows heard more h.judged h.answered grows h.heard_each;
-  sent_each = λ t. puts b.serial (copies_of h.submitted) t (h.sent_each t);
+  sent_each = λ t. puts (copies_of h.submitted) t (h.sent_each t);
   left = h.left;
 }
 
@@ -403,28 +403,53 @@ greeted_known g shut seat serial heard sent none = record {
 
 -- ---- it puts a copy
 
--- the copy that was put, or not, is its own
-pub put_known : (g : Terms) (seat : ℕ) (heard : List Noted) (sent : ℕ → List (Entry Job)) (came told : List ℕ) (b : HouseConnection) (copy : Job) (others : List Job) → b.to_put ≡ copy ∷ others
-    → IsKnown g seat heard sent came told b → IsKnown g seat heard sent came told (record { serial = b.serial; gone = b.gone; talk = b.talk; to_put = others })
-put_known g seat heard sent came told b copy others front h = record {
-  taken = h.taken;
-  waited = h.waited;
-  said = h.said;
-  printed = h.printed;
-  unprinted = h.unprinted;
-  submitted = h.submitted;
-  judged = h.judged;
-  answered = h.answered;
-  come = h.come;
-  came_is = h.came_is;
-  said_is = h.said_is;
-  told_is = h.told_is;
-  reads = h.reads;
-  says = h.says;
-  silent = h.silent;
-  awaited = h.awaited;
-  parts = h.parts;
-  heard_each = h.heard_each;
-  sent_each = h.sent_each;
-  left = (subst (Every (IsOwn b.serial (copies_of h.submitted))) front h.left).1;
-}
+-- the copy joined a lane, or was refused at once
+abbrev pub Puts : ℕ → Job → (sent later : ℕ → List (Entry Job)) → Type 0
+Puts seat copy sent later = (t : ℕ) → (later t ≡ sent t) ⊎ (later t ≡ sent t ++ Item seat copy ∷ [])
+
+-- it is no other connection's
+pub puts_of_another : (seat n : ℕ) (copy : Job) (sent later : ℕ → List (Entry Job)) → Puts seat copy sent later → (copy.key.serial ≡ n → ⊥) → SentGrows n sent later
+puts_of_another seat n copy sent later puts other these t h = by (puts t)
+  where
+    by : (later t ≡ sent t) ⊎ (later t ≡ sent t ++ Item seat copy ∷ []) → Every (IsOneOf n these) (later t)
+    by (inl same) = subst (Every (IsOneOf n these)) (sym same) h
+    by (inr more) = subst (Every (IsOneOf n these)) (sym more) (every_append (IsOneOf n these) (sent t) (Item seat copy ∷ []) h ((λ e. absurd (other e)), tt))
+
+puts_own : (seat n : ℕ) (copy : Job) (these : List Job) (sent later : ℕ → List (Entry Job)) → Puts seat copy sent later → Contains these copy → (t : ℕ) → Every (IsOneOf n these) (sent t) → Every (IsOneOf n these) (later t)
+puts_own seat n copy these sent later puts own t h = by (puts t)
+  where
+    by : (later t ≡ sent t) ⊎ (later t ≡ sent t ++ Item seat copy ∷ []) → Every (IsOneOf n these) (later t)
+    by (inl same) = subst (Every (IsOneOf n these)) (sym same) h
+    by (inr more) = subst (Every (IsOneOf n these)) (sym more) (every_append (IsOneOf n these) (sent t) (Item seat copy ∷ []) h ((λ e. own), tt))
+
+pub own_copy : (g : Terms) (seat : ℕ) (heard : List Noted) (sent : ℕ → List (Entry Job)) (came told : List ℕ) (b : HouseConnection) (copy : Job) (others : List Job) → b.to_put ≡ copy ∷ others
+    → IsKnown g seat heard sent came told b → copy.key.serial ≡ b.serial
+own_copy g seat heard sent came told b copy others front h = (subst (Every (IsOwn b.serial (copies_of h.submitted))) front h.left).0.0
+
+pub put_known : (g : Terms) (seat : ℕ) (heard more : List Noted) (sent later : ℕ → List (Entry Job)) (came told : List ℕ) (b : HouseConnection) (copy : Job) (others : List Job) → b.to_put ≡ copy ∷ others
+    → ((n : Noted) → Contains heard n → Contains more n) → Puts seat copy sent later → IsKnown g seat heard sent came told b
+    → IsKnown g seat more later came told (record { serial = b.serial; gone = b.gone; talk = b.talk; to_put = others })
+put_known g seat heard more sent later came told b copy others front grows puts h =
+    let left : Every (IsOwn b.serial (copies_of h.submitted)) (copy ∷ others) = subst (Every (IsOwn b.serial (copies_of h.submitted))) front h.left in
+    record {
+      taken = h.taken;
+      waited = h.waited;
+      said = h.said;
+      printed = h.printed;
+      unprinted = h.unprinted;
+      submitted = h.submitted;
+      judged = h.judged;
+      answered = h.answered;
+      come = h.come;
+      came_is = h.came_is;
+      said_is = h.said_is;
+      told_is = h.told_is;
+      reads = h.reads;
+      says = h.says;
+      silent = h.silent;
+      awaited = h.awaited;
+      parts = h.parts;
+      heard_each = are_heard_grows heard more h.judged h.answered grows h.heard_each;
+      sent_each = λ t. puts_own seat b.serial copy (copies_of h.submitted) sent later puts left.0.1 t (h.sent_each t);
+      left = left.1;
+    }
