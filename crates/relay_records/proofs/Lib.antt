@@ -1,3 +1,4 @@
 mod Marked
 mod Seated
 mod Moving
+mod Histories

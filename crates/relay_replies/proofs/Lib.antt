@@ -6,7 +6,7 @@ mod Turned
 mod Steps
 mod Known
 pub mod Taken
-mod Concluding
+pub mod Concluding
 pub mod Connected
 pub mod Numbered
 pub mod Keyed
