@@ -2,3 +2,5 @@ mod Marked
 mod Seated
 mod Moving
 mod Histories
+mod Copies
+mod Fronts
