@@ -4,3 +4,4 @@ mod Moving
 mod Histories
 mod Copies
 mod Fronts
+mod Joined
