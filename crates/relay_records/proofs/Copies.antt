@@ -1,7 +1,6 @@
 -- The copies of the messages that a connection submitted, by the number of the message and of the recipient, and the verdicts on them.
-use Rattle.std.proofs.Common.{◌≡◌, ℕ, zero, suc, ◌+◌, ◌<◌, ◌⊎◌, inl, inr, Bool, true, false, List, [], ◌∷◌, ◌++◌, length, map, refl, ap, sym, subst, ◌∙◌, arith}
+use Rattle.std.proofs.Common.{◌≡◌, ℕ, zero, suc, ◌+◌, ◌<◌, Bool, false, List, [], ◌∷◌, ◌++◌, length, map, refl, ap, sym, subst, ◌∙◌, arith}
 use Rattle.std.specs.Prelude.{Contains, slice_index_or}
-use Rattle.std.proofs.lemmas.Bool.{false≢true}
 use Rattle.change_ring.specs.Log.{no_flags}
 use Rattle.delivery_token.specs.declared.CopyKey.{CopyKey}
 use Rattle.delivery_token.specs.declared.Job.{Job}
@@ -11,12 +10,11 @@ use Rattle.envelope.specs.Directory.{Directory}
 use Rattle.submission.specs.Copies.{copies}
 use Rattle.submission.specs.Heard.{HeardFor}
 use Rattle.lmtp_machine.specs.Dialogue.{Setting, Submission, keys_from}
-use Rattle.lmtp_machine.specs.Kept.{IsMessage}
 use Rattle.house_connection.specs.HouseConnection.{copies_of}
 use Rattle.relay_replies.specs.Fates.{AreNamed, Names}
 use Rattle.relay_replies.specs.Laws.{is_stored}
 use Rattle.relay_replies.specs.Numbers.{no_submission}
-use Rattle.world.proofs.Base.{Every, every_append, every_map, every_weaker}
+use Rattle.world.proofs.Base.{Every, every_append, every_weaker}
 use Rattle.relay_records.proofs.Seated.{AreFrom, AreHeard}
 
 -- ---- copies
@@ -46,8 +44,11 @@ each_from setting n first [] text = tt
 each_from setting n first (m ∷ ms) text = (
   (0, omega arith, (let e : first ≡ first + 0 = omega arith in ap (λ (x : ℕ). record { key = copy_key setting n x; mailbox = m; text = text; flags = no_flags }) e)),
   every_weaker (IsFrom setting n (first + 1) ms text) (IsFrom setting n first (m ∷ ms) text)
-      (λ job h. (suc h.0, (let l : h.0 < length ms = h.1 in omega (arith, l)),
-        h.2 ∙ (let e : (first + 1) + h.0 ≡ first + suc h.0 = omega arith in ap (λ (x : ℕ). record { key = copy_key setting n x; mailbox = slice_index_or ms h.0 0; text = text; flags = no_flags }) e)))
+      (λ job h. (
+        suc h.0,
+        (let l : h.0 < length ms = h.1 in omega (arith, l)),
+        h.2 ∙ (let e : (first + 1) + h.0 ≡ first + suc h.0 = omega arith in ap (λ (x : ℕ). record { key = copy_key setting n x; mailbox = slice_index_or ms h.0 0; text = text; flags = no_flags }) e),
+      ))
       (copies (keys_from setting n (first + 1) ms) ms text no_flags) (each_from setting n (first + 1) ms text),
 )
 

@@ -1,12 +1,12 @@
 -- What a relay knows by a front of the replies, of each message; and how many verdicts were told on one of which it has read a reply.
-use Rattle.std.proofs.Common.{◌≡◌, ℕ, zero, suc, ◌<◌, Bool, true, false, List, [], ◌∷◌, ◌++◌, length, length-append, map, refl, ap, sym, subst, ◌∙◌, arith}
+use Rattle.std.proofs.Common.{◌≡◌, ℕ, zero, suc, ◌<◌, true, List, [], length, length-append, map, refl, ap, arith}
 use Rattle.std.specs.Prelude.{slice_index_or}
 use Rattle.std.proofs.lemmas.Bool.{false≢true}
 use Rattle.std.proofs.lemmas.List.{length-map}
 use Rattle.envelope.specs.Directory.{Directory}
 use Rattle.lmtp_machine.specs.Dialogue.{verdict_reply}
 use Rattle.relay_replies.specs.Fates.{AreCut, Fate, Judged, Awaited, TurnedAway, Unheard, HaveFates, all_told, awaited, cut, judged, none, same, turned_away, unheard, was_stored}
-use Rattle.relay_replies.specs.Handed.{Handed, no_message}
+use Rattle.relay_replies.specs.Handed.{Handed}
 use Rattle.relay_replies.specs.Laws.{last_line}
 use Rattle.relay_replies.specs.Numbers.{number_of, was_submitted}
 use Rattle.relay_records.specs.Concluded.{fate_at, message_at}

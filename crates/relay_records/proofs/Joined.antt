@@ -10,10 +10,8 @@ use Rattle.delivery_token.specs.declared.CopyKey.{CopyKey}
 use Rattle.delivery_token.specs.declared.Job.{Job}
 use Rattle.delivery_token.specs.declared.Verdict.{Verdict}
 use Rattle.delivery_token.specs.declared.Verdict.TheVariants.{Stored, Refused}
-use Rattle.delivery_token.specs.declared.log.Noted.{Noted}
 use Rattle.envelope.specs.Directory.{Directory}
-use Rattle.shard_queue.specs.declared.lane.Entry.{Entry}
-use Rattle.shard_queue.specs.declared.lane.Entry.TheVariants.{Item, End}
+use Rattle.shard_queue.specs.declared.lane.Entry.TheVariants.{Item}
 use Rattle.lmtp_machine.specs.declared.reply.Reply.{Reply}
 use Rattle.lmtp_machine.specs.declared.reply.Reply.TheVariants.{Greeting}
 use Rattle.lmtp_machine.specs.Dialogue.{Setting, Submission}
@@ -21,8 +19,8 @@ use Rattle.lmtp_machine.specs.Message.{stored_text}
 use Rattle.lmtp_machine.specs.Replies.{wire}
 use Rattle.house_connection.specs.HouseConnection.{HouseConnection, Terms, copies_of, setting_of}
 use Rattle.relay_replies.specs.Conclusions.{MayForget}
-use Rattle.relay_replies.specs.Fates.{AreCut, Fate, Unheard, HaveFates, IsSender, IsSubmitted, Names, all_submitted, all_told, was_stored}
-use Rattle.relay_replies.specs.Handed.{Handed, handed_over, is_taken, no_message}
+use Rattle.relay_replies.specs.Fates.{AreCut, Fate, HaveFates, IsSender, IsSubmitted, Names, all_submitted, all_told, was_stored}
+use Rattle.relay_replies.specs.Handed.{Handed, handed_over, is_taken}
 use Rattle.relay_replies.specs.Laws.{IsInLine, is_stored}
 use Rattle.relay_replies.specs.Numbers.{AreNumbered, no_submission, number_of, was_submitted}
 use Rattle.relay_replies.proofs.Concluding.{fronts_are_cut}
@@ -34,7 +32,7 @@ use Rattle.world.specs.World.{Config, World, shard_of}
 use Rattle.world.proofs.Base.{Every, all_of_every}
 use Rattle.world.proofs.Kept.{Kept}
 use Rattle.world.proofs.Mails.{IsIn, is_in_contains}
-use Rattle.relay_records.specs.Concluded.{IsKeyOf, MayConclude, StandsAsSent, StandsNowhere, fate_at, key_at, message_at}
+use Rattle.relay_records.specs.Concluded.{IsHandedOver, IsKeyOf, MayConclude, StandsAsSent, StandsNowhere, fate_at, key_at, message_at}
 use Rattle.relay_records.proofs.Copies.{HeardOf, IsCopy, copy_at, copy_key, each_is_copy, heard_at, named_at}
 use Rattle.relay_records.proofs.Fronts.{IsFrontOf, front_at, judged_at, stored_submitted}
 use Rattle.relay_records.proofs.Histories.{every_in, history_was_put}
@@ -201,17 +199,8 @@ all_in_order k w host directory setting known whole f i j m n a b x y o =
     by (inl l) = inr (refl, inl (f.numbered.rises i m l x.0))
     by (inr (e, l)) = inr (refl, inr (ap (number_of f.fates) e, l))
 
--- the copy that stands, and what the relay has read of it
-record Standing (directory : Directory) (setting : Setting) (known whole : List Handed) (fates : List Fate) (mailbox : ℕ) (key : CopyKey) : Type 0 where
-  pub i : ℕ
-  pub j : ℕ
-  pub is : IsKeyOf setting.seat setting.serial fates i j key
-  pub within : j < length (message_at whole i).recipients
-  pub named : Names directory (slice_index_or (message_at whole i).recipients j []) mailbox
-  pub read : (is_taken (message_at known i) j ≡ true) ⊎ (length (message_at known i).replies ≤ j)
-
 nothing_else : (k : Config) (w : World) (host : List ℕ) (directory : Directory) (setting : Setting) (known whole : List Handed) (f : Facts k w host directory setting known whole)
-    → (mailbox : ℕ) (entry : Job × ℕ) → Contains (w.box mailbox).accepted entry → entry.0.key.seat ≡ setting.seat → entry.0.key.serial ≡ setting.serial → Standing directory setting known whole f.fates mailbox entry.0.key
+    → (mailbox : ℕ) (entry : Job × ℕ) → Contains (w.box mailbox).accepted entry → entry.0.key.seat ≡ setting.seat → entry.0.key.serial ≡ setting.serial → IsHandedOver directory setting.seat setting.serial f.fates known whole mailbox entry.0
 nothing_else k w host directory setting known whole f mailbox entry there seat serial =
     let ss : List Submission = f.judged ++ f.pending in
     let copy = entry_is_copy k w host directory setting known whole f mailbox entry there seat serial in
@@ -226,9 +215,12 @@ nothing_else k w host directory setting known whole f mailbox entry there seat s
     record {
       i = place.0;
       j = copy.0.i;
-      is = (place.2, own);
+      key = (place.2, own);
       within = names.0;
       named = subst (λ (m : ℕ). Names directory (slice_index_or (message_at whole place.0).recipients copy.0.i []) m) (sym (ap (λ (c : Job). c.mailbox) is_here.2) ∙ copy.1) names.1;
+      sender = s.1.sender;
+      from = s.1.from;
+      text = ap (λ (c : Job). c.text) is_here.2 ∙ s.1.text;
       read = by place.0 copy.0.i place.2 own;
     }
   where
@@ -294,8 +286,6 @@ connection_concludes k w kept world g in_line seat b came told h later heard unh
       taken = λ i j x. ((is_submitted_at k w g.host g.directory setting known whole f i j x, refl), taken_stands k w g.host g.directory setting known whole f i j x);
       refused = λ i j key l x is mailbox entry there same. refused_stands_nowhere k w g.host g.directory setting known whole f i j l x is.0 mailbox entry there (same ∙ is.1);
       in_order = all_in_order k w g.host g.directory setting known whole f;
-      nothing_else = λ mailbox entry there at of.
-          let s = nothing_else k w g.host g.directory setting known whole f mailbox entry there at of in
-          (s.i, s.j, s.is, s.within, s.named, s.read);
+      nothing_else = nothing_else k w g.host g.directory setting known whole f;
     } in
     subst (λ (x : List ℕ). MayConclude g.host g.directory w seat b.serial x heard) (sym (ap (λ (l : List ℕ). l ++ later) h.came_is ∙ append_assoc h.taken h.waited later)) all

@@ -5,3 +5,11 @@ mod Histories
 mod Copies
 mod Fronts
 mod Joined
+mod Printed
+mod Sessions
+mod Worlds
+mod Seats
+mod Scenes
+mod Happening
+mod Concluding
+mod Refuted

@@ -1,10 +1,9 @@
 -- What is known of a connection that stands at a seat, by what came for it and what it was told, and how it goes on there.
-use Rattle.std.proofs.Common.{◌≡◌, ℕ, zero, suc, ◌+◌, ◌<◌, ◌≤◌, Bool, true, false, List, [], ◌∷◌, ◌++◌, length, map, refl, ap, ap₂, sym, subst, ◌∙◌, append_assoc, append-nil, arith, ◌⊎◌, inl, inr}
+use Rattle.std.proofs.Common.{◌≡◌, ℕ, suc, ◌+◌, ◌<◌, Bool, true, false, List, [], ◌∷◌, ◌++◌, length, map, refl, ap, ap₂, sym, subst, ◌∙◌, append_assoc, append-nil, arith, ◌⊎◌, inl, inr}
 use Rattle.std.specs.Prelude.{Contains, slice_index_or}
 use Rattle.std.proofs.lemmas.Bool.{false≢true}
 use Rattle.std.proofs.lemmas.Grind.{flat_map-append}
-use Rattle.std.proofs.lemmas.List.{map-append}
-use Rattle.std.proofs.lemmas.List.Elements.{Contains-append_left, Contains-append_right}
+use Rattle.std.proofs.lemmas.List.Elements.{Contains-append_left}
 use Rattle.change_ring.specs.Log.{no_flags}
 use Rattle.delivery_token.specs.declared.CopyKey.{CopyKey}
 use Rattle.delivery_token.specs.declared.Job.{Job}
@@ -23,13 +22,12 @@ use Rattle.lmtp_machine.specs.declared.reply.Reply.{Reply}
 use Rattle.lmtp_machine.specs.declared.reply.Reply.TheVariants.{Greeting}
 use Rattle.lmtp_machine.specs.Replies.{wire}
 use Rattle.lmtp_machine.specs.Calls.{Tells}
-use Rattle.lmtp_machine.specs.Conversation.{Conversation, IsListening, led_by, opened}
+use Rattle.lmtp_machine.specs.Conversation.{Conversation, IsListening}
 use Rattle.lmtp_machine.specs.Dialogue as dialogue
 use Rattle.lmtp_machine.specs.Dialogue.{Phase, Start, Ready, Transaction, Data, Waiting, Ended, Answered, Opened, Setting, Submission, Turn, keys_from, on_event, on_verdicts, verdict_reply}
 use Rattle.lmtp_machine.specs.Kept.{IsMessage}
-use Rattle.house_connection.specs.Talk.{Talk, WorksOff}
 use Rattle.house_connection.specs.ConnectionStands.{IsAwaited}
-use Rattle.house_connection.specs.HouseConnection.{GoesOn, HouseConnection, IsAnswered, Proceeds, Terms, Works, answers, copies_of, fades, greeted, keys_of, lingers, meets, more_waits, setting_of, stalls, talks, unread, waits, with_unsaid, works}
+use Rattle.house_connection.specs.HouseConnection.{GoesOn, HouseConnection, IsAnswered, Proceeds, Terms, Works, answers, copies_of, fades, greeted, keys_of, lingers, meets, more_waits, setting_of, stalls, talks, unread, waits, works}
 use Rattle.relay_replies.specs.Connections.{HasCome}
 use Rattle.relay_replies.specs.Numbers.{no_submission}
 use Rattle.relay_replies.proofs.Connected.{begins, takes_bytes, tells_verdicts}

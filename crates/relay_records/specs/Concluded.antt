@@ -48,6 +48,19 @@ pub record StandsAsSent (directory : Directory) (w : World) (message : Handed) (
   pub here : Contains (w.box mailbox).accepted (copy, uid)
   pub alone : (other : ℕ) (entry : Job × ℕ) → Contains (w.box other).accepted entry → entry.0.key ≡ key → (other ≡ mailbox) × (entry.0 ≡ copy)
 
+-- A copy that stands is for the j-th recipient of the i-th message that was handed over: in the mailbox which that RCPT line names, with the text that was sent. And of its reply
+-- the relay knows that it is 250, or it hasn't read it.
+pub record IsHandedOver (directory : Directory) (seat serial : ℕ) (fates : List Fate) (known whole : List Handed) (mailbox : ℕ) (copy : Job) : Type 0 where
+  pub i : ℕ
+  pub j : ℕ
+  pub key : IsKeyOf seat serial fates i j copy.key
+  pub within : j < length (message_at whole i).recipients
+  pub named : Names directory (slice_index_or (message_at whole i).recipients j []) mailbox
+  pub sender : List ℕ
+  pub from : IsSender (message_at whole i).mail sender
+  pub text : copy.text ≡ stored_text sender (message_at whole i).lines
+  pub read : (is_taken (message_at known i) j ≡ true) ⊎ (length (message_at known i).replies ≤ j)
+
 -- Of a relay that sent these bytes on the connection of this serial at this seat, and was told those:
 pub record MayConclude (host : List ℕ) (directory : Directory) (w : World) (seat serial : ℕ) (sent told : List ℕ) : Type 0 where
   -- what else was said, and didn't reach it: it isn't printed yet, or was dropped when the peer was gone
@@ -65,9 +78,6 @@ pub record MayConclude (host : List ℕ) (directory : Directory) (w : World) (se
       → IsKeyOf seat serial fates i j key → StandsNowhere w key
   -- copies for different recipients have different keys, in the order in which they were handed over
   pub in_order : (i j m n : ℕ) (a b : CopyKey) → IsKeyOf seat serial fates i j a → IsKeyOf seat serial fates m n b → (i < m) ⊎ ((i ≡ m) × (j < n)) → Below a b
-  -- And nothing else stands: each copy of this connection is for a recipient of a message that it handed over, in the mailbox which that RCPT line names; and the relay has
-  -- read its reply as 250, or hasn't read it.
+  -- And nothing else stands of this connection: by the messages that it handed over, as all that was said tells of them.
   pub nothing_else : (mailbox : ℕ) (entry : Job × ℕ) → Contains (w.box mailbox).accepted entry → entry.0.key.seat ≡ seat → entry.0.key.serial ≡ serial
-      → (i : ℕ) × (j : ℕ) × IsKeyOf seat serial fates i j entry.0.key
-      × (j < length (message_at (handed_over sent (told ++ untold)) i).recipients) × Names directory (slice_index_or (message_at (handed_over sent (told ++ untold)) i).recipients j []) mailbox
-      × ((is_taken (message_at (handed_over sent told) i) j ≡ true) ⊎ (length (message_at (handed_over sent told) i).replies ≤ j))
+      → IsHandedOver directory seat serial fates (handed_over sent told) (handed_over sent (told ++ untold)) mailbox entry.0

@@ -1,0 +1,53 @@
+-- What a relay may conclude, by the record of a house.
+use Rattle.std.proofs.Common.{◌≡◌, ℕ, ◌<◌, ◌≤◌, ◌⊎◌, inl, inr, List, [], ◌++◌, refl, subst, arith}
+use Rattle.std.specs.Prelude.{Contains}
+use Rattle.std.proofs.lemmas.Bool.{cases_lt}
+use Rattle.delivery_token.specs.declared.Job.{Job}
+use Rattle.house.specs.Scene.{empty_scene}
+use Rattle.shard_queue.specs.declared.lane.Entry.TheVariants.{Item}
+use Rattle.world.specs.World.{shard_of}
+use Rattle.world.proofs.Always.{always, kept_always}
+use Rattle.world.proofs.Kept.{Kept}
+use Rattle.relay_records.specs.Concluded.{MayConclude}
+use Rattle.relay_records.specs.Laws.{ByTheRecord, OfAllEvents}
+use Rattle.relay_records.specs.Record.{came_for, told_to}
+use Rattle.relay_records.proofs.Happening.{nothing_known, record_known}
+use Rattle.relay_records.proofs.Histories.{every_in, history_was_put}
+use Rattle.relay_records.proofs.Joined.{connection_concludes}
+use Rattle.relay_records.proofs.Moving.{sent_by}
+use Rattle.relay_records.proofs.Scenes.{SceneKnown}
+use Rattle.relay_records.proofs.Seated.{IsOneOf}
+use Rattle.relay_records.proofs.Seats.{WasKnown, known_below, own_terms}
+
+pub by_the_record : ByTheRecord
+by_the_record k entries after steps in_line r came = record { each = each; opened = opened }
+  where
+    all : SceneKnown k (λ seat n. came_for seat n (empty_scene k) entries) (λ seat n. told_to k seat n (empty_scene k) entries) after
+    all = record_known k (λ seat n. []) (λ seat n. []) (empty_scene k) entries after in_line (nothing_known k) r
+
+    kept : Kept k.config after.world
+    kept = kept_always k.config steps after.world came
+
+    each : (seat serial : ℕ) → seat < k.connections → serial < after.next seat → (later told untold : List ℕ) → told ++ untold ≡ told_to k seat serial (empty_scene k) entries
+        → MayConclude k.host k.directory after.world seat serial (came_for seat serial (empty_scene k) entries ++ later) told
+    each seat serial l m later told untold e =
+        let was : WasKnown k seat (after.world.heard seat) (sent_by after.world seat) serial (came_for seat serial (empty_scene k) entries) (told_to k seat serial (empty_scene k) entries) =
+        known_below k seat (after.world.heard seat) (sent_by after.world seat) (after.next seat) (λ n. came_for seat n (empty_scene k) entries) (λ n. told_to k seat n (empty_scene k) entries) (after.caller seat) (all.seats seat l) serial m in
+        subst (λ (n : ℕ). MayConclude k.host k.directory after.world seat n (came_for seat serial (empty_scene k) entries ++ later) told) was.serial_is
+        (connection_concludes k.config after.world kept (always k.config steps after.world came) (own_terms k) in_line seat was.last (came_for seat serial (empty_scene k) entries) (told_to k seat serial (empty_scene k) entries) was.known later told untold e)
+
+    opened : (mailbox : ℕ) (entry : Job × ℕ) → Contains (after.world.box mailbox).accepted entry → entry.0.key.seat < k.connections → entry.0.key.serial < after.next entry.0.key.seat
+    opened mailbox entry there l = by (cases_lt entry.0.key.serial (after.next (entry.0.key.seat)))
+      where
+        none : Contains [] entry.0 → ⊥
+        none c = let x = c.1 in omega (arith, x)
+
+        by : (entry.0.key.serial < after.next (entry.0.key.seat)) ⊎ (after.next (entry.0.key.seat) ≤ entry.0.key.serial) → entry.0.key.serial < after.next (entry.0.key.seat)
+        by (inl x) = x
+        by (inr x) =
+            let put = history_was_put k.config after.world kept mailbox entry there in
+            let new = (all.seats (entry.0.key.seat) l).later entry.0.key.serial x in
+            absurd (none (every_in (IsOneOf entry.0.key.serial []) (Item (entry.0.key.seat) entry.0) (sent_by after.world (entry.0.key.seat) (shard_of k.config mailbox)) (new.2 (shard_of k.config mailbox)) put.1 refl))
+
+pub of_all_events : OfAllEvents
+of_all_events k events after printed in_line once = by_the_record k once.entries after once.steps in_line once.leads once.came

@@ -1,0 +1,29 @@
+-- What holds of each connection of a house, whatever happened there.
+use Rattle.std.specs.Prelude.{◌≡◌, ℕ, ◌<◌, List, ◌++◌, Contains}
+use Rattle.delivery_token.specs.declared.Job.{Job}
+use Rattle.house.specs.Scene.{Scene, empty_scene}
+use Rattle.house.specs.Setup.{Setup}
+use Rattle.house.specs.declared.event.Event.{Event}
+use Rattle.relay_replies.specs.Laws.{IsInLine}
+use Rattle.exactly_once.specs.Promise.{Entry, ExactlyOnce, IsRecord}
+use Rattle.world.specs.World as world
+use Rattle.world.specs.World.{IsWorld}
+use Rattle.relay_records.specs.Concluded.{MayConclude}
+use Rattle.relay_records.specs.Record.{came_for, told_to}
+
+-- Of each connection that was opened: a relay that sent what came for it, and perhaps more, and was told a front of what was said to it, may conclude which copies stand. And
+-- there are no copies of other connections.
+pub record RelaysMayConclude (k : Setup) (entries : List Entry) (after : Scene) : Type 0 where
+  pub each : (seat serial : ℕ) → seat < k.connections → serial < after.next seat
+      → (later told untold : List ℕ) → told ++ untold ≡ told_to k seat serial (empty_scene k) entries
+      → MayConclude k.host k.directory after.world seat serial (came_for seat serial (empty_scene k) entries ++ later) told
+  pub opened : (mailbox : ℕ) (entry : Job × ℕ) → Contains (after.world.box mailbox).accepted entry → entry.0.key.seat < k.connections → entry.0.key.serial < after.next entry.0.key.seat
+
+-- of every record of a house
+abbrev pub ByTheRecord : Type 0
+ByTheRecord = (k : Setup) (entries : List Entry) (after : Scene) (steps : List world.Event) → IsInLine k.host → IsRecord k entries (empty_scene k) after → IsWorld k.config steps after.world
+    → RelaysMayConclude k entries after
+
+-- of all events of a new house, and all that they printed
+abbrev pub OfAllEvents : Type 0
+OfAllEvents = (k : Setup) (events : List Event) (after : Scene) (printed : List ℕ) → IsInLine k.host → (once : ExactlyOnce k events after printed) → RelaysMayConclude k once.entries after
