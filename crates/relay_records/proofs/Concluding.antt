@@ -32,9 +32,11 @@ by_the_record k entries after steps in_line r came = record { each = each; opene
         → MayConclude k.host k.directory after.world seat serial (came_for seat serial (empty_scene k) entries ++ later) told
     each seat serial l m later told untold e =
         let was : WasKnown k seat (after.world.heard seat) (sent_by after.world seat) serial (came_for seat serial (empty_scene k) entries) (told_to k seat serial (empty_scene k) entries) =
-        known_below k seat (after.world.heard seat) (sent_by after.world seat) (after.next seat) (λ n. came_for seat n (empty_scene k) entries) (λ n. told_to k seat n (empty_scene k) entries) (after.caller seat) (all.seats seat l) serial m in
+        known_below k seat (after.world.heard seat) (sent_by after.world seat) (after.next seat) (λ n. came_for seat n (empty_scene k) entries) (λ n. told_to k seat n (empty_scene k) entries)
+        (after.caller seat) (all.seats seat l) serial m in
         subst (λ (n : ℕ). MayConclude k.host k.directory after.world seat n (came_for seat serial (empty_scene k) entries ++ later) told) was.serial_is
-        (connection_concludes k.config after.world kept (always k.config steps after.world came) (own_terms k) in_line seat was.last (came_for seat serial (empty_scene k) entries) (told_to k seat serial (empty_scene k) entries) was.known later told untold e)
+        (connection_concludes k.config after.world kept (always k.config steps after.world came) (own_terms k) in_line seat was.last (came_for seat serial (empty_scene k) entries)
+        (told_to k seat serial (empty_scene k) entries) was.known later told untold e)
 
     opened : (mailbox : ℕ) (entry : Job × ℕ) → Contains (after.world.box mailbox).accepted entry → entry.0.key.seat < k.connections → entry.0.key.serial < after.next entry.0.key.seat
     opened mailbox entry there l = by (cases_lt entry.0.key.serial (after.next (entry.0.key.seat)))
@@ -47,7 +49,9 @@ by_the_record k entries after steps in_line r came = record { each = each; opene
         by (inr x) =
             let put = history_was_put k.config after.world kept mailbox entry there in
             let new = (all.seats (entry.0.key.seat) l).later entry.0.key.serial x in
-            absurd (none (every_in (IsOneOf entry.0.key.serial []) (Item (entry.0.key.seat) entry.0) (sent_by after.world (entry.0.key.seat) (shard_of k.config mailbox)) (new.2 (shard_of k.config mailbox)) put.1 refl))
+            absurd (none (every_in (IsOneOf entry.0.key.serial []) (Item (entry.0.key.seat) entry.0) (sent_by after.world (entry.0.key.seat) (shard_of k.config mailbox))
+            (new.2 (shard_of k.config mailbox)) put.1 refl))
 
 pub of_all_events : OfAllEvents
 of_all_events k events after printed in_line once = by_the_record k once.entries after once.steps in_line once.leads once.came
+

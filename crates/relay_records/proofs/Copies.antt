@@ -37,7 +37,8 @@ pub record IsCopy (setting : Setting) (first : ℕ) (ss : List Submission) (job 
 
 -- of one message, from this recipient on
 abbrev IsFrom : Setting → ℕ → ℕ → List ℕ → List ℕ → Job → Type 0
-IsFrom setting n first mailboxes text job = (i : ℕ) × (i < length mailboxes) × (job ≡ record { key = copy_key setting n (first + i); mailbox = slice_index_or mailboxes i 0; text = text; flags = no_flags })
+IsFrom setting n first mailboxes text job = (i : ℕ) × (i < length mailboxes) ×
+    (job ≡ record { key = copy_key setting n (first + i); mailbox = slice_index_or mailboxes i 0; text = text; flags = no_flags })
 
 each_from : (setting : Setting) (n first : ℕ) (mailboxes text : List ℕ) → Every (IsFrom setting n first mailboxes text) (copies (keys_from setting n first mailboxes) mailboxes text no_flags)
 each_from setting n first [] text = tt
@@ -47,7 +48,8 @@ each_from setting n first (m ∷ ms) text = (
       (λ job h. (
         suc h.0,
         (let l : h.0 < length ms = h.1 in omega (arith, l)),
-        h.2 ∙ (let e : (first + 1) + h.0 ≡ first + suc h.0 = omega arith in ap (λ (x : ℕ). record { key = copy_key setting n x; mailbox = slice_index_or ms h.0 0; text = text; flags = no_flags }) e),
+        h.2 ∙ (let e : (first + 1) + h.0 ≡ first + suc h.0 = omega arith in ap
+            (λ (x : ℕ). record { key = copy_key setting n x; mailbox = slice_index_or ms h.0 0; text = text; flags = no_flags }) e),
       ))
       (copies (keys_from setting n (first + 1) ms) ms text no_flags) (each_from setting n (first + 1) ms text),
 )
@@ -100,7 +102,8 @@ heard_of heard setting n first (m ∷ ms) (v ∷ vs) h (suc j) l =
     subst (λ (x : ℕ). HeardOf heard (copy_key setting n x) (slice_index_or (map is_stored vs) j false)) e (heard_of heard setting n (first + 1) ms vs h.1 j (omega (arith, l)))
 
 -- of the messages that were judged, which are the first of those that were submitted
-pub heard_at : (heard : List Noted) (setting : Setting) (homes first : ℕ) (judged pending : List Submission) (answered : List (List Verdict)) → AreFrom setting homes first (judged ++ pending) → AreHeard heard judged answered
+pub heard_at : (heard : List Noted) (setting : Setting) (homes first : ℕ) (judged pending : List Submission) (answered : List (List Verdict)) → AreFrom setting homes first (judged ++ pending)
+    → AreHeard heard judged answered
     → (n j : ℕ) → j < length (slice_index_or answered n []) → HeardOf heard (copy_key setting (first + n) j) (slice_index_or (map is_stored (slice_index_or answered n [])) j false)
 heard_at heard setting homes first [] pending [] f h n j l = absurd (omega (arith, l))
 heard_at heard setting homes first [] pending (vs ∷ answered) f h n j l = absurd h

@@ -43,7 +43,8 @@ came_here : (s : Scene) (e : Event) (at : ℕ) (bytes : List ℕ) → CameAt s e
 came_here s e at bytes c serial is = c at serial ∙ ap (λ (b : Bool). where_meant b bytes) (meant_here serial s at is)
 
 -- a connection is opened by its first bytes
-opens_here : (k : Setup) (came told : (seat serial : ℕ) → List ℕ) (s : Scene) (e : Event) (piece : Piece) (at : ℕ) (bytes : List ℕ) (o : Option HouseConnection) → IsInLine k.host → SceneKnown k came told s
+opens_here : (k : Setup) (came told : (seat serial : ℕ) → List ℕ) (s : Scene) (e : Event) (piece : Piece) (at : ℕ) (bytes : List ℕ) (o : Option HouseConnection) → IsInLine k.host
+    → SceneKnown k came told s
     → Says k s at piece → CameAt s e at bytes → s.caller at ≡ None
     → ConnectionGoes (terms_of k s.shut) false at (s.world.heard at) (more_waits (greeted (terms_of k s.shut) at (s.next at)) bytes) o (text_of k piece)
     → at < k.connections → SeatKnown k at (s.world.heard at) (sent_by s.world at) (set_at s.next at (s.next at + 1) at) (came_then came s e at) (told_then k told s piece at) o
@@ -63,7 +64,8 @@ opens_here k came told s e piece at bytes o in_line h says brought free goes l =
     (subst (λ (x : List ℕ). WentOn (own_terms k) at heard sent bytes (x ++ wire k.host says.replies) serial o) (sym new.1) went))
 
 -- bytes come for one that stands there
-bytes_here : (k : Setup) (came told : (seat serial : ℕ) → List ℕ) (s : Scene) (e : Event) (piece : Piece) (at : ℕ) (bytes : List ℕ) (b : HouseConnection) (o : Option HouseConnection) → IsInLine k.host → SceneKnown k came told s
+bytes_here : (k : Setup) (came told : (seat serial : ℕ) → List ℕ) (s : Scene) (e : Event) (piece : Piece) (at : ℕ) (bytes : List ℕ) (b : HouseConnection) (o : Option HouseConnection)
+    → IsInLine k.host → SceneKnown k came told s
     → Says k s at piece → CameAt s e at bytes → s.caller at ≡ Some b → b.gone ≡ false → ConnectionGoes (terms_of k s.shut) false at (s.world.heard at) (more_waits b bytes) o (text_of k piece)
     → at < k.connections → SeatKnown k at (s.world.heard at) (sent_by s.world at) (s.next at) (came_then came s e at) (told_then k told s piece at) o
 bytes_here k came told s e piece at bytes b o in_line h says brought there read goes l =
@@ -72,17 +74,22 @@ bytes_here k came told s e piece at bytes b o in_line h says brought there read 
     let is : b.serial ≡ serial_of (s.next at) (s.caller at) = ap (serial_of (s.next at)) (sym there) in
     let seat = at_caller k came told s at (Some b) h l there in
     let known = more_known (own_terms k) at heard sent (came at b.serial) (told at b.serial) bytes b read seat.there.1 in
-    let went = goes_on_known (own_terms k) s.shut false at heard sent (came at b.serial ++ bytes) (told at b.serial) (more_waits b bytes) o (text_of k piece) says.replies in_line known goes says.text in
-    stander_known k came told s e piece at s.world b o bytes says there (λ r c. c) (λ n d these u x. x) (came_here s e at bytes brought b.serial is) (came_other s e at bytes brought b.serial is) seat went
+    let went = goes_on_known (own_terms k) s.shut false at heard sent (came at b.serial ++ bytes) (told at b.serial) (more_waits b bytes) o
+    (text_of k piece) says.replies in_line known goes says.text in
+    stander_known k came told s e piece at s.world b o bytes says there (λ r c. c) (λ n d these u x. x) (came_here s e at bytes brought b.serial is)
+    (came_other s e at bytes brought b.serial is) seat went
 
 bytes_known : (k : Setup) (came told : (seat serial : ℕ) → List ℕ) (s : Scene) (connection : ℕ) (bytes : Bor (List ℕ)) (piece : Piece) (t : Scene) → IsInLine k.host → SceneKnown k came told s
-    → IsOwn k s (Bytes connection bytes) t piece → BytesPlay k false s (seat_of connection) bytes.now t (text_of k piece) → SceneKnown k (came_then came s (Bytes connection bytes)) (told_then k told s piece) t
+    → IsOwn k s (Bytes connection bytes) t piece → BytesPlay k false s (seat_of connection) bytes.now t (text_of k piece)
+    → SceneKnown k (came_then came s (Bytes connection bytes)) (told_then k told s piece) t
 bytes_known k came told s connection bytes piece t in_line h own play = by (seat_of connection) (bytes_says k s t connection bytes piece own) (λ seat n. refl) play
   where
-    by : (at : ℕ) → Says k s at piece → CameAt s (Bytes connection bytes) at bytes.now → BytesPlay k false s at bytes.now t (text_of k piece) → SceneKnown k (came_then came s (Bytes connection bytes)) (told_then k told s piece) t
+    by : (at : ℕ) → Says k s at piece → CameAt s (Bytes connection bytes) at bytes.now → BytesPlay k false s at bytes.now t (text_of k piece)
+        → SceneKnown k (came_then came s (Bytes connection bytes)) (told_then k told s piece) t
     by at says brought (opens there free more o g after) =
         rw after (record {
-          seats = caller_known k came told s (Bytes connection bytes) piece at s.world o (set_at s.next at (s.next at + 1)) h says (λ seat r c. c) (λ seat d n these u x. x) (other_place s.next at (s.next at + 1))
+          seats = caller_known k came told s (Bytes connection bytes) piece at s.world o (set_at s.next at (s.next at + 1)) h says (λ seat r c. c) (λ seat d n these u x. x)
+              (other_place s.next at (s.next at + 1))
               (came_elsewhere s (Bytes connection bytes) at bytes.now brought) (opens_here k came told s (Bytes connection bytes) piece at bytes.now o in_line h says brought free g);
         })
     by at says brought (goes_on b there read o g after) =
@@ -96,7 +103,8 @@ abbrev BringsNothing : Scene → Event → Type 0
 BringsNothing s e = (seat n : ℕ) → came_in seat n s e ≡ []
 
 -- its peer is gone
-vanish_known : (k : Setup) (came told : (seat serial : ℕ) → List ℕ) (s : Scene) (e : Event) (piece : Piece) (at : ℕ) (t : Scene) → IsInLine k.host → SceneKnown k came told s → BringsNothing s e → Says k s at piece
+vanish_known : (k : Setup) (came told : (seat serial : ℕ) → List ℕ) (s : Scene) (e : Event) (piece : Piece) (at : ℕ) (t : Scene) → IsInLine k.host → SceneKnown k came told s → BringsNothing s e
+    → Says k s at piece
     → VanishPlay k false s at t (text_of k piece) → SceneKnown k (came_then came s e) (told_then k told s piece) t
 vanish_known k came told s e piece at t in_line h none says p =
     rw p.after (record { seats = caller_known k came told s e piece at s.world p.left s.next h says (λ seat r c. c) (λ seat d n these u x. x) (λ seat d. refl) (λ seat n d. none seat n) here })
@@ -113,12 +121,15 @@ vanish_known k came told s e piece at t in_line h none says p =
         (nothing_came k (own_terms k) at heard sent (came at b.serial) _ b.serial p.left went)
 
 -- it puts a copy
-connection_put_known : (k : Setup) (came told : (seat serial : ℕ) → List ℕ) (s : Scene) (e : Event) (piece : Piece) (at : ℕ) (t : Scene) → IsInLine k.host → SceneKnown k came told s → BringsNothing s e → Says k s at piece
+connection_put_known : (k : Setup) (came told : (seat serial : ℕ) → List ℕ) (s : Scene) (e : Event) (piece : Piece) (at : ℕ) (t : Scene) → IsInLine k.host → SceneKnown k came told s
+    → BringsNothing s e → Says k s at piece
     → ConnectionPuts k false s at t (text_of k piece) → SceneKnown k (came_then came s e) (told_then k told s piece) t
 connection_put_known k came told s e piece at t in_line h none says p =
     rw p.after (record {
-      seats = caller_known k came told s e piece at p.moved p.left s.next h says (λ seat r c. step_hears k.config s.world (world.Put at (shard_of k.config p.copy.mailbox) p.copy) p.moved seat r p.step c)
-          (λ seat d n. no_copy_grows seat s.world p.moved (step_puts k.config s.world (world.Put at (shard_of k.config p.copy.mailbox) p.copy) p.moved seat d p.step) n) (λ seat d. refl) (λ seat n d. none seat n) here;
+      seats = caller_known k came told s e piece at p.moved p.left s.next h says
+          (λ seat r c. step_hears k.config s.world (world.Put at (shard_of k.config p.copy.mailbox) p.copy) p.moved seat r p.step c)
+          (λ seat d n. no_copy_grows seat s.world p.moved (step_puts k.config s.world (world.Put at (shard_of k.config p.copy.mailbox) p.copy) p.moved seat d p.step) n) (λ seat d. refl)
+          (λ seat n d. none seat n) here;
     })
   where
     here : at < k.connections → SeatKnown k at (p.moved.heard at) (sent_by p.moved at) (s.next at) (came_then came s e at) (told_then k told s piece at) p.left
@@ -128,16 +139,20 @@ connection_put_known k came told s e piece at t in_line h none says p =
         let later = sent_by p.moved at in
         let seat = at_caller k came told s at (Some b) h l p.there in
         let puts = step_puts_copy k.config s.world at (shard_of k.config p.copy.mailbox) p.copy p.moved p.step in
-        let hears : (r : Noted) → Contains (s.world.heard at) r → Contains (p.moved.heard at) r = λ r c. step_hears k.config s.world (world.Put at (shard_of k.config p.copy.mailbox) p.copy) p.moved at r p.step c in
+        let hears : (r : Noted) → Contains (s.world.heard at) r
+        → Contains (p.moved.heard at) r = λ r c. step_hears k.config s.world (world.Put at (shard_of k.config p.copy.mailbox) p.copy) p.moved at r p.step c in
         let mine = own_copy (own_terms k) at (s.world.heard at) sent (came at b.serial) (told at b.serial) b p.copy p.others p.front seat.there.1 in
         let known = put_known (own_terms k) at (s.world.heard at) (p.moved.heard at) sent later (came at b.serial) (told at b.serial) b p.copy p.others p.front hears puts seat.there.1 in
-        let went = goes_on_known (own_terms k) s.shut false at (p.moved.heard at) later (came at b.serial) (told at b.serial) (record { serial = b.serial; gone = b.gone; talk = b.talk; to_put = p.others }) p.left (text_of k piece) says.replies
+        let went = goes_on_known (own_terms k) s.shut false at (p.moved.heard at) later (came at b.serial) (told at b.serial)
+        (record { serial = b.serial; gone = b.gone; talk = b.talk; to_put = p.others }) p.left (text_of k piece) says.replies
         in_line known p.goes says.text in
-        stander_known k came told s e piece at p.moved b p.left [] says p.there hears (λ n d. puts_of_another at n p.copy sent later puts (λ x. d (sym x ∙ mine))) (none at b.serial) (λ n d. none at n) seat
+        stander_known k came told s e piece at p.moved b p.left [] says p.there hears (λ n d. puts_of_another at n p.copy sent later puts (λ x. d (sym x ∙ mine))) (none at b.serial)
+        (λ n d. none at n) seat
         (nothing_came k (own_terms k) at (p.moved.heard at) later (came at b.serial) _ b.serial p.left went)
 
 -- its seat hears a verdict
-connection_hear_known : (k : Setup) (came told : (seat serial : ℕ) → List ℕ) (s : Scene) (e : Event) (piece : Piece) (at : ℕ) (t : Scene) → IsInLine k.host → SceneKnown k came told s → BringsNothing s e → Says k s at piece
+connection_hear_known : (k : Setup) (came told : (seat serial : ℕ) → List ℕ) (s : Scene) (e : Event) (piece : Piece) (at : ℕ) (t : Scene) → IsInLine k.host → SceneKnown k came told s
+    → BringsNothing s e → Says k s at piece
     → ConnectionHears k false s at t (text_of k piece) → SceneKnown k (came_then came s e) (told_then k told s piece) t
 connection_hear_known k came told s e piece at t in_line h none says p =
     rw p.after (record {
@@ -154,7 +169,8 @@ connection_hear_known k came told s e piece at t in_line h none says p =
         let hears : (r : Noted) → Contains (s.world.heard at) r → Contains (p.moved.heard at) r = λ r c. step_hears k.config s.world (world.Hear at) p.moved at r p.step c in
         let puts = no_copy_grows at s.world p.moved (step_puts k.config s.world (world.Hear at) p.moved at tt p.step) in
         let known = known_grows (own_terms k) at (s.world.heard at) (p.moved.heard at) sent later (came at b.serial) (told at b.serial) b hears (puts b.serial) seat.there.1 in
-        let went = goes_on_known (own_terms k) s.shut false at (p.moved.heard at) later (came at b.serial) (told at b.serial) b p.left (text_of k piece) says.replies in_line known p.goes says.text in
+        let went = goes_on_known (own_terms k) s.shut false at (p.moved.heard at) later (came at b.serial) (told at b.serial) b p.left
+        (text_of k piece) says.replies in_line known p.goes says.text in
         stander_known k came told s e piece at p.moved b p.left [] says p.there hears (λ n d. puts n) (none at b.serial) (λ n d. none at n) seat
         (nothing_came k (own_terms k) at (p.moved.heard at) later (came at b.serial) _ b.serial p.left went)
 
@@ -165,17 +181,20 @@ no_replies k s (Replies seat said) none j n = absurd (none seat said refl)
 no_replies k s (Lines session lines) none j n = refl
 no_replies k s Silence none j n = refl
 
-session_put_known : (k : Setup) (came told : (seat serial : ℕ) → List ℕ) (s : Scene) (number place : ℕ) (piece : Piece) (t : Scene) → SceneKnown k came told s → seat_of number ≡ session_seat k place
+session_put_known : (k : Setup) (came told : (seat serial : ℕ) → List ℕ) (s : Scene) (number place : ℕ) (piece : Piece) (t : Scene) → SceneKnown k came told s
+    → seat_of number ≡ session_seat k place
     → IsOwn k s (Put number) t piece → SessionPuts k false s place t (text_of k piece) → SceneKnown k (came_then came s (Put number)) (told_then k told s piece) t
 session_put_known k came told s number place piece t h e own p =
     rw p.after (record {
       seats = nobody_known k came told s (Put number) piece p.later h
-          (bears_then k.connections s.world p.moved p.later (bears_step k.config k.connections s.world (world.Put (session_seat k place) (shard_of k.config p.copy.mailbox) p.copy) p.moved (λ seat l x. no_session k seat place l x) p.step)
+          (bears_then k.connections s.world p.moved p.later
+          (bears_step k.config k.connections s.world (world.Put (session_seat k place) (shard_of k.config p.copy.mailbox) p.copy) p.moved (λ seat l x. no_session k seat place l x) p.step)
           (bears_still k.connections p.moved p.later (goes_still k false place (p.moved.heard (session_seat k place)) p.moved _ p.later p.left (text_of k piece) p.goes)))
           (λ seat n. refl) (put_quiet k s t number place piece e own);
     })
 
-session_hear_known : (k : Setup) (came told : (seat serial : ℕ) → List ℕ) (s : Scene) (number place : ℕ) (piece : Piece) (t : Scene) → SceneKnown k came told s → seat_of number ≡ session_seat k place
+session_hear_known : (k : Setup) (came told : (seat serial : ℕ) → List ℕ) (s : Scene) (number place : ℕ) (piece : Piece) (t : Scene) → SceneKnown k came told s
+    → seat_of number ≡ session_seat k place
     → IsOwn k s (Hear number) t piece → SessionHears k false s place t (text_of k piece) → SceneKnown k (came_then came s (Hear number)) (told_then k told s piece) t
 session_hear_known k came told s number place piece t h e own p =
     rw p.after (record {
@@ -185,19 +204,22 @@ session_hear_known k came told s number place piece t h e own p =
           (λ seat n. refl) (hear_quiet k s t number place piece e own);
     })
 
-moves_known : (k : Setup) (came told : (seat serial : ℕ) → List ℕ) (s : Scene) (e : Event) (event : world.Event) (piece : Piece) (t : Scene) (printed : List ℕ) → SceneKnown k came told s → ((seat : ℕ) → seat < k.connections → IsNoPutOf seat event)
+moves_known : (k : Setup) (came told : (seat serial : ℕ) → List ℕ) (s : Scene) (e : Event) (event : world.Event) (piece : Piece) (t : Scene) (printed : List ℕ) → SceneKnown k came told s
+    → ((seat : ℕ) → seat < k.connections → IsNoPutOf seat event)
     → ((seat n : ℕ) → came_in seat n s e ≡ []) → IsQuiet k s piece → Moves k s event t printed → SceneKnown k (came_then came s e) (told_then k told s piece) t
 moves_known k came told s e event piece t printed h others none quiet m =
     rw m.after (record { seats = nobody_known k came told s e piece m.moved h (bears_step k.config k.connections s.world event m.moved others m.step) none quiet })
 
 put_known_by : (k : Setup) (came told : (seat serial : ℕ) → List ℕ) (s : Scene) (number : ℕ) (piece : Piece) (t : Scene) → IsInLine k.host → SceneKnown k came told s
     → IsOwn k s (Put number) t piece → PutPlay k false s (seat_of number) t (text_of k piece) → SceneKnown k (came_then came s (Put number)) (told_then k told s piece) t
-put_known_by k came told s number piece t in_line h own (connection_puts l p) = connection_put_known k came told s (Put number) piece (seat_of number) t in_line h (λ seat n. refl) (put_says k s t number piece l own) p
+put_known_by k came told s number piece t in_line h own (connection_puts l p) = connection_put_known k came told s (Put number) piece (seat_of number) t in_line h (λ seat n. refl)
+    (put_says k s t number piece l own) p
 put_known_by k came told s number piece t in_line h own (session_puts place e p) = session_put_known k came told s number place piece t h e own p
 
 hear_known_by : (k : Setup) (came told : (seat serial : ℕ) → List ℕ) (s : Scene) (number : ℕ) (piece : Piece) (t : Scene) → IsInLine k.host → SceneKnown k came told s
     → IsOwn k s (Hear number) t piece → HearPlay k false s (seat_of number) t (text_of k piece) → SceneKnown k (came_then came s (Hear number)) (told_then k told s piece) t
-hear_known_by k came told s number piece t in_line h own (connection_hears l p) = connection_hear_known k came told s (Hear number) piece (seat_of number) t in_line h (λ seat n. refl) (hear_says k s t number piece l own) p
+hear_known_by k came told s number piece t in_line h own (connection_hears l p) = connection_hear_known k came told s (Hear number) piece (seat_of number) t in_line h (λ seat n. refl)
+    (hear_says k s t number piece l own) p
 hear_known_by k came told s number piece t in_line h own (session_hears place e p) = session_hear_known k came told s number place piece t h e own p
 
 -- the peer is gone, and nothing is printed
@@ -205,39 +227,51 @@ vanish_known_by : (k : Setup) (came told : (seat serial : ℕ) → List ℕ) (s 
     → IsOwn k s (Vanish connection) t piece → VanishPlay k false s (seat_of connection) t (text_of k piece) → SceneKnown k (came_then came s (Vanish connection)) (told_then k told s piece) t
 vanish_known_by k came told s connection (Replies seat said) t in_line h own p = absurd own
 vanish_known_by k came told s connection (Lines session lines) t in_line h own p = absurd own
-vanish_known_by k came told s connection Silence t in_line h own p = vanish_known k came told s (Vanish connection) Silence (seat_of connection) t in_line h (λ seat n. refl) (says_nothing k s (seat_of connection)) p
+vanish_known_by k came told s connection Silence t in_line h own p = vanish_known k came told s (Vanish connection) Silence (seat_of connection) t in_line h (λ seat n. refl)
+    (says_nothing k s (seat_of connection)) p
 
 -- ---- one entry
 
-pub event_known : (k : Setup) (came told : (seat serial : ℕ) → List ℕ) (s : Scene) (e : Event) (piece : Piece) (t : Scene) → IsInLine k.host → SceneKnown k came told s → IsOwn k s e t piece → Plays k false s e t (text_of k piece)
+pub event_known : (k : Setup) (came told : (seat serial : ℕ) → List ℕ) (s : Scene) (e : Event) (piece : Piece) (t : Scene) → IsInLine k.host → SceneKnown k came told s → IsOwn k s e t piece
+    → Plays k false s e t (text_of k piece)
     → SceneKnown k (came_then came s e) (told_then k told s piece) t
 event_known k came told s (Bytes connection bytes) piece t in_line h own p = bytes_known k came told s connection bytes piece t in_line h own p
 event_known k came told s (Vanish connection) piece t in_line h own p = vanish_known_by k came told s connection piece t in_line h own p
 event_known k came told s (Put number) piece t in_line h own p = put_known_by k came told s number piece t in_line h own p
 event_known k came told s (Hear number) piece t in_line h own p = hear_known_by k came told s number piece t in_line h own p
 event_known k came told s (Take shard) piece t in_line h own p =
-    moves_known k came told s (Take shard) (world.Take shard) piece t (text_of k piece) h (λ seat l. tt) (λ seat n. refl) (no_replies k s piece (λ seat said e. subst (IsOwn k s (Take shard) t) e own)) p
+    moves_known k came told s (Take shard) (world.Take shard) piece t (text_of k piece) h (λ seat l. tt) (λ seat n. refl)
+    (no_replies k s piece (λ seat said e. subst (IsOwn k s (Take shard) t) e own)) p
 event_known k came told s (Deliver shard) piece t in_line h own p =
-    moves_known k came told s (Deliver shard) (world.Deliver shard) piece t (text_of k piece) h (λ seat l. tt) (λ seat n. refl) (no_replies k s piece (λ seat said e. subst (IsOwn k s (Deliver shard) t) e own)) p
+    moves_known k came told s (Deliver shard) (world.Deliver shard) piece t (text_of k piece) h (λ seat l. tt) (λ seat n. refl)
+    (no_replies k s piece (λ seat said e. subst (IsOwn k s (Deliver shard) t) e own)) p
 event_known k came told s (Answer shard) piece t in_line h own p =
-    moves_known k came told s (Answer shard) (world.Answer shard) piece t (text_of k piece) h (λ seat l. tt) (λ seat n. refl) (no_replies k s piece (λ seat said e. subst (IsOwn k s (Answer shard) t) e own)) p
+    moves_known k came told s (Answer shard) (world.Answer shard) piece t (text_of k piece) h (λ seat l. tt) (λ seat n. refl)
+    (no_replies k s piece (λ seat said e. subst (IsOwn k s (Answer shard) t) e own)) p
 event_known k came told s (End number shard) piece t in_line h own p =
-    moves_known k came told s (End number shard) (world.PutEnd (seat_of number) shard) piece t (text_of k piece) h (λ seat l. tt) (λ seat n. refl) (no_replies k s piece (λ seat said e. subst (IsOwn k s (End number shard) t) e own)) p
+    moves_known k came told s (End number shard) (world.PutEnd (seat_of number) shard) piece t (text_of k piece) h (λ seat l. tt) (λ seat n. refl)
+    (no_replies k s piece (λ seat said e. subst (IsOwn k s (End number shard) t) e own)) p
 event_known k came told s (Close shard) piece t in_line h own p =
-    rw p.after (record { seats = nobody_known k came told s (Close shard) piece s.world h (bears_same k.connections s.world) (λ seat n. refl) (no_replies k s piece (λ seat said e. subst (IsOwn k s (Close shard) t) e own)) })
+    rw p.after (record {
+      seats = nobody_known k came told s (Close shard) piece s.world h (bears_same k.connections s.world) (λ seat n. refl)
+          (no_replies k s piece (λ seat said e. subst (IsOwn k s (Close shard) t) e own));
+    })
 event_known k came told s (Enter session user) piece t in_line h own p =
     rw p.after (record {
-      seats = nobody_known k came told s (Enter session user) piece p.moved h (bears_still k.connections s.world p.moved (talks_still k false (place_of session) _ s.world _ p.moved p.left (text_of k piece) p.goes)) (λ seat n. refl)
+      seats = nobody_known k came told s (Enter session user) piece p.moved h
+          (bears_still k.connections s.world p.moved (talks_still k false (place_of session) _ s.world _ p.moved p.left (text_of k piece) p.goes)) (λ seat n. refl)
           (no_replies k s piece (λ seat said e. subst (IsOwn k s (Enter session user) t) e own));
     })
 event_known k came told s (Say session bytes) piece t in_line h own p =
     rw p.after (record {
-      seats = nobody_known k came told s (Say session bytes) piece p.moved h (bears_still k.connections s.world p.moved (talks_still k false (place_of session) _ s.world _ p.moved p.left (text_of k piece) p.goes)) (λ seat n. refl)
+      seats = nobody_known k came told s (Say session bytes) piece p.moved h
+          (bears_still k.connections s.world p.moved (talks_still k false (place_of session) _ s.world _ p.moved p.left (text_of k piece) p.goes)) (λ seat n. refl)
           (no_replies k s piece (λ seat said e. subst (IsOwn k s (Say session bytes) t) e own));
     })
 event_known k came told s (Idle session) piece t in_line h own p =
     rw p.after (record {
-      seats = nobody_known k came told s (Idle session) piece p.moved h (bears_still k.connections s.world p.moved (idles_still k false (place_of session) s.world p.visitor p.moved p.left (text_of k piece) p.goes)) (λ seat n. refl)
+      seats = nobody_known k came told s (Idle session) piece p.moved h
+          (bears_still k.connections s.world p.moved (idles_still k false (place_of session) s.world p.visitor p.moved p.left (text_of k piece) p.goes)) (λ seat n. refl)
           (no_replies k s piece (λ seat said e. subst (IsOwn k s (Idle session) t) e own));
     })
 event_known k came told s (Leave session) piece t in_line h own p =
@@ -249,9 +283,11 @@ event_known k came told s (Leave session) piece t in_line h own p =
 -- ---- a record
 
 -- the same histories
-scene_same : (k : Setup) (came told now said : (seat serial : ℕ) → List ℕ) (s : Scene) → ((seat n : ℕ) → now seat n ≡ came seat n) → ((seat n : ℕ) → said seat n ≡ told seat n) → SceneKnown k came told s → SceneKnown k now said s
+scene_same : (k : Setup) (came told now said : (seat serial : ℕ) → List ℕ) (s : Scene) → ((seat n : ℕ) → now seat n ≡ came seat n) → ((seat n : ℕ) → said seat n ≡ told seat n)
+    → SceneKnown k came told s → SceneKnown k now said s
 scene_same k came told now said s e f h = record {
-  seats = λ seat l. seat_stays k seat (s.world.heard seat) (s.world.heard seat) (sent_by s.world seat) (sent_by s.world seat) (s.next seat) (came seat) (told seat) (now seat) (said seat) (s.caller seat)
+  seats = λ seat l. seat_stays k seat (s.world.heard seat) (s.world.heard seat) (sent_by s.world seat) (sent_by s.world seat) (s.next seat) (came seat) (told seat) (now seat) (said seat)
+      (s.caller seat)
       (λ r c. c) (λ n these t x. x) (e seat) (f seat) (h.seats seat l);
 }
 

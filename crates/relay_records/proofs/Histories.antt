@@ -55,11 +55,13 @@ every_filter {A} test (x ∷ xs) = go (test x) refl (every_filter test xs)
 -- ---- lanes
 
 -- what the consumer took of a seat for a mailbox
-taken_every : (k : Config) (s p m : ℕ) (Q : Job → Type 0) (es : List (Entry Job)) → Every (OwnCopy k s) es → Every (λ e. (c : Job) → e ≡ Item p c → c.mailbox ≡ m → Q c) es → Every Q (filter_map (copy_for p m) es)
+taken_every : (k : Config) (s p m : ℕ) (Q : Job → Type 0) (es : List (Entry Job)) → Every (OwnCopy k s) es → Every (λ e. (c : Job) → e ≡ Item p c → c.mailbox ≡ m → Q c) es
+    → Every Q (filter_map (copy_for p m) es)
 taken_every k s p m Q [] h q = tt
 taken_every k s p m Q (Item r c ∷ es) h q = go (eqb_tells c.key.seat p) (eqb_tells c.mailbox m) (taken_every k s p m Q es h.1 q.1)
   where
-    go : ((eqb c.key.seat p ≡ true) × (c.key.seat ≡ p)) ⊎ ((eqb c.key.seat p ≡ false) × (c.key.seat ≢ p)) → ((eqb c.mailbox m ≡ true) × (c.mailbox ≡ m)) ⊎ ((eqb c.mailbox m ≡ false) × (c.mailbox ≢ m))
+    go : ((eqb c.key.seat p ≡ true) × (c.key.seat ≡ p)) ⊎ ((eqb c.key.seat p ≡ false) × (c.key.seat ≢ p))
+        → ((eqb c.mailbox m ≡ true) × (c.mailbox ≡ m)) ⊎ ((eqb c.mailbox m ≡ false) × (c.mailbox ≢ m))
         → Every Q (filter_map (copy_for p m) es) → Every Q (filter_map (copy_for p m) (Item r c ∷ es))
     go (inl (t, i)) (inl (u, j)) rest = rw (t, u) (q.0 c (ap (λ (x : ℕ). Item x c) (sym h.0.0 ∙ i)) j, rest)
     go (inl (t, i)) (inr (u, j)) rest = rw (t, u) rest
@@ -84,5 +86,6 @@ history_was_put k w K m a there =
     taken_every k s p m (WasPut w p s m) (w.lane s).got (every_front (OwnCopy k s) (w.lane s).got (w.lane s).waiting (K.own s)) (every_front _ (w.lane s).got (w.lane s).waiting mine) in
     let stands : Every (WasPut w p s m) (copies (accepted_of w p m)) = part_every (WasPut w p s m) (accepted_taken k w K p m) taken in
     let of_seat : IsIn a (accepted_of w p m) =
-    every_in (λ (x : Job × ℕ). (x.0.key.seat == p) ≡ true → IsIn x (accepted_of w p m)) a (w.box m).accepted (every_filter (λ (x : Job × ℕ). x.0.key.seat == p) (w.box m).accepted) (in_of_contains a (w.box m).accepted there) (eq-eqb p p refl) in
+    every_in (λ (x : Job × ℕ). (x.0.key.seat == p) ≡ true → IsIn x (accepted_of w p m)) a (w.box m).accepted (every_filter (λ (x : Job × ℕ). x.0.key.seat == p) (w.box m).accepted)
+    (in_of_contains a (w.box m).accepted there) (eq-eqb p p refl) in
     every_in (WasPut w p s m) a.0 (copies (accepted_of w p m)) stands (in_map (λ (x : Job × ℕ). x.0) a (accepted_of w p m) of_seat)

@@ -91,7 +91,8 @@ entry_is_copy k w host directory setting known whole f m a there seat serial =
     (All-contains (IsCopy setting 0 (f.judged ++ f.pending)) copies a.0 (all_of_every (IsCopy setting 0 (f.judged ++ f.pending)) copies each) own, put.0)
 
 -- the entry of a key that stands once
-entry_at : (accepted : List (Job × ℕ)) (place : ℕ) (pair : CopyKey × ℕ) → place < length (map pair_of accepted) → slice_index_or (map pair_of accepted) place pair ≡ pair → (a : Job × ℕ) × IsIn a accepted × (pair_of a ≡ pair)
+entry_at : (accepted : List (Job × ℕ)) (place : ℕ) (pair : CopyKey × ℕ) → place < length (map pair_of accepted) → slice_index_or (map pair_of accepted) place pair ≡ pair
+    → (a : Job × ℕ) × IsIn a accepted × (pair_of a ≡ pair)
 entry_at [] place pair l e = absurd (omega (arith, l))
 entry_at (a ∷ accepted) zero pair l e = (a, inl refl, e)
 entry_at (a ∷ accepted) (suc place) pair l e =
@@ -106,13 +107,15 @@ number f i = number_of f.fates i
 
 -- a message that was submitted is this submission
 submission_of : (k : Config) (w : World) (host : List ℕ) (directory : Directory) (setting : Setting) (known whole : List Handed) (f : Facts k w host directory setting known whole)
-    → (i : ℕ) → was_submitted (fate_at f.fates i) ≡ true → (number f i < length (f.judged ++ f.pending)) × IsSubmitted directory (message_at whole i) (submission_at (f.judged ++ f.pending) (number f i))
+    → (i : ℕ) → was_submitted (fate_at f.fates i) ≡ true
+    → (number f i < length (f.judged ++ f.pending)) × IsSubmitted directory (message_at whole i) (submission_at (f.judged ++ f.pending) (number f i))
 submission_of k w host directory setting known whole f i e =
     subst (λ (ss : List Submission). (number f i < length ss) × IsSubmitted directory (message_at whole i) (submission_at ss (number f i))) f.submitted_are (f.numbered.of_message i e)
 
 -- the verdict on it, where one was told
 verdict_of : (k : Config) (w : World) (host : List ℕ) (directory : Directory) (setting : Setting) (known whole : List Handed) (f : Facts k w host directory setting known whole)
-    → (i j : ℕ) → was_submitted (fate_at f.fates i) ≡ true → j < length (message_at known i).replies → HeardOf (w.heard setting.seat) (copy_key setting (number f i) j) (is_taken (message_at known i) j)
+    → (i j : ℕ) → was_submitted (fate_at f.fates i) ≡ true → j < length (message_at known i).replies
+    → HeardOf (w.heard setting.seat) (copy_key setting (number f i) j) (is_taken (message_at known i) j)
 verdict_of k w host directory setting known whole f i j e l =
     let n : ℕ = number f i in
     let more : j < length (message_at whole i).replies = (front_at f.front i j l).1 in
@@ -200,7 +203,8 @@ all_in_order k w host directory setting known whole f i j m n a b x y o =
     by (inr (e, l)) = inr (refl, inr (ap (number_of f.fates) e, l))
 
 nothing_else : (k : Config) (w : World) (host : List ℕ) (directory : Directory) (setting : Setting) (known whole : List Handed) (f : Facts k w host directory setting known whole)
-    → (mailbox : ℕ) (entry : Job × ℕ) → Contains (w.box mailbox).accepted entry → entry.0.key.seat ≡ setting.seat → entry.0.key.serial ≡ setting.serial → IsHandedOver directory setting.seat setting.serial f.fates known whole mailbox entry.0
+    → (mailbox : ℕ) (entry : Job × ℕ) → Contains (w.box mailbox).accepted entry → entry.0.key.seat ≡ setting.seat → entry.0.key.serial ≡ setting.serial
+    → IsHandedOver directory setting.seat setting.serial f.fates known whole mailbox entry.0
 nothing_else k w host directory setting known whole f mailbox entry there seat serial =
     let ss : List Submission = f.judged ++ f.pending in
     let copy = entry_is_copy k w host directory setting known whole f mailbox entry there seat serial in
@@ -264,7 +268,8 @@ facts_of k w kept world g seat b came told h known whole front m = record {
   tells = m.tells;
 }
 
-pub connection_concludes : (k : Config) (w : World) → Kept k w → Headline k w → (g : Terms) → IsInLine g.host → (seat : ℕ) (b : HouseConnection) (came told : List ℕ) → IsKnown g seat (w.heard seat) (sent_by w seat) came told b
+pub connection_concludes : (k : Config) (w : World) → Kept k w → Headline k w → (g : Terms) → IsInLine g.host → (seat : ℕ) (b : HouseConnection) (came told : List ℕ)
+    → IsKnown g seat (w.heard seat) (sent_by w seat) came told b
     → (later heard unheard : List ℕ) → heard ++ unheard ≡ told → MayConclude g.host g.directory w seat b.serial (came ++ later) heard
 connection_concludes k w kept world g in_line seat b came told h later heard unheard e =
     let setting : Setting = setting_of g seat b.serial in
@@ -286,6 +291,7 @@ connection_concludes k w kept world g in_line seat b came told h later heard unh
       taken = λ i j x. ((is_submitted_at k w g.host g.directory setting known whole f i j x, refl), taken_stands k w g.host g.directory setting known whole f i j x);
       refused = λ i j key l x is mailbox entry there same. refused_stands_nowhere k w g.host g.directory setting known whole f i j l x is.0 mailbox entry there (same ∙ is.1);
       in_order = all_in_order k w g.host g.directory setting known whole f;
+      stand_in_order = λ mailbox. world.in_order seat mailbox;
       nothing_else = nothing_else k w g.host g.directory setting known whole f;
     } in
     subst (λ (x : List ℕ). MayConclude g.host g.directory w seat b.serial x heard) (sym (ap (λ (l : List ℕ). l ++ later) h.came_is ∙ append_assoc h.taken h.waited later)) all

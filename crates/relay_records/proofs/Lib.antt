@@ -12,4 +12,5 @@ mod Seats
 mod Scenes
 mod Happening
 mod Concluding
+mod Names
 mod Refuted

@@ -53,7 +53,8 @@ its_end l p seat =
     (λ same. inr (ap (λ (i : ℕ). l.sent i ++ End i ∷ []) (sym same))) (λ _. inl refl)
 
 pub step_puts : (k : Config) (w : World) (e : Event) (v : World) (seat : ℕ) → IsNoPutOf seat e → Step k w e v → PutsNoCopy seat w v
-step_puts k w (Put p s c) v seat other (put_joins may live room e) = rw e (at_lane w s (put (w.lane s) (Item p c)) seat (End seat ∷ []) (inl (not_mine (w.lane s) p ((w.lane s).sent p ++ Item p c ∷ []) seat other)))
+step_puts k w (Put p s c) v seat other (put_joins may live room e) = rw e
+    (at_lane w s (put (w.lane s) (Item p c)) seat (End seat ∷ []) (inl (not_mine (w.lane s) p ((w.lane s).sent p ++ Item p c ∷ []) seat other)))
 step_puts k w (Put p s c) v seat other (put_full may live room e) = rw e (λ t. inl refl)
 step_puts k w (Put p s c) v seat other (put_no_memory may live room e) = rw e (λ t. inl refl)
 step_puts k w (Put p s c) v seat other (put_shut may ended e) = rw e (λ t. inl refl)

@@ -69,7 +69,8 @@ all_known g seat heard sent came told more b still there e h same = record {
   left = h.left;
 }
 
-printed_known : (g : Terms) (seat : ℕ) (heard : List Noted) (sent : ℕ → List (Entry Job)) (came told : List ℕ) (b : HouseConnection) (still printed : List ℕ) (replies : List Reply) → IsInLine g.host
+printed_known : (g : Terms) (seat : ℕ) (heard : List Noted) (sent : ℕ → List (Entry Job)) (came told : List ℕ) (b : HouseConnection) (still printed : List ℕ) (replies : List Reply)
+    → IsInLine g.host
     → IsKnown g seat heard sent came told b → Prints of_connection (seat + 1) b.talk.unsaid still printed → printed ≡ marked_connection (seat + 1) (wire g.host replies)
     → IsKnown g seat heard sent came (told ++ wire g.host replies) (with_unsaid still b)
 printed_known g seat heard sent came told b still printed replies in_line h (prints_none l p) e =
@@ -96,7 +97,8 @@ leaves_here : (whole : Bool) (what : What) (after : HouseConnection) (o : Option
 leaves_here whole what after o (goes q u e) = inl e
 leaves_here whole what after o (stays q g e) = inr e
 
-pub goes_on_known : (g : Terms) (shut : List Bool) (whole : Bool) (seat : ℕ) (heard : List Noted) (sent : ℕ → List (Entry Job)) (came told : List ℕ) (b : HouseConnection) (o : Option HouseConnection) (printed : List ℕ) (replies : List Reply)
+pub goes_on_known : (g : Terms) (shut : List Bool) (whole : Bool) (seat : ℕ) (heard : List Noted) (sent : ℕ → List (Entry Job)) (came told : List ℕ) (b : HouseConnection)
+    (o : Option HouseConnection) (printed : List ℕ) (replies : List Reply)
     → IsInLine g.host → IsKnown g seat heard sent came told b → ConnectionGoes (with_marks shut g) whole seat heard b o printed → printed ≡ marked_connection (seat + 1) (wire g.host replies)
     → WentOn g seat heard sent came (told ++ wire g.host replies) b.serial o
 goes_on_known g shut whole seat heard sent came told b o printed replies in_line h c e = record {

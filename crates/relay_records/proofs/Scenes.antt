@@ -47,7 +47,8 @@ meant_elsewhere seat n s at other = by (eqb_tells at seat)
 pub meant_other : (n : ℕ) (s : Scene) (at : ℕ) → n ≢ serial_of (s.next at) (s.caller at) → is_meant at n s at ≡ false
 meant_other n s at other = by (eqb_tells (serial_of (s.next at) (s.caller at)) n)
   where
-    by : ((eqb (serial_of (s.next at) (s.caller at)) n ≡ true) × (serial_of (s.next at) (s.caller at) ≡ n)) ⊎ ((eqb (serial_of (s.next at) (s.caller at)) n ≡ false) × (serial_of (s.next at) (s.caller at) ≢ n)) → is_meant at n s at ≡ false
+    by : ((eqb (serial_of (s.next at) (s.caller at)) n ≡ true) × (serial_of (s.next at) (s.caller at) ≡ n)) ⊎
+        ((eqb (serial_of (s.next at) (s.caller at)) n ≡ false) × (serial_of (s.next at) (s.caller at) ≢ n)) → is_meant at n s at ≡ false
     by (inl (t, e)) = absurd (other (sym e))
     by (inr (t, e)) = rw (eq-eqb at at refl, t) refl
 
@@ -121,13 +122,16 @@ pub nobody_known : (k : Setup) (came told : (seat serial : ℕ) → List ℕ) (s
     → ((seat n : ℕ) → came_in seat n s e ≡ []) → IsQuiet k s piece
     → (seat : ℕ) → seat < k.connections → SeatKnown k seat (v.heard seat) (sent_by v seat) (s.next seat) (came_then came s e seat) (told_then k told s piece seat) (s.caller seat)
 nobody_known k came told s e piece v h bears none quiet seat l =
-    seat_stays k seat (s.world.heard seat) (v.heard seat) (sent_by s.world seat) (sent_by v seat) (s.next seat) (came seat) (told seat) (came_then came s e seat) (told_then k told s piece seat) (s.caller seat)
-    (bears.heard seat) (bears.sent seat l) (λ n. ap (λ (x : List ℕ). came seat n ++ x) (none seat n) ∙ append-nil (came seat n)) (λ n. ap (λ (x : List ℕ). told seat n ++ x) (quiet seat n) ∙ append-nil (told seat n)) (h.seats seat l)
+    seat_stays k seat (s.world.heard seat) (v.heard seat) (sent_by s.world seat) (sent_by v seat) (s.next seat) (came seat) (told seat) (came_then came s e seat) (told_then k told s piece seat)
+    (s.caller seat)
+    (bears.heard seat) (bears.sent seat l) (λ n. ap (λ (x : List ℕ). came seat n ++ x) (none seat n) ∙ append-nil (came seat n))
+    (λ n. ap (λ (x : List ℕ). told seat n ++ x) (quiet seat n) ∙ append-nil (told seat n)) (h.seats seat l)
 
 -- ---- a connection does something
 
 -- one seat, and all others
-pub caller_known : (k : Setup) (came told : (seat serial : ℕ) → List ℕ) (s : Scene) (e : Event) (piece : Piece) (at : ℕ) (v : World) (o : Option HouseConnection) (next : ℕ → ℕ) → SceneKnown k came told s → Says k s at piece
+pub caller_known : (k : Setup) (came told : (seat serial : ℕ) → List ℕ) (s : Scene) (e : Event) (piece : Piece) (at : ℕ) (v : World) (o : Option HouseConnection) (next : ℕ → ℕ)
+    → SceneKnown k came told s → Says k s at piece
     → ((seat : ℕ) (r : Noted) → Contains (s.world.heard seat) r → Contains (v.heard seat) r) → ((seat : ℕ) → seat ≢ at → (n : ℕ) → SentGrows n (sent_by s.world seat) (sent_by v seat))
     → ((seat : ℕ) → seat ≢ at → next seat ≡ s.next seat) → ((seat n : ℕ) → seat ≢ at → came_in seat n s e ≡ [])
     → (at < k.connections → SeatKnown k at (v.heard at) (sent_by v at) (next at) (came_then came s e at) (told_then k told s piece at) o)
@@ -136,15 +140,19 @@ caller_known k came told s e piece at v o next h says heard sent same none here 
   where
     by : ((eqb seat at ≡ true) × (seat ≡ at)) ⊎ ((eqb seat at ≡ false) × (seat ≢ at))
         → SeatKnown k seat (v.heard seat) (sent_by v seat) (next seat) (came_then came s e seat) (told_then k told s piece seat) (set_at s.caller at o seat)
-    by (inl (t, x)) = rw t (subst (λ (j : ℕ). SeatKnown k j (v.heard j) (sent_by v j) (next j) (came_then came s e j) (told_then k told s piece j) o) (sym x) (here (subst (λ (j : ℕ). j < k.connections) x l)))
+    by (inl (t, x)) = rw t (subst (λ (j : ℕ). SeatKnown k j (v.heard j) (sent_by v j) (next j) (came_then came s e j) (told_then k told s piece j) o) (sym x)
+        (here (subst (λ (j : ℕ). j < k.connections) x l)))
     by (inr (t, x)) = rw t (subst (λ (m : ℕ). SeatKnown k seat (v.heard seat) (sent_by v seat) m (came_then came s e seat) (told_then k told s piece seat) (s.caller seat)) (sym (same seat x))
-        (seat_stays k seat (s.world.heard seat) (v.heard seat) (sent_by s.world seat) (sent_by v seat) (s.next seat) (came seat) (told seat) (came_then came s e seat) (told_then k told s piece seat) (s.caller seat)
+        (seat_stays k seat (s.world.heard seat) (v.heard seat) (sent_by s.world seat) (sent_by v seat) (s.next seat) (came seat) (told seat) (came_then came s e seat)
+        (told_then k told s piece seat) (s.caller seat)
         (heard seat) (sent seat x) (λ n. ap (λ (y : List ℕ). came seat n ++ y) (none seat n x) ∙ append-nil (came seat n))
         (λ n. ap (λ (y : List ℕ). told seat n ++ y) (says.told seat n) ∙ one_not (told seat n) (is_meant seat n s at) (wire k.host says.replies) (meant_elsewhere seat n s at x)) (h.seats seat l)))
 
 -- its connection, which has this serial, went on
-pub here_known : (k : Setup) (came told : (seat serial : ℕ) → List ℕ) (s : Scene) (e : Event) (piece : Piece) (at : ℕ) (v : World) (o : Option HouseConnection) (next : ℕ → ℕ) (serial : ℕ) (now : List ℕ) (says : Says k s at piece)
-    → serial ≡ serial_of (s.next at) (s.caller at) → next at ≡ serial + 1 → ((r : Noted) → Contains (s.world.heard at) r → Contains (v.heard at) r) → ((n : ℕ) → n ≢ serial → SentGrows n (sent_by s.world at) (sent_by v at))
+pub here_known : (k : Setup) (came told : (seat serial : ℕ) → List ℕ) (s : Scene) (e : Event) (piece : Piece) (at : ℕ) (v : World) (o : Option HouseConnection) (next : ℕ → ℕ) (serial : ℕ)
+    (now : List ℕ) (says : Says k s at piece)
+    → serial ≡ serial_of (s.next at) (s.caller at) → next at ≡ serial + 1 → ((r : Noted) → Contains (s.world.heard at) r → Contains (v.heard at) r)
+    → ((n : ℕ) → n ≢ serial → SentGrows n (sent_by s.world at) (sent_by v at))
     → came_in at serial s e ≡ now → ((n : ℕ) → n ≢ serial → came_in at n s e ≡ [])
     → ArePast k at (s.world.heard at) (sent_by s.world at) (came at) (told at) serial → ((n : ℕ) → serial + 1 ≤ n → IsNew (sent_by s.world at) (came at) (told at) n)
     → WentOn (own_terms k) at (v.heard at) (sent_by v at) (came at serial ++ now) (told at serial ++ wire k.host says.replies) serial o
@@ -166,7 +174,8 @@ pub at_caller : (k : Setup) (came told : (seat serial : ℕ) → List ℕ) (s : 
 at_caller k came told s at o h l there = subst (SeatKnown k at (s.world.heard at) (sent_by s.world at) (s.next at) (came at) (told at)) there (h.seats at l)
 
 -- the one at a seat went on
-pub stander_known : (k : Setup) (came told : (seat serial : ℕ) → List ℕ) (s : Scene) (e : Event) (piece : Piece) (at : ℕ) (v : World) (b : HouseConnection) (o : Option HouseConnection) (now : List ℕ) (says : Says k s at piece)
+pub stander_known : (k : Setup) (came told : (seat serial : ℕ) → List ℕ) (s : Scene) (e : Event) (piece : Piece) (at : ℕ) (v : World) (b : HouseConnection) (o : Option HouseConnection)
+    (now : List ℕ) (says : Says k s at piece)
     → s.caller at ≡ Some b → ((r : Noted) → Contains (s.world.heard at) r → Contains (v.heard at) r) → ((n : ℕ) → n ≢ b.serial → SentGrows n (sent_by s.world at) (sent_by v at))
     → came_in at b.serial s e ≡ now → ((n : ℕ) → n ≢ b.serial → came_in at n s e ≡ [])
     → SeatKnown k at (s.world.heard at) (sent_by s.world at) (s.next at) (came at) (told at) (Some b)
@@ -176,5 +185,6 @@ stander_known k came told s e piece at v b o now says there heard sent came_is n
     here_known k came told s e piece at v o s.next b.serial now says (ap (serial_of (s.next at)) (sym there)) h.there.0 heard sent came_is none h.there.2
     (λ n l. h.later n (subst (λ (x : ℕ). x ≤ n) (sym h.there.0) l)) went
 
-pub nothing_came : (k : Setup) (g : Terms) (at : ℕ) (heard : List Noted) (sent : ℕ → List (LaneEntry Job)) (came told : List ℕ) (serial : ℕ) (o : Option HouseConnection) → WentOn g at heard sent came told serial o → WentOn g at heard sent (came ++ []) told serial o
+pub nothing_came : (k : Setup) (g : Terms) (at : ℕ) (heard : List Noted) (sent : ℕ → List (LaneEntry Job)) (came told : List ℕ) (serial : ℕ) (o : Option HouseConnection)
+    → WentOn g at heard sent came told serial o → WentOn g at heard sent (came ++ []) told serial o
 nothing_came k g at heard sent came told serial o h = subst (λ (x : List ℕ). WentOn g at heard sent x told serial o) (sym (append-nil came)) h

@@ -61,7 +61,8 @@ heard_for_grows heard more [] (v ∷ vs) grows h = absurd h
 heard_for_grows heard more (key ∷ keys) [] grows h = absurd h
 heard_for_grows heard more (key ∷ keys) (v ∷ vs) grows h = ((h.0.0, grows _ h.0.1), heard_for_grows heard more keys vs grows h.1)
 
-are_heard_grows : (heard more : List Noted) (ss : List Submission) (answered : List (List Verdict)) → ((n : Noted) → Contains heard n → Contains more n) → AreHeard heard ss answered → AreHeard more ss answered
+are_heard_grows : (heard more : List Noted) (ss : List Submission) (answered : List (List Verdict)) → ((n : Noted) → Contains heard n → Contains more n) → AreHeard heard ss answered
+    → AreHeard more ss answered
 are_heard_grows heard more [] [] grows h = tt
 are_heard_grows heard more [] (vs ∷ answered) grows h = absurd h
 are_heard_grows heard more (s ∷ ss) [] grows h = absurd h
@@ -94,14 +95,16 @@ one_of_more serial these more grows (End p) h = tt
 
 copies-append : (xs ys : List Submission) → copies_of (xs ++ ys) ≡ copies_of xs ++ copies_of ys
 copies-append [] ys = refl
-copies-append (x ∷ xs) ys = ap (λ (l : List Job). copies x.keys x.mailboxes x.text no_flags ++ l) (copies-append xs ys) ∙ sym (append_assoc (copies x.keys x.mailboxes x.text no_flags) (copies_of xs) (copies_of ys))
+copies-append (x ∷ xs) ys = ap (λ (l : List Job). copies x.keys x.mailboxes x.text no_flags ++ l) (copies-append xs ys) ∙ sym
+    (append_assoc (copies x.keys x.mailboxes x.text no_flags) (copies_of xs) (copies_of ys))
 
 -- messages that are numbered from the first on
 abbrev pub AreFrom : Setting → ℕ → ℕ → List Submission → Type 0
 AreFrom setting homes first [] = Unit {0}
 AreFrom setting homes first (s ∷ ss) = IsMessage setting homes first s × AreFrom setting homes (first + 1) ss
 
-are_from : (setting : Setting) (homes first : ℕ) (ss : List Submission) → ((n : ℕ) → n < length ss → IsMessage setting homes (first + n) (slice_index_or ss n no_submission)) → AreFrom setting homes first ss
+are_from : (setting : Setting) (homes first : ℕ) (ss : List Submission) → ((n : ℕ) → n < length ss → IsMessage setting homes (first + n) (slice_index_or ss n no_submission))
+    → AreFrom setting homes first ss
 are_from setting homes first [] h = tt
 are_from setting homes first (s ∷ ss) h = (
   (let e : first + 0 ≡ first = omega arith in subst (λ (m : ℕ). IsMessage setting homes m s) e (h 0 (omega arith))),
@@ -113,13 +116,15 @@ pub messages_from : (setting : Setting) (directory : Directory) (taken : List �
     → HasCome setting directory taken said submitted told c → AreFrom setting (length directory.homes) 0 submitted
 messages_from setting directory taken said submitted told c h =
     are_from setting (length directory.homes) 0 submitted
-    (λ n l. let e : n ≡ 0 + n = omega arith in subst (λ (m : ℕ). IsMessage setting (length directory.homes) m (slice_index_or submitted n no_submission)) e (numbers_messages setting directory taken said submitted told c h n l))
+    (λ n l. let e : n ≡ 0 + n = omega arith in subst (λ (m : ℕ). IsMessage setting (length directory.homes) m (slice_index_or submitted n no_submission)) e
+    (numbers_messages setting directory taken said submitted told c h n l))
 
 keys_serial : (setting : Setting) (number i : ℕ) (mailboxes : List ℕ) → Every (λ (key : CopyKey). key.serial ≡ setting.serial) (keys_from setting number i mailboxes)
 keys_serial setting number i [] = tt
 keys_serial setting number i (m ∷ ms) = (refl, keys_serial setting number (i + 1) ms)
 
-one_serial : (serial : ℕ) (keys : List CopyKey) (mailboxes text : List ℕ) → Every (λ (key : CopyKey). key.serial ≡ serial) keys → Every (λ (job : Job). job.key.serial ≡ serial) (copies keys mailboxes text no_flags)
+one_serial : (serial : ℕ) (keys : List CopyKey) (mailboxes text : List ℕ) → Every (λ (key : CopyKey). key.serial ≡ serial) keys
+    → Every (λ (job : Job). job.key.serial ≡ serial) (copies keys mailboxes text no_flags)
 one_serial serial [] mailboxes text h = tt
 one_serial serial (key ∷ keys) [] text h = tt
 one_serial serial (key ∷ keys) (m ∷ ms) text h = (h.0, one_serial serial keys ms text h.1)
@@ -264,7 +269,8 @@ tells_awaited Quit turn h = subst (λ (x : List Submission). IsAwaited x turn.st
     ended : (n : ℕ) → Ended ≡ Waiting n → ⊥
     ended n e = cc
 
-works_known : (g : Terms) (shut : List Bool) (whole : Bool) (seat : ℕ) (heard : List Noted) (sent : ℕ → List (Entry Job)) (came told : List ℕ) (b : HouseConnection) (what : What) (after : HouseConnection)
+works_known : (g : Terms) (shut : List Bool) (whole : Bool) (seat : ℕ) (heard : List Noted) (sent : ℕ → List (Entry Job)) (came told : List ℕ) (b : HouseConnection) (what : What)
+    (after : HouseConnection)
     → b.gone ≡ false → b.talk.pending ≡ [] → IsKnown g seat heard sent came told b → Works (with_marks shut g) whole seat b what after → IsKnown g seat heard sent came told after
 works_known g shut whole seat heard sent came told b what after there none h w =
     let setting : Setting = setting_of g seat b.serial in
@@ -276,7 +282,8 @@ works_known g shut whole seat heard sent came told b what after there none h w =
     let grows : (job : Job) → Contains (copies_of h.submitted) job → Contains (copies_of all) job =
     λ job c. subst (λ (l : List Job). Contains l job) (sym joins) (Contains-append_left (copies_of h.submitted) (copies_of turn.submissions) job c) in
     let own : Every (IsOwn b.serial (copies_of all)) (copies_of all) =
-    every_both (λ (job : Job). job.key.serial ≡ b.serial) (Contains (copies_of all)) (copies_of all) (all_serial setting (length g.directory.homes) 0 all (messages_from setting g.directory _ _ all h.answered w.talk.at more)) (contains_each (copies_of all)) in
+    every_both (λ (job : Job). job.key.serial ≡ b.serial) (Contains (copies_of all)) (copies_of all)
+    (all_serial setting (length g.directory.homes) 0 all (messages_from setting g.directory _ _ all h.answered w.talk.at more)) (contains_each (copies_of all)) in
     let back : Every (IsOwn b.serial (copies_of all)) (copies_of turn.submissions) =
     every_back (IsOwn b.serial (copies_of all)) (copies_of h.submitted) (copies_of turn.submissions) (subst (Every (IsOwn b.serial (copies_of all))) joins own) in
     let standing : IsAwaited w.talk.pending w.talk.at.standing.phase =
@@ -301,7 +308,8 @@ works_known g shut whole seat heard sent came told b what after there none h w =
       awaited = standing;
       parts = ap₂ (λ (x y : List Submission). x ++ y) judged (sym w.works.submits);
       heard_each = h.heard_each;
-      sent_each = λ t. every_weaker (IsOneOf b.serial (copies_of h.submitted)) (IsOneOf b.serial (copies_of all)) (one_of_more b.serial (copies_of h.submitted) (copies_of all) grows) (sent t) (h.sent_each t);
+      sent_each = λ t. every_weaker (IsOneOf b.serial (copies_of h.submitted)) (IsOneOf b.serial (copies_of all)) (one_of_more b.serial (copies_of h.submitted) (copies_of all) grows) (sent t)
+          (h.sent_each t);
       left = back;
     })
 
@@ -355,15 +363,18 @@ answers_known g shut seat heard sent came told b vs there some is h =
 
 -- ---- it goes on
 
-goes_known : (g : Terms) (shut : List Bool) (whole : Bool) (seat : ℕ) (heard : List Noted) (sent : ℕ → List (Entry Job)) (came told : List ℕ) (b : HouseConnection) (what : What) (after : HouseConnection)
+goes_known : (g : Terms) (shut : List Bool) (whole : Bool) (seat : ℕ) (heard : List Noted) (sent : ℕ → List (Entry Job)) (came told : List ℕ) (b : HouseConnection) (what : What)
+    (after : HouseConnection)
     → b.gone ≡ false → IsKnown g seat heard sent came told b → GoesOn (with_marks shut g) whole seat heard b what after → IsKnown g seat heard sent came told after
 goes_known g shut whole seat heard sent came told b what after there h (works none w) = works_known g shut whole seat heard sent came told b what after there none h w
 goes_known g shut whole seat heard sent came told b what after there h (waits some unknown is same) = subst (IsKnown g seat heard sent came told) (sym same) h
 goes_known g shut whole seat heard sent came told b what after there h (answers vs some is w) =
-    works_known g shut whole seat heard sent came told (meets (with_marks shut g) seat b (Answered vs)) what after there refl (answers_known g shut seat heard sent came told b vs there some is h) w
+    works_known g shut whole seat heard sent came told (meets (with_marks shut g) seat b (Answered vs)) what after there refl
+    (answers_known g shut seat heard sent came told b vs there some is h) w
 goes_known g shut whole seat heard sent came told b what after there h (stalls part is same) = subst (IsKnown g seat heard sent came told) (sym same) h
 
-pub proceeds_known : (g : Terms) (shut : List Bool) (whole : Bool) (seat : ℕ) (heard : List Noted) (sent : ℕ → List (Entry Job)) (came told : List ℕ) (b : HouseConnection) (what : What) (after : HouseConnection)
+pub proceeds_known : (g : Terms) (shut : List Bool) (whole : Bool) (seat : ℕ) (heard : List Noted) (sent : ℕ → List (Entry Job)) (came told : List ℕ) (b : HouseConnection) (what : What)
+    (after : HouseConnection)
     → IsKnown g seat heard sent came told b → Proceeds (with_marks shut g) whole seat heard b what after → IsKnown g seat heard sent came told after
 proceeds_known g shut whole seat heard sent came told b what after h (talks there goes) = goes_known g shut whole seat heard sent came told b what after there h goes
 proceeds_known g shut whole seat heard sent came told b what after h (lingers gone silent unknown is same) = subst (IsKnown g seat heard sent came told) (sym same) h
@@ -413,7 +424,8 @@ puts_of_another seat n copy sent later puts other these t h = by (puts t)
     by (inl same) = subst (Every (IsOneOf n these)) (sym same) h
     by (inr more) = subst (Every (IsOneOf n these)) (sym more) (every_append (IsOneOf n these) (sent t) (Item seat copy ∷ []) h ((λ e. absurd (other e)), tt))
 
-puts_own : (seat n : ℕ) (copy : Job) (these : List Job) (sent later : ℕ → List (Entry Job)) → Puts seat copy sent later → Contains these copy → (t : ℕ) → Every (IsOneOf n these) (sent t) → Every (IsOneOf n these) (later t)
+puts_own : (seat n : ℕ) (copy : Job) (these : List Job) (sent later : ℕ → List (Entry Job)) → Puts seat copy sent later → Contains these copy → (t : ℕ) → Every (IsOneOf n these) (sent t)
+    → Every (IsOneOf n these) (later t)
 puts_own seat n copy these sent later puts own t h = by (puts t)
   where
     by : (later t ≡ sent t) ⊎ (later t ≡ sent t ++ Item seat copy ∷ []) → Every (IsOneOf n these) (later t)
@@ -424,7 +436,8 @@ pub own_copy : (g : Terms) (seat : ℕ) (heard : List Noted) (sent : ℕ → Lis
     → IsKnown g seat heard sent came told b → copy.key.serial ≡ b.serial
 own_copy g seat heard sent came told b copy others front h = (subst (Every (IsOwn b.serial (copies_of h.submitted))) front h.left).0.0
 
-pub put_known : (g : Terms) (seat : ℕ) (heard more : List Noted) (sent later : ℕ → List (Entry Job)) (came told : List ℕ) (b : HouseConnection) (copy : Job) (others : List Job) → b.to_put ≡ copy ∷ others
+pub put_known : (g : Terms) (seat : ℕ) (heard more : List Noted) (sent later : ℕ → List (Entry Job)) (came told : List ℕ) (b : HouseConnection) (copy : Job) (others : List Job)
+    → b.to_put ≡ copy ∷ others
     → ((n : Noted) → Contains heard n → Contains more n) → Puts seat copy sent later → IsKnown g seat heard sent came told b
     → IsKnown g seat more later came told (record { serial = b.serial; gone = b.gone; talk = b.talk; to_put = others })
 put_known g seat heard more sent later came told b copy others front grows puts h =

@@ -27,7 +27,8 @@ ArePast k seat heard sent came told limit = (n : ℕ) → n < limit → WasKnown
 
 abbrev pub StandsThere : Setup → ℕ → List Noted → (ℕ → List (Entry Job)) → (next : ℕ) → (came told : ℕ → List ℕ) → Option HouseConnection → Type 0
 StandsThere k seat heard sent next came told None = ArePast k seat heard sent came told next
-StandsThere k seat heard sent next came told (Some b) = (next ≡ b.serial + 1) × IsKnown (own_terms k) seat heard sent (came b.serial) (told b.serial) b × ArePast k seat heard sent came told b.serial
+StandsThere k seat heard sent next came told (Some b) = (next ≡ b.serial + 1) × IsKnown (own_terms k) seat heard sent (came b.serial)
+    (told b.serial) b × ArePast k seat heard sent came told b.serial
 
 -- of a connection that isn't opened yet
 abbrev pub IsNew : (ℕ → List (Entry Job)) → (came told : ℕ → List ℕ) → ℕ → Type 0
@@ -39,7 +40,8 @@ pub record SeatKnown (k : Setup) (seat : ℕ) (heard : List Noted) (sent : ℕ �
 
 -- ---- what goes on elsewhere
 
-was_grows : (k : Setup) (seat : ℕ) (heard more : List Noted) (sent later : ℕ → List (Entry Job)) (n : ℕ) (came told now said : List ℕ) → ((r : Noted) → Contains heard r → Contains more r) → SentGrows n sent later
+was_grows : (k : Setup) (seat : ℕ) (heard more : List Noted) (sent later : ℕ → List (Entry Job)) (n : ℕ) (came told now said : List ℕ) → ((r : Noted) → Contains heard r → Contains more r)
+    → SentGrows n sent later
     → now ≡ came → said ≡ told → WasKnown k seat heard sent n came told → WasKnown k seat more later n now said
 was_grows k seat heard more sent later n came told now said grows puts e f h =
     let known = known_grows (own_terms k) seat heard more sent later came told h.last grows (subst (λ (x : ℕ). SentGrows x sent later) (sym h.serial_is) puts) h.known in
@@ -50,25 +52,32 @@ was_grows k seat heard more sent later n came told now said grows puts e f h =
     }
 
 past_grows : (k : Setup) (seat : ℕ) (heard more : List Noted) (sent later : ℕ → List (Entry Job)) (came told now said : ℕ → List ℕ) (limit : ℕ) → ((r : Noted) → Contains heard r → Contains more r)
-    → ((n : ℕ) → n < limit → SentGrows n sent later) → ((n : ℕ) → n < limit → (now n ≡ came n) × (said n ≡ told n)) → ArePast k seat heard sent came told limit → ArePast k seat more later now said limit
+    → ((n : ℕ) → n < limit → SentGrows n sent later) → ((n : ℕ) → n < limit → (now n ≡ came n) × (said n ≡ told n)) → ArePast k seat heard sent came told limit
+    → ArePast k seat more later now said limit
 past_grows k seat heard more sent later came told now said limit grows puts same h n l =
     let e = same n l in was_grows k seat heard more sent later n (came n) (told n) (now n) (said n) grows (puts n l) e.0 e.1 (h n l)
 
-new_stays : (sent later : ℕ → List (Entry Job)) (came told now said : ℕ → List ℕ) (n : ℕ) → SentGrows n sent later → now n ≡ came n → said n ≡ told n → IsNew sent came told n → IsNew later now said n
+new_stays : (sent later : ℕ → List (Entry Job)) (came told now said : ℕ → List ℕ) (n : ℕ) → SentGrows n sent later → now n ≡ came n → said n ≡ told n → IsNew sent came told n
+    → IsNew later now said n
 new_stays sent later came told now said n puts e f h = (e ∙ h.0, f ∙ h.1, λ t. puts [] t (h.2 t))
 
 -- nobody does anything at the seat
 pub seat_stays : (k : Setup) (seat : ℕ) (heard more : List Noted) (sent later : ℕ → List (Entry Job)) (next : ℕ) (came told now said : ℕ → List ℕ) (o : Option HouseConnection)
     → ((r : Noted) → Contains heard r → Contains more r) → ((n : ℕ) → SentGrows n sent later) → ((n : ℕ) → now n ≡ came n) → ((n : ℕ) → said n ≡ told n)
     → SeatKnown k seat heard sent next came told o → SeatKnown k seat more later next now said o
-seat_stays k seat heard more sent later next came told now said o grows puts e f h = record { there = by o h.there; later = λ n l. new_stays sent later came told now said n (puts n) (e n) (f n) (h.later n l) }
+seat_stays k seat heard more sent later next came told now said o grows puts e f h = record {
+  there = by o h.there;
+  later = λ n l. new_stays sent later came told now said n (puts n) (e n) (f n)
+      (h.later n l);
+}
   where
     by : (p : Option HouseConnection) → StandsThere k seat heard sent next came told p → StandsThere k seat more later next now said p
     by None there = past_grows k seat heard more sent later came told now said next grows (λ n l. puts n) (λ n l. (e n, f n)) there
     by (Some b) there =
         let known = known_grows (own_terms k) seat heard more sent later (came b.serial) (told b.serial) b grows (puts b.serial) there.1 in (
           there.0,
-          subst (λ (x : List ℕ). IsKnown (own_terms k) seat more later x (said b.serial) b) (sym (e b.serial)) (subst (λ (x : List ℕ). IsKnown (own_terms k) seat more later (came b.serial) x b) (sym (f b.serial)) known),
+          subst (λ (x : List ℕ). IsKnown (own_terms k) seat more later x (said b.serial) b) (sym (e b.serial))
+              (subst (λ (x : List ℕ). IsKnown (own_terms k) seat more later (came b.serial) x b) (sym (f b.serial)) known),
           past_grows k seat heard more sent later came told now said b.serial grows (λ n l. puts n) (λ n l. (e n, f n)) there.2,
         )
 
@@ -125,7 +134,8 @@ seat_went k seat heard more sent later next came told now said o serial grows pu
         new_stays sent later came told now said n (puts n (behind n m)) e.0 e.1 (new n m)
 
 -- who stood there: of each serial below the next
-pub known_below : (k : Setup) (seat : ℕ) (heard : List Noted) (sent : ℕ → List (Entry Job)) (next : ℕ) (came told : ℕ → List ℕ) (o : Option HouseConnection) → SeatKnown k seat heard sent next came told o
+pub known_below : (k : Setup) (seat : ℕ) (heard : List Noted) (sent : ℕ → List (Entry Job)) (next : ℕ) (came told : ℕ → List ℕ) (o : Option HouseConnection)
+    → SeatKnown k seat heard sent next came told o
     → ArePast k seat heard sent came told next
 known_below k seat heard sent next came told o h = by o h.there
   where

@@ -166,7 +166,8 @@ meets_still k n w (LeaveCall remove) (Refused fault) v m = was_refused k n w fau
 
 -- ---- turns
 
-speaks_still : (k : Config) (place : ℕ) (whole : Bool) (seat n : ℕ) (heard : List Noted) (w mid : World) (before after : SeatedSession) (printed : List ℕ) → Speaks (Meets k place) whole seat n heard before w mid after printed → Still w mid
+speaks_still : (k : Config) (place : ℕ) (whole : Bool) (seat n : ℕ) (heard : List Noted) (w mid : World) (before after : SeatedSession) (printed : List ℕ)
+    → Speaks (Meets k place) whole seat n heard before w mid after printed → Still w mid
 speaks_still k place whole seat n heard w mid before after printed s =
     (speaks_carried {S = World} {T = Unit {0}} (Meets k place) (λ a call answer b. Unit {0}) (λ v x. Still w v)
     (λ old new call answer x step r. (tt, tt, still_then w old new r (meets_still k place old call answer new step)))
@@ -183,13 +184,16 @@ parts_still : (k : Setup) (whole : Bool) (place : ℕ) (after : SeatedSession) (
 parts_still k whole place after w v o (parts ended said l e) = leaves_still k place w v l
 parts_still k whole place after w v o (remains on e f) = same_world w v e
 
-pub talks_still : (k : Setup) (whole : Bool) (place : ℕ) (heard : List Noted) (w : World) (before : SeatedSession) (v : World) (o : Option SeatedSession) (printed : List ℕ) → SessionTalks k whole place heard w before v o printed → Still w v
+pub talks_still : (k : Setup) (whole : Bool) (place : ℕ) (heard : List Noted) (w : World) (before : SeatedSession) (v : World) (o : Option SeatedSession) (printed : List ℕ)
+    → SessionTalks k whole place heard w before v o printed → Still w v
 talks_still k whole place heard w before v o printed t =
     still_then w t.mid v (speaks_still k.config place whole (session_seat k place) (place + 1) heard w t.mid before t.after printed t.speaks) (parts_still k whole place t.after t.mid v o t.left)
 
-pub goes_still : (k : Setup) (whole : Bool) (place : ℕ) (heard : List Noted) (w : World) (before : SeatedSession) (v : World) (o : Option SeatedSession) (printed : List ℕ) → SessionGoes k whole place heard w before v o printed → Still w v
+pub goes_still : (k : Setup) (whole : Bool) (place : ℕ) (heard : List Noted) (w : World) (before : SeatedSession) (v : World) (o : Option SeatedSession) (printed : List ℕ)
+    → SessionGoes k whole place heard w before v o printed → Still w v
 goes_still k whole place heard w before v o printed (talks there t) = talks_still k whole place heard w before v o printed t
 goes_still k whole place heard w before v o printed (lingers gone l same silent) = same_world w v same
 
-pub idles_still : (k : Setup) (whole : Bool) (place : ℕ) (w : World) (before : SeatedSession) (v : World) (o : Option SeatedSession) (printed : List ℕ) → SessionIdles k whole place w before v o printed → Still w v
+pub idles_still : (k : Setup) (whole : Bool) (place : ℕ) (w : World) (before : SeatedSession) (v : World) (o : Option SeatedSession) (printed : List ℕ)
+    → SessionIdles k whole place w before v o printed → Still w v
 idles_still k whole place w before v o printed i = still_then w i.mid v (met_still k.config place w i.idles.turned.events i.mid i.idles.turned.met) (parts_still k whole place _ i.mid v o i.left)

@@ -1,5 +1,5 @@
 -- What a relay may conclude of a whole house: which copies of the messages that it handed over on one connection stand, and where.
-use Rattle.std.specs.Prelude.{◌≡◌, ℕ, ◌<◌, ◌≤◌, ◌⊎◌, true, false, List, ◌∷◌, [], ◌++◌, length, slice_index_or, Contains}
+use Rattle.std.specs.Prelude.{◌≡◌, ℕ, ◌<◌, ◌≤◌, ◌⊎◌, true, false, List, ◌∷◌, [], ◌++◌, length, slice_index_or, AllPairs, Contains}
 use Rattle.change_ring.specs.Log.{no_flags}
 use Rattle.delivery_token.specs.Keys.{Below}
 use Rattle.delivery_token.specs.declared.CopyKey.{CopyKey}
@@ -12,7 +12,7 @@ use Rattle.lmtp_machine.specs.Replies.{wire}
 use Rattle.relay_replies.specs.Fates.{Fate, Unheard, HaveFates, IsSender, Names}
 use Rattle.relay_replies.specs.Handed.{Handed, handed_over, is_taken, no_message}
 use Rattle.relay_replies.specs.Numbers.{number_of, was_submitted}
-use Rattle.world.specs.Law.{StandsOnce, pairs}
+use Rattle.world.specs.Law.{StandsOnce, accepted_of, keys, pairs}
 use Rattle.world.specs.World.{World}
 
 -- The i-th of the messages, and its fate. Where there is none it is an empty message, of which nothing was heard.
@@ -78,6 +78,8 @@ pub record MayConclude (host : List ℕ) (directory : Directory) (w : World) (se
       → IsKeyOf seat serial fates i j key → StandsNowhere w key
   -- copies for different recipients have different keys, in the order in which they were handed over
   pub in_order : (i j m n : ℕ) (a b : CopyKey) → IsKeyOf seat serial fates i j a → IsKeyOf seat serial fates m n b → (i < m) ⊎ ((i ≡ m) × (j < n)) → Below a b
+  -- and so they stand in each mailbox's history: its copies of this seat have rising keys
+  pub stand_in_order : (mailbox : ℕ) → AllPairs Below (keys (accepted_of w seat mailbox))
   -- And nothing else stands of this connection: by the messages that it handed over, as all that was said tells of them.
   pub nothing_else : (mailbox : ℕ) (entry : Job × ℕ) → Contains (w.box mailbox).accepted entry → entry.0.key.seat ≡ seat → entry.0.key.serial ≡ serial
       → IsHandedOver directory seat serial fates (handed_over sent told) (handed_over sent (told ++ untold)) mailbox entry.0

@@ -1,8 +1,10 @@
 -- What holds of each connection of a house, whatever happened there.
-use Rattle.std.specs.Prelude.{◌≡◌, ℕ, ◌<◌, List, ◌++◌, Contains}
+use Rattle.std.specs.Prelude.{◌≡◌, ℕ, ◌<◌, List, ◌++◌, Contains, None}
 use Rattle.delivery_token.specs.declared.Job.{Job}
 use Rattle.house.specs.Scene.{Scene, empty_scene}
+use Rattle.house.specs.Settings.{config_fault, setup_of}
 use Rattle.house.specs.Setup.{Setup}
+use Rattle.house.specs.declared.config.Config.{Config}
 use Rattle.house.specs.declared.event.Event.{Event}
 use Rattle.relay_replies.specs.Laws.{IsInLine}
 use Rattle.exactly_once.specs.Promise.{Entry, ExactlyOnce, IsRecord}
@@ -27,3 +29,7 @@ ByTheRecord = (k : Setup) (entries : List Entry) (after : Scene) (steps : List w
 -- of all events of a new house, and all that they printed
 abbrev pub OfAllEvents : Type 0
 OfAllEvents = (k : Setup) (events : List Event) (after : Scene) (printed : List ℕ) → IsInLine k.host → (once : ExactlyOnce k events after printed) → RelaysMayConclude k once.entries after
+
+-- the name of a house that has settings has no LF
+abbrev pub SettingsAreInLine : Type 0
+SettingsAreInLine = (c : Config) → config_fault c ≡ None → IsInLine (setup_of c).host

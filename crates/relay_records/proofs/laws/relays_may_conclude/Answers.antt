@@ -1,4 +1,5 @@
 use Rattle.relay_records.proofs.Concluding as concluding
+use Rattle.relay_records.proofs.Names as names
 use Rattle.relay_records.proofs.laws.relays_may_conclude.Goals as goal
 
 pub returns-clause-recorded : goal.returns-clause-recorded
@@ -6,3 +7,6 @@ returns-clause-recorded c = concluding.by_the_record
 
 pub returns-clause-played : goal.returns-clause-played
 returns-clause-played c = concluding.of_all_events
+
+pub returns-clause-settings : goal.returns-clause-settings
+returns-clause-settings c = names.settings_are_in_line
