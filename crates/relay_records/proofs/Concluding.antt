@@ -11,19 +11,19 @@ use Rattle.world.proofs.Kept.{Kept}
 use Rattle.relay_records.specs.Concluded.{MayConclude}
 use Rattle.relay_records.specs.Laws.{ByTheRecord, OfAllEvents}
 use Rattle.relay_records.specs.Record.{came_for, told_to}
-use Rattle.relay_records.proofs.Happening.{nothing_known, record_known}
+use Rattle.relay_records.proofs.Happening.{no_pasts, nothing_known, past_after, record_known}
 use Rattle.relay_records.proofs.Histories.{every_in, history_was_put}
 use Rattle.relay_records.proofs.Joined.{connection_concludes}
 use Rattle.relay_records.proofs.Moving.{sent_by}
 use Rattle.relay_records.proofs.Scenes.{SceneKnown}
 use Rattle.relay_records.proofs.Seated.{IsOneOf}
-use Rattle.relay_records.proofs.Seats.{WasKnown, known_below, own_terms}
+use Rattle.relay_records.proofs.Seats.{opened_below, own_terms}
 
 pub by_the_record : ByTheRecord
 by_the_record k entries after steps in_line r came = record { each = each; opened = opened }
   where
-    all : SceneKnown k (λ seat n. came_for seat n (empty_scene k) entries) (λ seat n. told_to k seat n (empty_scene k) entries) after
-    all = record_known k (λ seat n. []) (λ seat n. []) (empty_scene k) entries after in_line (nothing_known k) r
+    all : SceneKnown k (past_after k no_pasts (empty_scene k) entries) after
+    all = record_known k no_pasts (empty_scene k) entries after in_line (nothing_known k) r
 
     kept : Kept k.config after.world
     kept = kept_always k.config steps after.world came
@@ -31,9 +31,7 @@ by_the_record k entries after steps in_line r came = record { each = each; opene
     each : (seat serial : ℕ) → seat < k.connections → serial < after.next seat → (later told untold : List ℕ) → told ++ untold ≡ told_to k seat serial (empty_scene k) entries
         → MayConclude k.host k.directory after.world seat serial (came_for seat serial (empty_scene k) entries ++ later) told
     each seat serial l m later told untold e =
-        let was : WasKnown k seat (after.world.heard seat) (sent_by after.world seat) serial (came_for seat serial (empty_scene k) entries) (told_to k seat serial (empty_scene k) entries) =
-        known_below k seat (after.world.heard seat) (sent_by after.world seat) (after.next seat) (λ n. came_for seat n (empty_scene k) entries) (λ n. told_to k seat n (empty_scene k) entries)
-        (after.caller seat) (all.seats seat l) serial m in
+        let was = opened_below k seat (after.world.heard seat) (sent_by after.world seat) (after.next seat) (past_after k no_pasts (empty_scene k) entries seat) (after.caller seat) (all.seats seat l) serial m in
         subst (λ (n : ℕ). MayConclude k.host k.directory after.world seat n (came_for seat serial (empty_scene k) entries ++ later) told) was.serial_is
         (connection_concludes k.config after.world kept (always k.config steps after.world came) (own_terms k) in_line seat was.last (came_for seat serial (empty_scene k) entries)
         (told_to k seat serial (empty_scene k) entries) was.known later told untold e)
@@ -50,7 +48,7 @@ by_the_record k entries after steps in_line r came = record { each = each; opene
             let put = history_was_put k.config after.world kept mailbox entry there in
             let new = (all.seats (entry.0.key.seat) l).later entry.0.key.serial x in
             absurd (none (every_in (IsOneOf entry.0.key.serial []) (Item (entry.0.key.seat) entry.0) (sent_by after.world (entry.0.key.seat) (shard_of k.config mailbox))
-            (new.2 (shard_of k.config mailbox)) put.1 refl))
+            (new.1 (shard_of k.config mailbox)) put.1 refl))
 
 pub of_all_events : OfAllEvents
 of_all_events k events after printed in_line once = by_the_record k once.entries after once.steps in_line once.leads once.came
