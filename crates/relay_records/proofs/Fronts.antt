@@ -5,7 +5,7 @@ use Rattle.std.proofs.lemmas.Bool.{false≢true}
 use Rattle.std.proofs.lemmas.List.{length-map}
 use Rattle.envelope.specs.Directory.{Directory}
 use Rattle.lmtp_machine.specs.Dialogue.{verdict_reply}
-use Rattle.relay_replies.specs.Fates.{AreCut, Fate, Judged, Awaited, TurnedAway, Unheard, HaveFates, all_told, awaited, cut, judged, none, same, turned_away, unheard, was_stored}
+use Rattle.relay_replies.specs.Fates.{AreCut, Fate, Judged, Awaited, TurnedAway, Unheard, HaveFates, all_submitted, all_told, awaited, cut, judged, none, same, turned_away, unheard, was_stored}
 use Rattle.relay_replies.specs.Handed.{Handed}
 use Rattle.relay_replies.specs.Laws.{last_line}
 use Rattle.relay_replies.specs.Numbers.{number_of, was_submitted}
@@ -49,3 +49,20 @@ judged_at host directory (awaited message submission is r) zero j e l = let a : 
 judged_at host directory (awaited message submission is r) (suc i) j e l = absurd (false≢true e)
 judged_at host directory (unheard message r) zero j e l = absurd (false≢true e)
 judged_at host directory (unheard message r) (suc i) j e l = absurd (false≢true e)
+
+-- where each message that was submitted has its verdicts, each has as many replies as recipients
+pub all_replied : (host : List ℕ) (directory : Directory) {messages : List Handed} {fates : List Fate} → HaveFates host directory messages fates → length (all_told fates) ≡ length (all_submitted fates)
+    → (i : ℕ) → was_submitted (fate_at fates i) ≡ true → length (message_at messages i).replies ≡ length (message_at messages i).recipients
+all_replied host directory none e i t = absurd (false≢true t)
+all_replied host directory (judged message submission verdicts is many r h) e zero t =
+    let a = ap length r in
+    let b = length-map (map verdict_reply verdicts) (last_line host) in
+    let c = length-map verdicts verdict_reply in
+    omega (arith, many, a, b, c)
+all_replied host directory (judged message submission verdicts is many r h) e (suc i) t = all_replied host directory h (omega (arith, e)) i t
+all_replied host directory (turned_away message many r h) e zero t = absurd (false≢true t)
+all_replied host directory (turned_away message many r h) e (suc i) t = all_replied host directory h e i t
+all_replied host directory (awaited message submission is r) e zero t = absurd (omega (arith, e))
+all_replied host directory (awaited message submission is r) e (suc i) t = absurd (false≢true t)
+all_replied host directory (unheard message r) e zero t = absurd (false≢true t)
+all_replied host directory (unheard message r) e (suc i) t = absurd (false≢true t)

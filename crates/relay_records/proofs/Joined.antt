@@ -1,5 +1,5 @@
 -- What a relay knows of one connection, joined with what stands in the mailboxes.
-use Rattle.std.proofs.Common.{◌≡◌, ℕ, zero, suc, ◌+◌, ◌<◌, ◌≤◌, ◌⊎◌, inl, inr, Bool, true, false, List, [], ◌∷◌, ◌++◌, length, map, refl, ap, ap₂, sym, subst, ◌∙◌, append_assoc, arith}
+use Rattle.std.proofs.Common.{◌≡◌, ℕ, zero, suc, ◌+◌, ◌<◌, ◌≤◌, ◌⊎◌, inl, inr, Bool, true, false, List, [], ◌∷◌, ◌++◌, length, map, refl, ap, ap₂, sym, subst, ◌∙◌, append_assoc, append-nil, arith}
 use Rattle.std.specs.Prelude.{Contains, slice_index_or}
 use Rattle.std.proofs.lemmas.Bool.{false≢true, cases_lt}
 use Rattle.std.proofs.lemmas.Grind.{flat_map-append}
@@ -10,7 +10,9 @@ use Rattle.delivery_token.specs.declared.CopyKey.{CopyKey}
 use Rattle.delivery_token.specs.declared.Job.{Job}
 use Rattle.delivery_token.specs.declared.Verdict.{Verdict}
 use Rattle.delivery_token.specs.declared.Verdict.TheVariants.{Stored, Refused}
+use Rattle.delivery_token.specs.declared.log.Noted.{Noted}
 use Rattle.envelope.specs.Directory.{Directory}
+use Rattle.shard_queue.specs.declared.lane.Entry.{Entry}
 use Rattle.shard_queue.specs.declared.lane.Entry.TheVariants.{Item}
 use Rattle.lmtp_machine.specs.declared.reply.Reply.{Reply}
 use Rattle.lmtp_machine.specs.declared.reply.Reply.TheVariants.{Greeting}
@@ -32,9 +34,9 @@ use Rattle.world.specs.World.{Config, World, shard_of}
 use Rattle.world.proofs.Base.{Every, all_of_every}
 use Rattle.world.proofs.Kept.{Kept}
 use Rattle.world.proofs.Mails.{IsIn, is_in_contains}
-use Rattle.relay_records.specs.Concluded.{IsHandedOver, IsKeyOf, MayConclude, StandsAsSent, StandsNowhere, fate_at, key_at, message_at}
+use Rattle.relay_records.specs.Concluded.{IsHandedOver, IsKeyOf, KnowsAll, MayConclude, StandsAsSent, StandsNowhere, fate_at, key_at, message_at}
 use Rattle.relay_records.proofs.Copies.{HeardOf, IsCopy, copy_at, copy_key, each_is_copy, heard_at, named_at}
-use Rattle.relay_records.proofs.Fronts.{IsFrontOf, front_at, judged_at, stored_submitted}
+use Rattle.relay_records.proofs.Fronts.{IsFrontOf, all_replied, front_at, judged_at, stored_submitted}
 use Rattle.relay_records.proofs.Histories.{every_in, history_was_put}
 use Rattle.relay_records.proofs.Moving.{sent_by}
 use Rattle.relay_records.proofs.Seated.{AreFrom, AreHeard, IsKnown, IsOneOf, messages_from}
@@ -245,7 +247,7 @@ nothing_else k w host directory setting known whole f mailbox entry there seat s
 wire-append : (host : List ℕ) (xs ys : List Reply) → wire host (xs ++ ys) ≡ wire host xs ++ wire host ys
 wire-append host xs ys = flat_map-append _ xs ys
 
-facts_of : (k : Config) (w : World) → Kept k w → Headline k w → (g : Terms) (seat : ℕ) (b : HouseConnection) (came told : List ℕ) → (h : IsKnown g seat (w.heard seat) (sent_by w seat) came told b)
+abbrev facts_of : (k : Config) (w : World) → Kept k w → Headline k w → (g : Terms) (seat : ℕ) (b : HouseConnection) (came told : List ℕ) → (h : IsKnown g seat (w.heard seat) (sent_by w seat) came told b)
     → (known whole : List Handed) → AreCut known whole → MayForget g.host g.directory known whole h.submitted h.answered
     → Facts k w g.host g.directory (setting_of g seat b.serial) known whole
 facts_of k w kept world g seat b came told h known whole front m = record {
@@ -268,6 +270,37 @@ facts_of k w kept world g seat b came told h known whole front m = record {
   tells = m.tells;
 }
 
+-- what may be concluded of that
+abbrev may_of : (k : Config) (w : World) → Headline k w → (g : Terms) (seat serial : ℕ) (sent heard untold : List ℕ) (replies : List Reply) → heard ++ untold ≡ wire g.host (Greeting ∷ replies)
+    → Facts k w g.host g.directory (setting_of g seat serial) (handed_over sent heard) (handed_over sent (heard ++ untold)) → MayConclude g.host g.directory w seat serial sent heard
+may_of k w world g seat serial sent heard untold replies said f =
+    let setting : Setting = setting_of g seat serial in
+    let known : List Handed = handed_over sent heard in
+    let whole : List Handed = handed_over sent (heard ++ untold) in
+    record {
+      replies = replies;
+      untold = untold;
+      said = said;
+      fates = f.fates;
+      each = f.each;
+      taken = λ i j x. ((is_submitted_at k w g.host g.directory setting known whole f i j x, refl), taken_stands k w g.host g.directory setting known whole f i j x);
+      refused = λ i j key l x is mailbox entry there same. refused_stands_nowhere k w g.host g.directory setting known whole f i j l x is.0 mailbox entry there (same ∙ is.1);
+      in_order = all_in_order k w g.host g.directory setting known whole f;
+      stand_in_order = λ mailbox. world.in_order seat mailbox;
+      nothing_else = nothing_else k w g.host g.directory setting known whole f;
+    }
+
+-- all bytes that were sent, as those that were taken and others
+sent_is : (g : Terms) (seat : ℕ) (heard : List Noted) (sent : ℕ → List (Entry Job)) (came told later : List ℕ) (b : HouseConnection) → (h : IsKnown g seat heard sent came told b)
+    → h.taken ++ (h.waited ++ later) ≡ came ++ later
+sent_is g seat heard sent came told later b h = sym (ap (λ (l : List ℕ). l ++ later) h.came_is ∙ append_assoc h.taken h.waited later)
+
+-- and all that was said, as what was printed and what wasn't
+said_is : (g : Terms) (seat : ℕ) (heard : List Noted) (sent : ℕ → List (Entry Job)) (came told : List ℕ) (b : HouseConnection) → (h : IsKnown g seat heard sent came told b)
+    → told ++ wire g.host h.unprinted ≡ wire g.host (Greeting ∷ h.said)
+said_is g seat heard sent came told b h =
+    ap (λ (l : List ℕ). l ++ wire g.host h.unprinted) h.told_is ∙ sym (wire-append g.host h.printed h.unprinted) ∙ ap (wire g.host) (sym h.said_is)
+
 pub connection_concludes : (k : Config) (w : World) → Kept k w → Headline k w → (g : Terms) → IsInLine g.host → (seat : ℕ) (b : HouseConnection) (came told : List ℕ)
     → IsKnown g seat (w.heard seat) (sent_by w seat) came told b
     → (later heard unheard : List ℕ) → heard ++ unheard ≡ told → MayConclude g.host g.directory w seat b.serial (came ++ later) heard
@@ -278,20 +311,63 @@ connection_concludes k w kept world g in_line seat b came told h later heard unh
     let known : List Handed = handed_over sent heard in
     let whole : List Handed = handed_over sent (heard ++ untold) in
     let said : heard ++ untold ≡ wire g.host (Greeting ∷ h.said) =
-    sym (append_assoc heard unheard (wire g.host h.unprinted)) ∙ ap (λ (l : List ℕ). l ++ wire g.host h.unprinted) (e ∙ h.told_is) ∙ sym (wire-append g.host h.printed h.unprinted)
-    ∙ ap (wire g.host) (sym h.said_is) in
+    sym (append_assoc heard unheard (wire g.host h.unprinted)) ∙ ap (λ (l : List ℕ). l ++ wire g.host h.unprinted) e ∙ said_is g seat (w.heard seat) (sent_by w seat) came told b h in
     let m = concludes g.host setting g.directory h.taken h.said h.submitted h.answered b.talk.at in_line h.come (h.waited ++ later) heard untold said in
     let f : Facts k w g.host g.directory setting known whole = facts_of k w kept world g seat b came told h known whole (fronts_are_cut sent heard untold) m in
-    let all : MayConclude g.host g.directory w seat b.serial sent heard = record {
-      replies = h.said;
-      untold = untold;
-      said = said;
-      fates = f.fates;
-      each = f.each;
-      taken = λ i j x. ((is_submitted_at k w g.host g.directory setting known whole f i j x, refl), taken_stands k w g.host g.directory setting known whole f i j x);
-      refused = λ i j key l x is mailbox entry there same. refused_stands_nowhere k w g.host g.directory setting known whole f i j l x is.0 mailbox entry there (same ∙ is.1);
-      in_order = all_in_order k w g.host g.directory setting known whole f;
-      stand_in_order = λ mailbox. world.in_order seat mailbox;
-      nothing_else = nothing_else k w g.host g.directory setting known whole f;
+    subst (λ (x : List ℕ). MayConclude g.host g.directory w seat b.serial x heard) (sent_is g seat (w.heard seat) (sent_by w seat) came told later b h)
+    (may_of k w world g seat b.serial sent heard untold h.said said f)
+
+-- ---- where nothing more is to be said
+
+heard_many : (heard : List Noted) (ss : List Submission) (answered : List (List Verdict)) → AreHeard heard ss answered → length ss ≡ length answered
+heard_many heard [] [] h = refl
+heard_many heard [] (vs ∷ answered) h = absurd h
+heard_many heard (s ∷ ss) [] h = absurd h
+heard_many heard (s ∷ ss) (vs ∷ answered) h = ap suc (heard_many heard ss answered h.1)
+
+-- each copy that stands has its reply read
+each_is_read : (k : Config) (w : World) (host : List ℕ) (directory : Directory) (setting : Setting) (known whole : List Handed) (f : Facts k w host directory setting known whole) → known ≡ whole → f.pending ≡ []
+    → (mailbox : ℕ) (entry : Job × ℕ) → Contains (w.box mailbox).accepted entry → entry.0.key.seat ≡ setting.seat → entry.0.key.serial ≡ setting.serial
+    → (i : ℕ) × (j : ℕ) × IsKeyOf setting.seat setting.serial f.fates i j entry.0.key × (is_taken (message_at known i) j ≡ true)
+each_is_read k w host directory setting known whole f all none mailbox entry there at of = by o.read
+  where
+    o : IsHandedOver directory setting.seat setting.serial f.fates known whole mailbox entry.0
+    o = nothing_else k w host directory setting known whole f mailbox entry there at of
+
+    many : length (all_told f.fates) ≡ length (all_submitted f.fates)
+    many =
+        let a = ap length f.answers_are in
+        let b = heard_many (w.heard setting.seat) f.judged f.answered f.heard in
+        let c = ap length (f.submitted_are ∙ ap (λ (ss : List Submission). f.judged ++ ss) none ∙ append-nil f.judged) in
+        omega (arith, a, b, c)
+
+    within : o.j < length (message_at known o.i).replies
+    within =
+        let a = all_replied host directory f.each many o.i o.key.0 in
+        let b = ap (λ (ms : List Handed). length (message_at ms o.i).replies) all in
+        let l = o.within in
+        omega (arith, a, b, l)
+
+    by : (is_taken (message_at known o.i) o.j ≡ true) ⊎ (length (message_at known o.i).replies ≤ o.j)
+        → (i : ℕ) × (j : ℕ) × IsKeyOf setting.seat setting.serial f.fates i j entry.0.key × (is_taken (message_at known i) j ≡ true)
+    by (inl e) = (o.i, o.j, o.key, e)
+    by (inr l) = absurd (omega (arith, l, within))
+
+pub connection_knows_all : (k : Config) (w : World) → Kept k w → Headline k w → (g : Terms) → IsInLine g.host → (seat : ℕ) (b : HouseConnection) (came told : List ℕ)
+    → IsKnown g seat (w.heard seat) (sent_by w seat) came told b → b.gone ≡ false → b.talk.pending ≡ [] → b.talk.unsaid ≡ []
+    → (later : List ℕ) → KnowsAll g.host g.directory w seat b.serial (came ++ later) told
+connection_knows_all k w kept world g in_line seat b came told h there none silent later =
+    let setting : Setting = setting_of g seat b.serial in
+    let sent : List ℕ = h.taken ++ (h.waited ++ later) in
+    let known : List Handed = handed_over sent told in
+    let whole : List Handed = handed_over sent (told ++ []) in
+    let said : told ++ [] ≡ wire g.host (Greeting ∷ h.said) =
+    ap (λ (l : List ℕ). told ++ l) (sym (sym (h.says there) ∙ silent)) ∙ said_is g seat (w.heard seat) (sent_by w seat) came told b h in
+    let m = concludes g.host setting g.directory h.taken h.said h.submitted h.answered b.talk.at in_line h.come (h.waited ++ later) told [] said in
+    let f : Facts k w g.host g.directory setting known whole = facts_of k w kept world g seat b came told h known whole (fronts_are_cut sent told []) m in
+    let all : KnowsAll g.host g.directory w seat b.serial sent told = record {
+      may = may_of k w world g seat b.serial sent told [] h.said said f;
+      none_untold = refl;
+      read = each_is_read k w g.host g.directory setting known whole f (ap (handed_over sent) (sym (append-nil told))) none;
     } in
-    subst (λ (x : List ℕ). MayConclude g.host g.directory w seat b.serial x heard) (sym (ap (λ (l : List ℕ). l ++ later) h.came_is ∙ append_assoc h.taken h.waited later)) all
+    subst (λ (x : List ℕ). KnowsAll g.host g.directory w seat b.serial x told) (sent_is g seat (w.heard seat) (sent_by w seat) came told later b h) all

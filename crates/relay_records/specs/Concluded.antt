@@ -83,3 +83,10 @@ pub record MayConclude (host : List ℕ) (directory : Directory) (w : World) (se
   -- And nothing else stands of this connection: by the messages that it handed over, as all that was said tells of them.
   pub nothing_else : (mailbox : ℕ) (entry : Job × ℕ) → Contains (w.box mailbox).accepted entry → entry.0.key.seat ≡ seat → entry.0.key.serial ≡ serial
       → IsHandedOver directory seat serial fates (handed_over sent told) (handed_over sent (told ++ untold)) mailbox entry.0
+
+-- Of a relay that was told all that was said on a connection on which nothing more is to be said: it has read of each copy that stands that it does.
+pub record KnowsAll (host : List ℕ) (directory : Directory) (w : World) (seat serial : ℕ) (sent told : List ℕ) : Type 0 where
+  pub may : MayConclude host directory w seat serial sent told
+  pub none_untold : may.untold ≡ []
+  pub read : (mailbox : ℕ) (entry : Job × ℕ) → Contains (w.box mailbox).accepted entry → entry.0.key.seat ≡ seat → entry.0.key.serial ≡ serial
+      → (i : ℕ) × (j : ℕ) × IsKeyOf seat serial may.fates i j entry.0.key × (is_taken (message_at (handed_over sent told) i) j ≡ true)
