@@ -3,13 +3,16 @@ use Rattle.std.proofs.Common.{◌≡◌, ℕ, ◌<◌, ◌≤◌, ◌⊎◌, inl
 use Rattle.std.specs.Prelude.{Contains}
 use Rattle.std.proofs.lemmas.Bool.{cases_lt}
 use Rattle.delivery_token.specs.declared.Job.{Job}
-use Rattle.house.specs.Scene.{empty_scene}
+use Rattle.house.specs.Scene.{Scene, empty_scene}
+use Rattle.house.specs.Setup.{Setup}
 use Rattle.shard_queue.specs.declared.lane.Entry.TheVariants.{Item}
+use Rattle.exactly_once.specs.Promise.{IsRecord}
+use Rattle.script.specs.Promise.{AreParts, OfHouse, Part, Refusal, Window, entries_of}
 use Rattle.world.specs.World.{shard_of}
 use Rattle.world.proofs.Always.{always, kept_always}
 use Rattle.world.proofs.Kept.{Kept}
 use Rattle.relay_records.specs.Concluded.{KnowsAll, MayConclude}
-use Rattle.relay_records.specs.Laws.{ByTheRecord, IsDone, OfAllEvents}
+use Rattle.relay_records.specs.Laws.{ByTheRecord, IsDone, OfAllEvents, OfScripts}
 use Rattle.relay_records.specs.Record.{came_for, has_vanished, told_to}
 use Rattle.relay_records.proofs.Happening.{no_pasts, nothing_known, past_after, record_known}
 use Rattle.relay_records.proofs.Histories.{every_in, history_was_put}
@@ -75,3 +78,15 @@ by_the_record k entries after steps in_line r came = record { each = each; all =
 pub of_all_events : OfAllEvents
 of_all_events k events after printed in_line once = by_the_record k once.entries after once.steps in_line once.leads once.came
 
+-- ---- of scripts
+
+-- the house's entries among the parts are a record
+parts_record : (k : Setup) (parts : List Part) (s t : Scene) → AreParts k parts s t → IsRecord k (entries_of parts) s t
+parts_record k [] s t h = h
+parts_record k (OfHouse entry ∷ parts) s t h = (h.0, parts_record k parts entry.after t h.1)
+parts_record k (Refusal number why ∷ parts) s t h = parts_record k parts s t h.1
+parts_record k (Window word box ∷ parts) s t h = parts_record k parts s t h.1
+
+pub of_scripts : OfScripts
+of_scripts k count after printed in_line once =
+    by_the_record k (entries_of once.parts) after once.steps in_line (parts_record k once.parts (empty_scene k) after once.leads) once.came

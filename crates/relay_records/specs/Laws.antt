@@ -11,6 +11,7 @@ use Rattle.relay_replies.specs.Laws.{IsInLine}
 use Rattle.exactly_once.specs.Promise.{Entry, ExactlyOnce, IsRecord}
 use Rattle.world.specs.World as world
 use Rattle.world.specs.World.{IsWorld}
+use Rattle.script.specs.Promise.{DeliversOnce, entries_of}
 use Rattle.relay_records.specs.Concluded.{KnowsAll, MayConclude}
 use Rattle.relay_records.specs.Record.{came_for, has_vanished, told_to}
 
@@ -37,6 +38,10 @@ ByTheRecord = (k : Setup) (entries : List Entry) (after : Scene) (steps : List w
 -- of all events of a new house, and all that they printed
 abbrev pub OfAllEvents : Type 0
 OfAllEvents = (k : Setup) (events : List Event) (after : Scene) (printed : List ℕ) → IsInLine k.host → (once : ExactlyOnce k events after printed) → RelaysMayConclude k once.entries after
+
+-- of a script's lines that were played
+abbrev pub OfScripts : Type 0
+OfScripts = (k : Setup) (count : ℕ) (after : Scene) (printed : List ℕ) → IsInLine k.host → (once : DeliversOnce k count after printed) → RelaysMayConclude k (entries_of once.parts) after
 
 -- the name of a house that has settings has no LF
 abbrev pub SettingsAreInLine : Type 0

@@ -1,6 +1,6 @@
 //! Laws of what a relay may conclude, as functions that do nothing.
 
-ghost use Rattle.relay_records.specs.Laws.{ByTheRecord, OfAllEvents, SettingsAreInLine};
+ghost use Rattle.relay_records.specs.Laws.{ByTheRecord, OfAllEvents, OfScripts, SettingsAreInLine};
 
 /// Whatever happened in a house, and whatever memory was wanting: of each connection that was opened, a relay that sent
 /// the bytes that came for it, and perhaps more, and was told a front of what was said to it, may conclude this by RFC
@@ -12,5 +12,6 @@ ghost use Rattle.relay_records.specs.Laws.{ByTheRecord, OfAllEvents, SettingsAre
 pub fn relays_may_conclude()
     ensures recorded { ByTheRecord }
     ensures played { OfAllEvents }
+    ensures scripted { OfScripts }
     ensures settings { SettingsAreInLine }
 {}
