@@ -1,5 +1,5 @@
 -- What a relay may conclude, by the record of a house.
-use Rattle.std.proofs.Common.{◌≡◌, ℕ, ◌<◌, ◌≤◌, ◌⊎◌, inl, inr, Bool, false, List, [], ◌∷◌, ◌++◌, refl, subst, ◌∙◌, arith, Option, Some}
+use Rattle.std.proofs.Common.{◌≡◌, ℕ, ◌<◌, ◌≤◌, ◌⊎◌, inl, inr, false, List, [], ◌∷◌, ◌++◌, refl, subst, ◌∙◌, arith, Some}
 use Rattle.std.specs.Prelude.{Contains}
 use Rattle.std.proofs.lemmas.Bool.{cases_lt}
 use Rattle.delivery_token.specs.declared.Job.{Job}
@@ -35,7 +35,8 @@ by_the_record k entries after steps in_line r came = record { each = each; all =
     each : (seat serial : ℕ) → seat < k.connections → serial < after.next seat → (later told untold : List ℕ) → told ++ untold ≡ told_to k seat serial (empty_scene k) entries
         → MayConclude k.host k.directory after.world seat serial (came_for seat serial (empty_scene k) entries ++ later) told
     each seat serial l m later told untold e =
-        let was = opened_below k seat (after.world.heard seat) (sent_by after.world seat) (after.next seat) (past_after k no_pasts (empty_scene k) entries seat) (after.caller seat) (all.seats seat l) serial m in
+        let was = opened_below k seat (after.world.heard seat) (sent_by after.world seat) (after.next seat) (past_after k no_pasts (empty_scene k) entries seat) (after.caller seat)
+        (all.seats seat l) serial m in
         subst (λ (n : ℕ). MayConclude k.host k.directory after.world seat n (came_for seat serial (empty_scene k) entries ++ later) told) was.serial_is
         (connection_concludes k.config after.world kept (always k.config steps after.world came) (own_terms k) in_line seat was.last (came_for seat serial (empty_scene k) entries)
         (told_to k seat serial (empty_scene k) entries) was.known later told untold e)
@@ -45,14 +46,16 @@ by_the_record k entries after steps in_line r came = record { each = each; all =
     knows_all seat serial l m stays done later = by was.ended
       where
         was : Opened k seat (after.world.heard seat) (sent_by after.world seat) serial (past_after k no_pasts (empty_scene k) entries seat serial) (after.caller seat)
-        was = opened_below k seat (after.world.heard seat) (sent_by after.world seat) (after.next seat) (past_after k no_pasts (empty_scene k) entries seat) (after.caller seat) (all.seats seat l) serial m
+        was = opened_below k seat (after.world.heard seat) (sent_by after.world seat) (after.next seat) (past_after k no_pasts (empty_scene k) entries seat) (after.caller seat)
+            (all.seats seat l) serial m
 
         there : was.last.gone ≡ false
         there = was.gone_is ∙ stays
 
         knows : (was.last.talk.pending ≡ []) × (was.last.talk.unsaid ≡ [])
             → KnowsAll k.host k.directory after.world seat serial (came_for seat serial (empty_scene k) entries ++ later) (told_to k seat serial (empty_scene k) entries)
-        knows q = subst (λ (n : ℕ). KnowsAll k.host k.directory after.world seat n (came_for seat serial (empty_scene k) entries ++ later) (told_to k seat serial (empty_scene k) entries)) was.serial_is
+        knows q = subst (λ (n : ℕ). KnowsAll k.host k.directory after.world seat n (came_for seat serial (empty_scene k) entries ++ later)
+            (told_to k seat serial (empty_scene k) entries)) was.serial_is
             (connection_knows_all k.config after.world kept (always k.config steps after.world came) (own_terms k) in_line seat was.last (came_for seat serial (empty_scene k) entries)
             (told_to k seat serial (empty_scene k) entries) was.known there q.0 q.1 later)
 

@@ -51,7 +51,8 @@ judged_at host directory (unheard message r) zero j e l = absurd (false≢true e
 judged_at host directory (unheard message r) (suc i) j e l = absurd (false≢true e)
 
 -- where each message that was submitted has its verdicts, each has as many replies as recipients
-pub all_replied : (host : List ℕ) (directory : Directory) {messages : List Handed} {fates : List Fate} → HaveFates host directory messages fates → length (all_told fates) ≡ length (all_submitted fates)
+pub all_replied : (host : List ℕ) (directory : Directory) {messages : List Handed} {fates : List Fate} → HaveFates host directory messages fates
+    → length (all_told fates) ≡ length (all_submitted fates)
     → (i : ℕ) → was_submitted (fate_at fates i) ≡ true → length (message_at messages i).replies ≡ length (message_at messages i).recipients
 all_replied host directory none e i t = absurd (false≢true t)
 all_replied host directory (judged message submission verdicts is many r h) e zero t =

@@ -1,5 +1,5 @@
 -- Each event by itself, and a whole record.
-use Rattle.std.proofs.Common.{◌≡◌, ◌≢◌, ℕ, ◌+◌, ◌<◌, ◌≤◌, Bool, true, false, ◌&&◌, ◌||◌, List, [], ◌∷◌, ◌++◌, Contains, refl, ap, sym, subst, ◌∙◌, append-nil, append_assoc, arith, Option, Some, None}
+use Rattle.std.proofs.Common.{◌≡◌, ◌≢◌, ℕ, ◌+◌, ◌<◌, Bool, true, false, ◌&&◌, ◌||◌, List, [], ◌∷◌, ◌++◌, Contains, refl, ap, sym, subst, ◌∙◌, append-nil, append_assoc, arith, Option, Some, None}
 use Rattle.std.specs.Borrow.{Bor}
 use Rattle.delivery_token.specs.declared.log.Noted.{Noted}
 use Rattle.shard_queue.specs.At.{set_at}
@@ -69,7 +69,8 @@ bytes_here k pasts s e piece at bytes b o in_line h says brings there read goes 
     let known = more_known (own_terms k) at heard sent past.came past.told bytes b read seat.there.1 in
     let went = goes_on_known (own_terms k) s.shut false at heard sent (past.came ++ bytes) past.told (more_waits b bytes) o (text_of k piece) says.replies in_line known goes says.text in
     stander_known k pasts s e piece at bytes false s.world b o says brings there (λ r c. c) (λ n d these u x. x) seat
-    (went_gone (own_terms k) at heard sent (past.came ++ bytes) (past.came ++ bytes) (past.told ++ wire k.host says.replies) b.gone (past.gone || false) b.serial o refl (seat.there.2 ∙ or_false past.gone) went)
+    (went_gone (own_terms k) at heard sent (past.came ++ bytes) (past.came ++ bytes) (past.told ++ wire k.host says.replies) b.gone (past.gone || false) b.serial o refl
+    (seat.there.2 ∙ or_false past.gone) went)
 
 bytes_known : (k : Setup) (pasts : (seat serial : ℕ) → Past) (s : Scene) (connection : ℕ) (bytes : Bor (List ℕ)) (piece : Piece) (t : Scene) → IsInLine k.host → SceneKnown k pasts s
     → IsOwn k s (Bytes connection bytes) t piece → BytesPlay k false s (seat_of connection) bytes.now t (text_of k piece) → SceneKnown k (past_then k pasts s (Bytes connection bytes) piece) t
@@ -94,7 +95,8 @@ bytes_known k pasts s connection bytes piece t in_line h own play =
         })
 
 -- its peer is gone
-vanish_known : (k : Setup) (pasts : (seat serial : ℕ) → Past) (s : Scene) (e : Event) (piece : Piece) (at : ℕ) (t : Scene) → IsInLine k.host → SceneKnown k pasts s → Brings s e at [] true → Says k s at piece
+vanish_known : (k : Setup) (pasts : (seat serial : ℕ) → Past) (s : Scene) (e : Event) (piece : Piece) (at : ℕ) (t : Scene) → IsInLine k.host → SceneKnown k pasts s → Brings s e at [] true
+    → Says k s at piece
     → VanishPlay k false s at t (text_of k piece) → SceneKnown k (past_then k pasts s e piece) t
 vanish_known k pasts s e piece at t in_line h brings says p =
     rw p.after (record { seats = caller_known k pasts s e piece at [] true s.world p.left s.next h says brings (λ seat r c. c) (λ seat d n these u x. x) (λ seat d. refl) here })
@@ -109,10 +111,12 @@ vanish_known k pasts s e piece at t in_line h brings says p =
         let known = unread_known (own_terms k) at heard sent past.came past.told b seat.there.1 in
         let went = goes_on_known (own_terms k) s.shut false at heard sent past.came past.told (unread b) p.left (text_of k piece) says.replies in_line known p.goes says.text in
         stander_known k pasts s e piece at [] true s.world b p.left says brings p.there (λ r c. c) (λ n d these u x. x) seat
-        (went_gone (own_terms k) at heard sent past.came (past.came ++ []) (past.told ++ wire k.host says.replies) true (past.gone || true) b.serial p.left (sym (append-nil past.came)) (or_true past.gone) went)
+        (went_gone (own_terms k) at heard sent past.came (past.came ++ []) (past.told ++ wire k.host says.replies) true (past.gone || true) b.serial p.left (sym (append-nil past.came))
+        (or_true past.gone) went)
 
 -- it puts a copy
-connection_put_known : (k : Setup) (pasts : (seat serial : ℕ) → Past) (s : Scene) (e : Event) (piece : Piece) (at : ℕ) (t : Scene) → IsInLine k.host → SceneKnown k pasts s → BringsNothing s e → Says k s at piece
+connection_put_known : (k : Setup) (pasts : (seat serial : ℕ) → Past) (s : Scene) (e : Event) (piece : Piece) (at : ℕ) (t : Scene) → IsInLine k.host → SceneKnown k pasts s → BringsNothing s e
+    → Says k s at piece
     → ConnectionPuts k false s at t (text_of k piece) → SceneKnown k (past_then k pasts s e piece) t
 connection_put_known k pasts s e piece at t in_line h none says p =
     rw p.after (record {
@@ -135,16 +139,19 @@ connection_put_known k pasts s e piece at t in_line h none says p =
         let known = put_known (own_terms k) at (s.world.heard at) (p.moved.heard at) sent later past.came past.told b p.copy p.others p.front hears puts seat.there.1 in
         let went = goes_on_known (own_terms k) s.shut false at (p.moved.heard at) later past.came past.told (record { serial = b.serial; gone = b.gone; talk = b.talk; to_put = p.others }) p.left
         (text_of k piece) says.replies in_line known p.goes says.text in
-        stander_known k pasts s e piece at [] false p.moved b p.left says (nothing_brought s e at none) p.there hears (λ n d. puts_of_another at n p.copy sent later puts (λ x. d (sym x ∙ mine))) seat
+        stander_known k pasts s e piece at [] false p.moved b p.left says (nothing_brought s e at none) p.there hears
+        (λ n d. puts_of_another at n p.copy sent later puts (λ x. d (sym x ∙ mine))) seat
         (went_gone (own_terms k) at (p.moved.heard at) later past.came (past.came ++ []) (past.told ++ wire k.host says.replies) b.gone (past.gone || false) b.serial p.left
         (sym (append-nil past.came)) (seat.there.2 ∙ or_false past.gone) went)
 
 -- its seat hears a verdict
-connection_hear_known : (k : Setup) (pasts : (seat serial : ℕ) → Past) (s : Scene) (e : Event) (piece : Piece) (at : ℕ) (t : Scene) → IsInLine k.host → SceneKnown k pasts s → BringsNothing s e → Says k s at piece
+connection_hear_known : (k : Setup) (pasts : (seat serial : ℕ) → Past) (s : Scene) (e : Event) (piece : Piece) (at : ℕ) (t : Scene) → IsInLine k.host → SceneKnown k pasts s → BringsNothing s e
+    → Says k s at piece
     → ConnectionHears k false s at t (text_of k piece) → SceneKnown k (past_then k pasts s e piece) t
 connection_hear_known k pasts s e piece at t in_line h none says p =
     rw p.after (record {
-      seats = caller_known k pasts s e piece at [] false p.moved p.left s.next h says (nothing_brought s e at none) (λ seat r c. step_hears k.config s.world (world.Hear at) p.moved seat r p.step c)
+      seats = caller_known k pasts s e piece at [] false p.moved p.left s.next h says (nothing_brought s e at none)
+          (λ seat r c. step_hears k.config s.world (world.Hear at) p.moved seat r p.step c)
           (λ seat d n. no_copy_grows seat s.world p.moved (step_puts k.config s.world (world.Hear at) p.moved seat tt p.step) n) (λ seat d. refl) here;
     })
   where
@@ -201,13 +208,15 @@ moves_known k pasts s e event piece t printed h others none quiet m =
 
 put_known_by : (k : Setup) (pasts : (seat serial : ℕ) → Past) (s : Scene) (number : ℕ) (piece : Piece) (t : Scene) → IsInLine k.host → SceneKnown k pasts s
     → IsOwn k s (Put number) t piece → PutPlay k false s (seat_of number) t (text_of k piece) → SceneKnown k (past_then k pasts s (Put number) piece) t
-put_known_by k pasts s number piece t in_line h own (connection_puts l p) = connection_put_known k pasts s (Put number) piece (seat_of number) t in_line h (record { came = λ seat n. refl; gone = λ seat n. refl })
+put_known_by k pasts s number piece t in_line h own (connection_puts l p) = connection_put_known k pasts s (Put number) piece (seat_of number) t in_line h
+    (record { came = λ seat n. refl; gone = λ seat n. refl })
     (put_says k s t number piece l own) p
 put_known_by k pasts s number piece t in_line h own (session_puts place e p) = session_put_known k pasts s number place piece t h e own p
 
 hear_known_by : (k : Setup) (pasts : (seat serial : ℕ) → Past) (s : Scene) (number : ℕ) (piece : Piece) (t : Scene) → IsInLine k.host → SceneKnown k pasts s
     → IsOwn k s (Hear number) t piece → HearPlay k false s (seat_of number) t (text_of k piece) → SceneKnown k (past_then k pasts s (Hear number) piece) t
-hear_known_by k pasts s number piece t in_line h own (connection_hears l p) = connection_hear_known k pasts s (Hear number) piece (seat_of number) t in_line h (record { came = λ seat n. refl; gone = λ seat n. refl })
+hear_known_by k pasts s number piece t in_line h own (connection_hears l p) = connection_hear_known k pasts s (Hear number) piece (seat_of number) t in_line h
+    (record { came = λ seat n. refl; gone = λ seat n. refl })
     (hear_says k s t number piece l own) p
 hear_known_by k pasts s number piece t in_line h own (session_hears place e p) = session_hear_known k pasts s number place piece t h e own p
 
@@ -257,24 +266,28 @@ event_known k pasts s (Close shard) piece t in_line h own p =
 event_known k pasts s (Enter session user) piece t in_line h own p =
     rw p.after (record {
       seats = nobody_known k pasts s (Enter session user) piece p.moved h
-          (bears_still k.connections s.world p.moved (talks_still k false (place_of session) _ s.world _ p.moved p.left (text_of k piece) p.goes)) (record { came = λ seat n. refl; gone = λ seat n. refl })
+          (bears_still k.connections s.world p.moved (talks_still k false (place_of session) _ s.world _ p.moved p.left (text_of k piece) p.goes))
+          (record { came = λ seat n. refl; gone = λ seat n. refl })
           (no_replies k s piece (λ seat said e. subst (IsOwn k s (Enter session user) t) e own));
     })
 event_known k pasts s (Say session bytes) piece t in_line h own p =
     rw p.after (record {
       seats = nobody_known k pasts s (Say session bytes) piece p.moved h
-          (bears_still k.connections s.world p.moved (talks_still k false (place_of session) _ s.world _ p.moved p.left (text_of k piece) p.goes)) (record { came = λ seat n. refl; gone = λ seat n. refl })
+          (bears_still k.connections s.world p.moved (talks_still k false (place_of session) _ s.world _ p.moved p.left (text_of k piece) p.goes))
+          (record { came = λ seat n. refl; gone = λ seat n. refl })
           (no_replies k s piece (λ seat said e. subst (IsOwn k s (Say session bytes) t) e own));
     })
 event_known k pasts s (Idle session) piece t in_line h own p =
     rw p.after (record {
       seats = nobody_known k pasts s (Idle session) piece p.moved h
-          (bears_still k.connections s.world p.moved (idles_still k false (place_of session) s.world p.visitor p.moved p.left (text_of k piece) p.goes)) (record { came = λ seat n. refl; gone = λ seat n. refl })
+          (bears_still k.connections s.world p.moved (idles_still k false (place_of session) s.world p.visitor p.moved p.left (text_of k piece) p.goes))
+          (record { came = λ seat n. refl; gone = λ seat n. refl })
           (no_replies k s piece (λ seat said e. subst (IsOwn k s (Idle session) t) e own));
     })
 event_known k pasts s (Leave session) piece t in_line h own p =
     rw p.after (record {
-      seats = nobody_known k pasts s (Leave session) piece p.moved h (bears_still k.connections s.world p.moved (leaves_still k (place_of session) s.world p.moved p.leaves)) (record { came = λ seat n. refl; gone = λ seat n. refl })
+      seats = nobody_known k pasts s (Leave session) piece p.moved h (bears_still k.connections s.world p.moved (leaves_still k (place_of session) s.world p.moved p.leaves))
+          (record { came = λ seat n. refl; gone = λ seat n. refl })
           (no_replies k s piece (λ seat said e. subst (IsOwn k s (Leave session) t) e own));
     })
 

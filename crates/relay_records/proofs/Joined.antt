@@ -247,7 +247,8 @@ nothing_else k w host directory setting known whole f mailbox entry there seat s
 wire-append : (host : List ℕ) (xs ys : List Reply) → wire host (xs ++ ys) ≡ wire host xs ++ wire host ys
 wire-append host xs ys = flat_map-append _ xs ys
 
-abbrev facts_of : (k : Config) (w : World) → Kept k w → Headline k w → (g : Terms) (seat : ℕ) (b : HouseConnection) (came told : List ℕ) → (h : IsKnown g seat (w.heard seat) (sent_by w seat) came told b)
+abbrev facts_of : (k : Config) (w : World) → Kept k w → Headline k w → (g : Terms) (seat : ℕ) (b : HouseConnection) (came told : List ℕ)
+    → (h : IsKnown g seat (w.heard seat) (sent_by w seat) came told b)
     → (known whole : List Handed) → AreCut known whole → MayForget g.host g.directory known whole h.submitted h.answered
     → Facts k w g.host g.directory (setting_of g seat b.serial) known whole
 facts_of k w kept world g seat b came told h known whole front m = record {
@@ -326,7 +327,8 @@ heard_many heard (s ∷ ss) [] h = absurd h
 heard_many heard (s ∷ ss) (vs ∷ answered) h = ap suc (heard_many heard ss answered h.1)
 
 -- each copy that stands has its reply read
-each_is_read : (k : Config) (w : World) (host : List ℕ) (directory : Directory) (setting : Setting) (known whole : List Handed) (f : Facts k w host directory setting known whole) → known ≡ whole → f.pending ≡ []
+each_is_read : (k : Config) (w : World) (host : List ℕ) (directory : Directory) (setting : Setting) (known whole : List Handed) (f : Facts k w host directory setting known whole) → known ≡ whole
+    → f.pending ≡ []
     → (mailbox : ℕ) (entry : Job × ℕ) → Contains (w.box mailbox).accepted entry → entry.0.key.seat ≡ setting.seat → entry.0.key.serial ≡ setting.serial
     → (i : ℕ) × (j : ℕ) × IsKeyOf setting.seat setting.serial f.fates i j entry.0.key × (is_taken (message_at known i) j ≡ true)
 each_is_read k w host directory setting known whole f all none mailbox entry there at of = by o.read

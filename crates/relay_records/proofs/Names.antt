@@ -1,5 +1,5 @@
 -- The name of a house that has settings stands in a line.
-use Rattle.std.proofs.Common.{◌≡◌, ◌≢◌, ℕ, ◌⊎◌, inl, inr, Bool, true, false, eqb, not, ◌&&◌, if◌then◌else◌, List, [], ◌∷◌, length, refl, ap, sym, subst, ◌∙◌, Option, Some, None, Result, Ok, Err}
+use Rattle.std.proofs.Common.{◌≡◌, ◌≢◌, ℕ, ◌⊎◌, inl, inr, Bool, true, false, eqb, not, ◌&&◌, if◌then◌else◌, List, [], ◌∷◌, refl, subst, Option, Some, None, Result, Err}
 use Rattle.std.specs.List.{list_all}
 use Rattle.std.proofs.lemmas.Bool.{false≢true}
 use Rattle.std.proofs.lemmas.Bool.Decides.{eqb_tells}
@@ -7,8 +7,7 @@ use Rattle.envelope.specs.Directory.{Home}
 use Rattle.envelope.specs.Names.{has_length, is_name, is_name_byte}
 use Rattle.envelope.specs.declared.directory.DirectoryFault.{DirectoryFault}
 use Rattle.envelope.specs.declared.directory.DirectoryFault.TheVariants.{TooMany, BadName}
-use Rattle.house.specs.Settings.{fault_of_numbers, names_first, words_of}
-use Rattle.house.specs.declared.config.Config.{Config}
+use Rattle.house.specs.Settings.{fault_of_numbers, names_first}
 use Rattle.house.specs.declared.config.ConfigFault.{ConfigFault}
 use Rattle.relay_replies.proofs.Cuts.{is_inner}
 use Rattle.relay_records.specs.Laws.{SettingsAreInLine}

@@ -115,7 +115,8 @@ goes_gone k whole seat heard b what after (waits some unknown is same) = ap (λ 
 goes_gone k whole seat heard b what after (answers vs some is w) = ap (λ (x : HouseConnection). x.gone) w.is
 goes_gone k whole seat heard b what after (stalls part is same) = ap (λ (x : HouseConnection). x.gone) same
 
-proceeds_gone : (k : Terms) (whole : Bool) (seat : ℕ) (heard : List Noted) (b : HouseConnection) (what : What) (after : HouseConnection) → Proceeds k whole seat heard b what after → after.gone ≡ b.gone
+proceeds_gone : (k : Terms) (whole : Bool) (seat : ℕ) (heard : List Noted) (b : HouseConnection) (what : What) (after : HouseConnection) → Proceeds k whole seat heard b what after
+    → after.gone ≡ b.gone
 proceeds_gone k whole seat heard b what after (talks there g) = goes_gone k whole seat heard b what after g
 proceeds_gone k whole seat heard b what after (lingers gone silent unknown is same) = ap (λ (x : HouseConnection). x.gone) same
 proceeds_gone k whole seat heard b what after (fades vs gone silent answered is same) = ap (λ (x : HouseConnection). x.gone) same
@@ -132,7 +133,8 @@ not_submit e = cc
 not_more : More ≡ Quit → ⊥
 not_more e = cc
 
-proceeds_quits : (k : Terms) (whole : Bool) (seat : ℕ) (heard : List Noted) (b : HouseConnection) (what : What) (after : HouseConnection) → what ≡ Quit → b.gone ≡ false → Proceeds k whole seat heard b what after
+proceeds_quits : (k : Terms) (whole : Bool) (seat : ℕ) (heard : List Noted) (b : HouseConnection) (what : What) (after : HouseConnection) → what ≡ Quit → b.gone ≡ false
+    → Proceeds k whole seat heard b what after
     → after.talk.pending ≡ []
 proceeds_quits k whole seat heard b what after q there (talks read (works none w)) = works_quits k whole seat b what after q w
 proceeds_quits k whole seat heard b what after q there (talks read (waits some unknown is same)) = absurd (not_submit (sym is ∙ q))

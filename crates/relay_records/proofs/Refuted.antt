@@ -1,5 +1,5 @@
--- A copy that stands as it was sent, and what the definition refuses: none, one of another text, one key at two places or in two mailboxes.
-use Rattle.std.proofs.Common.{◌≡◌, ℕ, zero, suc, ◌<◌, List, [], ◌∷◌, length, refl, ap, sym, ◌∙◌, arith}
+-- A copy that stands as it was sent, and what the definition refuses: none, one of another text, one key at two places or in two mailboxes. And a connection that has still to print.
+use Rattle.std.proofs.Common.{◌≡◌, ℕ, zero, suc, ◌<◌, List, [], ◌∷◌, length, refl, Option, Some, None, ap, sym, ◌∙◌, arith}
 use Rattle.std.specs.Prelude.{Contains, codes, slice_index_or}
 use Rattle.change_ring.specs.Log.{no_flags}
 use Rattle.delivery_token.specs.declared.CopyKey.{CopyKey}
@@ -11,6 +11,10 @@ use Rattle.relay_replies.specs.Handed.{Handed}
 use Rattle.relay_replies.specs.rows.HandedRows.{bob, home, message, path_to}
 use Rattle.world.specs.Law.{pairs}
 use Rattle.world.specs.World.{World, empty_world}
+use Rattle.house.specs.Setup.{terms_of}
+use Rattle.house_connection.specs.HouseConnection.{HouseConnection, greeted}
+use Rattle.relay_records.specs.Laws.{IsDone}
+use Rattle.relay_records.specs.rows.Rows.{left, opened, setup, start}
 use Rattle.relay_records.specs.Concluded.{StandsAsSent, StandsNowhere}
 
 abbrev key : CopyKey
@@ -122,3 +126,17 @@ other_text h = by h.mailbox (h.copy, h.uid) h.here (ap (λ (c : Job). c.text) h.
     by (suc zero) a (zero, l, same) e = differs _ (ap (λ (x : Job × ℕ). x.0.text) same ∙ e)
     by (suc zero) a (suc k, l, same) e = omega (arith, l)
     by (suc (suc m)) a c e = none_there a c
+
+-- ---- whether more is to be said
+
+-- one that has its greeting still to print
+not_done : IsDone (opened start 0 0) 0 0 → ⊥
+unfolding first_byte
+not_done h =
+    let quiet = h (greeted (terms_of setup start.shut) 0 0) refl refl in
+    let x : 50 ≡ 0 = ap first_byte quiet.1 in
+    omega (arith, x)
+
+-- and one that has left
+done_where_left : IsDone (left (opened start 0 0) 0) 0 0
+done_where_left b e s = absurd (let x : ◌≡◌ {A = Option HouseConnection} None (Some b) = e in cc)

@@ -15,7 +15,7 @@ use Rattle.house.specs.Printing.{marked_connection}
 use Rattle.house.specs.Scene.{Scene, seat_of}
 use Rattle.house.specs.Setup.{Setup, session_seat}
 use Rattle.house.specs.declared.event.Event.{Event}
-use Rattle.house.specs.declared.event.Event.TheVariants.{Bytes, Put, Hear, Vanish}
+use Rattle.house.specs.declared.event.Event.TheVariants.{Bytes, Put, Hear}
 use Rattle.exactly_once.specs.Promise.{IsOwn, Lines, Piece, Replies, Said, Silence, reply_of, serial_of, text_of}
 use Rattle.relay_records.specs.Record.{came_in, is_meant, told_in, vanishes_in}
 use Rattle.relay_records.proofs.Moving.{sent_by}
@@ -37,7 +37,8 @@ past_then k pasts s e piece seat n = record {
 }
 
 past_is : (past : Past) (came told : List ℕ) (gone : Bool) (more said : List ℕ) (left : Bool) → more ≡ came → said ≡ told → left ≡ gone
-    → ◌≡◌ {A = Past} (record { came = past.came ++ more; told = past.told ++ said; gone = past.gone || left }) (record { came = past.came ++ came; told = past.told ++ told; gone = past.gone || gone })
+    → ◌≡◌ {A = Past} (record { came = past.came ++ more; told = past.told ++ said; gone = past.gone || left })
+    (record { came = past.came ++ came; told = past.told ++ told; gone = past.gone || gone })
 past_is past came told gone more said left e f g =
     ap (λ (x : List ℕ). record { came = past.came ++ x; told = past.told ++ said; gone = past.gone || left }) e
     ∙ ap (λ (x : List ℕ). record { came = past.came ++ came; told = past.told ++ x; gone = past.gone || left }) f
@@ -160,7 +161,8 @@ pub nobody_known : (k : Setup) (pasts : (seat serial : ℕ) → Past) (s : Scene
 nobody_known k pasts s e piece v h bears none quiet seat l =
     seat_stays k seat (s.world.heard seat) (v.heard seat) (sent_by s.world seat) (sent_by v seat) (s.next seat) (pasts seat) (past_then k pasts s e piece seat) (s.caller seat)
     (bears.heard seat) (bears.sent seat l)
-    (λ n. past_is (pasts seat n) [] [] false (came_in seat n s e) (told_in k seat n s piece) (vanishes_in seat n s e) (none.came seat n) (quiet seat n) (none.gone seat n) ∙ past_same (pasts seat n)) (h.seats seat l)
+    (λ n. past_is (pasts seat n) [] [] false (came_in seat n s e) (told_in k seat n s piece) (vanishes_in seat n s e) (none.came seat n) (quiet seat n) (none.gone seat n) ∙ past_same
+    (pasts seat n)) (h.seats seat l)
 
 -- ---- a connection does something
 
@@ -174,7 +176,8 @@ other_past k pasts s e piece at bytes vanishes says brings seat n f =
     ∙ past_same (pasts seat n)
 
 -- and who is meant has more
-more_past : (k : Setup) (pasts : (seat serial : ℕ) → Past) (s : Scene) (e : Event) (piece : Piece) (at : ℕ) (bytes : List ℕ) (vanishes : Bool) → (says : Says k s at piece) → Brings s e at bytes vanishes
+more_past : (k : Setup) (pasts : (seat serial : ℕ) → Past) (s : Scene) (e : Event) (piece : Piece) (at : ℕ) (bytes : List ℕ) (vanishes : Bool) → (says : Says k s at piece)
+    → Brings s e at bytes vanishes
     → (seat n : ℕ) → is_meant seat n s at ≡ true
     → ◌≡◌ {A = Past} (past_then k pasts s e piece seat n)
     (record { came = (pasts seat n).came ++ bytes; told = (pasts seat n).told ++ wire k.host says.replies; gone = (pasts seat n).gone || vanishes })
@@ -211,7 +214,8 @@ pub here_known : (k : Setup) (pasts : (seat serial : ℕ) → Past) (s : Scene) 
 here_known k pasts s e piece at bytes vanishes v o next serial says brings is follows heard sent past new went =
     seat_went k at (s.world.heard at) (v.heard at) (sent_by s.world at) (sent_by v at) (next at) (pasts at) (past_then k pasts s e piece at) o serial heard sent
     (λ n d. other_past k pasts s e piece at bytes vanishes says brings at n (meant_other n s at (λ x. d (x ∙ sym is)))) follows past new
-    (subst (λ (x : Past). WentOn (own_terms k) at (v.heard at) (sent_by v at) x serial o) (sym (more_past k pasts s e piece at bytes vanishes says brings at serial (meant_here serial s at is))) went)
+    (subst (λ (x : Past). WentOn (own_terms k) at (v.heard at) (sent_by v at) x serial o)
+    (sym (more_past k pasts s e piece at bytes vanishes says brings at serial (meant_here serial s at is))) went)
 
 -- who stands at a seat
 pub at_caller : (k : Setup) (pasts : (seat serial : ℕ) → Past) (s : Scene) (at : ℕ) (o : Option HouseConnection) → SceneKnown k pasts s → at < k.connections → s.caller at ≡ o
@@ -231,7 +235,9 @@ stander_known k pasts s e piece at bytes vanishes v b o says brings there heard 
     (λ n l. h.later n (subst (λ (x : ℕ). x ≤ n) (sym h.there.0) l)) went
 
 -- what it came to, by whether its peer is gone
-pub went_gone : (g : Terms) (at : ℕ) (heard : List Noted) (sent : ℕ → List (LaneEntry Job)) (came now told : List ℕ) (gone left : Bool) (serial : ℕ) (o : Option HouseConnection) → came ≡ now → gone ≡ left
+pub went_gone : (g : Terms) (at : ℕ) (heard : List Noted) (sent : ℕ → List (LaneEntry Job)) (came now told : List ℕ) (gone left : Bool) (serial : ℕ) (o : Option HouseConnection) → came ≡ now
+    → gone ≡ left
     → WentOn g at heard sent (record { came = came; told = told; gone = gone }) serial o → WentOn g at heard sent (record { came = now; told = told; gone = left }) serial o
 went_gone g at heard sent came now told gone left serial o e f h =
-    subst (λ (x : List ℕ). WentOn g at heard sent (record { came = x; told = told; gone = left }) serial o) e (subst (λ (x : Bool). WentOn g at heard sent (record { came = came; told = told; gone = x }) serial o) f h)
+    subst (λ (x : List ℕ). WentOn g at heard sent (record { came = x; told = told; gone = left }) serial o) e
+    (subst (λ (x : Bool). WentOn g at heard sent (record { came = came; told = told; gone = x }) serial o) f h)

@@ -1,5 +1,5 @@
 -- What came for connections and what they were told, by the record of a worked case; and the keys of copies.
-use Rattle.std.specs.Prelude.{◌≡◌, ◌≢◌, ℕ, ◌+◌, codes, List, [], ◌∷◌, Some, None}
+use Rattle.std.specs.Prelude.{◌≡◌, ◌≢◌, ℕ, ◌+◌, false, true, codes, List, [], ◌∷◌, Some, None}
 use Rattle.std.specs.Borrow.{Bor}
 use Rattle.std.proofs.Common.{refl}
 use Rattle.delivery_token.specs.declared.Verdict.TheVariants.{Stored}
@@ -13,7 +13,7 @@ use Rattle.relay_replies.specs.rows.HandedRows.{home, the_submission}
 use Rattle.shard_queue.specs.At.{set_at}
 use Rattle.exactly_once.specs.Promise.{Entry, Other, Replies, Silence, Verdict}
 use Rattle.relay_records.specs.Concluded.{key_at}
-use Rattle.relay_records.specs.Record.{came_for, told_to}
+use Rattle.relay_records.specs.Record.{came_for, has_vanished, told_to}
 
 abbrev pub setup : Setup
 setup = record {
@@ -88,6 +88,16 @@ told_later = refl
 
 told_none : told_to setup 0 2 start entries ≡ []
 told_none = refl
+
+-- whose peer was gone: not that of the one that came to the seat later
+vanished_first : has_vanished 0 0 start entries ≡ true
+vanished_first = refl
+
+stays_at_the_other_seat : has_vanished 1 0 start entries ≡ false
+stays_at_the_other_seat = refl
+
+stays_later : has_vanished 0 1 start entries ≡ false
+stays_later = refl
 
 -- ---- keys
 
