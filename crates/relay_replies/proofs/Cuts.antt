@@ -14,7 +14,7 @@ use Rattle.lmtp_machine.specs.Replies.{reply_text, wire}
 use Rattle.relay_replies.specs.Relay.{last_lines, replies_of}
 use Rattle.relay_replies.specs.Laws.{IsInLine, last_line}
 
-abbrev is_inner : ℕ → Bool
+abbrev pub is_inner : ℕ → Bool
 is_inner b = not (b == 10)
 
 no_end : (b : Bool) → (b && false) ≡ true → ⊥
@@ -31,7 +31,7 @@ abbrev pub lines_of : List ℕ → Reply → List (List ℕ)
 lines_of host Extensions = (codes "250-" ++ host) ∷ codes "250-PIPELINING" ∷ codes "250-ENHANCEDSTATUSCODES" ∷ codes "250 8BITMIME" ∷ []
 lines_of host reply = reply_text host reply ∷ []
 
-around : (front host back : List ℕ) → list_all is_inner front ≡ true → list_all is_inner host ≡ true → list_all is_inner back ≡ true → list_all is_inner (front ++ (host ++ back)) ≡ true
+pub around : (front host back : List ℕ) → list_all is_inner front ≡ true → list_all is_inner host ≡ true → list_all is_inner back ≡ true → list_all is_inner (front ++ (host ++ back)) ≡ true
 around front host back f h b = list_all-append is_inner front (host ++ back) ∙ rw (list_all-append is_inner host back, f, h, b) refl
 
 one_uncut : (line : List ℕ) → list_all is_inner line ≡ true → All IsUncut (line ∷ [])
@@ -140,7 +140,7 @@ last_read host NulByte rest = refl
 abbrev pub all_lines : List ℕ → List Reply → List (List ℕ)
 all_lines host replies = flat_map (lines_of host) replies
 
-all_uncut : (host : List ℕ) (replies : List Reply) → IsInLine host → All IsUncut (all_lines host replies)
+pub all_uncut : (host : List ℕ) (replies : List Reply) → IsInLine host → All IsUncut (all_lines host replies)
 all_uncut host [] h = All-nil IsUncut
 all_uncut host (reply ∷ replies) h = All-append IsUncut (lines_of host reply) (all_lines host replies) (lines_uncut host reply h) (all_uncut host replies h)
 
@@ -148,7 +148,7 @@ joined-append : (xs ys : List (List ℕ)) → joined (xs ++ ys) ≡ joined xs ++
 joined-append [] ys = refl
 joined-append (x ∷ xs) ys = ap (λ (l : List ℕ). (x ++ crlf) ++ l) (joined-append xs ys) ∙ sym (append_assoc (x ++ crlf) (joined xs) (joined ys))
 
-all_joined : (host : List ℕ) (replies : List Reply) → joined (all_lines host replies) ≡ wire host replies
+pub all_joined : (host : List ℕ) (replies : List Reply) → joined (all_lines host replies) ≡ wire host replies
 all_joined host [] = refl
 all_joined host (reply ∷ replies) = joined-append (lines_of host reply) (all_lines host replies) ∙ ap (λ (l : List ℕ). l ++ joined (all_lines host replies)) (lines_joined host reply)
     ∙ ap (λ (l : List ℕ). (reply_text host reply ++ crlf) ++ l) (all_joined host replies)

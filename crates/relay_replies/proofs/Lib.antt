@@ -1,13 +1,13 @@
-mod Cuts
+pub mod Cuts
 mod Counts
-mod Fronts
+pub mod Fronts
 mod Asks
 mod Turned
 mod Steps
 mod Known
-mod Taken
-mod Concluding
-mod Connected
-mod Numbered
-mod Keyed
+pub mod Taken
+pub mod Concluding
+pub mod Connected
+pub mod Numbered
+pub mod Keyed
 mod Refuted

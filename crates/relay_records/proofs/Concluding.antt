@@ -1,0 +1,95 @@
+-- What a relay may conclude, by the record of a house.
+use Rattle.std.proofs.Common.{◌≡◌, ℕ, ◌<◌, ◌≤◌, ◌⊎◌, inl, inr, false, List, [], ◌∷◌, ◌++◌, refl, subst, ◌∙◌, arith, Some}
+use Rattle.std.specs.Prelude.{Contains}
+use Rattle.std.proofs.lemmas.Bool.{cases_lt}
+use Rattle.delivery_token.specs.declared.Job.{Job}
+use Rattle.house.specs.Scene.{Scene, empty_scene}
+use Rattle.house.specs.Setup.{Setup}
+use Rattle.shard_queue.specs.declared.lane.Entry.TheVariants.{Item}
+use Rattle.exactly_once.specs.Promise.{IsRecord}
+use Rattle.script.specs.Promise.{AreParts, OfHouse, Part, Refusal, Window, entries_of}
+use Rattle.world.specs.World.{shard_of}
+use Rattle.world.proofs.Always.{always, kept_always}
+use Rattle.world.proofs.Kept.{Kept}
+use Rattle.relay_records.specs.Concluded.{KnowsAll, MayConclude}
+use Rattle.relay_records.specs.Laws.{ByTheRecord, IsDone, OfAllEvents, OfScripts}
+use Rattle.relay_records.specs.Record.{came_for, has_vanished, told_to}
+use Rattle.relay_records.proofs.Happening.{no_pasts, nothing_known, past_after, record_known}
+use Rattle.relay_records.proofs.Histories.{every_in, history_was_put}
+use Rattle.relay_records.proofs.Joined.{connection_concludes, connection_knows_all}
+use Rattle.relay_records.proofs.Moving.{sent_by}
+use Rattle.relay_records.proofs.Printed.{HasEnded}
+use Rattle.relay_records.proofs.Scenes.{SceneKnown}
+use Rattle.relay_records.proofs.Seated.{IsOneOf}
+use Rattle.relay_records.proofs.Seats.{Opened, opened_below, own_terms}
+
+pub by_the_record : ByTheRecord
+by_the_record k entries after steps in_line r came = record { each = each; all = knows_all; opened = opened }
+  where
+    all : SceneKnown k (past_after k no_pasts (empty_scene k) entries) after
+    all = record_known k no_pasts (empty_scene k) entries after in_line (nothing_known k) r
+
+    kept : Kept k.config after.world
+    kept = kept_always k.config steps after.world came
+
+    each : (seat serial : ℕ) → seat < k.connections → serial < after.next seat → (later told untold : List ℕ) → told ++ untold ≡ told_to k seat serial (empty_scene k) entries
+        → MayConclude k.host k.directory after.world seat serial (came_for seat serial (empty_scene k) entries ++ later) told
+    each seat serial l m later told untold e =
+        let was = opened_below k seat (after.world.heard seat) (sent_by after.world seat) (after.next seat) (past_after k no_pasts (empty_scene k) entries seat) (after.caller seat)
+        (all.seats seat l) serial m in
+        subst (λ (n : ℕ). MayConclude k.host k.directory after.world seat n (came_for seat serial (empty_scene k) entries ++ later) told) was.serial_is
+        (connection_concludes k.config after.world kept (always k.config steps after.world came) (own_terms k) in_line seat was.last (came_for seat serial (empty_scene k) entries)
+        (told_to k seat serial (empty_scene k) entries) was.known later told untold e)
+
+    knows_all : (seat serial : ℕ) → seat < k.connections → serial < after.next seat → has_vanished seat serial (empty_scene k) entries ≡ false → IsDone after seat serial
+        → (later : List ℕ) → KnowsAll k.host k.directory after.world seat serial (came_for seat serial (empty_scene k) entries ++ later) (told_to k seat serial (empty_scene k) entries)
+    knows_all seat serial l m stays done later = by was.ended
+      where
+        was : Opened k seat (after.world.heard seat) (sent_by after.world seat) serial (past_after k no_pasts (empty_scene k) entries seat serial) (after.caller seat)
+        was = opened_below k seat (after.world.heard seat) (sent_by after.world seat) (after.next seat) (past_after k no_pasts (empty_scene k) entries seat) (after.caller seat)
+            (all.seats seat l) serial m
+
+        there : was.last.gone ≡ false
+        there = was.gone_is ∙ stays
+
+        knows : (was.last.talk.pending ≡ []) × (was.last.talk.unsaid ≡ [])
+            → KnowsAll k.host k.directory after.world seat serial (came_for seat serial (empty_scene k) entries ++ later) (told_to k seat serial (empty_scene k) entries)
+        knows q = subst (λ (n : ℕ). KnowsAll k.host k.directory after.world seat n (came_for seat serial (empty_scene k) entries ++ later)
+            (told_to k seat serial (empty_scene k) entries)) was.serial_is
+            (connection_knows_all k.config after.world kept (always k.config steps after.world came) (own_terms k) in_line seat was.last (came_for seat serial (empty_scene k) entries)
+            (told_to k seat serial (empty_scene k) entries) was.known there q.0 q.1 later)
+
+        by : HasEnded was.last ⊎ (after.caller seat ≡ Some was.last) → KnowsAll k.host k.directory after.world seat serial (came_for seat serial (empty_scene k) entries ++ later)
+            (told_to k seat serial (empty_scene k) entries)
+        by (inl ended) = knows (ended there)
+        by (inr stands) = knows (done was.last stands was.serial_is)
+
+    opened : (mailbox : ℕ) (entry : Job × ℕ) → Contains (after.world.box mailbox).accepted entry → entry.0.key.seat < k.connections → entry.0.key.serial < after.next entry.0.key.seat
+    opened mailbox entry there l = by (cases_lt entry.0.key.serial (after.next (entry.0.key.seat)))
+      where
+        none : Contains [] entry.0 → ⊥
+        none c = let x = c.1 in omega (arith, x)
+
+        by : (entry.0.key.serial < after.next (entry.0.key.seat)) ⊎ (after.next (entry.0.key.seat) ≤ entry.0.key.serial) → entry.0.key.serial < after.next (entry.0.key.seat)
+        by (inl x) = x
+        by (inr x) =
+            let put = history_was_put k.config after.world kept mailbox entry there in
+            let new = (all.seats (entry.0.key.seat) l).later entry.0.key.serial x in
+            absurd (none (every_in (IsOneOf entry.0.key.serial []) (Item (entry.0.key.seat) entry.0) (sent_by after.world (entry.0.key.seat) (shard_of k.config mailbox))
+            (new.1 (shard_of k.config mailbox)) put.1 refl))
+
+pub of_all_events : OfAllEvents
+of_all_events k events after printed in_line once = by_the_record k once.entries after once.steps in_line once.leads once.came
+
+-- ---- of scripts
+
+-- the house's entries among the parts are a record
+parts_record : (k : Setup) (parts : List Part) (s t : Scene) → AreParts k parts s t → IsRecord k (entries_of parts) s t
+parts_record k [] s t h = h
+parts_record k (OfHouse entry ∷ parts) s t h = (h.0, parts_record k parts entry.after t h.1)
+parts_record k (Refusal number why ∷ parts) s t h = parts_record k parts s t h.1
+parts_record k (Window word box ∷ parts) s t h = parts_record k parts s t h.1
+
+pub of_scripts : OfScripts
+of_scripts k count after printed in_line once =
+    by_the_record k (entries_of once.parts) after once.steps in_line (parts_record k once.parts (empty_scene k) after once.leads) once.came

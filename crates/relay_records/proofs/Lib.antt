@@ -1,0 +1,16 @@
+mod Marked
+mod Seated
+mod Moving
+mod Histories
+mod Copies
+mod Fronts
+mod Joined
+mod Printed
+mod Sessions
+mod Worlds
+mod Seats
+mod Scenes
+mod Happening
+mod Concluding
+mod Names
+mod Refuted

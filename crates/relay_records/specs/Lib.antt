@@ -1,0 +1,4 @@
+pub mod Concluded
+pub mod Record
+pub mod Laws
+pub mod rows
