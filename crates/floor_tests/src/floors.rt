@@ -1,5 +1,8 @@
 //! A small house: two shards, two producers, alice with a folder, and bob.
 
+ghost use Rattle.std.specs.Prelude.{◌≡◌, ◌≢◌, ◌<◌, All, IfOk, None, is_none, length, vec_len};
+ghost use Rattle.house_floor.specs.Users.{user_numbered};
+
 use envelope::Directory;
 use house_floor::{Opened, Sizes, Visit, inbox_numbered, open};
 use mailbox::{History, Limits};
@@ -34,6 +37,26 @@ fn leave(opened: Opened) -> ManuallyDrop<Opened> {
     unsafe { ManuallyDrop::new_unchecked(opened) }
 }
 
+// The sizes of a small house in which nobody closes a shard.
+fn sizes() -> Sizes<'static>
+    ensures depth { 0 < result.depth }
+    ensures host { length result.host.now < 256 }
+    ensures ring { 0 < result.limits.ring }
+{
+    Sizes {
+        host: b"mx.example.org",
+        max_message: 1000,
+        producers: 2,
+        depth: 4,
+        uidvalidity: 7,
+        first_uid: 1,
+        limits: LIMITS,
+        history: History::Kept,
+        turns: 10,
+        closings: &[],
+    }
+}
+
 #[test]
 fn users_are_numbered_by_their_inboxes(rt: HostRuntime) -> Result<(), Fail> {
     let directory = directory(rt.alloc())?;
@@ -43,32 +66,45 @@ fn users_are_numbered_by_their_inboxes(rt: HostRuntime) -> Result<(), Fail> {
     Ok(())
 }
 
-#[test]
-fn each_mailbox_has_the_bells_of_its_user(rt: HostRuntime) -> Result<(), Fail> {
-    let alloc = rt.alloc();
-    let directory = directory(alloc)?;
+// Whether there is no user of this number.
+fn is_nobody(directory: &Directory, user: u8) -> bool
+    ensures { result ≡ is_none (user_numbered user directory.now.homes) }
+{
+    inbox_numbered(directory, user).is_none()
+}
+
+// A session of this user alone, where there is such a user.
+fn visits_of(alloc: Global, directory: &Directory, user: u8) -> Result<Vec<Visit>, Fail>
+    ensures users { IfOk result (λ vs. All (λ v. user_numbered v.user directory.now.homes ≢ None) vs.items) }
+    ensures one { IfOk result (λ vs. vec_len vs ≡ 1) }
+{
+    if is_nobody(directory, user) {
+        return Err(Fail::new("no such user"));
+    }
     let mut visits = Vec::new(alloc);
     visits.push(Visit {
-        user: 1,
+        user,
         steps: Vec::new(alloc),
     })?;
-    let sizes = Sizes {
-        host: b"mx.example.org".as_slice(),
-        max_message: 1000,
-        producers: 2,
-        depth: 4,
-        uidvalidity: 7,
-        first_uid: 1,
-        limits: LIMITS,
-        history: History::Kept,
-        turns: 10,
-        closings: &[],
-    };
-    let opened = open(alloc, directory, sizes, &visits)?;
+    Ok(visits)
+}
+
+// How many bells each mailbox has, as digits of a number.
+fn bells_in(opened: &Opened) -> usize {
     let mut bells = 0usize;
     for list in &opened.floor.depot.sessions {
         bells = bells.wrapping_mul(10).wrapping_add(list.len());
     }
+    bells
+}
+
+#[test]
+fn each_mailbox_has_the_bells_of_its_user(rt: HostRuntime) -> Result<(), Fail> {
+    let alloc = rt.alloc();
+    let directory = directory(alloc)?;
+    let visits = visits_of(alloc, &directory, 1)?;
+    let opened = open(alloc, directory, sizes(), &visits)?;
+    let bells = bells_in(&opened);
     let _left = leave(opened);
     assert!(&rt; bells == 1);
     Ok(())
@@ -78,19 +114,7 @@ fn each_mailbox_has_the_bells_of_its_user(rt: HostRuntime) -> Result<(), Fail> {
 fn a_house_has_all_its_parts(rt: HostRuntime) -> Result<(), Fail> {
     let alloc = rt.alloc();
     let directory = directory(alloc)?;
-    let sizes = Sizes {
-        host: b"mx.example.org".as_slice(),
-        max_message: 1000,
-        producers: 2,
-        depth: 4,
-        uidvalidity: 7,
-        first_uid: 1,
-        limits: LIMITS,
-        history: History::Kept,
-        turns: 10,
-        closings: &[],
-    };
-    let opened = open(alloc, directory, sizes, &[])?;
+    let opened = open(alloc, directory, sizes(), &[])?;
     let threads = (opened.crew.stands.len(), opened.crew.posts.len());
     let mailboxes = opened.floor.depot.mailboxes.len();
     let _left = leave(opened);

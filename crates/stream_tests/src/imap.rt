@@ -522,11 +522,11 @@ fn idle_in<'a, R: Threads + Wait + Sync>(
 }
 
 // Whether a client that idles so was served to its end, and its line was hushed where it said nothing.
-fn idle_through<R: Threads + Wait + Sync>(
-    rt: &R,
+fn idle_through<'x, R: Threads + Wait + Sync>(
+    rt: &'x R,
     alloc: Global,
-    bytes: &Mutex<Vec<u8>>,
-    nap: &Nap,
+    bytes: &'x Mutex<Vec<u8>>,
+    nap: &'x Nap,
 ) -> Result<bool, AllocError> {
     let mailboxes = a_mailbox(rt, alloc, false)?;
     let job = copy(alloc)?;
