@@ -1,0 +1,11 @@
+mod Boxes
+mod Logs
+mod Worlds
+mod Names
+mod Seen
+mod Moved
+mod Folders
+mod Parts
+mod Entering
+mod Known
+mod Living

@@ -1,0 +1,6 @@
+pub mod Sizes
+pub mod Views
+pub mod Laws
+pub mod Clients
+pub mod Turns
+pub mod Lives

@@ -1,0 +1,42 @@
+//! Laws of what a client reads of a house, as functions that do nothing: what its session counts in every world, what its calls
+//! come to, its turns, and its whole life.
+
+ghost use Rattle.client_records.specs.Laws.{CallsAreSeen, CountedAreGiven, EntriesAreCounted, LeaversCountNothing, OthersLeaveViews, UidsStay, ViewsAreNumbered};
+ghost use Rattle.client_records.specs.Lives.{LivesAreKnown};
+ghost use Rattle.client_records.specs.Turns.{StandsStill, TurnIsKnown};
+
+/// In every world that came from the empty one: the UIDs and the places of what a session counts can be printed, and what
+/// others do leaves it as it was. What a call of the session shows may be shown to its client, what is read is the row of the
+/// UID that was asked for, and what is counted can be printed. A session that enters a mailbox counts all that is there, as
+/// many as it tells, and one that leaves counts nothing.
+pub fn calls_are_seen()
+    ensures numbered { ViewsAreNumbered }
+    ensures others { OthersLeaveViews }
+    ensures calls { CallsAreSeen }
+    ensures entries { EntriesAreCounted }
+    ensures leavers { LeaversCountNothing }
+{}
+
+/// A client that comes again, and compares by UID: a UID that was given is the name of one copy for good. Whatever happened
+/// since, a message that is there under it was there already, and is the same copy; what is gone doesn't come back (RFC 9051,
+/// 2.3.1.1). Each UID that a session counts was given.
+pub fn uids_stay()
+    ensures same { UidsStay }
+    ensures given { CountedAreGiven }
+{}
+
+/// A client that knows which of its lines were SELECT, EXAMINE, CLOSE or UNSELECT, and was right about what its session counts
+/// before a turn, hears what is said in it, and is right about what the session counts then; whatever it sent, whatever is
+/// answered, and wherever the store or memory refuses. Of the session it is asked that its mailboxes' names stand in lines,
+/// and that its tags are tags; it stays so.
+pub fn turns_are_known()
+    ensures turn { TurnIsKnown }
+    ensures stands { StandsStill }
+{}
+
+/// So it is at each moment of a session's life, with all that others do between its turns: since a SELECT or EXAMINE was
+/// answered OK, the client's list is as long as what the session counts, each UID that it knows is the one at that place, and
+/// no number was out of its list.
+pub fn lives_are_known()
+    ensures { LivesAreKnown }
+{}
