@@ -76,7 +76,7 @@ at_star tag rest t = ap (λ (b : Bool). b || has_ok false tag rest) none
     none : begins (tag ++ codes " OK ") (42 ∷ rest) ≡ false
     none = ap (λ (g : List ℕ). begins (g ++ codes " OK ") (42 ∷ rest)) t.is ∙ ap (λ (b : Bool). b && begins (t.others ++ codes " OK ") rest) t.no_star
 
-refusal_has_none : (tag : List ℕ) (fault : MailFault) → IsTag tag → has_ok true tag (refusal_text tag fault) ≡ false
+pub refusal_has_none : (tag : List ℕ) (fault : MailFault) → IsTag tag → has_ok true tag (refusal_text tag fault) ≡ false
 refusal_has_none tag Stranger t = at_star tag _ t
 refusal_has_none tag Lapped t = at_star tag _ t
 refusal_has_none tag Spent t = tagged_has tag (codes "NO Mailbox is spent") t
@@ -109,10 +109,10 @@ only_closed now text how turn e = record {
   events = ap (λ (t : Turn). t.events) (sym e) ∙ closed_quiet now how;
 }
 
-only_refused : (tag : List ℕ) (now : Standing) (fault : MailFault) (turn : Turn) → Some (refused tag now fault) ≡ Some turn → Only (refusal_text tag fault) turn
+pub only_refused : (tag : List ℕ) (now : Standing) (fault : MailFault) (turn : Turn) → Some (refused tag now fault) ≡ Some turn → Only (refusal_text tag fault) turn
 only_refused tag now fault turn e = only_closed now (refusal_text tag fault) (refusal_after fault) turn (ap (the_turn turn) e)
 
-only_done : (tag words : List ℕ) (how : After) (now : Standing) (answers : List Answer) (turn : Turn) → played tag now (Done words how) answers ≡ Some turn → Only (tagged tag words) turn
+pub only_done : (tag words : List ℕ) (how : After) (now : Standing) (answers : List Answer) (turn : Turn) → played tag now (Done words how) answers ≡ Some turn → Only (tagged tag words) turn
 only_done tag words how now [] turn e = only_closed now (tagged tag words) how turn (ap (the_turn turn) e)
 only_done tag words how now (a ∷ more) turn e = absurd (none-some turn e)
 
@@ -121,7 +121,7 @@ pub record Mapped (f : Turn → Turn) (rest : Option Turn) (turn : Turn) : Type 
   pub is : rest ≡ Some more
   pub makes : f more ≡ turn
 
-mapped : (f : Turn → Turn) (rest : Option Turn) (turn : Turn) → option_map f rest ≡ Some turn → Mapped f rest turn
+pub mapped : (f : Turn → Turn) (rest : Option Turn) (turn : Turn) → option_map f rest ≡ Some turn → Mapped f rest turn
 mapped f None turn e = absurd (none-some turn e)
 mapped f (Some more) turn e = record { more = more; is = refl; makes = ap (the_turn turn) e }
 

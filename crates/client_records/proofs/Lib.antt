@@ -9,3 +9,5 @@ mod Parts
 mod Entering
 mod Known
 mod Living
+mod Current
+mod Talked

@@ -4,3 +4,4 @@ pub mod Laws
 pub mod Clients
 pub mod Turns
 pub mod Lives
+pub mod Current

@@ -1,6 +1,7 @@
 //! Laws of what a client reads of a house, as functions that do nothing: what its session counts in every world, what its calls
 //! come to, its turns, and its whole life.
 
+ghost use Rattle.client_records.specs.Current.{DoneMakesCurrent, NoopMakesCurrent};
 ghost use Rattle.client_records.specs.Laws.{CallsAreSeen, CountedAreGiven, EntriesAreCounted, LeaversCountNothing, OthersLeaveViews, UidsStay, ViewsAreNumbered};
 ghost use Rattle.client_records.specs.Lives.{LivesAreKnown};
 ghost use Rattle.client_records.specs.Turns.{StandsStill, TurnIsKnown};
@@ -39,4 +40,11 @@ pub fn turns_are_known()
 /// no number was out of its list.
 pub fn lives_are_known()
     ensures { LivesAreKnown }
+{}
+
+/// Where a NOOP, or the DONE of an IDLE, is answered OK in a mailbox that is selected, what the session counts is all that is
+/// there at that moment. So a client's list is the mailbox as it is (RFC 9051, 6.1.2; RFC 2177).
+pub fn lists_are_current()
+    ensures noop { NoopMakesCurrent }
+    ensures done { DoneMakesCurrent }
 {}

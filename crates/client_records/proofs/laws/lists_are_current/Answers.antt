@@ -1,0 +1,8 @@
+use Rattle.client_records.proofs.Current.{done_makes_current, noop_makes_current}
+use Rattle.client_records.proofs.laws.lists_are_current.Goals as goal
+
+pub returns-clause-noop : goal.returns-clause-noop
+returns-clause-noop c = noop_makes_current
+
+pub returns-clause-done : goal.returns-clause-done
+returns-clause-done c = done_makes_current

@@ -1,0 +1,36 @@
+-- When a client's list is the mailbox as it is now.
+use Rattle.std.specs.Prelude.{◌≡◌, ℕ, Bool, true, List, Option, Some, None, Ok}
+use Rattle.world.specs.World.{Config, Event, IsWorld, Session, World}
+use Rattle.imap_grammar.specs.Reading.{is_done, read}
+use Rattle.imap_grammar.specs.declared.command.Command.TheVariants.{Noop}
+use Rattle.imap_session.specs.declared.standing.Selected.{Selected}
+use Rattle.imap_session.specs.Exchange.{Call, Answer, Standing, Turn, kept_tag}
+use Rattle.imap_session.specs.Commands.{turn_of}
+use Rattle.imap_session.specs.Store.{Met}
+use Rattle.session_store.specs.Meets.{Meets}
+use Rattle.client_records.specs.Clients.{has_ok}
+use Rattle.client_records.specs.Turns.{Stands}
+use Rattle.client_records.specs.Views.{messages_of, view_of}
+
+-- what session n counts is all that is in its mailbox, where it has selected one
+abbrev pub IsCurrent : World → ℕ → Type 0
+IsCurrent w n = (s : Session) → w.session n ≡ Some s → view_of w n ≡ messages_of (w.box s.mailbox)
+
+-- a line of session n, which had selected a mailbox and stood so, was answered by this turn in the world
+pub record IsAnswered (k : Config) (n : ℕ) (now : Standing) (line : List ℕ) (w : World) (turn : Turn) (v : World) : Type 0 where
+  pub selected : Selected
+  pub there : now.selected ≡ Some selected
+  pub stands : Stands now
+  pub answers : List Answer
+  pub answered : turn_of now line answers ≡ Some turn
+  pub met : Met (λ (w : World) (call : Call) (answer : Answer) (v : World). Meets k n w call answer v) w turn.events v
+
+-- a NOOP that is answered OK (RFC 9051, 6.1.2)
+abbrev pub NoopMakesCurrent : Type 0
+NoopMakesCurrent = (k : Config) (events : List Event) (n : ℕ) (now : Standing) (line tag : List ℕ) (w : World) (turn : Turn) (v : World) → IsWorld k events w → IsAnswered k n now line w turn v
+    → kept_tag now ≡ None → read line ≡ Ok (tag, Noop) → has_ok true tag turn.bytes ≡ true → IsCurrent v n
+
+-- DONE, where the IDLE that it ends is answered OK (RFC 2177)
+abbrev pub DoneMakesCurrent : Type 0
+DoneMakesCurrent = (k : Config) (events : List Event) (n : ℕ) (now : Standing) (line tag : List ℕ) (w : World) (turn : Turn) (v : World) → IsWorld k events w → IsAnswered k n now line w turn v
+    → now.mailing.begun ≡ None → now.idling ≡ Some tag → is_done line ≡ true → has_ok true tag turn.bytes ≡ true → IsCurrent v n
