@@ -11,3 +11,7 @@ mod Known
 mod Living
 mod Current
 mod Talked
+mod Folded
+mod Recording
+mod Entries
+mod Keeping

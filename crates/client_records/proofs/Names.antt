@@ -66,7 +66,7 @@ in_replay x view (Gone uid ∷ cs) h = by (in_replay x (without uid view) cs h)
     by (inr later) = inr later
 in_replay x view (SetFlags uid flags ∷ cs) h = in_replay x view cs h
 
-in_range : (x a n : ℕ) → IsIn x (range_with_len a n) → (a ≤ x) × (x < a + n)
+pub in_range : (x a n : ℕ) → IsIn x (range_with_len a n) → (a ≤ x) × (x < a + n)
 in_range x a zero h = absurd h
 in_range x a (suc n) (inl same) = (omega (arith, same), omega (arith, same))
 in_range x a (suc n) (inr more) = let r = in_range x (a + 1) n more in (omega (arith, r.0), omega (arith, r.1))
@@ -111,7 +111,7 @@ steps_extend k w (x ∷ es) v m (u, one, others) = extends_then (w.box m) (u.box
 
 -- ---- UIDs and copies
 
-abbrev numbers : List (Job × ℕ) → List ℕ
+abbrev pub numbers : List (Job × ℕ) → List ℕ
 numbers accepted = map (λ a. a.1) accepted
 
 copy_named : (u : ℕ) (xs : List (Job × ℕ)) → IsIn u (numbers xs) → (c : Job) × IsIn (c, u) xs

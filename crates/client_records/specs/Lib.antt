@@ -5,3 +5,4 @@ pub mod Clients
 pub mod Turns
 pub mod Lives
 pub mod Current
+pub mod Records

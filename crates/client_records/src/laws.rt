@@ -4,6 +4,7 @@
 ghost use Rattle.client_records.specs.Current.{DoneMakesCurrent, NoopMakesCurrent};
 ghost use Rattle.client_records.specs.Laws.{CallsAreSeen, CountedAreGiven, EntriesAreCounted, LeaversCountNothing, OthersLeaveViews, UidsStay, ViewsAreNumbered};
 ghost use Rattle.client_records.specs.Lives.{LivesAreKnown};
+ghost use Rattle.client_records.specs.Records.{ClientsKeepUp, ClientsOfHousesKeepUp, SettingsCanBePrinted};
 ghost use Rattle.client_records.specs.Turns.{StandsStill, TurnIsKnown};
 
 /// In every world that came from the empty one: the UIDs and the places of what a session counts can be printed, and what
@@ -47,4 +48,14 @@ pub fn lives_are_known()
 pub fn lists_are_current()
     ensures noop { NoopMakesCurrent }
     ensures done { DoneMakesCurrent }
+{}
+
+/// Over any record of a house that was new, of whatever events: the client of each session that is there, by all that it sent
+/// since it was let in and all that was printed to it since, is right about what its session counts, wherever it is in a mailbox
+/// that it knows: since a SELECT or EXAMINE was answered OK. Of the house it is asked that numbers and names can be printed,
+/// which settings that are right see to, and that no text of 4 GiB was accepted.
+pub fn clients_keep_up()
+    ensures record { ClientsKeepUp }
+    ensures house { ClientsOfHousesKeepUp }
+    ensures settings { SettingsCanBePrinted }
 {}
