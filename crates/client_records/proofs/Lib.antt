@@ -15,3 +15,4 @@ mod Folded
 mod Recording
 mod Entries
 mod Keeping
+mod Refuted

@@ -2,12 +2,14 @@
 use Rattle.std.proofs.Common.{◌≡◌, ℕ, zero, suc, ◌+◌, ◌<◌, ◌≤◌, ◌⊎◌, inl, inr, Bool, true, false, ◌==◌, List, [], ◌∷◌, ◌++◌, map, length, take, drop, Contains, refl, sym, subst, ap, ap₂, ◌∙◌, arith, length-append, append-nil, append_assoc}
 use Rattle.std.specs.Prelude.{if◌then◌else◌}
 use Rattle.std.specs.List.{range_with_len}
+use Rattle.std.proofs.lemmas.Bool.{eq-eqb, eqb-true, false≢true}
 use Rattle.std.proofs.lemmas.List.{take-append-drop}
 use Rattle.delivery_token.specs.declared.Job.{Job}
 use Rattle.change_ring.specs.declared.change.Change.{Change}
 use Rattle.change_ring.specs.declared.change.Change.TheVariants.{Add, Gone, Flags as SetFlags}
 use Rattle.change_ring.specs.Log.{Row, added, replay, rows_of, view_at, without}
 use Rattle.change_ring.proofs.LogLaws.{added-append, replay-append, uids-rows_after}
+use Rattle.delivery_core.specs.Clients.{text_with}
 use Rattle.world.specs.World.{Config, World, Box, Session, Event, Step, Steps, IsWorld, next_uid}
 use Rattle.world.proofs.Kept.{Kept, BoxOk}
 use Rattle.world.proofs.Always.{kept_always, kept_steps}
@@ -154,6 +156,17 @@ one_copy a (x ∷ xs) e c d u h i = by (λ s t. one_copy (a + 1) xs (ap the_rest
     by more (inr s) (inl t) = absurd (omega (arith, here d t, behind c s))
     by more (inr s) (inr t) = more s t
 
+-- the text that is told of a UID is that of a copy under it
+told_text : (u : ℕ) (xs : List (Job × ℕ)) → IsIn u (numbers xs) → (c : Job) × IsIn (c, u) xs × (text_with u xs ≡ c.text)
+told_text u [] h = absurd h
+told_text u (x ∷ xs) h = by (x.1 == u) refl h (λ t. told_text u xs t)
+  where
+    by : (b : Bool) → (x.1 == u) ≡ b → IsIn u (x.1 ∷ numbers xs) → (IsIn u (numbers xs) → (c : Job) × IsIn (c, u) xs × (text_with u xs ≡ c.text))
+        → (c : Job) × IsIn (c, u) (x ∷ xs) × ((if b then x.0.text else text_with u xs) ≡ c.text)
+    by true e there more = (x.0, inl (ap (λ n. (x.0, n)) (sym (eqb-true x.1 u e))), refl)
+    by false e (inl s) more = absurd (false≢true (sym e ∙ eq-eqb x.1 u (sym s)))
+    by false e (inr there) more = let m = more there in (m.0, inr m.1, m.2)
+
 -- what a log added is the numbers of its history
 given : (k : Config) (b : Box) → BoxOk k b → (u : ℕ) → IsIn u (added b.log) → u < next_uid k b
 given k b B u h = (in_range u k.first_uid (length b.accepted) (subst (IsIn u) B.counted h)).1
@@ -228,6 +241,8 @@ uids_stay k events w later v m uid is steps old there = (is_in_contains uid (mes
       copy = copy.0;
       was = is_in_contains (copy.0, uid) (w.box m).accepted copy.1;
       still = is_in_contains (copy.0, uid) (v.box m).accepted still;
+      text = (let t = told_text uid (v.box m).accepted (number_in copy.0 uid (v.box m).accepted still) in
+          t.2 ∙ ap (λ (c : Job). c.text) (one_copy k.first_uid (v.box m).accepted (sym (L.boxes m).given ∙ (L.boxes m).counted) copy.0 t.0 uid still t.1));
       alone = λ other also.
           one_copy k.first_uid (v.box m).accepted (sym (L.boxes m).given ∙ (L.boxes m).counted) copy.0 other uid still (is_in (other, uid) (v.box m).accepted also);
     }

@@ -6,3 +6,4 @@ pub mod Turns
 pub mod Lives
 pub mod Current
 pub mod Records
+pub mod rows

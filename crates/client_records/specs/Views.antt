@@ -3,6 +3,7 @@ use Rattle.std.specs.Prelude.{◌≡◌, ◌≢◌, ℕ, ◌<◌, ◌^◌, List,
 use Rattle.mailbox.specs.declared.clients.Opening.{Opening}
 use Rattle.delivery_token.specs.declared.Job.{Job}
 use Rattle.change_ring.specs.Log.{Row, rows_of, view_at}
+use Rattle.delivery_core.specs.Clients.{text_with}
 use Rattle.world.specs.World.{World, Box, Session, Event, Enter, Read, Store, Expunge, Feed, Leave}
 
 -- the UIDs that the log of its mailbox leaves, up to the session's cursor; none where it has selected no mailbox
@@ -37,9 +38,10 @@ pub record IsOpened (opening : Opening) (b : Box) (view : List ℕ) : Type 0 whe
 
 -- ---- a client that comes again
 
--- Under this UID stood one copy in the mailbox's history as it was, and the same stands there now, and no other.
+-- Under this UID stood one copy in the mailbox's history as it was, and the same stands there now, and no other. So a FETCH tells the same text of it.
 pub record NamesTheSame (uid : ℕ) (before now : Box) : Type 0 where
   pub copy : Job
   pub was : Contains before.accepted (copy, uid)
   pub still : Contains now.accepted (copy, uid)
   pub alone : (other : Job) → Contains now.accepted (other, uid) → other ≡ copy
+  pub text : text_with uid now.accepted ≡ copy.text
