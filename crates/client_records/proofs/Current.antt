@@ -14,7 +14,7 @@ use Rattle.cursor_set.specs.Lines.{lines}
 use Rattle.world.specs.World.{Config, Event, IsWorld, Session, World, pending, shows}
 use Rattle.world.specs.Law.{IsShown}
 use Rattle.world.proofs.Kept.{Kept, SessionOk}
-use Rattle.world.proofs.Always.{kept_always}
+use Rattle.world.proofs.Always.{kept_always, kept_step}
 use Rattle.delivery_core.specs.Clients.{Done as Was_done}
 use Rattle.imap_grammar.specs.Reading.{is_done, read}
 use Rattle.imap_grammar.specs.declared.command.Command.{Command}
@@ -23,18 +23,24 @@ use Rattle.imap_grammar.specs.declared.command.ImapFault.{ImapFault}
 use Rattle.imap_session.specs.declared.standing.After.{After}
 use Rattle.imap_session.specs.declared.standing.After.TheVariants.{Go}
 use Rattle.imap_session.specs.declared.standing.Selected.{Selected}
-use Rattle.imap_session.specs.Exchange.{Answer, Entered, Looked, Found, Counted, Altered, Expunged, Fed, Left, Refused, Starved, Appending, Event as Happened, Done, Feed, Standing, Turn, having, kept_behind, played, refused, saying}
+use Rattle.imap_session.specs.Exchange.{Answer, Entered, Looked, Found, Counted, Altered, Expunged, Fed, Left, Refused, Starved, Appending, Event as Happened, Done, Feed, Standing, Turn, having, kept_behind, kept_tag, played, refused, saying}
 use Rattle.imap_session.specs.Commands.{completed, on_idle_line, on_read, says, showing, turn_behind, turn_while, unlimited}
 use Rattle.imap_session.specs.Store.{Met}
 use Rattle.session_store.specs.Meets.{Meets}
+use Rattle.line_io.specs.Wire.{crlf}
+use Rattle.client_list.specs.Talks.{Line}
 use Rattle.client_list.specs.Turns.{IsTag}
 use Rattle.client_list.proofs.Tags.{tags_are_tags}
 use Rattle.client_list.proofs.Turns.{the_turn}
-use Rattle.client_records.specs.Clients.{has_ok}
-use Rattle.client_records.specs.Current.{DoneMakesCurrent, IsAnswered, IsCurrent, NoopMakesCurrent}
+use Rattle.client_records.specs.Clients.{Answer as Answer_to, IsRightAbout, Told, has_ok, hears_all}
+use Rattle.client_records.specs.Lives.{Lives, turns}
+use Rattle.client_records.specs.Turns.{told_line, told_of}
+use Rattle.client_records.specs.Current.{DoneMakesCurrent, FeedsMakeCurrent, IsAnswered, IsCurrent, ListsAreCurrent, NoopMakesCurrent}
 use Rattle.client_records.specs.Views.{messages_of, view_in, view_of}
 use Rattle.client_records.proofs.Entering.{mapped, only_done, only_refused, refusal_has_none}
-use Rattle.client_records.proofs.Moved.{Calls}
+use Rattle.client_records.proofs.Living.{lives_known}
+use Rattle.client_records.proofs.Moved.{Calls, Moved, moved, rested, short_met, stepped}
+use Rattle.client_records.proofs.Worlds.{sound_always}
 
 abbrev the_session : Session → Option Session → Session
 the_session d None = d
@@ -96,13 +102,14 @@ shown_current k n tag words how now w (Expunged a b c ∷ more) turn v K t e met
 shown_current k n tag words how now w (Left a ∷ more) turn v K t e met ok = absurd (none-some turn e)
 shown_current k n tag words how now w (Starved a ∷ more) turn v K t e met ok = absurd (none-some turn e)
 
-pub noop_makes_current : NoopMakesCurrent
-noop_makes_current k events n now line tag w turn v is a kept reads ok = by now.mailing.begun now.idling refl refl
+noop_current : (k : Config) (n : ℕ) (now : Standing) (line tag : List ℕ) (w : World) (turn : Turn) (v : World) → Kept k w → IsAnswered k n now line w turn v
+    → kept_tag now ≡ None → read line ≡ Ok (tag, commands.Noop) → has_ok true tag turn.bytes ≡ true → IsCurrent v n
+noop_current k n now line tag w turn v K a kept reads ok = by now.mailing.begun now.idling refl refl
   where
     read_current : on_read now (Ok (tag, commands.Noop)) a.answers ≡ Some turn → IsCurrent v n
     read_current e =
         let d : played tag now (showing (Some a.selected) (completed commands.Noop)) a.answers ≡ Some turn = subst (λ (o : Option Selected). played tag now (showing o (completed commands.Noop)) a.answers ≡ Some turn) a.there e in
-        shown_current k n tag (codes "OK NOOP completed") Go now w a.answers turn v (kept_always k events w is) (tags_are_tags line tag commands.Noop reads) d a.met ok
+        shown_current k n tag (codes "OK NOOP completed") Go now w a.answers turn v K (tags_are_tags line tag commands.Noop reads) d a.met ok
 
     by : (begun : Option Appending) (idling : Option (List ℕ)) → begun ≡ now.mailing.begun → idling ≡ now.idling → IsCurrent v n
     by (Some b) idling p q = absurd (none-some b.tag (sym (ap (λ (o : Option (List ℕ)). o) kept) ∙ sym (ap (λ (x : Option Appending). kept_behind x now.idling) p)))
@@ -111,6 +118,9 @@ noop_makes_current k events n now line tag w turn v is a kept reads ok = by now.
         let first : turn_while now.idling now line a.answers ≡ Some turn = subst (λ (o : Option Appending). turn_behind o now line a.answers ≡ Some turn) (sym p) a.answered in
         let second : on_read now (read line) a.answers ≡ Some turn = subst (λ (o : Option (List ℕ)). turn_while o now line a.answers ≡ Some turn) (sym q) first in
         read_current (subst (λ (r : Result (List ℕ × Command) ImapFault). on_read now r a.answers ≡ Some turn) reads second)
+
+pub noop_makes_current : NoopMakesCurrent
+noop_makes_current k events n now line tag w turn v is a kept reads ok = noop_current k n now line tag w turn v (kept_always k events w is) a kept reads ok
 
 pub done_makes_current : DoneMakesCurrent
 done_makes_current k events n now line tag w turn v is a begun idling done ok =
@@ -124,3 +134,30 @@ done_makes_current k events n now line tag w turn v is a begun idling done ok =
     awake : is_done line ≡ true → played tag (record now { idling = None }) (on_idle_line (Some a.selected) line) a.answers ≡ Some turn
         → played tag (record now { idling = None }) (showing (Some a.selected) (completed commands.Idle)) a.answers ≡ Some turn
     awake h e = subst (λ (b : Bool). played tag (record now { idling = None }) (if b then showing (Some a.selected) (completed commands.Idle) else says (codes "BAD Expected DONE")) a.answers ≡ Some turn) h e
+
+-- ---- whatever the command
+
+kept_moved : (k : Config) (n : ℕ) (w v : World) → Moved k n w v → Kept k w → Kept k v
+kept_moved k n w v (rested e) K = rw e K
+kept_moved k n w v (stepped e step own) K = kept_step k w e v K step
+
+last_kept : (k : Config) (w : World) (n : ℕ) (calls : List Happened) (met : List ℕ) (changes : List Change) (v : World) → Kept k w
+    → Met (Calls k n) w (calls ++ record { call = Feed unlimited; answer = Fed met changes } ∷ []) v → IsCurrent v n
+last_kept k w n [] met changes v K (mid, one, last) = subst (λ (u : World). IsCurrent u n) (sym last) (fed_current k w n met changes mid K one)
+last_kept k w n (e ∷ calls) met changes v K (mid, one, more) = last_kept k mid n calls met changes v (kept_moved k n w mid (moved k n w e.call e.answer mid one) K) more
+
+pub feeds_make_current : FeedsMakeCurrent
+feeds_make_current k events n w calls met changes v is happened = last_kept k w n calls met changes v (kept_always k events w is) happened
+
+-- ---- in a life
+
+pub lists_are_current : ListsAreCurrent
+lists_are_current k events n first began sent told now w line tag turn v s h is short stands lives a kept reads ok at =
+    let short_w = short_met k n w turn.events v a.met short in
+    let before = lives_known k n first began h (sound_always k events began h is) stands lives short_w in
+    let after = lives_known k n first began h (sound_always k events began h is) stands (turns lives (Line line a.answers) (line ++ crlf) turn v refl tt a.answered a.met) short in
+    let told_is : told_of now (Line line a.answers) turn.bytes ≡ Answer_to line turn.bytes = ap (λ (o : Option (List ℕ)). told_line o line turn.bytes) kept in
+    let right : IsRightAbout (view_of v n) (hears_all None (told ++ Answer_to line turn.bytes ∷ [])) =
+        subst (λ (one : Told). IsRightAbout (view_of v n) (hears_all None (told ++ one ∷ []))) told_is after.right in
+    subst (λ (view : List ℕ). IsRightAbout view (hears_all None (told ++ Answer_to line turn.bytes ∷ [])))
+    (noop_current k n now line tag w turn v before.sound.kept a kept reads ok s at) right

@@ -16,3 +16,4 @@ mod Recording
 mod Entries
 mod Keeping
 mod Refuted
+mod Onward

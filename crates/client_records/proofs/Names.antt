@@ -15,7 +15,7 @@ use Rattle.world.proofs.Kept.{Kept, BoxOk}
 use Rattle.world.proofs.Always.{kept_always, kept_steps}
 use Rattle.world.proofs.Mails.{IsIn, is_in_contains}
 use Rattle.client_records.specs.Views.{NamesTheSame, messages_of, view_in, view_of}
-use Rattle.client_records.specs.Laws.{CountedAreGiven, UidsStay}
+use Rattle.client_records.specs.Laws.{CountedAreGiven, GoneStayGone, UidsStay}
 use Rattle.client_records.proofs.Boxes.{Goes, unmoved, logged, arrived, box_goes}
 
 -- ---- lists
@@ -204,14 +204,38 @@ later_greater k old new A B x u h =
 rows_counted : (b : Box) → messages_of b ≡ replay [] b.log
 rows_counted b = uids-rows_after [] b.log
 
+-- under a UID that was given
+names_the_same : (k : Config) (w v : World) (m uid : ℕ) → Kept k w → Kept k v → (x : Extends (w.box m) (v.box m)) → IsIn uid (added (w.box m).log) → NamesTheSame uid (w.box m) (v.box m)
+names_the_same k w v m uid K L x was = record {
+  copy = copy.0;
+  was = is_in_contains (copy.0, uid) (w.box m).accepted copy.1;
+  still = is_in_contains (copy.0, uid) (v.box m).accepted still;
+  text = (let t = told_text uid (v.box m).accepted (number_in copy.0 uid (v.box m).accepted still) in
+      t.2 ∙ ap (λ (c : Job). c.text) (alone t.0 t.1));
+  alone = λ other also. alone other (is_in (other, uid) (v.box m).accepted also);
+}
+  where
+    copy : (c : Job) × IsIn (c, uid) (w.box m).accepted
+    copy = copy_named uid (w.box m).accepted (subst (IsIn uid) (K.boxes m).given was)
+
+    still : IsIn (copy.0, uid) (v.box m).accepted
+    still = subst (IsIn (copy.0, uid)) (sym x.accepted) (in_front (copy.0, uid) (w.box m).accepted x.copies copy.1)
+
+    alone : (other : Job) → IsIn (other, uid) (v.box m).accepted → other ≡ copy.0
+    alone other also = one_copy k.first_uid (v.box m).accepted (sym (L.boxes m).given ∙ (L.boxes m).counted) copy.0 other uid still also
+
 pub uids_stay : UidsStay
-uids_stay k events w later v m uid is steps old there = (is_in_contains uid (messages_of (w.box m)) (subst (IsIn uid) (sym (rows_counted (w.box m))) was), names)
+uids_stay k events w later v n uid s is steps at counts =
+    let K : Kept k w = kept_always k events w is in
+    let m : ℕ = s.mailbox in
+    names_the_same k w v m uid K (kept_steps k w later v K steps) (steps_extend k w later v m steps)
+    (counted_added (w.box m).log s.cursor uid (is_in uid (view_at (w.box m).log s.cursor) (subst (λ view. Contains view uid) (ap (view_in w) at) counts)))
+
+pub gone_stay_gone : GoneStayGone
+gone_stay_gone k events w later v m uid is steps old there = is_in_contains uid (messages_of (w.box m)) (subst (IsIn uid) (sym (rows_counted (w.box m))) was)
   where
     K : Kept k w
     K = kept_always k events w is
-
-    L : Kept k v
-    L = kept_steps k w later v K steps
 
     x : Extends (w.box m) (v.box m)
     x = steps_extend k w later v m steps
@@ -221,28 +245,7 @@ uids_stay k events w later v m uid is steps old there = (is_in_contains uid (mes
 
     by : IsIn uid (replay [] (w.box m).log) ⊎ IsIn uid (added x.changes) → IsIn uid (replay [] (w.box m).log)
     by (inl before) = before
-    by (inr new) = absurd (omega (arith, old, later_greater k (w.box m) (v.box m) (K.boxes m) (L.boxes m) x uid new))
+    by (inr new) = absurd (omega (arith, old, later_greater k (w.box m) (v.box m) (K.boxes m) ((kept_steps k w later v K steps).boxes m) x uid new))
 
     was : IsIn uid (replay [] (w.box m).log)
     was = by (in_replay uid (replay [] (w.box m).log) x.changes now)
-
-    was_added : IsIn uid [] ⊎ IsIn uid (added (w.box m).log) → IsIn uid (added (w.box m).log)
-    was_added (inl none) = absurd none
-    was_added (inr there) = there
-
-    copy : (c : Job) × IsIn (c, uid) (w.box m).accepted
-    copy = copy_named uid (w.box m).accepted (subst (IsIn uid) (K.boxes m).given (was_added (in_replay uid [] (w.box m).log was)))
-
-    still : IsIn (copy.0, uid) (v.box m).accepted
-    still = subst (IsIn (copy.0, uid)) (sym x.accepted) (in_front (copy.0, uid) (w.box m).accepted x.copies copy.1)
-
-    names : NamesTheSame uid (w.box m) (v.box m)
-    names = record {
-      copy = copy.0;
-      was = is_in_contains (copy.0, uid) (w.box m).accepted copy.1;
-      still = is_in_contains (copy.0, uid) (v.box m).accepted still;
-      text = (let t = told_text uid (v.box m).accepted (number_in copy.0 uid (v.box m).accepted still) in
-          t.2 ∙ ap (λ (c : Job). c.text) (one_copy k.first_uid (v.box m).accepted (sym (L.boxes m).given ∙ (L.boxes m).counted) copy.0 t.0 uid still t.1));
-      alone = λ other also.
-          one_copy k.first_uid (v.box m).accepted (sym (L.boxes m).given ∙ (L.boxes m).counted) copy.0 other uid still (is_in (other, uid) (v.box m).accepted also);
-    }

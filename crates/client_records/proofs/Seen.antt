@@ -299,13 +299,14 @@ entered k w n i v (enters a b c d e) s is =
 entered k w n i v (enter_spent a b c d e) s is = absurd (none-some s (sym c ∙ ap (λ (u : World). u.session n) (sym e) ∙ is))
 entered k w n i v (enter_no_memory a b c d e) s is = absurd (none-some s (sym c ∙ ap (λ (u : World). u.session n) (sym e) ∙ is))
 
-pub opened : (k : Config) (w : World) (n i : ℕ) (opening : Opening) (v : World) → HasSmallNumbers k → Sound k w → Meets k n w (EnterCall i) (Entered opening) v → IsOpened opening (w.box i) (view_of v n)
+pub opened : (k : Config) (w : World) (n i : ℕ) (opening : Opening) (v : World) → HasSmallNumbers k → Sound k w → Meets k n w (EnterCall i) (Entered opening) v → IsOpened k opening (w.box i) (view_of v n)
 opened k w n i opening v h S (step, (s, there, mine), opens, validity) =
     let view : view_of v n ≡ messages_of (w.box i) = entered k w n i v step s there in
     let rows : List Row = rows_of (w.box i).log in record {
       all = view;
       count = opens.0 ∙ sym (length-map rows (λ (row : Row). row.uid)) ∙ ap length (sym view);
       few = omega (arith, opens.0, rows_few k w S i);
+      validity = validity;
       uidvalidity = omega (arith, validity, h.uidvalidity);
       uidnext = omega (arith, opens.1, (S.small i).next);
     }

@@ -1,14 +1,17 @@
 -- When a client's list is the mailbox as it is now.
-use Rattle.std.specs.Prelude.{◌≡◌, ℕ, Bool, true, List, Option, Some, None, Ok}
+use Rattle.std.specs.Prelude.{◌≡◌, ℕ, Bool, true, List, [], ◌∷◌, ◌++◌, Option, Some, None, Ok}
+use Rattle.change_ring.specs.declared.change.Change.{Change}
 use Rattle.world.specs.World.{Config, Event, IsWorld, Session, World}
 use Rattle.imap_grammar.specs.Reading.{is_done, read}
 use Rattle.imap_grammar.specs.declared.command.Command.TheVariants.{Noop}
 use Rattle.imap_session.specs.declared.standing.Selected.{Selected}
-use Rattle.imap_session.specs.Exchange.{Call, Answer, Standing, Turn, kept_tag}
-use Rattle.imap_session.specs.Commands.{turn_of}
+use Rattle.imap_session.specs.Exchange.{Call, Answer, Event as Happened, Fed, Feed, Standing, Turn, kept_tag}
+use Rattle.imap_session.specs.Commands.{turn_of, unlimited}
 use Rattle.imap_session.specs.Store.{Met}
 use Rattle.session_store.specs.Meets.{Meets}
-use Rattle.client_records.specs.Clients.{has_ok}
+use Rattle.client_records.specs.Clients.{Answer as Answer_to, IsRightAbout, Told, has_ok, hears_all}
+use Rattle.client_records.specs.Lives.{Lives}
+use Rattle.client_records.specs.Sizes.{HasShortTexts, HasSmallNumbers}
 use Rattle.client_records.specs.Turns.{Stands}
 use Rattle.client_records.specs.Views.{messages_of, view_of}
 
@@ -34,3 +37,15 @@ NoopMakesCurrent = (k : Config) (events : List Event) (n : ℕ) (now : Standing)
 abbrev pub DoneMakesCurrent : Type 0
 DoneMakesCurrent = (k : Config) (events : List Event) (n : ℕ) (now : Standing) (line tag : List ℕ) (w : World) (turn : Turn) (v : World) → IsWorld k events w → IsAnswered k n now line w turn v
     → now.mailing.begun ≡ None → now.idling ≡ Some tag → is_done line ≡ true → has_ok true tag turn.bytes ≡ true → IsCurrent v n
+
+-- Whatever the command: where the last call of a turn was for all that is pending, and was answered. So it is at the end of NOOP, LIST, STATUS, EXPUNGE, UID EXPUNGE, UID FETCH and UID STORE.
+abbrev pub FeedsMakeCurrent : Type 0
+FeedsMakeCurrent = (k : Config) (events : List Event) (n : ℕ) (w : World) (calls : List Happened) (met : List ℕ) (changes : List Change) (v : World) → IsWorld k events w
+    → Met (λ (w : World) (call : Call) (answer : Answer) (v : World). Meets k n w call answer v) w (calls ++ record { call = Feed unlimited; answer = Fed met changes } ∷ []) v → IsCurrent v n
+
+-- In a session's life: when its client has read that a NOOP is OK, its list is the mailbox as it is.
+abbrev pub ListsAreCurrent : Type 0
+ListsAreCurrent = (k : Config) (events : List Event) (n : ℕ) (first : Standing) (began : World) (sent : List ℕ) (told : List Told) (now : Standing) (w : World) (line tag : List ℕ) (turn : Turn) (v : World) (s : Session)
+    → HasSmallNumbers k → IsWorld k events began → HasShortTexts v → Stands first → Lives k n first began sent told now w
+    → IsAnswered k n now line w turn v → kept_tag now ≡ None → read line ≡ Ok (tag, Noop) → has_ok true tag turn.bytes ≡ true → v.session n ≡ Some s
+    → IsRightAbout (messages_of (v.box s.mailbox)) (hears_all None (told ++ Answer_to line turn.bytes ∷ []))

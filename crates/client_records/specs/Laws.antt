@@ -17,10 +17,15 @@ ViewsAreNumbered = (k : Config) (events : List Event) (w : World) (n : ℕ) → 
 abbrev pub OthersLeaveViews : Type 0
 OthersLeaveViews = (k : Config) (events : List Event) (w : World) (event : Event) (v : World) (n : ℕ) → IsWorld k events w → Step k w event v → IsOfOthers n event → view_of v n ≡ view_of w n
 
--- A UID that was given stays the name of its copy: whatever happened since, a message that is there now under such a UID was there already, or was gone and is not there, and it is the same copy
+-- A UID that a session counts is the name of one copy for good: whatever happens later, the same copy stands under it in its mailbox's history, and no other
 abbrev pub UidsStay : Type 0
-UidsStay = (k : Config) (events : List Event) (w : World) (later : List Event) (v : World) (m uid : ℕ) → IsWorld k events w → Steps k w later v
-    → uid < next_uid k (w.box m) → Contains (messages_of (v.box m)) uid → Contains (messages_of (w.box m)) uid × NamesTheSame uid (w.box m) (v.box m)
+UidsStay = (k : Config) (events : List Event) (w : World) (later : List Event) (v : World) (n uid : ℕ) (s : Session) → IsWorld k events w → Steps k w later v
+    → w.session n ≡ Some s → Contains (view_of w n) uid → NamesTheSame uid (w.box s.mailbox) (v.box s.mailbox)
+
+-- and a message that is gone doesn't come back: one that is there later, under a UID that was given, was there already
+abbrev pub GoneStayGone : Type 0
+GoneStayGone = (k : Config) (events : List Event) (w : World) (later : List Event) (v : World) (m uid : ℕ) → IsWorld k events w → Steps k w later v
+    → uid < next_uid k (w.box m) → Contains (messages_of (v.box m)) uid → Contains (messages_of (w.box m)) uid
 
 -- each UID that a session counts was given
 abbrev pub CountedAreGiven : Type 0
@@ -36,7 +41,7 @@ CallsAreSeen = (k : Config) (events : List Event) (w : World) (n : ℕ) (call : 
 -- a session that enters counts all that is there
 abbrev pub EntriesAreCounted : Type 0
 EntriesAreCounted = (k : Config) (events : List Event) (w : World) (n m : ℕ) (opening : Opening) (v : World) → HasSmallNumbers k → IsWorld k events w
-    → Meets k n w (Enter m) (Entered opening) v → IsOpened opening (w.box m) (view_of v n)
+    → Meets k n w (Enter m) (Entered opening) v → IsOpened k opening (w.box m) (view_of v n)
 
 -- and one that leaves counts nothing
 abbrev pub LeaversCountNothing : Type 0

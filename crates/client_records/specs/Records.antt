@@ -3,7 +3,7 @@ use Rattle.std.specs.Prelude.{◌≡◌, ℕ, ◌+◌, ◌==◌, Bool, true, fal
 use Rattle.envelope.specs.Directory.{Directory, Home}
 use Rattle.envelope.specs.Names.{is_folder}
 use Rattle.line_io.specs.Wire.{joined}
-use Rattle.world.specs.World.{Event as WorldEvent, IsWorld, World}
+use Rattle.world.specs.World.{Event as WorldEvent, IsWorld, Steps, World}
 use Rattle.imap_session.specs.Commands.{greeting}
 use Rattle.imap_session.specs.Exchange.{Standing}
 use Rattle.house_session.specs.Folders.{folders_of}
@@ -96,6 +96,10 @@ ClientsKeepUp = (k : Setup) (entries : List Entry) (t : Scene) (place : ℕ) (v 
 abbrev pub ClientsOfHousesKeepUp : Type 0
 ClientsOfHousesKeepUp = (k : Setup) (events : List house.Event) (t : Scene) (printed : List ℕ) (once : ExactlyOnce k events t printed) (place : ℕ) (v : SeatedSession) → IsPrintable k → HasShortTexts t.world
     → t.visitor place ≡ Some v → v.gone ≡ false → KeepsUp k once.entries place v t
+
+-- From one moment of a record to a later one the world moves on by its events.
+abbrev pub RecordsMoveOn : Type 0
+RecordsMoveOn = (k : Setup) (entries : List Entry) (s t : Scene) → IsRecord k entries s t → (events : List WorldEvent) × Steps k.config s.world events t.world
 
 -- and any settings that are right can be printed
 abbrev pub SettingsCanBePrinted : Type 0

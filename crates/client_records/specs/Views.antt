@@ -4,7 +4,7 @@ use Rattle.mailbox.specs.declared.clients.Opening.{Opening}
 use Rattle.delivery_token.specs.declared.Job.{Job}
 use Rattle.change_ring.specs.Log.{Row, rows_of, view_at}
 use Rattle.delivery_core.specs.Clients.{text_with}
-use Rattle.world.specs.World.{World, Box, Session, Event, Enter, Read, Store, Expunge, Feed, Leave}
+use Rattle.world.specs.World.{Config, World, Box, Session, Event, Enter, Read, Store, Expunge, Feed, Leave}
 
 -- the UIDs that the log of its mailbox leaves, up to the session's cursor; none where it has selected no mailbox
 abbrev pub view_in : World → Option Session → List ℕ
@@ -28,11 +28,13 @@ IsOfOthers n (Feed session limit) = n ≢ session
 IsOfOthers n (Leave session removing) = n ≢ session
 IsOfOthers n event = Unit {0}
 
--- What a session is told of the mailbox that it enters: it counts all messages that are there, they are as many as is told, and each number can be printed.
-pub record IsOpened (opening : Opening) (b : Box) (view : List ℕ) : Type 0 where
+-- What a session is told of the mailbox that it enters: it counts all messages that are there, they are as many as is told, each number can be printed, and the UIDVALIDITY is
+-- always the same (RFC 9051, 2.3.1.1).
+pub record IsOpened (k : Config) (opening : Opening) (b : Box) (view : List ℕ) : Type 0 where
   pub all : view ≡ messages_of b
   pub count : opening.count ≡ length view
   pub few : opening.count < 2 ^ 64
+  pub validity : opening.uidvalidity ≡ k.uidvalidity
   pub uidvalidity : opening.uidvalidity < 2 ^ 64
   pub uidnext : opening.uidnext < 2 ^ 64
 

@@ -1,10 +1,10 @@
 //! Laws of what a client reads of a house, as functions that do nothing: what its session counts in every world, what its calls
 //! come to, its turns, and its whole life.
 
-ghost use Rattle.client_records.specs.Current.{DoneMakesCurrent, NoopMakesCurrent};
-ghost use Rattle.client_records.specs.Laws.{CallsAreSeen, CountedAreGiven, EntriesAreCounted, LeaversCountNothing, OthersLeaveViews, UidsStay, ViewsAreNumbered};
+ghost use Rattle.client_records.specs.Current.{DoneMakesCurrent, FeedsMakeCurrent, ListsAreCurrent, NoopMakesCurrent};
+ghost use Rattle.client_records.specs.Laws.{CallsAreSeen, CountedAreGiven, EntriesAreCounted, GoneStayGone, LeaversCountNothing, OthersLeaveViews, UidsStay, ViewsAreNumbered};
 ghost use Rattle.client_records.specs.Lives.{LivesAreKnown};
-ghost use Rattle.client_records.specs.Records.{ClientsKeepUp, ClientsOfHousesKeepUp, SettingsCanBePrinted};
+ghost use Rattle.client_records.specs.Records.{ClientsKeepUp, ClientsOfHousesKeepUp, RecordsMoveOn, SettingsCanBePrinted};
 ghost use Rattle.client_records.specs.Turns.{StandsStill, TurnIsKnown};
 
 /// In every world that came from the empty one: the UIDs and the places of what a session counts can be printed, and what
@@ -19,12 +19,14 @@ pub fn calls_are_seen()
     ensures leavers { LeaversCountNothing }
 {}
 
-/// A client that comes again, and compares by UID: a UID that was given is the name of one copy for good. Whatever happened
-/// since, a message that is there under it was there already, and is the same copy; what is gone doesn't come back (RFC 9051,
-/// 2.3.1.1). Each UID that a session counts was given.
+/// A client that comes again, and compares by UID: a UID that its session counted is the name of one copy for good, with one
+/// text, whatever happened since; and what is gone doesn't come back (RFC 9051, 2.3.1.1). Each UID that a session counts was
+/// given, and over a record of a house the world moves on by its events, so this is so from any moment to any later one.
 pub fn uids_stay()
     ensures same { UidsStay }
+    ensures gone { GoneStayGone }
     ensures given { CountedAreGiven }
+    ensures records { RecordsMoveOn }
 {}
 
 /// A client that knows which of its lines were SELECT, EXAMINE, CLOSE or UNSELECT, and was right about what its session counts
@@ -43,11 +45,14 @@ pub fn lives_are_known()
     ensures { LivesAreKnown }
 {}
 
-/// Where a NOOP, or the DONE of an IDLE, is answered OK in a mailbox that is selected, what the session counts is all that is
-/// there at that moment. So a client's list is the mailbox as it is (RFC 9051, 6.1.2; RFC 2177).
+/// Where all that was pending was shown in a session's last call, what it counts is all that is there at that moment. So it is
+/// where a NOOP, or the DONE of an IDLE, is answered OK in a mailbox that is selected (RFC 9051, 6.1.2; RFC 2177): then the
+/// client's list is the mailbox as it is.
 pub fn lists_are_current()
+    ensures fed { FeedsMakeCurrent }
     ensures noop { NoopMakesCurrent }
     ensures done { DoneMakesCurrent }
+    ensures list { ListsAreCurrent }
 {}
 
 /// Over any record of a house that was new, of whatever events: the client of each session that is there, by all that it sent
