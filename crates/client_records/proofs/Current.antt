@@ -1,9 +1,9 @@
 -- Where all that was pending was shown, what the session counts is what is there.
-use Rattle.std.proofs.Common.{zero, suc, ◌≡◌, ℕ, ◌+◌, ◌-◌, ◌^◌, ◌<◌, ◌≤◌, Bool, true, false, List, [], ◌∷◌, ◌++◌, length, take, drop, refl, sym, subst, ap, ◌∙◌, arith, append-nil}
+use Rattle.std.proofs.Common.{zero, suc, ◌≡◌, ℕ, ◌+◌, ◌-◌, ◌≤◌, Bool, true, List, [], ◌∷◌, ◌++◌, length, take, drop, refl, sym, subst, ap, ◌∙◌, arith, append-nil}
 use Rattle.std.specs.Prelude.{Option, Some, None, IfSome, Result, Ok, codes, if◌then◌else◌}
 use Rattle.std.proofs.Math.Seq.{take-length}
 use Rattle.std.proofs.lemmas.Bool.{false≢true}
-use Rattle.std.proofs.lemmas.List.{length-take-le, length-drop}
+use Rattle.std.proofs.lemmas.List.{length-drop}
 use Rattle.std.proofs.lemmas.Option.{none-some}
 use Rattle.shard_queue.specs.At.{set_at}
 use Rattle.shard_queue.proofs.AtLaws.{set_at-same}
@@ -11,11 +11,10 @@ use Rattle.change_ring.specs.declared.change.Change.{Change}
 use Rattle.change_ring.specs.Log.{replay, view_at}
 use Rattle.change_ring.proofs.LogLaws.{uids-rows_after}
 use Rattle.cursor_set.specs.Lines.{lines}
-use Rattle.world.specs.World.{Config, Event, IsWorld, Session, World, pending, shows}
+use Rattle.world.specs.World.{Config, Session, World, pending, shows}
 use Rattle.world.specs.Law.{IsShown}
 use Rattle.world.proofs.Kept.{Kept, SessionOk}
 use Rattle.world.proofs.Always.{kept_always, kept_step}
-use Rattle.delivery_core.specs.Clients.{Done as Was_done}
 use Rattle.imap_grammar.specs.Reading.{is_done, read}
 use Rattle.imap_grammar.specs.declared.command.Command.{Command}
 use Rattle.imap_grammar.specs.declared.command.Command.TheVariants as commands
@@ -31,9 +30,8 @@ use Rattle.line_io.specs.Wire.{crlf}
 use Rattle.client_list.specs.Talks.{Line}
 use Rattle.client_list.specs.Turns.{IsTag}
 use Rattle.client_list.proofs.Tags.{tags_are_tags}
-use Rattle.client_list.proofs.Turns.{the_turn}
 use Rattle.client_records.specs.Clients.{Answer as Answer_to, IsRightAbout, Told, has_ok, hears_all}
-use Rattle.client_records.specs.Lives.{Lives, turns}
+use Rattle.client_records.specs.Lives.{turns}
 use Rattle.client_records.specs.Turns.{told_line, told_of}
 use Rattle.client_records.specs.Current.{DoneMakesCurrent, FeedsMakeCurrent, IsAnswered, IsCurrent, ListsAreCurrent, NoopMakesCurrent}
 use Rattle.client_records.specs.Views.{messages_of, view_in, view_of}
@@ -74,7 +72,7 @@ fed_current k w n met changes v K (step, (s, is, (D, shown))) t now =
     let same : shows s some ≡ t = ap (the_session t) (sym there ∙ now) in
     let box : (v.box s.mailbox).log ≡ log ++ [] = ap (λ (u : World). (u.box s.mailbox).log) D.made ∙ ap (λ b. b.log) (set_at-same w.box s.mailbox D.mailbox) ∙ D.logs.log in
     let end : s.cursor + length some ≡ length (v.box s.mailbox).log =
-        all_shown s.cursor unlimited log ok.within (omega (arith, (K.boxes s.mailbox).room)) ∙ ap length (sym (append-nil log)) ∙ ap length (sym box) in
+    all_shown s.cursor unlimited log ok.within (omega (arith, (K.boxes s.mailbox).room)) ∙ ap length (sym (append-nil log)) ∙ ap length (sym box) in
     subst (λ (u : Session). view_of v n ≡ messages_of (v.box u.mailbox)) same (at_end v n (shows s some) there end)
 
 -- all that is pending is shown, and then the last line is said
@@ -85,7 +83,7 @@ shown_current k n tag words how now w (Fed view changes ∷ more) turn v K t e m
     let m = mapped (λ (x : Turn). having (Feed unlimited) (Fed view changes) (saying (lines view changes) x)) (played tag now (Done words how) more) turn e in
     let d = only_done tag words how now more m.more m.is in
     let events : turn.events ≡ record { call = Feed unlimited; answer = Fed view changes } ∷ [] =
-        ap (λ (x : Turn). x.events) (sym m.makes) ∙ ap (λ (es : List Happened). record { call = Feed unlimited; answer = Fed view changes } ∷ es) d.events in
+    ap (λ (x : Turn). x.events) (sym m.makes) ∙ ap (λ (es : List Happened). record { call = Feed unlimited; answer = Fed view changes } ∷ es) d.events in
     let met1 : Met (Calls k n) w (record { call = Feed unlimited; answer = Fed view changes } ∷ []) v = subst (λ (es : List Happened). Met (Calls k n) w es v) events met in
     subst (λ (u : World). IsCurrent u n) (sym met1.2) (fed_current k w n view changes met1.0 K met1.1)
 shown_current k n tag words how now w (Refused fault ∷ []) turn v K t e met ok =
@@ -127,7 +125,7 @@ done_makes_current k events n now line tag w turn v is a begun idling done ok =
     let first : turn_while now.idling now line a.answers ≡ Some turn = subst (λ (o : Option Appending). turn_behind o now line a.answers ≡ Some turn) begun a.answered in
     let second : turn_while (Some tag) now line a.answers ≡ Some turn = subst (λ (o : Option (List ℕ)). turn_while o now line a.answers ≡ Some turn) idling first in
     let third : played tag (record now { idling = None }) (on_idle_line (Some a.selected) line) a.answers ≡ Some turn =
-        subst (λ (o : Option Selected). played tag (record now { idling = None }) (on_idle_line o line) a.answers ≡ Some turn) a.there second in
+    subst (λ (o : Option Selected). played tag (record now { idling = None }) (on_idle_line o line) a.answers ≡ Some turn) a.there second in
     let fourth : played tag (record now { idling = None }) (showing (Some a.selected) (completed commands.Idle)) a.answers ≡ Some turn = awake done third in
     shown_current k n tag (codes "OK IDLE completed") Go (record now { idling = None }) w a.answers turn v (kept_always k events w is) (subst (λ (o : Option (List ℕ)). IfSome o IsTag) idling a.stands.tags.0) fourth a.met ok
   where
@@ -158,6 +156,6 @@ lists_are_current k events n first began sent told now w line tag turn v s h is 
     let after = lives_known k n first began h (sound_always k events began h is) stands (turns lives (Line line a.answers) (line ++ crlf) turn v refl tt a.answered a.met) short in
     let told_is : told_of now (Line line a.answers) turn.bytes ≡ Answer_to line turn.bytes = ap (λ (o : Option (List ℕ)). told_line o line turn.bytes) kept in
     let right : IsRightAbout (view_of v n) (hears_all None (told ++ Answer_to line turn.bytes ∷ [])) =
-        subst (λ (one : Told). IsRightAbout (view_of v n) (hears_all None (told ++ one ∷ []))) told_is after.right in
+    subst (λ (one : Told). IsRightAbout (view_of v n) (hears_all None (told ++ one ∷ []))) told_is after.right in
     subst (λ (view : List ℕ). IsRightAbout view (hears_all None (told ++ Answer_to line turn.bytes ∷ [])))
     (noop_current k n now line tag w turn v before.sound.kept a kept reads ok s at) right

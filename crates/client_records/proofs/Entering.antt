@@ -1,6 +1,6 @@
 -- What SELECT, EXAMINE, CLOSE and UNSELECT say, as a client hears it that knows that it asked for that.
-use Rattle.std.proofs.Common.{zero, suc, ◌≡◌, ℕ, ◌+◌, ◌^◌, ◌<◌, ◌⊎◌, inl, inr, Bool, true, false, ◌==◌, List, [], ◌∷◌, ◌++◌, length, refl, sym, subst, ap, ◌∙◌, arith, append-nil, append_assoc}
-use Rattle.std.specs.Prelude.{Option, Some, None, IfSome, codes, ◌&&◌, ◌||◌, not, if◌then◌else◌}
+use Rattle.std.proofs.Common.{zero, suc, ◌≡◌, ℕ, Bool, true, false, ◌==◌, List, [], ◌∷◌, ◌++◌, refl, sym, subst, ap, ◌∙◌, append-nil, append_assoc}
+use Rattle.std.specs.Prelude.{Option, Some, None, IfSome, codes, ◌&&◌, ◌||◌, if◌then◌else◌}
 use Rattle.std.specs.Option.{option_map}
 use Rattle.std.specs.List.{list_all}
 use Rattle.std.proofs.lemmas.Bool.{eq-eqb, false≢true}
@@ -13,11 +13,11 @@ use Rattle.imap_session.specs.declared.standing.After.{After}
 use Rattle.imap_session.specs.declared.standing.After.TheVariants.{Go, Bye}
 use Rattle.imap_session.specs.declared.standing.After.TheVariants as afters
 use Rattle.imap_session.specs.declared.standing.Selected.{Selected}
-use Rattle.imap_session.specs.Exchange.{Answer, Entered, Looked, Found, Counted, Altered, Expunged, Fed, Left, Refused, Starved, Call, Event, Exchange, Done, Write, Enter, Leave, Folder, Standing, Turn, bye, closed, having, played, refusal_after, refusal_text, refused, saying, tagged}
+use Rattle.imap_session.specs.Exchange.{Answer, Entered, Looked, Found, Counted, Altered, Expunged, Fed, Left, Refused, Starved, Event, Exchange, Done, Write, Enter, Leave, Folder, Standing, Turn, closed, having, played, refusal_after, refusal_text, refused, saying, tagged}
 use Rattle.imap_session.specs.Commands.{closing, entering, folder_of, on_folder, on_found, opened, opening_text, says, selecting, wrong_state}
 use Rattle.imap_session.specs.Store.{Met}
-use Rattle.client_list.specs.Client.{Client, Known, fresh, knowing, reads}
-use Rattle.client_list.specs.Beliefs.{Follows, IsOf, IsRight, Leads, TellsNothing}
+use Rattle.client_list.specs.Client.{Client, fresh, reads}
+use Rattle.client_list.specs.Beliefs.{Follows, IsOf, Leads, TellsNothing}
 use Rattle.client_list.specs.Commands.{AreNames}
 use Rattle.client_list.specs.Turns.{is_inner, IsPlain, IsTag}
 use Rattle.client_list.proofs.Bytes.{first_of, reads-append, rest_of}

@@ -1,14 +1,13 @@
 -- Entry by entry: the client of each session that is there goes on to keep up.
-use Rattle.std.proofs.Common.{◌≡◌, ◌≢◌, ℕ, ◌+◌, ◌<◌, ◌⊎◌, inl, inr, Bool, true, false, ◌==◌, eqb, List, [], ◌∷◌, ◌++◌, refl, sym, subst, ap, ◌∙◌, arith, append-nil}
-use Rattle.std.specs.Prelude.{Option, Some, None, if◌then◌else◌}
-use Rattle.std.proofs.lemmas.Bool.{eq-eqb, false≢true}
+use Rattle.std.proofs.Common.{◌≡◌, ◌≢◌, ℕ, ◌+◌, ◌⊎◌, inl, inr, Bool, true, false, ◌==◌, eqb, List, [], ◌∷◌, ◌++◌, refl, sym, subst, ◌∙◌, arith, append-nil}
+use Rattle.std.specs.Prelude.{Option, Some}
+use Rattle.std.proofs.lemmas.Bool.{eq-eqb}
 use Rattle.std.proofs.lemmas.Bool.Decides.{eqb_tells}
 use Rattle.std.specs.Borrow.{Bor}
-use Rattle.line_io.specs.Wire.{IsCut, joined}
+use Rattle.line_io.specs.Wire.{joined}
 use Rattle.shard_queue.specs.At.{set_at}
 use Rattle.shard_queue.proofs.AtLaws.{at_cases}
-use Rattle.world.specs.World as world
-use Rattle.world.specs.World.{Config, Event, IsWorld, Step, World, empty_world}
+use Rattle.world.specs.World.{Event, IsWorld, Step, World, empty_world}
 use Rattle.world.proofs.Always.{steps_join}
 use Rattle.imap_session.specs.Exchange as calls
 use Rattle.imap_session.specs.Commands.{greeting}
@@ -18,17 +17,17 @@ use Rattle.house_session.specs.HouseSession.{HouseSession, greeted}
 use Rattle.house_session.specs.HouseSession.{more_waits as session_more_waits}
 use Rattle.house_session.specs.Seated.{SeatedSession, seated_greeted}
 use Rattle.house.specs.Setup.{Setup, session_seat}
-use Rattle.house.specs.Printing.{Prints, of_session, with_session}
+use Rattle.house.specs.Printing.{with_session}
 use Rattle.house.specs.Scene as scene
 use Rattle.house.specs.Scene.{BytesPlay, ClosePlay, ConnectionHears, ConnectionPuts, EnterPlay, HearPlay, IdlePlay, LeavePlay, Moves, Plays, PutPlay, SayPlay, Scene, SessionGoes, SessionHears, SessionPuts, SessionTalks, VanishPlay, connection_hears, connection_puts, empty_scene, goes_on, opens, place_of, seat_of, session_hears, session_puts}
 use Rattle.house.specs.declared.event.Event as house
-use Rattle.house.specs.declared.event.Event.TheVariants.{Bytes, Vanish, Put, Take, Deliver, Answer, Hear, End, Close, Enter, Say, Idle, Leave}
-use Rattle.exactly_once.specs.Promise.{Entry, IsOwn, IsRecord, Lines, Piece, Replies, Silence, text_of}
+use Rattle.house.specs.declared.event.Event.TheVariants.{Enter, Say, Idle, Leave}
+use Rattle.exactly_once.specs.Promise.{Lines, Piece, Silence}
 use Rattle.exactly_once.proofs.Whole.{IsWhole, greeting_whole, idles_whole, whole_append}
-use Rattle.client_records.specs.Records.{first_standing, lets_in, sent_by_then, sent_in, shown_by_then, shown_in, unless}
+use Rattle.client_records.specs.Records.{first_standing, lets_in, sent_in, shown_in, unless}
 use Rattle.client_records.specs.Sizes.{HasSmallNumbers}
 use Rattle.client_records.specs.Views.{IsOfOthers}
-use Rattle.client_records.proofs.Recording.{Client, Walk, Watched, client_more, client_others, client_said, fits_lines, fits_silence, goes, heard_small, lingers_watched, parted, stands, still_whole, talks_walk, talks_watched, walk_call, walk_met, walk_parts, walk_then, walk_world, watched_others, watched_walk}
+use Rattle.client_records.proofs.Recording.{Client, Walk, Watched, client_more, client_others, client_said, goes, heard_small, lingers_watched, parted, stands, still_whole, talks_walk, talks_watched, walk_call, walk_met, walk_parts, walk_then, walk_world, watched_others, watched_walk}
 use Rattle.client_records.proofs.Talked.{idles_reached, talked_none}
 
 -- ---- places

@@ -1,6 +1,6 @@
 -- The names of a user's mailboxes stand in lines.
 use Rattle.std.proofs.Common.{◌≡◌, ℕ, ◌+◌, ◌==◌, Bool, true, false, List, [], ◌∷◌, ◌++◌, length, refl, ap, sym, arith}
-use Rattle.std.specs.Prelude.{Option, Some, None, IfSome, Result, Ok, Err, codes, nat_le, nat_lt, ◌&&◌, not, map, if◌then◌else◌}
+use Rattle.std.specs.Prelude.{Option, Some, None, IfSome, Err, codes, nat_lt, ◌&&◌, not, map, if◌then◌else◌}
 use Rattle.std.specs.List.{list_all, list_any}
 use Rattle.std.specs.Str.{bytes_eq, str_eq_ignore_ascii_case as is_same}
 use Rattle.std.proofs.lemmas.Bool.{false≢true}
@@ -10,7 +10,6 @@ use Rattle.envelope.specs.Names.{first_fault, has_length, has_right_folder, home
 use Rattle.envelope.specs.declared.directory.DirectoryFault.{DirectoryFault}
 use Rattle.envelope.specs.declared.directory.DirectoryFault.TheVariants.{TooMany, BadName, Twice}
 use Rattle.imap_grammar.proofs.Tokens.{excludes, not_true}
-use Rattle.imap_session.specs.Exchange.{Folder}
 use Rattle.house_session.specs.Folders.{folders_from, folders_of, name_of}
 use Rattle.client_list.specs.Commands.{AreNames}
 use Rattle.client_list.specs.Turns.{is_inner, IsPlain}

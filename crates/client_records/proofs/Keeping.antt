@@ -1,6 +1,6 @@
 -- Over a whole record the client of each session that is there keeps up.
-use Rattle.std.proofs.Common.{◌≡◌, ◌≢◌, ℕ, ◌+◌, ◌<◌, Bool, true, false, ◌==◌, List, [], ◌∷◌, ◌++◌, refl, sym, subst, ap, ◌∙◌, arith, append-nil}
-use Rattle.std.specs.Prelude.{Option, Some, None, if◌then◌else◌}
+use Rattle.std.proofs.Common.{◌≡◌, ◌≢◌, ℕ, ◌+◌, ◌<◌, true, false, ◌==◌, List, [], ◌∷◌, ◌++◌, refl, sym, subst, ap, ◌∙◌, arith}
+use Rattle.std.specs.Prelude.{Option, Some, if◌then◌else◌}
 use Rattle.std.proofs.lemmas.Bool.{eq-eqb}
 use Rattle.std.specs.Borrow.{Bor}
 use Rattle.line_io.specs.Wire.{IsCut, joined}
@@ -14,16 +14,16 @@ use Rattle.house.specs.Scene.{BytesPlay, ConnectionHears, ConnectionPuts, EnterP
 use Rattle.house.specs.declared.event.Event as house
 use Rattle.house.specs.declared.event.Event.TheVariants.{Bytes, Vanish, Put, Take, Deliver, Answer, Hear, End, Close, Enter, Say, Idle, Leave}
 use Rattle.imap_session.specs.Commands.{greeting}
-use Rattle.exactly_once.specs.Promise.{Entry, HearsLines, IsEntry, IsOwn, IsRecord, Lines, Piece, PutsLines, Replies, Silence, text_of}
+use Rattle.exactly_once.specs.Promise.{Entry, HearsLines, IsOwn, IsRecord, Lines, Piece, PutsLines, Replies, Silence, text_of}
 use Rattle.exactly_once.proofs.Whole.{IsWhole, goes_whole, greeting_whole, idles_whole, whole_append}
-use Rattle.client_records.specs.Records.{ClientsKeepUp, ClientsOfHousesKeepUp, IsPrintable, KeepsUp, first_standing, lets_in, sent_by_then, sent_in, shown_by_then, shown_in, unless}
-use Rattle.client_records.specs.Sizes.{HasShortTexts, HasSmallNumbers}
+use Rattle.client_records.specs.Records.{ClientsKeepUp, ClientsOfHousesKeepUp, first_standing, lets_in, sent_by_then, sent_in, shown_by_then}
+use Rattle.client_records.specs.Sizes.{HasSmallNumbers}
 use Rattle.client_records.specs.Turns.{Stands}
 use Rattle.client_records.specs.Views.{IsOfOthers}
 use Rattle.client_records.proofs.Entries.{IsAside, IsAt, SceneKnown, Speech, aside_known, differs, idle_known, leave_known, let_known, lines_at, lingers, moved_known, moves_known, say_known, says, sent_then, shown_then, silent_at, the_client}
 use Rattle.client_records.proofs.Folded.{folders_plain}
 use Rattle.client_records.proofs.Living.{lives_known}
-use Rattle.client_records.proofs.Recording.{Client, Watched, client_more, fits_lines, fits_silence}
+use Rattle.client_records.proofs.Recording.{fits_lines, fits_silence}
 use Rattle.client_records.proofs.Worlds.{sound_always}
 
 abbrev Then : Setup → (ℕ → List ℕ) → (ℕ → List ℕ) → house.Event → Piece → Scene → Type 0

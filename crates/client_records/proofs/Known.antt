@@ -1,23 +1,22 @@
 -- A turn of a session, as its client hears it that knows which of its lines were SELECT, EXAMINE, CLOSE or UNSELECT.
-use Rattle.std.proofs.Common.{◌≡◌, ℕ, ◌<◌, Bool, true, false, List, [], ◌∷◌, ◌++◌, refl, sym, subst, ap, ap₂, ◌∙◌}
-use Rattle.std.specs.Prelude.{Option, Some, None, IfSome, Result, Ok, Err, codes, not, if◌then◌else◌}
+use Rattle.std.proofs.Common.{◌≡◌, ℕ, true, false, List, [], refl, sym, subst, ap, ap₂}
+use Rattle.std.specs.Prelude.{Option, Some, None, Result, Ok, Err, codes, not}
 use Rattle.world.specs.World.{Config, World}
 use Rattle.imap_grammar.specs.Reading.{read}
 use Rattle.imap_grammar.specs.declared.command.Command.{Command}
 use Rattle.imap_grammar.specs.declared.command.Command.TheVariants as commands
 use Rattle.imap_grammar.specs.declared.command.ImapFault.{ImapFault}
 use Rattle.imap_session.specs.Exchange.{Answer as StoreAnswer, Appending, Standing, Folder, Turn, is_idling, kept_tag, kept_behind, played}
-use Rattle.imap_session.specs.Commands.{on_command, on_read, turn_behind, turn_of, turn_of_long_line, turn_while}
+use Rattle.imap_session.specs.Commands.{on_command, on_read, turn_behind, turn_of, turn_while}
 use Rattle.imap_session.specs.Store.{Met}
-use Rattle.client_list.specs.Beliefs.{Leads}
 use Rattle.client_list.specs.Client.{Client}
 use Rattle.client_list.specs.Commands.{AreNames, HasToldParts, MayAnswer, MayAsk, stays}
 use Rattle.client_list.specs.Fetches.{IsNumbered}
 use Rattle.client_list.specs.Talks.{Happening, Line, LongLine, Turned, Literal, Heard, MayCome, MayHappen, leads_to}
-use Rattle.client_list.specs.Turns.{AreTags, IsTag, SeesAll}
+use Rattle.client_list.specs.Turns.{IsTag}
 use Rattle.client_list.proofs.Tags.{Tagged, read_tagged}
 use Rattle.client_list.proofs.Talking.{happening_follows, happening_keeps}
-use Rattle.client_records.specs.Clients.{IsRightAbout, Told, Words, asked, asked_by, answered, hears, reads_on}
+use Rattle.client_records.specs.Clients.{IsRightAbout, asked, asked_by, answered, hears, reads_on}
 use Rattle.client_records.specs.Sizes.{HasShortTexts, HasSmallNumbers}
 use Rattle.client_records.specs.Turns.{Stands, StandsStill, TurnIsKnown, VerdictsArePrinted, told_line, told_of}
 use Rattle.client_records.specs.Views.{view_of}

@@ -1,14 +1,14 @@
 -- A session's whole life, as its client hears it.
-use Rattle.std.proofs.Common.{◌≡◌, ◌≢◌, ℕ, List, [], ◌∷◌, ◌++◌, refl, sym, subst, ap, ◌∙◌}
-use Rattle.std.specs.Prelude.{Option, Some, None}
-use Rattle.world.specs.World.{Config, Event, IsWorld, Step, World}
-use Rattle.imap_session.specs.Exchange.{Standing, Turn}
+use Rattle.std.proofs.Common.{◌≡◌, ℕ, List, [], ◌∷◌, ◌++◌, refl, sym, subst}
+use Rattle.std.specs.Prelude.{Option, None}
+use Rattle.world.specs.World.{Config, World}
+use Rattle.imap_session.specs.Exchange.{Standing}
 use Rattle.client_list.specs.Client.{Client}
 use Rattle.client_records.specs.Clients.{IsRightAbout, Told, hears, hears_all}
 use Rattle.client_records.specs.Lives.{Lives, comes, turns, others, LivesAreKnown}
 use Rattle.client_records.specs.Sizes.{HasShortTexts, HasSmallNumbers}
 use Rattle.client_records.specs.Turns.{Stands, told_of}
-use Rattle.client_records.specs.Views.{IsOfOthers, view_of}
+use Rattle.client_records.specs.Views.{view_of}
 use Rattle.client_records.proofs.Boxes.{box_goes}
 use Rattle.client_records.proofs.Known.{stands_still, turn_known}
 use Rattle.client_records.proofs.Moved.{short_before, short_met, sound_met, sound_step}

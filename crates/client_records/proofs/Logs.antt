@@ -1,13 +1,13 @@
 -- What a log leaves: the UIDs that are counted are among those that were added, so they are as small and as few; and the changes that are shown speak of these alone.
-use Rattle.std.proofs.Common.{◌≡◌, ℕ, zero, suc, ◌+◌, ◌^◌, ◌<◌, ◌≤◌, Bool, true, false, ◌==◌, List, [], ◌∷◌, ◌++◌, length, take, drop, Contains, refl, sym, subst, ap, ◌∙◌, arith, length-append, append-nil, append_assoc}
+use Rattle.std.proofs.Common.{◌≡◌, ℕ, zero, suc, ◌+◌, ◌^◌, ◌<◌, ◌≤◌, Bool, true, false, ◌==◌, List, [], ◌∷◌, ◌++◌, length, take, drop, Contains, sym, subst, ap, ◌∙◌, arith, length-append, append_assoc}
 use Rattle.std.specs.Prelude.{if◌then◌else◌}
 use Rattle.std.specs.List.{range_with_len}
-use Rattle.std.proofs.lemmas.List.{take-append-drop, length-take-le, take-append-le, drop-append-le}
+use Rattle.std.proofs.lemmas.List.{take-append-drop, length-take-le, take-append-le}
 use Rattle.std.proofs.Math.Seq.{take-append_seam, take-append-add}
 use Rattle.change_ring.specs.declared.change.Change.{Change}
 use Rattle.change_ring.specs.declared.change.Change.TheVariants.{Add, Gone, Flags as SetFlags}
-use Rattle.change_ring.specs.Log.{without, shown, replay, added, view_at, FitsView}
-use Rattle.change_ring.proofs.LogLaws.{replay-append, added-append}
+use Rattle.change_ring.specs.Log.{without, replay, added, view_at, FitsView}
+use Rattle.change_ring.proofs.LogLaws.{replay-append}
 use Rattle.client_list.specs.Beliefs.{ArePrinted}
 use Rattle.client_list.specs.Fetches.{AreSmall}
 

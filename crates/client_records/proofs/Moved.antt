@@ -1,16 +1,14 @@
 -- A session's call comes to one event of that session in the world, or to none.
-use Rattle.std.proofs.Common.{◌≡◌, ◌≢◌, ℕ, ◌<◌, ◌^◌, ◌++◌, List, [], ◌∷◌, length, refl, sym, subst, ap}
+use Rattle.std.proofs.Common.{◌≡◌, ◌≢◌, ℕ, ◌<◌, ◌^◌, ◌++◌, List, [], ◌∷◌, length, subst, ap}
 use Rattle.delivery_token.specs.declared.Job.{Job}
 use Rattle.mailbox.specs.Events.{in_set}
-use Rattle.mailbox.specs.declared.clients.MailFault.{MailFault}
-use Rattle.mailbox.specs.declared.clients.MailFault.TheVariants.{Stranger, Lapped, Spent, NoMemory}
 use Rattle.world.specs.World as world
 use Rattle.world.specs.World.{Config, World, Event, Step}
 use Rattle.world.proofs.Base.{Every, all_of_every, every_of_all}
 use Rattle.world.proofs.Always.{kept_step}
 use Rattle.imap_session.specs.Exchange.{Call, Answer, Event as Happened, Look, Read as ReadCall, Count, Alter, Expunge as ExpungeCall, Feed as FeedCall, Leave as LeaveCall, Enter as EnterCall, Entered, Looked, Found, Counted, Altered, Expunged, Fed, Left, Refused, Starved}
 use Rattle.imap_session.specs.Store.{Met}
-use Rattle.session_store.specs.Meets.{Meets, IsRefused, IsTurnedAway}
+use Rattle.session_store.specs.Meets.{Meets}
 use Rattle.client_list.specs.Turns.{SeesAll}
 use Rattle.client_records.specs.Sizes.{HasShortTexts, HasSmallNumbers}
 use Rattle.client_records.specs.Views.{IsOfOthers, view_of}

@@ -7,14 +7,14 @@ use Rattle.std.proofs.lemmas.List.{take-append-drop}
 use Rattle.delivery_token.specs.declared.Job.{Job}
 use Rattle.change_ring.specs.declared.change.Change.{Change}
 use Rattle.change_ring.specs.declared.change.Change.TheVariants.{Add, Gone, Flags as SetFlags}
-use Rattle.change_ring.specs.Log.{Row, added, replay, rows_of, view_at, without}
+use Rattle.change_ring.specs.Log.{added, replay, view_at, without}
 use Rattle.change_ring.proofs.LogLaws.{added-append, replay-append, uids-rows_after}
 use Rattle.delivery_core.specs.Clients.{text_with}
-use Rattle.world.specs.World.{Config, World, Box, Session, Event, Step, Steps, IsWorld, next_uid}
+use Rattle.world.specs.World.{Config, World, Box, Event, Steps, next_uid}
 use Rattle.world.proofs.Kept.{Kept, BoxOk}
 use Rattle.world.proofs.Always.{kept_always, kept_steps}
 use Rattle.world.proofs.Mails.{IsIn, is_in_contains}
-use Rattle.client_records.specs.Views.{NamesTheSame, messages_of, view_in, view_of}
+use Rattle.client_records.specs.Views.{NamesTheSame, messages_of, view_in}
 use Rattle.client_records.specs.Laws.{CountedAreGiven, GoneStayGone, UidsStay}
 use Rattle.client_records.proofs.Boxes.{Goes, unmoved, logged, arrived, box_goes}
 
@@ -191,10 +191,10 @@ counted_are_given k events w n uid s is at counts =
 later_greater : (k : Config) (old new : Box) → BoxOk k old → BoxOk k new → (x : Extends old new) → (u : ℕ) → IsIn u (added x.changes) → next_uid k old ≤ u
 later_greater k old new A B x u h =
     let parts : added old.log ++ added x.changes ≡ range_with_len k.first_uid (length old.accepted) ++ range_with_len (k.first_uid + length old.accepted) (length x.copies) =
-        sym (added-append old.log x.changes) ∙ ap added (sym x.log) ∙ B.counted ∙ ap (range_with_len k.first_uid) (ap length x.accepted ∙ length-append old.accepted x.copies)
-        ∙ range_parts k.first_uid (length old.accepted) (length x.copies) in
+    sym (added-append old.log x.changes) ∙ ap added (sym x.log) ∙ B.counted ∙ ap (range_with_len k.first_uid) (ap length x.accepted ∙ length-append old.accepted x.copies)
+    ∙ range_parts k.first_uid (length old.accepted) (length x.copies) in
     let more : added x.changes ≡ range_with_len (k.first_uid + length old.accepted) (length x.copies) =
-        append_cancel_left (range_with_len k.first_uid (length old.accepted)) (added x.changes) (range_with_len (k.first_uid + length old.accepted) (length x.copies)) (ap (λ xs. xs ++ added x.changes) (sym A.counted) ∙ parts) in
+    append_cancel_left (range_with_len k.first_uid (length old.accepted)) (added x.changes) (range_with_len (k.first_uid + length old.accepted) (length x.copies)) (ap (λ xs. xs ++ added x.changes) (sym A.counted) ∙ parts) in
     (in_range u (k.first_uid + length old.accepted) (length x.copies) (subst (IsIn u) more h)).0
   where
     append_cancel_left : (xs ys zs : List ℕ) → xs ++ ys ≡ xs ++ zs → ys ≡ zs

@@ -1,6 +1,6 @@
 -- From one moment of a record to a later one the world moves on by its events.
 use Rattle.std.proofs.Common.{◌≡◌, ℕ, false, List, [], ◌∷◌, ◌++◌, refl, sym, subst, ap}
-use Rattle.std.specs.Prelude.{Option, Some, None}
+use Rattle.std.specs.Prelude.{Option}
 use Rattle.world.specs.World as world
 use Rattle.world.specs.World.{Config, Event, Step, Steps, World}
 use Rattle.world.proofs.Always.{steps_join}
@@ -12,7 +12,7 @@ use Rattle.house.specs.Scene.{BytesPlay, HearPlay, IdlePlay, Plays, PutPlay, Sce
 use Rattle.house.specs.declared.event.Event as house
 use Rattle.house.specs.declared.event.Event.TheVariants.{Bytes, Vanish, Put, Take, Deliver, Answer, Hear, End, Close, Enter, Say, Idle, Leave}
 use Rattle.house_session.specs.Seated.{SeatedSession}
-use Rattle.exactly_once.specs.Promise.{Entry, IsRecord, text_of}
+use Rattle.exactly_once.specs.Promise.{text_of}
 use Rattle.client_records.specs.Records.{RecordsMoveOn}
 use Rattle.client_records.proofs.Recording.{Walk, goes, stands, talks_walk, walk_call, walk_met, walk_parts}
 

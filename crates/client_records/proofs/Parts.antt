@@ -1,12 +1,11 @@
 -- The numbers of a FETCH that was read are such as can be printed.
-use Rattle.std.proofs.Common.{◌≡◌, ℕ, ◌<◌, ◌^◌, ◌⊎◌, inl, inr, List, [], ◌∷◌, arith, subst, sym}
-use Rattle.std.specs.Prelude.{Option, Some, None, Result, Ok, Err, if◌then◌else◌}
-use Rattle.envelope.specs.Grammar.{Gap, Joined, Rule}
+use Rattle.std.proofs.Common.{ℕ, inl, inr, List, [], ◌∷◌, arith, subst, sym}
+use Rattle.std.specs.Prelude.{Some, None, Result, Ok, Err}
+use Rattle.envelope.specs.Grammar.{Gap}
 use Rattle.imap_grammar.specs.Grammar.{ItemIs, ItemsAre, Line, Others, Reads, Separated}
 use Rattle.imap_grammar.specs.Reading.{read}
 use Rattle.imap_grammar.specs.declared.command.Command.{Command}
 use Rattle.imap_grammar.specs.declared.command.Command.TheVariants as commands
-use Rattle.imap_grammar.specs.declared.command.Fetch.{Fetch}
 use Rattle.imap_grammar.specs.declared.command.ImapFault.{ImapFault}
 use Rattle.imap_grammar.specs.declared.items.FetchItem.{FetchItem}
 use Rattle.imap_grammar.specs.declared.items.FetchItem.TheVariants as fetch

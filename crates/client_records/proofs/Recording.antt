@@ -1,20 +1,15 @@
 -- The client of each session that is there keeps up, entry by entry.
-use Rattle.std.proofs.Common.{◌≡◌, ◌≢◌, ℕ, ◌+◌, ◌^◌, ◌<◌, ◌⊎◌, inl, inr, Bool, true, false, ◌==◌, eqb, List, [], ◌∷◌, ◌++◌, length, map, Contains, refl, sym, subst, ap, ap₂, ◌∙◌, arith, append-nil, append_assoc}
-use Rattle.std.specs.Prelude.{Option, Some, None, codes, decimal, flat_map, if◌then◌else◌}
-use Rattle.std.proofs.lemmas.Bool.{eq-eqb, false≢true}
-use Rattle.std.proofs.lemmas.Bool.Decides.{eqb_tells}
-use Rattle.std.proofs.lemmas.Option.{none-some}
+use Rattle.std.proofs.Common.{◌≡◌, ◌≢◌, ℕ, ◌+◌, inl, inr, Bool, true, false, List, [], ◌∷◌, ◌++◌, length, map, refl, sym, subst, ap, ap₂, ◌∙◌, arith, append-nil, append_assoc}
+use Rattle.std.specs.Prelude.{Option, Some, None, codes, decimal, flat_map}
+use Rattle.std.proofs.lemmas.Bool.{false≢true}
 use Rattle.line_io.specs.Wire.{IsCut, joined, wire_lines}
 use Rattle.line_io.specs.inner.WireLaws.{lines_are}
-use Rattle.shard_queue.specs.At.{set_at}
-use Rattle.shard_queue.proofs.AtLaws.{at_cases, at_each}
 use Rattle.delivery_token.specs.declared.CopyKey.{CopyKey}
 use Rattle.delivery_token.specs.declared.Job.{Job}
 use Rattle.delivery_token.specs.declared.Verdict.{Verdict}
 use Rattle.delivery_token.specs.declared.Verdict.TheVariants.{Stored, Refused as Was_refused}
 use Rattle.delivery_token.specs.declared.log.Noted.{Noted}
-use Rattle.world.specs.World as world
-use Rattle.world.specs.World.{Config, Event, IsWorld, Step, Steps, World, last_uid, next_uid, empty_world}
+use Rattle.world.specs.World.{Config, Event, IsWorld, Step, World, empty_world}
 use Rattle.world.specs.Law.{StandsOnce, pair_of, pairs}
 use Rattle.world.proofs.Always.{always, steps_join}
 use Rattle.world.proofs.Mails.{IsIn}
@@ -23,24 +18,21 @@ use Rattle.imap_session.specs.Exchange.{Call, Answer, Standing}
 use Rattle.imap_session.specs.Commands.{greeting}
 use Rattle.imap_session.specs.Store.{Met}
 use Rattle.session_store.specs.Meets.{Meets}
-use Rattle.house_session.specs.Folders.{folders_of}
 use Rattle.house_session.specs.HouseSession.{HouseSession}
-use Rattle.house_session.specs.Seated.{GoesOn, SeatedSession, seated_greeted}
+use Rattle.house_session.specs.Seated.{SeatedSession}
 use Rattle.house.specs.Setup.{Setup, session_seat}
-use Rattle.house.specs.Printing.{Idles, Prints, Speaks, marked_session, of_session, prints_all, prints_none, still_unsaid, with_session}
-use Rattle.house.specs.Scene as scene
-use Rattle.house.specs.Scene.{Lingers, Parts, Scene, SessionGoes, SessionIdles, SessionTalks, LeavesMailbox, parts, remains, waits, fades}
+use Rattle.house.specs.Printing.{Prints, Speaks, marked_session, of_session, prints_all, prints_none, still_unsaid}
+use Rattle.house.specs.Scene.{Lingers, Parts, SessionTalks, parts, remains, waits, fades}
 use Rattle.house.proofs.Carried.{speaks_carried}
 use Rattle.exactly_once.specs.Promise.{Lines, text_of}
-use Rattle.exactly_once.proofs.Whole.{IsWhole, cut_of, goes_whole, greeting_whole, idles_whole, whole_append}
+use Rattle.exactly_once.proofs.Whole.{IsWhole, cut_of, goes_whole, whole_append}
 use Rattle.client_list.specs.Commands.{IsPrinted}
-use Rattle.client_records.specs.Clients.{Told, bytes_in}
 use Rattle.client_records.specs.Records.{first_standing}
 use Rattle.client_records.specs.Sizes.{HasSmallNumbers}
 use Rattle.client_records.specs.Views.{IsOfOthers}
 use Rattle.client_records.proofs.Moved.{Calls, Moved, moved, rested, stepped}
 use Rattle.client_records.proofs.Names.{in_range, is_in, numbers}
-use Rattle.client_records.proofs.Talked.{AreHeardSmall, Reached, Talked, goes_reached, idles_reached, talked_none, talked_others}
+use Rattle.client_records.proofs.Talked.{AreHeardSmall, Reached, goes_reached, talked_others}
 use Rattle.client_records.proofs.Worlds.{Sound, sound_always}
 
 -- ---- what a seat has heard

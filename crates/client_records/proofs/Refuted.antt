@@ -1,6 +1,6 @@
 -- What the definitions refuse: a list that is too short, a UID that is another's, events of the session's own, bytes that weren't answered so, a record that leaves out the greeting, two copies of one UID.
-use Rattle.std.proofs.Common.{◌≡◌, ◌≢◌, ℕ, ◌+◌, ◌<◌, List, [], ◌∷◌, ◌++◌, length, Contains, ap, ◌∙◌, sym, subst, refl, arith, length-append}
-use Rattle.std.specs.Prelude.{Option, Some, None, codes, flat_map}
+use Rattle.std.proofs.Common.{◌≡◌, ◌≢◌, ℕ, List, [], ◌∷◌, length, Contains, ap, ◌∙◌, sym, subst, refl, arith, length-append}
+use Rattle.std.specs.Prelude.{Some, None, codes, flat_map}
 use Rattle.delivery_token.specs.declared.Job.{Job}
 use Rattle.line_io.specs.Wire.{crlf}
 use Rattle.world.specs.World.{Box, Feed}
@@ -10,7 +10,7 @@ use Rattle.house.specs.Setup.{Setup}
 use Rattle.house.specs.Scene.{Scene}
 use Rattle.house_session.specs.Seated.{SeatedSession}
 use Rattle.client_list.specs.Beliefs.{IsRight}
-use Rattle.client_list.specs.Client.{Client, Known, Messages, fresh, knowing}
+use Rattle.client_list.specs.Client.{Client, Known, Messages, fresh}
 use Rattle.client_list.specs.Talks.{LongLine, Turned}
 use Rattle.client_records.specs.Clients.{IsRightAbout, bytes_in}
 use Rattle.client_records.specs.Lives.{IsSentFor}

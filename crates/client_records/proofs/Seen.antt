@@ -1,8 +1,8 @@
 -- What a session's call comes to in the world, as its client's list has it: what is shown may be shown, what is read is the row that was asked for, and what is counted can be printed.
-use Rattle.std.proofs.Common.{◌≡◌, ◌≢◌, ℕ, ◌+◌, ◌^◌, ◌*◌, ◌<◌, ◌≤◌, Bool, true, false, ◌==◌, List, [], ◌∷◌, ◌++◌, length, map, take, drop, All, refl, sym, subst, ap, ◌∙◌, arith, length-append, append-nil}
-use Rattle.std.specs.Prelude.{Option, Some, None, option_map, if◌then◌else◌, not, count_by, sum_by}
+use Rattle.std.proofs.Common.{◌≡◌, ℕ, ◌+◌, ◌^◌, ◌*◌, ◌<◌, ◌≤◌, Bool, true, false, ◌==◌, List, [], ◌∷◌, ◌++◌, length, take, drop, refl, sym, subst, ap, ◌∙◌, arith, length-append}
+use Rattle.std.specs.Prelude.{Option, Some, option_map, if◌then◌else◌, not, sum_by}
 use Rattle.std.proofs.Math.Seq.{take-length}
-use Rattle.std.proofs.lemmas.Bool.{eqb-true, false≢true}
+use Rattle.std.proofs.lemmas.Bool.{eqb-true}
 use Rattle.std.proofs.lemmas.Option.{none-some}
 use Rattle.std.proofs.lemmas.List.{take-append-drop, length-drop, length-take, length-map}
 use Rattle.std.proofs.lemmas.List.Sums.{count_by-le-length, sum_by-le}
@@ -27,10 +27,9 @@ use Rattle.world.specs.World.{Config, World, Box, Session, Event, Logs, Selected
 use Rattle.world.specs.Law.{IsShown}
 use Rattle.world.proofs.Base.{Every, every_of_all, all_of_every}
 use Rattle.world.proofs.Kept.{Kept, SessionOk}
-use Rattle.delivery_core.specs.Clients.{Done, IsStatus, Opens, Reads, read_of, row_with, rows_then, text_with}
+use Rattle.delivery_core.specs.Clients.{Done, IsStatus, row_with, rows_then, text_with}
 use Rattle.imap_session.specs.Exchange.{Call, Answer, Look, Read as ReadCall, Count, Alter, Expunge as ExpungeCall, Feed as FeedCall, Leave as LeaveCall, Enter as EnterCall, Entered, Looked, Found, Counted, Altered, Expunged, Fed, Left, Refused, Starved}
-use Rattle.imap_session.specs.Store.{ViewAfter}
-use Rattle.session_store.specs.Meets.{Meets, IsDone, IsRefused, IsTurnedAway, Shows}
+use Rattle.session_store.specs.Meets.{Meets, IsRefused, IsTurnedAway}
 use Rattle.client_list.specs.Beliefs.{MayShow}
 use Rattle.client_list.specs.Fetches.{AreSmall, IsNumbered}
 use Rattle.client_list.specs.Turns.{IsCounted, IsRowOf, Sees}
@@ -38,7 +37,7 @@ use Rattle.client_records.specs.Sizes.{HasShortTexts, HasSmallNumbers}
 use Rattle.client_records.specs.Views.{IsOpened, messages_of, view_in, view_of}
 use Rattle.client_records.specs.Laws.{CallsAreSeen, EntriesAreCounted, LeaversCountNothing}
 use Rattle.client_records.proofs.Worlds.{Sound, added_few, added_small, numbered_at, sound_always}
-use Rattle.client_records.proofs.Logs.{are_printed, length_replay, small_behind, small_front, small_replay, view_then}
+use Rattle.client_records.proofs.Logs.{are_printed, length_replay, small_behind, small_front, view_then}
 
 -- ---- what is shown
 
@@ -59,7 +58,14 @@ may_show log c l fits small few short =
       fits = fit;
       printed = are_printed (view_at log c) next numbered.small small_next fit;
       few = omega (
-        arith, few, short, some, length-drop c log, ap length two, length-append (added front) (added behind), length_replay [] front,
+        arith,
+        few,
+        short,
+        some,
+        length-drop c log,
+        ap length two,
+        length-append (added front) (added behind),
+        length_replay [] front,
       );
     }
 
@@ -185,7 +191,7 @@ expunge_seen k w n uids met changes gone v S (step, (s, is, (D, (S1, went)))) =
       leads = (
         S1.counted ∙ sym (the_view w n s is),
         done_view k w n s (length (pending (w.box s.mailbox) s)) (pending (w.box s.mailbox) s) (removals (in_set uids) (rows_of (w.box s.mailbox).log)) v S.kept is (all_pending w s) D
-        ∙ ap (λ (cs : List Change). replay (view_of w n) cs) (sym S1.handed),
+            ∙ ap (λ (cs : List Change). replay (view_of w n) cs) (sym S1.handed),
       );
       fits = may_be_shown k w S n s is (length (pending (w.box s.mailbox) s)) changes cut;
     }

@@ -1,5 +1,5 @@
 -- What a session answers and says goes on from what it answered and said before.
-use Rattle.std.proofs.Common.{◌≡◌, ◌≢◌, ℕ, ◌+◌, ◌^◌, ◌<◌, List, [], ◌∷◌, ◌++◌, length, map, Contains, refl, sym, subst, ap, ap₂, ◌∙◌, arith, append-nil, append_assoc}
+use Rattle.std.proofs.Common.{◌≡◌, ◌≢◌, ℕ, List, [], ◌∷◌, ◌++◌, Contains, refl, sym, subst, ap, ap₂, ◌∙◌, append-nil, append_assoc}
 use Rattle.std.specs.Prelude.{Bool, Option, Some, None, flat_map}
 use Rattle.std.proofs.lemmas.Grind.{flat_map-append}
 use Rattle.line_io.specs.Wire.{crlf}
@@ -9,7 +9,7 @@ use Rattle.submission.specs.Heard.{HeardFor}
 use Rattle.delivery_token.specs.declared.log.Noted.{Noted}
 use Rattle.world.specs.World.{Config, Event, Step, World}
 use Rattle.imap_session.specs.declared.standing.After.{After}
-use Rattle.imap_session.specs.Exchange.{Call, Answer, Standing, Turn, kept_tag, may_send, nothing_more}
+use Rattle.imap_session.specs.Exchange.{Standing, Turn, kept_tag, may_send, nothing_more}
 use Rattle.imap_session.specs.Commands.{turn_of_long_line, with_bytes}
 use Rattle.imap_session.specs.Store.{AnswersVerdict, IdleTurns, Met}
 use Rattle.imap_connection.specs.Dialogue as dialogue
@@ -144,7 +144,7 @@ goes_reached k n whole seat notes first began came heard v after old new said sm
 goes_reached k n whole seat notes first began came heard v after old new said small (seated.answers verdict mid one two how next known a w e) r =
     let t = verdict_talked k n first began r.sent heard v.session.standing verdict old mid one how next (verdict_printed seat notes v verdict small known) a r.talked in
     let between : Reached k n first began came (heard ++ one) (record { standing = next; waits = v.session.waits; unsaid = v.session.unsaid }) mid =
-        record { sent = r.sent ++ []; talked = t; waits = r.waits ∙ ap (λ (s : List ℕ). s ++ v.session.waits) (sym (append-nil r.sent)) } in
+    record { sent = r.sent ++ []; talked = t; waits = r.waits ∙ ap (λ (s : List ℕ). s ++ v.session.waits) (sym (append-nil r.sent)) } in
     subst (λ (h : List ℕ). Reached k n first began came h after.session new) (append_assoc heard one two ∙ ap (λ (s : List ℕ). heard ++ s) (sym e))
     (works_reached k n seat first began came (heard ++ one) (seated.told v next) after mid new two w between)
 goes_reached k n whole seat notes first began came heard v after old new said small (seated.waits a e f g) r = same_reached k n first began came heard v after old new said e f g r

@@ -1,5 +1,5 @@
 -- When a client's list is the mailbox as it is now.
-use Rattle.std.specs.Prelude.{◌≡◌, ℕ, Bool, true, List, [], ◌∷◌, ◌++◌, Option, Some, None, Ok}
+use Rattle.std.specs.Prelude.{◌≡◌, ℕ, true, List, [], ◌∷◌, ◌++◌, Some, None, Ok}
 use Rattle.change_ring.specs.declared.change.Change.{Change}
 use Rattle.world.specs.World.{Config, Event, IsWorld, Session, World}
 use Rattle.imap_grammar.specs.Reading.{is_done, read}

@@ -1,12 +1,11 @@
 -- A session's life in a house, as its client hears it: turns of its own, and between them whatever others do.
-use Rattle.std.specs.Prelude.{◌≡◌, ℕ, ◌+◌, ◌<◌, List, [], ◌∷◌, ◌++◌, length, Option, Some, None}
+use Rattle.std.specs.Prelude.{◌≡◌, ℕ, ◌+◌, ◌<◌, List, [], ◌∷◌, ◌++◌, length, Some, None}
 use Rattle.line_io.specs.Wire.{crlf}
 use Rattle.world.specs.World.{Config, Event, IsWorld, Step, World}
 use Rattle.imap_session.specs.Exchange.{Call, Answer as StoreAnswer, Standing, Turn}
 use Rattle.imap_session.specs.Store.{Met}
 use Rattle.imap_connection.specs.Dialogue.{most_bytes}
 use Rattle.session_store.specs.Meets.{Meets}
-use Rattle.client_list.specs.Client.{Client}
 use Rattle.client_list.specs.Talks.{Happening, Line, LongLine, Turned, Literal, Heard, leads_to}
 use Rattle.client_records.specs.Clients.{IsRightAbout, Told, hears_all}
 use Rattle.client_records.specs.Sizes.{HasShortTexts, HasSmallNumbers}

@@ -1,6 +1,6 @@
 -- What the client of a house's session knows, over a record of all that happened in the house and was printed.
-use Rattle.std.specs.Prelude.{◌≡◌, ℕ, ◌+◌, ◌==◌, Bool, true, false, List, [], ◌∷◌, ◌++◌, flat_map, IfSome, Option, Some, None, if◌then◌else◌}
-use Rattle.envelope.specs.Directory.{Directory, Home}
+use Rattle.std.specs.Prelude.{◌≡◌, ℕ, ◌+◌, ◌==◌, Bool, true, false, List, [], ◌∷◌, ◌++◌, flat_map, IfSome, Some, None, if◌then◌else◌}
+use Rattle.envelope.specs.Directory.{Home}
 use Rattle.envelope.specs.Names.{is_folder}
 use Rattle.line_io.specs.Wire.{joined}
 use Rattle.world.specs.World.{Event as WorldEvent, IsWorld, Steps, World}

@@ -6,7 +6,7 @@ use Rattle.imap_session.specs.Store.{Met}
 use Rattle.session_store.specs.Meets.{Meets}
 use Rattle.client_list.specs.Client.{Client}
 use Rattle.client_list.specs.Commands.{AreNames, IsPrinted}
-use Rattle.client_list.specs.Talks.{Happening, Line, LongLine, Turned, Literal, Heard, leads_to}
+use Rattle.client_list.specs.Talks.{Happening, Line, Heard, leads_to}
 use Rattle.client_list.specs.Turns.{AreTags}
 use Rattle.client_records.specs.Clients.{Answer, IsRightAbout, Told, Words, hears}
 use Rattle.client_records.specs.Sizes.{HasShortTexts, HasSmallNumbers}

@@ -1,14 +1,13 @@
 -- Clients that know what they asked, as they hear their answers; what entries are of whom; and views of a small world.
-use Rattle.std.specs.Prelude.{◌≡◌, ℕ, ◌==◌, if◌then◌else◌, true, false, codes, List, [], ◌∷◌, ◌++◌, Option, Some, None}
+use Rattle.std.specs.Prelude.{◌≡◌, ℕ, ◌==◌, if◌then◌else◌, true, false, codes, List, [], ◌∷◌, ◌++◌, Some, None}
 use Rattle.std.proofs.Common.{refl}
-use Rattle.std.specs.Fmt.{digits}
 use Rattle.std.specs.Borrow.{Bor}
 use Rattle.change_ring.specs.declared.change.Change.TheVariants.{Add, Gone}
 use Rattle.imap_grammar.specs.Reading.{read}
-use Rattle.house.specs.declared.event.Event.TheVariants.{Enter, Say, Take}
-use Rattle.exactly_once.specs.Promise.{Lines, Replies, Silence}
+use Rattle.house.specs.declared.event.Event.TheVariants.{Enter, Say}
+use Rattle.exactly_once.specs.Promise.{Lines}
 use Rattle.world.specs.World.{World, empty_world}
-use Rattle.client_list.specs.Client.{Client, Known, fresh, knowing, unknown}
+use Rattle.client_list.specs.Client.{Known, knowing, unknown}
 use Rattle.client_records.specs.Clients.{Answer, Words, has_ok, hears, hears_all}
 use Rattle.client_records.specs.Records.{lets_in, sent_in, shown_in}
 use Rattle.client_records.specs.Views.{messages_of, view_of}
