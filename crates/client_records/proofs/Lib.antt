@@ -17,3 +17,4 @@ mod Entries
 mod Keeping
 mod Refuted
 mod Onward
+mod OneLife

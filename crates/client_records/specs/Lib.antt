@@ -6,4 +6,5 @@ pub mod Turns
 pub mod Lives
 pub mod Current
 pub mod Records
+pub mod One
 pub mod rows

@@ -4,6 +4,7 @@
 ghost use Rattle.client_records.specs.Current.{DoneMakesCurrent, FeedsMakeCurrent, ListsAreCurrent, NoopMakesCurrent};
 ghost use Rattle.client_records.specs.Laws.{CallsAreSeen, CountedAreGiven, EntriesAreCounted, GoneStayGone, LeaversCountNothing, OthersLeaveViews, UidsStay, ViewsAreNumbered};
 ghost use Rattle.client_records.specs.Lives.{LivesAreKnown};
+ghost use Rattle.client_records.specs.One.{OneLifeIsLived};
 ghost use Rattle.client_records.specs.Records.{ClientsKeepUp, ClientsOfHousesKeepUp, RecordsMoveOn, SettingsCanBePrinted};
 ghost use Rattle.client_records.specs.Turns.{StandsStill, TurnIsKnown};
 
@@ -43,6 +44,12 @@ pub fn turns_are_known()
 /// no number was out of its list.
 pub fn lives_are_known()
     ensures { LivesAreKnown }
+{}
+
+/// One life, by computing: a session selects an empty mailbox, a copy comes there meanwhile, and a NOOP shows it. Its client then
+/// has a list of one message, and the session counts one.
+pub fn one_life_happens()
+    ensures { OneLifeIsLived }
 {}
 
 /// Where all that was pending was shown in a session's last call, what it counts is all that is there at that moment. So it is

@@ -5,5 +5,6 @@
 mod laws;
 
 pub use laws::{
-    calls_are_seen, clients_keep_up, lists_are_current, lives_are_known, turns_are_known, uids_stay,
+    calls_are_seen, clients_keep_up, lists_are_current, lives_are_known, one_life_happens,
+    turns_are_known, uids_stay,
 };
