@@ -18,3 +18,6 @@ mod Keeping
 mod Refuted
 mod Onward
 mod OneLife
+mod Dialogues
+mod Texts
+mod Mailed
