@@ -137,7 +137,7 @@ done_makes_current k events n now line tag w turn v is a begun idling done ok =
 
 kept_moved : (k : Config) (n : ℕ) (w v : World) → Moved k n w v → Kept k w → Kept k v
 kept_moved k n w v (rested e) K = rw e K
-kept_moved k n w v (stepped e step own) K = kept_step k w e v K step
+kept_moved k n w v (stepped e step own short) K = kept_step k w e v K step
 
 last_kept : (k : Config) (w : World) (n : ℕ) (calls : List Happened) (met : List ℕ) (changes : List Change) (v : World) → Kept k w
     → Met (Calls k n) w (calls ++ record { call = Feed unlimited; answer = Fed met changes } ∷ []) v → IsCurrent v n

@@ -21,3 +21,4 @@ mod OneLife
 mod Dialogues
 mod Texts
 mod Mailed
+mod Shortness

@@ -15,14 +15,15 @@ use Rattle.client_records.specs.Views.{IsOfOthers, view_of}
 use Rattle.client_records.proofs.Boxes.{box_goes, goes_small}
 use Rattle.client_records.proofs.Names.{Extends, extends_none, goes_extends}
 use Rattle.client_records.proofs.Seen.{seen, turned_away, was_refused}
+use Rattle.client_records.proofs.Texts.{PutsShort}
 use Rattle.client_records.proofs.Worlds.{Sound}
 
 pub data Moved (k : Config) (n : ℕ) (w v : World) : Type 0 where
   rested : v ≡ w → Moved k n w v
-  stepped : (e : Event) → Step k w e v → ((j : ℕ) → j ≢ n → IsOfOthers j e) → Moved k n w v
+  stepped : (e : Event) → Step k w e v → ((j : ℕ) → j ≢ n → IsOfOthers j e) → PutsShort e → Moved k n w v
 
 pub moved : (k : Config) (n : ℕ) (w : World) (call : Call) (answer : Answer) (v : World) → Meets k n w call answer v → Moved k n w v
-moved k n w (EnterCall i) (Entered opening) v m = stepped (world.Enter n i) m.0 (λ j o. o)
+moved k n w (EnterCall i) (Entered opening) v m = stepped (world.Enter n i) m.0 (λ j o. o) tt
 moved k n w (EnterCall i) (Looked copied) v m = absurd m
 moved k n w (EnterCall i) (Found row) v m = absurd m
 moved k n w (EnterCall i) (Counted status) v m = absurd m
@@ -44,7 +45,7 @@ moved k n w Look (Refused fault) v m = rested (was_refused n w fault _ v m)
 moved k n w Look (Starved j) v m = absurd m
 moved k n w (ReadCall uid mark) (Entered opening) v m = absurd m
 moved k n w (ReadCall uid mark) (Looked copied) v m = absurd m
-moved k n w (ReadCall uid mark) (Found row) v m = stepped (world.Read n uid mark) m.0 (λ j o. o)
+moved k n w (ReadCall uid mark) (Found row) v m = stepped (world.Read n uid mark) m.0 (λ j o. o) tt
 moved k n w (ReadCall uid mark) (Counted status) v m = absurd m
 moved k n w (ReadCall uid mark) (Altered flags) v m = absurd m
 moved k n w (ReadCall uid mark) (Expunged met changes gone) v m = absurd m
@@ -66,7 +67,7 @@ moved k n w (Alter uid op) (Entered opening) v m = absurd m
 moved k n w (Alter uid op) (Looked copied) v m = absurd m
 moved k n w (Alter uid op) (Found row) v m = absurd m
 moved k n w (Alter uid op) (Counted status) v m = absurd m
-moved k n w (Alter uid op) (Altered flags) v m = stepped (world.Store n uid op) m.0 (λ j o. o)
+moved k n w (Alter uid op) (Altered flags) v m = stepped (world.Store n uid op) m.0 (λ j o. o) tt
 moved k n w (Alter uid op) (Expunged met changes gone) v m = absurd m
 moved k n w (Alter uid op) (Fed met changes) v m = absurd m
 moved k n w (Alter uid op) (Left gone) v m = absurd m
@@ -77,7 +78,7 @@ moved k n w (ExpungeCall uids) (Looked copied) v m = absurd m
 moved k n w (ExpungeCall uids) (Found row) v m = absurd m
 moved k n w (ExpungeCall uids) (Counted status) v m = absurd m
 moved k n w (ExpungeCall uids) (Altered flags) v m = absurd m
-moved k n w (ExpungeCall uids) (Expunged met changes gone) v m = stepped (world.Expunge n (in_set uids)) m.0 (λ j o. o)
+moved k n w (ExpungeCall uids) (Expunged met changes gone) v m = stepped (world.Expunge n (in_set uids)) m.0 (λ j o. o) tt
 moved k n w (ExpungeCall uids) (Fed met changes) v m = absurd m
 moved k n w (ExpungeCall uids) (Left gone) v m = absurd m
 moved k n w (ExpungeCall uids) (Refused fault) v m = rested (was_refused n w fault _ v m)
@@ -88,7 +89,7 @@ moved k n w (FeedCall limit) (Found row) v m = absurd m
 moved k n w (FeedCall limit) (Counted status) v m = absurd m
 moved k n w (FeedCall limit) (Altered flags) v m = absurd m
 moved k n w (FeedCall limit) (Expunged met changes gone) v m = absurd m
-moved k n w (FeedCall limit) (Fed met changes) v m = stepped (world.Feed n limit) m.0 (λ j o. o)
+moved k n w (FeedCall limit) (Fed met changes) v m = stepped (world.Feed n limit) m.0 (λ j o. o) tt
 moved k n w (FeedCall limit) (Left gone) v m = absurd m
 moved k n w (FeedCall limit) (Refused fault) v m = rested (was_refused n w fault _ v m)
 moved k n w (FeedCall limit) (Starved j) v m = absurd m
@@ -99,7 +100,7 @@ moved k n w (LeaveCall remove) (Counted status) v m = absurd m
 moved k n w (LeaveCall remove) (Altered flags) v m = absurd m
 moved k n w (LeaveCall remove) (Expunged met changes gone) v m = absurd m
 moved k n w (LeaveCall remove) (Fed met changes) v m = absurd m
-moved k n w (LeaveCall remove) (Left gone) v m = stepped (world.Leave n remove) m.0.0 (λ j o. o)
+moved k n w (LeaveCall remove) (Left gone) v m = stepped (world.Leave n remove) m.0.0 (λ j o. o) tt
 moved k n w (LeaveCall remove) (Refused fault) v m = rested (was_refused n w fault _ v m)
 moved k n w (LeaveCall remove) (Starved j) v m = absurd m
 
@@ -110,7 +111,7 @@ sound_step k w e v S step = record { kept = kept_step k w e v S.kept step; small
 
 pub sound_moved : (k : Config) (n : ℕ) (w v : World) → Moved k n w v → Sound k w → Sound k v
 sound_moved k n w v (rested e) S = rw e S
-sound_moved k n w v (stepped e step own) S = sound_step k w e v S step
+sound_moved k n w v (stepped e step own short) S = sound_step k w e v S step
 
 every_front : {A : Type 0} (P : A → Type 0) (xs ys : List A) → Every P (xs ++ ys) → Every P xs
 every_front P [] ys h = tt
@@ -125,7 +126,7 @@ short_before w v extends short m =
 
 pub moved_extends : (k : Config) (n : ℕ) (w v : World) → Moved k n w v → (m : ℕ) → Extends (w.box m) (v.box m)
 moved_extends k n w v (rested e) m = rw e (extends_none (w.box m))
-moved_extends k n w v (stepped e step own) m = goes_extends k (w.box m) (v.box m) (box_goes k w e v m step)
+moved_extends k n w v (stepped e step own short) m = goes_extends k (w.box m) (v.box m) (box_goes k w e v m step)
 
 -- ---- several calls
 

@@ -67,7 +67,7 @@ pub data Walk (k : Config) (q : ℕ) (w : World) : World → Type 0 where
 
 walk_moved : (k : Config) (q : ℕ) (w u v : World) → Walk k q w u → Moved k q u v → Walk k q w v
 walk_moved k q w u v walk (rested e) = rw e walk
-walk_moved k q w u v walk (stepped event step own) = goes walk event own v step
+walk_moved k q w u v walk (stepped event step own short) = goes walk event own v step
 
 pub walk_then : (k : Config) (q : ℕ) (w u v : World) → Walk k q w u → Walk k q u v → Walk k q w v
 walk_then k q w u v one stands = one

@@ -64,7 +64,7 @@ talked_others k n first began sent said now w event v t o step = record { told =
 pub talked_moved : (k : Config) (n q : ℕ) (first : Standing) (began : World) (sent said : List ℕ) (now : Standing) (w v : World)
     → n ≢ q → Moved k q w v → Talked k n first began sent said now w → Talked k n first began sent said now v
 talked_moved k n q first began sent said now w v o (rested e) t = rw e t
-talked_moved k n q first began sent said now w v o (stepped event step own) t = talked_others k n first began sent said now w event v t (own n o) step
+talked_moved k n q first began sent said now w v o (stepped event step own short) t = talked_others k n first began sent said now w event v t (own n o) step
 
 -- ---- what its client sends
 
