@@ -1,6 +1,6 @@
 -- No text that a connection submits is longer than its limit and the line before it.
-use Rattle.std.proofs.Common.{◌≡◌, ℕ, ◌+◌, ◌≤◌, ◌<◌, Bool, true, false, ◌==◌, List, [], ◌∷◌, ◌++◌, length, refl, ap, ◌∙◌, sym, subst, arith, length-append}
-use Rattle.std.specs.Prelude.{Option, Some, None, Result, Ok, Err, codes, nat_lt, ◌||◌, if◌then◌else◌}
+use Rattle.std.proofs.Common.{◌≡◌, ℕ, ◌+◌, ◌≤◌, Bool, true, false, ◌==◌, List, [], ◌∷◌, ◌++◌, length, refl, sym, subst, arith, length-append}
+use Rattle.std.specs.Prelude.{Result, Ok, Err, codes, nat_lt, ◌||◌, if◌then◌else◌}
 use Rattle.std.specs.List.{list_all, list_any}
 use Rattle.std.proofs.lemmas.Bool.{false≢true}
 use Rattle.std.proofs.lemmas.Bool.Decides.{nat_tests}
@@ -41,7 +41,11 @@ sender_short Postmaster h = omega arith
 sender_short (To address) h =
     let parts = both_false (nat_lt 64 (length address.local)) (nat_lt 255 (length address.domain)) h in
     omega (
-      arith, not_over 64 (length address.local) parts.0, not_over 255 (length address.domain) parts.1, length-append (address.local ++ codes "@") address.domain, length-append address.local (codes "@"),
+      arith,
+      not_over 64 (length address.local) parts.0,
+      not_over 255 (length address.domain) parts.1,
+      length-append (address.local ++ codes "@") address.domain,
+      length-append address.local (codes "@"),
     )
 
 abbrev IsShortPath : Result Command CommandFault → Type 0

@@ -110,4 +110,5 @@ pub settings_can_be_printed : SettingsCanBePrinted
 settings_can_be_printed c range right = record {
   numbers = record { first_uid = omega (arith, range.first_uid.1); uidvalidity = omega (arith, range.uidvalidity.1) };
   names = names_right (c.host.items ∷ c.domain.items ∷ []) (words_of c) (fault_of_numbers c) right;
+  texts = omega (arith, range.max_message.1);
 }

@@ -16,14 +16,16 @@ use Rattle.house.specs.declared.event.Event.TheVariants.{Bytes, Vanish, Put, Tak
 use Rattle.imap_session.specs.Commands.{greeting}
 use Rattle.exactly_once.specs.Promise.{Entry, HearsLines, IsOwn, IsRecord, Lines, Piece, PutsLines, Replies, Silence, text_of}
 use Rattle.exactly_once.proofs.Whole.{IsWhole, goes_whole, greeting_whole, idles_whole, whole_append}
-use Rattle.client_records.specs.Records.{ClientsKeepUp, ClientsOfHousesKeepUp, first_standing, lets_in, sent_by_then, sent_in, shown_by_then}
-use Rattle.client_records.specs.Sizes.{HasSmallNumbers}
+use Rattle.client_records.specs.Records.{TextsStayShort, ClientsKeepUp, ClientsOfHousesKeepUp, first_standing, lets_in, sent_by_then, sent_in, shown_by_then}
+use Rattle.client_records.specs.Sizes.{HasShortTexts, HasSmallNumbers}
 use Rattle.client_records.specs.Turns.{Stands}
 use Rattle.client_records.specs.Views.{IsOfOthers}
 use Rattle.client_records.proofs.Entries.{IsAside, IsAt, SceneKnown, Speech, aside_known, differs, idle_known, leave_known, let_known, lines_at, lingers, moved_known, moves_known, say_known, says, sent_then, shown_then, silent_at, the_client}
 use Rattle.client_records.proofs.Folded.{folders_plain}
 use Rattle.client_records.proofs.Living.{lives_known}
 use Rattle.client_records.proofs.Recording.{fits_lines, fits_silence}
+use Rattle.client_records.proofs.Shortness.{texts_short}
+use Rattle.client_records.proofs.Texts.{has_short}
 use Rattle.client_records.proofs.Worlds.{sound_always}
 
 abbrev Then : Setup → (ℕ → List ℕ) → (ℕ → List ℕ) → house.Event → Piece → Scene → Type 0
@@ -246,8 +248,12 @@ record_known k sent shown s [] t h K e = rw e K
 record_known k sent shown s (entry ∷ entries) t h K (one, more) =
     record_known k (sent_then sent entry.event) (shown_then shown entry.event entry.piece) entry.after entries t h (entry_known k sent shown s entry.event entry.after entry.piece h K one.plays one.own) more
 
+pub texts_stay_short : TextsStayShort
+texts_stay_short k entries t small is = has_short t.world (texts_short k entries t small is)
+
 pub clients_keep_up : ClientsKeepUp
-clients_keep_up k entries t place v printable short is there read =
+clients_keep_up k entries t place v printable is there read =
+    let short : HasShortTexts t.world = texts_stay_short k entries t printable.texts is in
     let K0 : SceneKnown k (λ n. []) (λ n. []) (empty_scene k) = record { events = []; came = refl; watched = λ n. tt } in
     let K = record_known k (λ n. []) (λ n. []) (empty_scene k) entries t printable.numbers K0 is in
     let c = the_client k (λ n. sent_by_then n [] entries) (λ n. shown_by_then n [] entries) t place v K there read in
@@ -266,4 +272,4 @@ clients_keep_up k entries t place v printable short is there read =
     }
 
 pub clients_of_houses_keep_up : ClientsOfHousesKeepUp
-clients_of_houses_keep_up k events t printed once place v printable short there read = clients_keep_up k once.entries t place v printable short once.leads there read
+clients_of_houses_keep_up k events t printed once place v printable there read = clients_keep_up k once.entries t place v printable once.leads there read

@@ -1,12 +1,11 @@
 -- Over a whole record no text that is put is too long: of connections, sessions, lanes and mailboxes.
-use Rattle.std.proofs.Common.{◌≡◌, ℕ, ◌+◌, ◌≤◌, ◌<◌, ◌^◌, Bool, true, false, List, [], ◌∷◌, ◌++◌, length, refl, sym, subst, ap, ◌∙◌, arith}
+use Rattle.std.proofs.Common.{◌≡◌, ℕ, ◌+◌, ◌≤◌, ◌<◌, ◌^◌, Bool, false, List, [], ◌∷◌, length, refl, sym, subst, ap, ◌∙◌, arith}
 use Rattle.std.specs.Prelude.{Option, Some, None, IfSome}
 use Rattle.shard_queue.specs.At.{set_at}
 use Rattle.shard_queue.proofs.AtLaws.{at_each}
 use Rattle.change_ring.specs.declared.change.Flags.{Flags}
 use Rattle.delivery_token.specs.declared.CopyKey.{CopyKey}
 use Rattle.delivery_token.specs.declared.Job.{Job}
-use Rattle.delivery_token.specs.declared.Verdict.{Verdict}
 use Rattle.delivery_token.specs.declared.log.Noted.{Noted}
 use Rattle.submission.specs.Copies.{copies}
 use Rattle.world.specs.World as world
@@ -29,7 +28,7 @@ use Rattle.house_session.specs.Folders.{folders_of}
 use Rattle.house_session.specs.Seated as seated
 use Rattle.house_session.specs.Seated.{GoesOn, SeatedSession, seated_greeted}
 use Rattle.house.specs.Setup.{Setup, session_seat, terms_of}
-use Rattle.house.specs.Printing.{ConnectionGoes, Leaves, Speaks, goes, stays, still_unsaid, with_session}
+use Rattle.house.specs.Printing.{ConnectionGoes, Leaves, goes, stays, still_unsaid, with_session}
 use Rattle.house.specs.Scene as scene
 use Rattle.house.specs.Scene.{BytesPlay, EnterPlay, HearPlay, IdlePlay, LeavePlay, Lingers, Parts, Plays, PutPlay, SayPlay, Scene, SessionGoes, SessionTalks, VanishPlay, connection_hears, connection_puts, empty_scene, opens, goes_on as scene_goes_on, parts, place_of, remains, seat_of, session_hears, session_puts, waits, fades}
 use Rattle.house.specs.declared.event.Event as house

@@ -1,5 +1,5 @@
 -- What the client of a house's session knows, over a record of all that happened in the house and was printed.
-use Rattle.std.specs.Prelude.{◌≡◌, ℕ, ◌+◌, ◌==◌, Bool, true, false, List, [], ◌∷◌, ◌++◌, flat_map, IfSome, Some, None, if◌then◌else◌}
+use Rattle.std.specs.Prelude.{◌≡◌, ℕ, ◌+◌, ◌<◌, ◌^◌, ◌==◌, Bool, true, false, List, [], ◌∷◌, ◌++◌, flat_map, IfSome, Some, None, if◌then◌else◌}
 use Rattle.envelope.specs.Directory.{Home}
 use Rattle.envelope.specs.Names.{is_folder}
 use Rattle.line_io.specs.Wire.{joined}
@@ -32,6 +32,7 @@ AreFolders (home ∷ homes) = IfSome home.folder (λ name. is_folder name ≡ tr
 pub record IsPrintable (k : Setup) : Type 0 where
   pub numbers : HasSmallNumbers k.config
   pub names : AreFolders k.directory.homes
+  pub texts : k.max_message < 2 ^ 31
 
 -- ---- of the session at a place
 
@@ -89,13 +90,17 @@ pub record KeepsUp (k : Setup) (entries : List Entry) (place : ℕ) (v : SeatedS
 
 -- Over whatever record of a house that was new: whoever is there keeps up.
 abbrev pub ClientsKeepUp : Type 0
-ClientsKeepUp = (k : Setup) (entries : List Entry) (t : Scene) (place : ℕ) (v : SeatedSession) → IsPrintable k → HasShortTexts t.world → IsRecord k entries (empty_scene k) t
+ClientsKeepUp = (k : Setup) (entries : List Entry) (t : Scene) (place : ℕ) (v : SeatedSession) → IsPrintable k → IsRecord k entries (empty_scene k) t
     → t.visitor place ≡ Some v → v.gone ≡ false → KeepsUp k entries place v t
 
 -- so it is of the record that `ExactlyOnce` has: of whatever events happened in the house
 abbrev pub ClientsOfHousesKeepUp : Type 0
-ClientsOfHousesKeepUp = (k : Setup) (events : List house.Event) (t : Scene) (printed : List ℕ) (once : ExactlyOnce k events t printed) (place : ℕ) (v : SeatedSession) → IsPrintable k → HasShortTexts t.world
+ClientsOfHousesKeepUp = (k : Setup) (events : List house.Event) (t : Scene) (printed : List ℕ) (once : ExactlyOnce k events t printed) (place : ℕ) (v : SeatedSession) → IsPrintable k
     → t.visitor place ≡ Some v → v.gone ≡ false → KeepsUp k once.entries place v t
+
+-- No text that was accepted is too long to be told of: what a connection takes is limited, and so is what a session does
+abbrev pub TextsStayShort : Type 0
+TextsStayShort = (k : Setup) (entries : List Entry) (t : Scene) → k.max_message < 2 ^ 31 → IsRecord k entries (empty_scene k) t → HasShortTexts t.world
 
 -- From one moment of a record to a later one the world moves on by its events.
 abbrev pub RecordsMoveOn : Type 0

@@ -5,7 +5,7 @@ ghost use Rattle.client_records.specs.Current.{DoneMakesCurrent, FeedsMakeCurren
 ghost use Rattle.client_records.specs.Laws.{CallsAreSeen, CountedAreGiven, EntriesAreCounted, GoneStayGone, LeaversCountNothing, OthersLeaveViews, UidsStay, ViewsAreNumbered};
 ghost use Rattle.client_records.specs.Lives.{LivesAreKnown};
 ghost use Rattle.client_records.specs.One.{OneLifeIsLived};
-ghost use Rattle.client_records.specs.Records.{ClientsKeepUp, ClientsOfHousesKeepUp, RecordsMoveOn, SettingsCanBePrinted};
+ghost use Rattle.client_records.specs.Records.{ClientsKeepUp, ClientsOfHousesKeepUp, RecordsMoveOn, SettingsCanBePrinted, TextsStayShort};
 ghost use Rattle.client_records.specs.Turns.{StandsStill, TurnIsKnown};
 
 /// In every world that came from the empty one: the UIDs and the places of what a session counts can be printed, and what
@@ -64,10 +64,11 @@ pub fn lists_are_current()
 
 /// Over any record of a house that was new, of whatever events: the client of each session that is there, by all that it sent
 /// since it was let in and all that was printed to it since, is right about what its session counts, wherever it is in a mailbox
-/// that it knows: since a SELECT or EXAMINE was answered OK. Of the house it is asked that numbers and names can be printed,
-/// which settings that are right see to, and that no text of 4 GiB was accepted.
+/// that it knows: since a SELECT or EXAMINE was answered OK. Of the house it is asked that numbers and names can be printed
+/// and messages have less than 2 GiB, which settings that are right see to; then no text was accepted that is too long to be told of.
 pub fn clients_keep_up()
     ensures record { ClientsKeepUp }
     ensures house { ClientsOfHousesKeepUp }
+    ensures texts { TextsStayShort }
     ensures settings { SettingsCanBePrinted }
 {}

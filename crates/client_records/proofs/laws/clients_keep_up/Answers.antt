@@ -1,5 +1,5 @@
 use Rattle.client_records.proofs.Folded.{settings_can_be_printed}
-use Rattle.client_records.proofs.Keeping.{clients_keep_up, clients_of_houses_keep_up}
+use Rattle.client_records.proofs.Keeping.{clients_keep_up, clients_of_houses_keep_up, texts_stay_short}
 use Rattle.client_records.proofs.laws.clients_keep_up.Goals as goal
 
 pub returns-clause-record : goal.returns-clause-record
@@ -10,3 +10,6 @@ returns-clause-house c = clients_of_houses_keep_up
 
 pub returns-clause-settings : goal.returns-clause-settings
 returns-clause-settings c = settings_can_be_printed
+
+pub returns-clause-texts : goal.returns-clause-texts
+returns-clause-texts c = texts_stay_short
