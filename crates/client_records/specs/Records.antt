@@ -41,6 +41,11 @@ abbrev pub lets_in : (place : ℕ) → house.Event → Bool
 lets_in place (Enter session user) = place_of session == place
 lets_in place event = false
 
+-- whose it is, where it was that user's before
+abbrev pub user_in : (place : ℕ) → house.Event → List ℕ → List ℕ
+user_in place (Enter session user) before = if place_of session == place then user.now else before
+user_in place event before = before
+
 -- its client sent these bytes
 abbrev pub sent_in : (place : ℕ) → house.Event → List ℕ
 sent_in place (Say session bytes) = if place_of session == place then bytes.now else []
@@ -55,6 +60,11 @@ shown_in place piece = []
 abbrev pub unless : Bool → List ℕ → List ℕ
 unless true bytes = []
 unless false bytes = bytes
+
+-- whose it is behind all these entries
+abbrev pub user_by_then : (place : ℕ) → List ℕ → List Entry → List ℕ
+user_by_then place before [] = before
+user_by_then place before (entry ∷ entries) = user_by_then place (user_in place entry.event before) entries
 
 -- what its client sent in all these entries since it was let in, behind what it sent before them
 abbrev pub sent_by_then : (place : ℕ) → List ℕ → List Entry → List ℕ
@@ -72,7 +82,6 @@ first_standing k user = (greeted (Some k.max_message) (folders_of k.directory us
 
 -- The client of a session that is there: of all that it sent since it was let in and of all that was printed to it, turn by turn, it knows what its session counts.
 pub record KeepsUp (k : Setup) (entries : List Entry) (place : ℕ) (v : SeatedSession) (t : Scene) : Type 0 where
-  pub user : List ℕ
   -- the world in which it was let in, which came from the empty one
   pub began : World
   pub events : List WorldEvent
@@ -80,7 +89,7 @@ pub record KeepsUp (k : Setup) (entries : List Entry) (place : ℕ) (v : SeatedS
   -- what it sent and was told, answer by answer, and all that others did meanwhile
   pub sent : List ℕ
   pub told : List Told
-  pub lives : Lives k.config place (first_standing k user) began sent told v.session.standing t.world
+  pub lives : Lives k.config place (first_standing k (user_by_then place [] entries)) began sent told v.session.standing t.world
   -- all that it sent was answered, but what waits
   pub answered : sent_by_then place [] entries ≡ sent ++ v.session.waits
   -- it was told the greeting and these answers: all of it is printed, but what is still to be printed

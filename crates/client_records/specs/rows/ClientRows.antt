@@ -9,7 +9,7 @@ use Rattle.exactly_once.specs.Promise.{Lines}
 use Rattle.world.specs.World.{World, empty_world}
 use Rattle.client_list.specs.Client.{Known, knowing, unknown}
 use Rattle.client_records.specs.Clients.{Answer, Words, has_ok, hears, hears_all}
-use Rattle.client_records.specs.Records.{lets_in, sent_in, shown_in}
+use Rattle.client_records.specs.Records.{lets_in, sent_in, shown_in, user_in}
 use Rattle.client_records.specs.Views.{messages_of, view_of}
 
 -- ---- SELECT, EXAMINE, CLOSE and UNSELECT
@@ -74,6 +74,12 @@ at_first user = refl
 
 at_second : (user : Bor (List ℕ)) → lets_in 0 (Enter 2 user) ≡ false
 at_second user = refl
+
+whose : (user : Bor (List ℕ)) → user_in 0 (Enter 1 user) (codes "bob") ≡ user.now
+whose user = refl
+
+whose_else : (user : Bor (List ℕ)) → user_in 0 (Enter 2 user) (codes "bob") ≡ codes "bob"
+whose_else user = refl
 
 its_own : (bytes : Bor (List ℕ)) → sent_in 1 (Say 2 bytes) ≡ bytes.now
 its_own bytes = refl
