@@ -1,10 +1,10 @@
 -- A session's whole life, as its client hears it.
-use Rattle.std.proofs.Common.{◌≡◌, ℕ, List, [], ◌∷◌, ◌++◌, refl, sym, subst}
-use Rattle.std.specs.Prelude.{Option, None}
+use Rattle.std.proofs.Common.{◌≡◌, ℕ, List, [], ◌∷◌, ◌++◌, refl, sym, subst, ap, ◌∙◌}
+use Rattle.std.specs.Prelude.{Bool, Option, Some, None, if◌then◌else◌}
 use Rattle.world.specs.World.{Config, World}
 use Rattle.imap_session.specs.Exchange.{Standing}
-use Rattle.client_list.specs.Client.{Client}
-use Rattle.client_records.specs.Clients.{IsRightAbout, Told, hears, hears_all}
+use Rattle.client_list.specs.Client.{Client, fresh, reads}
+use Rattle.client_records.specs.Clients.{Answer, Asked, IsRightAbout, KnowsWhereItIs, StaysThere, Told, Words, answered, hears, hears_all}
 use Rattle.client_records.specs.Lives.{Lives, comes, turns, others, LivesAreKnown}
 use Rattle.client_records.specs.Sizes.{HasShortTexts, HasSmallNumbers}
 use Rattle.client_records.specs.Turns.{Stands, told_of}
@@ -46,3 +46,17 @@ lives_known k n first began h S stands (others {told = told} {now = now} {w = w}
 pub lives_are_known : LivesAreKnown
 lives_are_known k events n first began sent told now w h is short stands lives =
     (lives_known k n first began h (sound_always k events began h is) stands lives short).right
+
+-- ---- when it knows where it is
+
+knows_on : (client : Client) (told : List Told) → StaysThere told → (after : Client) × (hears_all (Some client) told ≡ Some after)
+knows_on client [] there = (client, refl)
+knows_on client (Words bytes ∷ told) there = knows_on (reads client bytes) told there
+knows_on client (Answer line bytes ∷ told) there =
+    let more = knows_on (reads client bytes) told there.1 in
+    (more.0, ap (λ (a : Asked). hears_all (answered a bytes (Some client)) told) there.0 ∙ more.1)
+
+pub knows_where_it_is : KnowsWhereItIs
+knows_where_it_is before line tag bytes told asks ok there =
+    let more = knows_on (reads fresh bytes) told there in
+    (more.0, ap (λ (a : Asked). hears_all (answered a bytes before) told) asks ∙ ap (λ (b : Bool). hears_all (if b then Some (reads fresh bytes) else None) told) ok ∙ more.1)

@@ -75,3 +75,16 @@ hears_all client (one ∷ more) = hears_all (hears client one) more
 abbrev pub IsRightAbout : List ℕ → Option Client → Type 0
 IsRightAbout view None = Unit {0}
 IsRightAbout view (Some client) = (list : List Known) × (client ≡ knowing (Some list)) × IsRight view list
+
+-- ---- when it knows where it is
+
+-- neither of these is the answer to a SELECT, EXAMINE, CLOSE or UNSELECT
+abbrev pub StaysThere : List Told → Type 0
+StaysThere [] = Unit {0}
+StaysThere (Answer line bytes ∷ told) = (asked (read line) ≡ Neither) × StaysThere told
+StaysThere (Words bytes ∷ told) = StaysThere told
+
+-- From a SELECT or EXAMINE that was answered OK on, it knows where it is, for as long as it asks for neither of the four.
+abbrev pub KnowsWhereItIs : Type 0
+KnowsWhereItIs = (before : Option Client) (line tag bytes : List ℕ) (told : List Told) → asked (read line) ≡ Entering tag → has_ok true tag bytes ≡ true → StaysThere told
+    → (client : Client) × (hears_all before (Answer line bytes ∷ told) ≡ Some client)

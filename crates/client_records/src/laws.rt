@@ -1,6 +1,7 @@
 //! Laws of what a client reads of a house, as functions that do nothing: what its session counts in every world, what its calls
 //! come to, its turns, and its whole life.
 
+ghost use Rattle.client_records.specs.Clients.{KnowsWhereItIs};
 ghost use Rattle.client_records.specs.Current.{DoneMakesCurrent, FeedsMakeCurrent, ListsAreCurrent, NoopMakesCurrent};
 ghost use Rattle.client_records.specs.Laws.{CallsAreSeen, CountedAreGiven, EntriesAreCounted, GoneStayGone, LeaversCountNothing, OthersLeaveViews, UidsStay, ViewsAreNumbered};
 ghost use Rattle.client_records.specs.Lives.{LivesAreKnown};
@@ -41,9 +42,11 @@ pub fn turns_are_known()
 
 /// So it is at each moment of a session's life, with all that others do between its turns: since a SELECT or EXAMINE was
 /// answered OK, the client's list is as long as what the session counts, each UID that it knows is the one at that place, and
-/// no number was out of its list.
+/// no number was out of its list. It knows where it is from that answer on, for as long as it asks for none of SELECT, EXAMINE, CLOSE
+/// and UNSELECT.
 pub fn lives_are_known()
-    ensures { LivesAreKnown }
+    ensures life { LivesAreKnown }
+    ensures knows { KnowsWhereItIs }
 {}
 
 /// One life, by computing: a session selects an empty mailbox, a copy comes there meanwhile, and a NOOP shows it. Its client then

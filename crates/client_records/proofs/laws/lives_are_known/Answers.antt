@@ -1,5 +1,8 @@
-use Rattle.client_records.proofs.Living.{lives_are_known}
+use Rattle.client_records.proofs.Living.{knows_where_it_is, lives_are_known}
 use Rattle.client_records.proofs.laws.lives_are_known.Goals as goal
 
-pub returns : goal.returns
-returns c = lives_are_known
+pub returns-clause-life : goal.returns-clause-life
+returns-clause-life c = lives_are_known
+
+pub returns-clause-knows : goal.returns-clause-knows
+returns-clause-knows c = knows_where_it_is
