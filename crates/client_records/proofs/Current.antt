@@ -62,7 +62,7 @@ all_shown c limit log within few =
     let whole : length (take limit (drop c log)) ≡ length (drop c log) = ap length (take_all limit (drop c log) (omega (arith, few, e))) in
     omega (arith, within, few, e, whole)
 
-fed_current : (k : Config) (w : World) (n : ℕ) (met : List ℕ) (changes : List Change) (v : World) → Kept k w → Meets k n w (Feed unlimited) (Fed met changes) v → IsCurrent v n
+pub fed_current : (k : Config) (w : World) (n : ℕ) (met : List ℕ) (changes : List Change) (v : World) → Kept k w → Meets k n w (Feed unlimited) (Fed met changes) v → IsCurrent v n
 fed_current k w n met changes v K (step, (s, is, (D, shown))) t now =
     let log : List Change = (w.box s.mailbox).log in
     let some : List Change = take unlimited (pending (w.box s.mailbox) s) in
@@ -135,7 +135,7 @@ done_makes_current k events n now line tag w turn v is a begun idling done ok =
 
 -- ---- whatever the command
 
-kept_moved : (k : Config) (n : ℕ) (w v : World) → Moved k n w v → Kept k w → Kept k v
+pub kept_moved : (k : Config) (n : ℕ) (w v : World) → Moved k n w v → Kept k w → Kept k v
 kept_moved k n w v (rested e) K = rw e K
 kept_moved k n w v (stepped e step own short) K = kept_step k w e v K step
 

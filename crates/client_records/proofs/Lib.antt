@@ -22,3 +22,4 @@ mod Dialogues
 mod Texts
 mod Mailed
 mod Shortness
+mod OkCurrent

@@ -1,12 +1,15 @@
 -- When a client's list is the mailbox as it is now.
-use Rattle.std.specs.Prelude.{◌≡◌, ℕ, true, List, [], ◌∷◌, ◌++◌, Some, None, Ok}
+use Rattle.std.specs.Prelude.{◌≡◌, ℕ, Bool, true, false, codes, List, [], ◌∷◌, ◌++◌, Some, None, Ok}
 use Rattle.change_ring.specs.declared.change.Change.{Change}
 use Rattle.world.specs.World.{Config, Event, IsWorld, Session, World}
 use Rattle.imap_grammar.specs.Reading.{is_done, read}
 use Rattle.imap_grammar.specs.declared.command.Command.TheVariants.{Noop}
+use Rattle.imap_grammar.specs.declared.command.Command.TheVariants as commands
+use Rattle.imap_grammar.specs.declared.command.Command.{Command}
+use Rattle.imap_grammar.specs.Grammar.{verb_of}
 use Rattle.imap_session.specs.declared.standing.Selected.{Selected}
-use Rattle.imap_session.specs.Exchange.{Call, Answer, Event as Happened, Fed, Feed, Standing, Turn, kept_tag}
-use Rattle.imap_session.specs.Commands.{turn_of, unlimited}
+use Rattle.imap_session.specs.Exchange.{Call, Answer, Event as Happened, Fed, Feed, Standing, Turn, kept_tag, tagged}
+use Rattle.imap_session.specs.Commands.{turn_of, unlimited, verb_text}
 use Rattle.imap_session.specs.Store.{Met}
 use Rattle.session_store.specs.Meets.{Meets}
 use Rattle.client_records.specs.Clients.{Answer as Answer_to, IsRightAbout, Told, has_ok, hears_all}
@@ -42,6 +45,22 @@ DoneMakesCurrent = (k : Config) (events : List Event) (n : ℕ) (now : Standing)
 abbrev pub FeedsMakeCurrent : Type 0
 FeedsMakeCurrent = (k : Config) (events : List Event) (n : ℕ) (w : World) (calls : List Happened) (met : List ℕ) (changes : List Change) (v : World) → IsWorld k events w
     → Met (λ (w : World) (call : Call) (answer : Answer) (v : World). Meets k n w call answer v) w (calls ++ record { call = Feed unlimited; answer = Fed met changes } ∷ []) v → IsCurrent v n
+
+-- These commands show all that is pending, last of all (RFC 9051, 5.2 and 7.4.1): of FETCH and STORE only the forms by UID.
+abbrev pub shows_all : Command → Bool
+shows_all Noop = true
+shows_all (commands.List reference pattern) = true
+shows_all (commands.Status name items) = true
+shows_all commands.Expunge = true
+shows_all (commands.UidExpunge set) = true
+shows_all (commands.Fetch fetch) = fetch.by_uid
+shows_all (commands.Store store) = store.by_uid
+shows_all command = false
+
+-- Such a command whose answer's last line says that it is done
+abbrev pub DoneCommandsMakeCurrent : Type 0
+DoneCommandsMakeCurrent = (k : Config) (events : List Event) (n : ℕ) (now : Standing) (line tag : List ℕ) (command : Command) (w : World) (turn : Turn) (v : World) (front : List ℕ) → IsWorld k events w → IsAnswered k n now line w turn v
+    → kept_tag now ≡ None → read line ≡ Ok (tag, command) → shows_all command ≡ true → turn.bytes ≡ front ++ tagged tag (codes "OK " ++ verb_text (verb_of command) ++ codes " completed") → IsCurrent v n
 
 -- In a session's life: when its client has read that a NOOP is OK, its list is the mailbox as it is.
 abbrev pub ListsAreCurrent : Type 0

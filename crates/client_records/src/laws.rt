@@ -2,7 +2,7 @@
 //! come to, its turns, and its whole life.
 
 ghost use Rattle.client_records.specs.Clients.{KnowsWhereItIs};
-ghost use Rattle.client_records.specs.Current.{DoneMakesCurrent, FeedsMakeCurrent, ListsAreCurrent, NoopMakesCurrent};
+ghost use Rattle.client_records.specs.Current.{DoneCommandsMakeCurrent, DoneMakesCurrent, FeedsMakeCurrent, ListsAreCurrent, NoopMakesCurrent};
 ghost use Rattle.client_records.specs.Laws.{CallsAreSeen, CountedAreGiven, EntriesAreCounted, GoneStayGone, LeaversCountNothing, OthersLeaveViews, UidsStay, ViewsAreNumbered};
 ghost use Rattle.client_records.specs.Lives.{LivesAreKnown};
 ghost use Rattle.client_records.specs.One.{OneLifeIsLived};
@@ -56,10 +56,11 @@ pub fn one_life_happens()
 {}
 
 /// Where all that was pending was shown in a session's last call, what it counts is all that is there at that moment. So it is
-/// where a NOOP, or the DONE of an IDLE, is answered OK in a mailbox that is selected (RFC 9051, 6.1.2; RFC 2177): then the
-/// client's list is the mailbox as it is.
+/// where NOOP, LIST, STATUS, EXPUNGE, UID EXPUNGE, UID FETCH, UID STORE or the DONE of an IDLE is answered OK in a mailbox that is
+/// selected (RFC 9051, 5.2 and 6.1.2; RFC 2177): then the client's list is the mailbox as it is.
 pub fn lists_are_current()
     ensures fed { FeedsMakeCurrent }
+    ensures commands { DoneCommandsMakeCurrent }
     ensures noop { NoopMakesCurrent }
     ensures done { DoneMakesCurrent }
     ensures list { ListsAreCurrent }

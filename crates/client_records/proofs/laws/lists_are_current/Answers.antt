@@ -1,4 +1,5 @@
 use Rattle.client_records.proofs.Current.{done_makes_current, feeds_make_current, lists_are_current, noop_makes_current}
+use Rattle.client_records.proofs.OkCurrent.{done_commands_make_current}
 use Rattle.client_records.proofs.laws.lists_are_current.Goals as goal
 
 pub returns-clause-noop : goal.returns-clause-noop
@@ -12,3 +13,6 @@ returns-clause-fed c = feeds_make_current
 
 pub returns-clause-list : goal.returns-clause-list
 returns-clause-list c = lists_are_current
+
+pub returns-clause-commands : goal.returns-clause-commands
+returns-clause-commands c = done_commands_make_current
