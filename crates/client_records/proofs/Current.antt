@@ -26,19 +26,13 @@ use Rattle.imap_session.specs.Exchange.{Answer, Entered, Looked, Found, Counted,
 use Rattle.imap_session.specs.Commands.{completed, on_idle_line, on_read, says, showing, turn_behind, turn_while, unlimited}
 use Rattle.imap_session.specs.Store.{Met}
 use Rattle.session_store.specs.Meets.{Meets}
-use Rattle.line_io.specs.Wire.{crlf}
-use Rattle.client_list.specs.Talks.{Line}
 use Rattle.client_list.specs.Turns.{IsTag}
 use Rattle.client_list.proofs.Tags.{tags_are_tags}
-use Rattle.client_records.specs.Clients.{Answer as Answer_to, IsRightAbout, Told, has_ok, hears_all}
-use Rattle.client_records.specs.Lives.{turns}
-use Rattle.client_records.specs.Turns.{told_line, told_of}
-use Rattle.client_records.specs.Current.{DoneMakesCurrent, FeedsMakeCurrent, IsAnswered, IsCurrent, ListsAreCurrent, NoopMakesCurrent}
+use Rattle.client_records.specs.Clients.{has_ok}
+use Rattle.client_records.specs.Current.{DoneMakesCurrent, FeedsMakeCurrent, IsAnswered, IsCurrent, NoopMakesCurrent}
 use Rattle.client_records.specs.Views.{messages_of, view_in, view_of}
 use Rattle.client_records.proofs.Entering.{mapped, only_done, only_refused, refusal_has_none}
-use Rattle.client_records.proofs.Living.{lives_known}
-use Rattle.client_records.proofs.Moved.{Calls, Moved, moved, rested, short_met, stepped}
-use Rattle.client_records.proofs.Worlds.{sound_always}
+use Rattle.client_records.proofs.Moved.{Calls, Moved, moved, rested, stepped}
 
 abbrev the_session : Session → Option Session → Session
 the_session d None = d
@@ -146,16 +140,3 @@ last_kept k w n (e ∷ calls) met changes v K (mid, one, more) = last_kept k mid
 
 pub feeds_make_current : FeedsMakeCurrent
 feeds_make_current k events n w calls met changes v is happened = last_kept k w n calls met changes v (kept_always k events w is) happened
-
--- ---- in a life
-
-pub lists_are_current : ListsAreCurrent
-lists_are_current k events n first began sent told now w line tag turn v s h is short stands lives a kept reads ok at =
-    let short_w = short_met k n w turn.events v a.met short in
-    let before = lives_known k n first began h (sound_always k events began h is) stands lives short_w in
-    let after = lives_known k n first began h (sound_always k events began h is) stands (turns lives (Line line a.answers) (line ++ crlf) turn v refl tt a.answered a.met) short in
-    let told_is : told_of now (Line line a.answers) turn.bytes ≡ Answer_to line turn.bytes = ap (λ (o : Option (List ℕ)). told_line o line turn.bytes) kept in
-    let right : IsRightAbout (view_of v n) (hears_all None (told ++ Answer_to line turn.bytes ∷ [])) =
-    subst (λ (one : Told). IsRightAbout (view_of v n) (hears_all None (told ++ one ∷ []))) told_is after.right in
-    subst (λ (view : List ℕ). IsRightAbout view (hears_all None (told ++ Answer_to line turn.bytes ∷ [])))
-    (noop_current k n now line tag w turn v before.sound.kept a kept reads ok s at) right

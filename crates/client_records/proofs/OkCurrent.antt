@@ -28,16 +28,24 @@ use Rattle.imap_grammar.specs.declared.command.Fetch.{Fetch}
 use Rattle.imap_grammar.specs.declared.command.Store.{Store}
 use Rattle.imap_session.specs.declared.standing.After.{After}
 use Rattle.imap_session.specs.declared.standing.Selected.{Selected}
-use Rattle.imap_session.specs.Exchange.{Appending, kept_behind, Call, Answer, Event, Entered, Looked, Found, Counted, Altered, Expunged, Fed, Left, Refused, Starved, Exchange, Done, Wait, Write, Put, Enter, Look, Read, Count, Alter, Expunge, Feed, Leave, Standing, Turn, having, played, refusal_text, refused, saying, tagged}
+use Rattle.imap_session.specs.Exchange.{Appending, kept_behind, kept_tag, Call, Answer, Event, Entered, Looked, Found, Counted, Altered, Expunged, Fed, Left, Refused, Starved, Exchange, Done, Wait, Write, Put, Enter, Look, Read, Count, Alter, Expunge, Feed, Leave, Standing, Turn, having, played, refusal_text, refused, saying, tagged}
 use Rattle.imap_session.specs.Commands.{completed, counting, expunge_set, fetch_messages, fetched, fetching, folder_of, if_writable, in_writable, messages_done, on_chosen, on_command, on_found, on_read, on_set, turn_behind, turn_while, verb_text, says, showing, store_messages, stored, storing, unlimited, wrong_state}
 use Rattle.imap_session.specs.Store.{Met}
 use Rattle.session_store.specs.Meets.{Meets}
 use Rattle.client_list.specs.Turns.{IsTag}
+use Rattle.line_io.specs.Wire.{crlf}
+use Rattle.client_list.specs.Talks.{Line}
 use Rattle.client_list.proofs.Tags.{tags_are_tags}
-use Rattle.client_records.specs.Current.{DoneCommandsMakeCurrent, IsCurrent, shows_all}
+use Rattle.client_records.specs.Current.{DoneCommandsMakeCurrent, IsAnswered, IsCurrent, ListsAreCurrent, shows_all}
 use Rattle.client_records.proofs.Current.{fed_current, kept_moved}
 use Rattle.client_records.proofs.Entering.{Only, mapped, only_done, only_refused}
-use Rattle.client_records.proofs.Moved.{Calls, moved}
+use Rattle.client_records.specs.Clients.{Answer as Answer_to, IsRightAbout, Told, hears_all}
+use Rattle.client_records.specs.Lives.{turns}
+use Rattle.client_records.specs.Turns.{told_line, told_of}
+use Rattle.client_records.specs.Views.{view_of}
+use Rattle.client_records.proofs.Living.{lives_known}
+use Rattle.client_records.proofs.Moved.{Calls, moved, short_met}
+use Rattle.client_records.proofs.Worlds.{sound_always}
 
 -- ---- how bytes end
 
@@ -357,12 +365,13 @@ ends_done front tag verb =
     let before : List ℕ = ((front ++ tag) ++ codes " ") ++ (codes "OK " ++ verb) in
     ap last_of (done_shape front tag (codes " ") (codes "OK ") verb (codes " completed") (codes "\r\n")) ∙ ap (take 6) (reverse-append before (codes " completed\r\n"))
 
-pub done_commands_make_current : DoneCommandsMakeCurrent
-done_commands_make_current k events n now line tag command w turn v front is a kept reads shows bytes = by now.mailing.begun now.idling refl refl
+done_current_in : (k : Config) (n : ℕ) (now : Standing) (line tag : List ℕ) (command : Command) (w : World) (turn : Turn) (v : World) (front : List ℕ) → Kept k w → IsAnswered k n now line w turn v → kept_tag now ≡ None → read line ≡ Ok (tag, command)
+    → shows_all command ≡ true → turn.bytes ≡ front ++ tagged tag (codes "OK " ++ verb_text (verb_of command) ++ codes " completed") → IsCurrent v n
+done_current_in k n now line tag command w turn v front K a kept reads shows bytes = by now.mailing.begun now.idling refl refl
   where
     read_current : on_read now (Ok (tag, command)) a.answers ≡ Some turn → IsCurrent v n
     read_current e =
-        ok_current k n tag [] false now w (on_command now command) a.answers turn v (kept_always k events w is) (tags_are_tags line tag command reads) never (command_last now a.selected command a.there shows) e a.met
+        ok_current k n tag [] false now w (on_command now command) a.answers turn v K (tags_are_tags line tag command reads) never (command_last now a.selected command a.there shows) e a.met
         (ap last_of bytes ∙ ends_done front tag (verb_text (verb_of command)))
 
     by : (begun : Option Appending) (idling : Option (List ℕ)) → begun ≡ now.mailing.begun → idling ≡ now.idling → IsCurrent v n
@@ -372,3 +381,19 @@ done_commands_make_current k events n now line tag command w turn v front is a k
         let first : turn_while now.idling now line a.answers ≡ Some turn = subst (λ (o : Option Appending). turn_behind o now line a.answers ≡ Some turn) (sym p) a.answered in
         let second : on_read now (read line) a.answers ≡ Some turn = subst (λ (o : Option (List ℕ)). turn_while o now line a.answers ≡ Some turn) (sym q) first in
         read_current (subst (λ (r : Result (List ℕ × Command) ImapFault). on_read now r a.answers ≡ Some turn) reads second)
+
+pub done_commands_make_current : DoneCommandsMakeCurrent
+done_commands_make_current k events n now line tag command w turn v front is a kept reads shows bytes = done_current_in k n now line tag command w turn v front (kept_always k events w is) a kept reads shows bytes
+
+-- ---- in a life
+
+pub lists_are_current : ListsAreCurrent
+lists_are_current k events n first began sent told now w line tag command turn v front s h is short stands lives a kept reads shows bytes at =
+    let short_w = short_met k n w turn.events v a.met short in
+    let before = lives_known k n first began h (sound_always k events began h is) stands lives short_w in
+    let after = lives_known k n first began h (sound_always k events began h is) stands (turns lives (Line line a.answers) (line ++ crlf) turn v refl tt a.answered a.met) short in
+    let told_is : told_of now (Line line a.answers) turn.bytes ≡ Answer_to line turn.bytes = ap (λ (o : Option (List ℕ)). told_line o line turn.bytes) kept in
+    let right : IsRightAbout (view_of v n) (hears_all None (told ++ Answer_to line turn.bytes ∷ [])) =
+    subst (λ (one : Told). IsRightAbout (view_of v n) (hears_all None (told ++ one ∷ []))) told_is after.right in
+    subst (λ (view : List ℕ). IsRightAbout view (hears_all None (told ++ Answer_to line turn.bytes ∷ [])))
+    (done_current_in k n now line tag command w turn v front before.sound.kept a kept reads shows bytes s at) right

@@ -62,9 +62,9 @@ abbrev pub DoneCommandsMakeCurrent : Type 0
 DoneCommandsMakeCurrent = (k : Config) (events : List Event) (n : ℕ) (now : Standing) (line tag : List ℕ) (command : Command) (w : World) (turn : Turn) (v : World) (front : List ℕ) → IsWorld k events w → IsAnswered k n now line w turn v
     → kept_tag now ≡ None → read line ≡ Ok (tag, command) → shows_all command ≡ true → turn.bytes ≡ front ++ tagged tag (codes "OK " ++ verb_text (verb_of command) ++ codes " completed") → IsCurrent v n
 
--- In a session's life: when its client has read that a NOOP is OK, its list is the mailbox as it is.
+-- In a session's life: when its client has read such an answer to its end, its list is the mailbox as it is.
 abbrev pub ListsAreCurrent : Type 0
-ListsAreCurrent = (k : Config) (events : List Event) (n : ℕ) (first : Standing) (began : World) (sent : List ℕ) (told : List Told) (now : Standing) (w : World) (line tag : List ℕ) (turn : Turn) (v : World) (s : Session)
+ListsAreCurrent = (k : Config) (events : List Event) (n : ℕ) (first : Standing) (began : World) (sent : List ℕ) (told : List Told) (now : Standing) (w : World) (line tag : List ℕ) (command : Command) (turn : Turn) (v : World) (front : List ℕ) (s : Session)
     → HasSmallNumbers k → IsWorld k events began → HasShortTexts v → Stands first → Lives k n first began sent told now w
-    → IsAnswered k n now line w turn v → kept_tag now ≡ None → read line ≡ Ok (tag, Noop) → has_ok true tag turn.bytes ≡ true → v.session n ≡ Some s
-    → IsRightAbout (messages_of (v.box s.mailbox)) (hears_all None (told ++ Answer_to line turn.bytes ∷ []))
+    → IsAnswered k n now line w turn v → kept_tag now ≡ None → read line ≡ Ok (tag, command) → shows_all command ≡ true → turn.bytes ≡ front ++ tagged tag (codes "OK " ++ verb_text (verb_of command) ++ codes " completed")
+    → v.session n ≡ Some s → IsRightAbout (messages_of (v.box s.mailbox)) (hears_all None (told ++ Answer_to line turn.bytes ∷ []))

@@ -1,5 +1,5 @@
-use Rattle.client_records.proofs.Current.{done_makes_current, feeds_make_current, lists_are_current, noop_makes_current}
-use Rattle.client_records.proofs.OkCurrent.{done_commands_make_current}
+use Rattle.client_records.proofs.Current.{done_makes_current, feeds_make_current, noop_makes_current}
+use Rattle.client_records.proofs.OkCurrent.{done_commands_make_current, lists_are_current}
 use Rattle.client_records.proofs.laws.lists_are_current.Goals as goal
 
 pub returns-clause-noop : goal.returns-clause-noop
