@@ -23,3 +23,4 @@ mod Texts
 mod Mailed
 mod Shortness
 mod OkCurrent
+mod Selecting

@@ -6,5 +6,6 @@ pub mod Turns
 pub mod Lives
 pub mod Current
 pub mod Records
+pub mod Selecting
 pub mod One
 pub mod rows

@@ -7,6 +7,7 @@ ghost use Rattle.client_records.specs.Laws.{CallsAreSeen, CountedAreGiven, Entri
 ghost use Rattle.client_records.specs.Lives.{LivesAreKnown};
 ghost use Rattle.client_records.specs.One.{OneLifeIsLived};
 ghost use Rattle.client_records.specs.Records.{ClientsKeepUp, ClientsOfHousesKeepUp, RecordsMoveOn, SettingsCanBePrinted, TextsStayShort};
+ghost use Rattle.client_records.specs.Selecting.{KnowingIsSelected};
 ghost use Rattle.client_records.specs.Turns.{StandsStill, TurnIsKnown};
 
 /// In every world that came from the empty one: the UIDs and the places of what a session counts can be printed, and what
@@ -43,10 +44,11 @@ pub fn turns_are_known()
 /// So it is at each moment of a session's life, with all that others do between its turns: since a SELECT or EXAMINE was
 /// answered OK, the client's list is as long as what the session counts, each UID that it knows is the one at that place, and
 /// no number was out of its list. It knows where it is from that answer on, for as long as it asks for none of SELECT, EXAMINE, CLOSE
-/// and UNSELECT.
+/// and UNSELECT. Where it knows where it is, its session has selected a mailbox.
 pub fn lives_are_known()
     ensures life { LivesAreKnown }
     ensures knows { KnowsWhereItIs }
+    ensures selected { KnowingIsSelected }
 {}
 
 /// One life, by computing: a session selects an empty mailbox, a copy comes there meanwhile, and a NOOP shows it. Its client then
