@@ -39,11 +39,15 @@ use Rattle.client_list.proofs.Tags.{tags_are_tags}
 use Rattle.client_records.specs.Current.{DoneCommandsMakeCurrent, IsAnswered, IsCurrent, ListsAreCurrent, shows_all}
 use Rattle.client_records.proofs.Current.{fed_current, kept_moved}
 use Rattle.client_records.proofs.Entering.{Only, mapped, only_done, only_refused}
-use Rattle.client_records.specs.Clients.{Answer as Answer_to, IsRightAbout, Told, hears_all}
+use Rattle.client_records.specs.Clients.{Answer as Answer_to, Asked, Neither, IsRightAbout, Told, answered, asked, asked_by, hears, hears_all}
+use Rattle.client_list.specs.Beliefs.{IsRight}
+use Rattle.client_list.specs.Client.{Client, Known, knowing, reads}
+use Rattle.client_records.specs.Selecting.{Known_selected}
+use Rattle.client_records.proofs.Selecting.{knowing_is_selected}
 use Rattle.client_records.specs.Lives.{turns}
 use Rattle.client_records.specs.Turns.{told_line, told_of}
-use Rattle.client_records.specs.Views.{view_of}
-use Rattle.client_records.proofs.Living.{lives_known}
+use Rattle.client_records.specs.Views.{messages_of, view_of}
+use Rattle.client_records.proofs.Living.{hears_last, lives_known}
 use Rattle.client_records.proofs.Moved.{Calls, moved, short_met}
 use Rattle.client_records.proofs.Worlds.{sound_always}
 
@@ -387,13 +391,46 @@ done_commands_make_current k events n now line tag command w turn v front is a k
 
 -- ---- in a life
 
+-- such a command asks for no mailbox and leaves none
+neither_shows : (tag : List ℕ) (command : Command) → shows_all command ≡ true → asked_by tag command ≡ Neither
+neither_shows tag commands.Capability e = refl
+neither_shows tag commands.Noop e = refl
+neither_shows tag commands.Logout e = refl
+neither_shows tag commands.Namespace e = refl
+neither_shows tag commands.Idle e = refl
+neither_shows tag commands.Login e = refl
+neither_shows tag commands.Authenticate e = refl
+neither_shows tag commands.StartTls e = refl
+neither_shows tag (commands.Select name) e = absurd (false≢true e)
+neither_shows tag (commands.Examine name) e = absurd (false≢true e)
+neither_shows tag (commands.List reference pattern) e = refl
+neither_shows tag (commands.Status name items) e = refl
+neither_shows tag commands.Close e = absurd (false≢true e)
+neither_shows tag commands.Unselect e = absurd (false≢true e)
+neither_shows tag commands.Expunge e = refl
+neither_shows tag (commands.UidExpunge set) e = refl
+neither_shows tag (commands.Fetch fetch) e = refl
+neither_shows tag (commands.Store store) e = refl
+neither_shows tag (commands.Append append) e = refl
+
+-- a client that is right about a view has a list
+has_list : (view : List ℕ) (client : Client) (heard : Option Client) → heard ≡ Some client → IsRightAbout view (Some client) → (list : List Known) × (heard ≡ Some (knowing (Some list))) × IsRight view list
+has_list view client heard e right = (right.0, e ∙ ap (λ (c : Client). Some c) right.1, right.2)
+
 pub lists_are_current : ListsAreCurrent
-lists_are_current k events n first began sent told now w line tag command turn v front s h is short stands lives a kept reads shows bytes at =
-    let short_w = short_met k n w turn.events v a.met short in
+lists_are_current k events n first began sent told now w client line tag command answers turn v front s h is short stands lives knows answer met kept reads_as shows bytes at =
+    let short_w = short_met k n w turn.events v met short in
     let before = lives_known k n first began h (sound_always k events began h is) stands lives short_w in
-    let after = lives_known k n first began h (sound_always k events began h is) stands (turns lives (Line line a.answers) (line ++ crlf) turn v refl tt a.answered a.met) short in
-    let told_is : told_of now (Line line a.answers) turn.bytes ≡ Answer_to line turn.bytes = ap (λ (o : Option (List ℕ)). told_line o line turn.bytes) kept in
+    let after = lives_known k n first began h (sound_always k events began h is) stands (turns lives (Line line answers) (line ++ crlf) turn v refl tt answer met) short in
+    let chosen : Known_selected (Some client) now = subst (λ (c : Option Client). Known_selected c now) knows (knowing_is_selected k n first began sent told now w lives) in
+    let a : IsAnswered k n now line w turn v = record { selected = chosen.0; there = chosen.1; stands = before.stands; answers = answers; answered = answer; met = met } in
+    let told_is : told_of now (Line line answers) turn.bytes ≡ Answer_to line turn.bytes = ap (λ (o : Option (List ℕ)). told_line o line turn.bytes) kept in
+    let heard : hears_all None (told ++ Answer_to line turn.bytes ∷ []) ≡ Some (reads client turn.bytes) =
+    hears_last None told (Answer_to line turn.bytes) ∙ ap (λ (c : Option Client). hears c (Answer_to line turn.bytes)) knows ∙ ap (λ (r : Result (List ℕ × Command) ImapFault). answered (asked r) turn.bytes (Some client)) reads_as
+    ∙ ap (λ (x : Asked). answered x turn.bytes (Some client)) (neither_shows tag command shows) in
     let right : IsRightAbout (view_of v n) (hears_all None (told ++ Answer_to line turn.bytes ∷ [])) =
     subst (λ (one : Told). IsRightAbout (view_of v n) (hears_all None (told ++ one ∷ []))) told_is after.right in
-    subst (λ (view : List ℕ). IsRightAbout view (hears_all None (told ++ Answer_to line turn.bytes ∷ [])))
-    (done_current_in k n now line tag command w turn v front before.sound.kept a kept reads shows bytes s at) right
+    let all : IsRightAbout (messages_of (v.box s.mailbox)) (hears_all None (told ++ Answer_to line turn.bytes ∷ [])) = subst (λ (view : List ℕ). IsRightAbout view (hears_all None (told ++ Answer_to line turn.bytes ∷ [])))
+    (done_current_in k n now line tag command w turn v front before.sound.kept a kept reads_as shows bytes s at) right in
+    has_list (messages_of (v.box s.mailbox)) (reads client turn.bytes) (hears_all None (told ++ Answer_to line turn.bytes ∷ [])) heard
+    (subst (λ (c : Option Client). IsRightAbout (messages_of (v.box s.mailbox)) c) heard all)

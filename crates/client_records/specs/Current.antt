@@ -12,7 +12,9 @@ use Rattle.imap_session.specs.Exchange.{Call, Answer, Event as Happened, Fed, Fe
 use Rattle.imap_session.specs.Commands.{turn_of, unlimited, verb_text}
 use Rattle.imap_session.specs.Store.{Met}
 use Rattle.session_store.specs.Meets.{Meets}
-use Rattle.client_records.specs.Clients.{Answer as Answer_to, IsRightAbout, Told, has_ok, hears_all}
+use Rattle.client_list.specs.Beliefs.{IsRight}
+use Rattle.client_list.specs.Client.{Client, Known, knowing}
+use Rattle.client_records.specs.Clients.{Answer as Answer_to, Told, has_ok, hears_all}
 use Rattle.client_records.specs.Lives.{Lives}
 use Rattle.client_records.specs.Sizes.{HasShortTexts, HasSmallNumbers}
 use Rattle.client_records.specs.Turns.{Stands}
@@ -62,9 +64,11 @@ abbrev pub DoneCommandsMakeCurrent : Type 0
 DoneCommandsMakeCurrent = (k : Config) (events : List Event) (n : ℕ) (now : Standing) (line tag : List ℕ) (command : Command) (w : World) (turn : Turn) (v : World) (front : List ℕ) → IsWorld k events w → IsAnswered k n now line w turn v
     → kept_tag now ≡ None → read line ≡ Ok (tag, command) → shows_all command ≡ true → turn.bytes ≡ front ++ tagged tag (codes "OK " ++ verb_text (verb_of command) ++ codes " completed") → IsCurrent v n
 
--- In a session's life: when its client has read such an answer to its end, its list is the mailbox as it is.
+-- In a session's life: a client that knows where it is sends such a line. When it has read the answer to its end it still knows, and its list is the mailbox as it is.
 abbrev pub ListsAreCurrent : Type 0
-ListsAreCurrent = (k : Config) (events : List Event) (n : ℕ) (first : Standing) (began : World) (sent : List ℕ) (told : List Told) (now : Standing) (w : World) (line tag : List ℕ) (command : Command) (turn : Turn) (v : World) (front : List ℕ) (s : Session)
-    → HasSmallNumbers k → IsWorld k events began → HasShortTexts v → Stands first → Lives k n first began sent told now w
-    → IsAnswered k n now line w turn v → kept_tag now ≡ None → read line ≡ Ok (tag, command) → shows_all command ≡ true → turn.bytes ≡ front ++ tagged tag (codes "OK " ++ verb_text (verb_of command) ++ codes " completed")
-    → v.session n ≡ Some s → IsRightAbout (messages_of (v.box s.mailbox)) (hears_all None (told ++ Answer_to line turn.bytes ∷ []))
+ListsAreCurrent = (k : Config) (events : List Event) (n : ℕ) (first : Standing) (began : World) (sent : List ℕ) (told : List Told) (now : Standing) (w : World) (client : Client)
+    (line tag : List ℕ) (command : Command) (answers : List Answer) (turn : Turn) (v : World) (front : List ℕ) (s : Session)
+    → HasSmallNumbers k → IsWorld k events began → HasShortTexts v → Stands first → Lives k n first began sent told now w → hears_all None told ≡ Some client
+    → turn_of now line answers ≡ Some turn → Met (λ (w : World) (call : Call) (answer : Answer) (v : World). Meets k n w call answer v) w turn.events v
+    → kept_tag now ≡ None → read line ≡ Ok (tag, command) → shows_all command ≡ true → turn.bytes ≡ front ++ tagged tag (codes "OK " ++ verb_text (verb_of command) ++ codes " completed")
+    → v.session n ≡ Some s → (list : List Known) × (hears_all None (told ++ Answer_to line turn.bytes ∷ []) ≡ Some (knowing (Some list))) × IsRight (messages_of (v.box s.mailbox)) list
