@@ -1,19 +1,19 @@
-mod Bytes
-mod Each
-mod LinesRead
-mod Follows
-mod Literals
-mod Turns
-mod Played
-mod Ends
-mod IdleTurns
-mod Tags
-mod IdleTags
-mod Kept
-mod Items
-mod Fetched
-mod Chosen
-mod Untold
-mod Commands
-mod Opening
-mod Talking
+pub mod Bytes
+pub mod Each
+pub mod LinesRead
+pub mod Follows
+pub mod Literals
+pub mod Turns
+pub mod Played
+pub mod Ends
+pub mod IdleTurns
+pub mod Tags
+pub mod IdleTags
+pub mod Kept
+pub mod Items
+pub mod Fetched
+pub mod Chosen
+pub mod Untold
+pub mod Commands
+pub mod Opening
+pub mod Talking

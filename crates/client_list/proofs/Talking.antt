@@ -42,14 +42,14 @@ turned_keeps None true now (a ∷ more) turn k e = absurd (none-some turn e)
 turned_keeps None false now [] turn k e = subst (λ (s : Turn). Kept s) (ap (the_turn turn) e) k
 turned_keeps None false now (a ∷ more) turn k e = absurd (none-some turn e)
 
-happening_keeps : (now : Standing) (view : List ℕ) (happening : Happening) (turn : Turn) → AreTags now → leads_to now happening ≡ Some turn → Kept turn
+pub happening_keeps : (now : Standing) (view : List ℕ) (happening : Happening) (turn : Turn) → AreTags now → leads_to now happening ≡ Some turn → Kept turn
 happening_keeps now view (Line line answers) turn k e = kept_tags_are_tags now line answers turn k e
 happening_keeps now view LongLine turn k e = subst (λ (s : Turn). Kept s) (ap (the_turn turn) e) (tt, tt, k.2)
 happening_keeps now view (Turned answers) turn k e = turned_keeps now.selected (is_idling now) now answers turn k e
 happening_keeps now view (Literal kept bytes) turn k e = subst (λ (s : Turn). Kept s) (ap (the_turn turn) e) (bytes_keep now kept bytes k)
 happening_keeps now view (Heard verdict answers) turn k e = verdict_keeps now verdict answers turn k e
 
-kept_is_tag : (begun : Option Appending) (idling : Option (List ℕ)) → IfSome begun (λ a. IsTag a.tag) → IfSome idling IsTag → IfSome (kept_behind begun idling) IsTag
+pub kept_is_tag : (begun : Option Appending) (idling : Option (List ℕ)) → IfSome begun (λ a. IsTag a.tag) → IfSome idling IsTag → IfSome (kept_behind begun idling) IsTag
 kept_is_tag None idling b i = i
 kept_is_tag (Some a) idling b i = b
 
@@ -63,7 +63,7 @@ long_follows now view turn new k e sees =
     let s : new ≡ view = subst (λ (t : Turn). SeesAll view t.events new) (sym same) sees in
     subst (λ (t : Turn). Leads view t.bytes new) same (subst (λ (v : List ℕ). Leads view (turn_of_long_line now).bytes v) (sym s) (leaves view (turn_of_long_line now).bytes (long_line_tells_nothing now (kept_is_tag now.mailing.begun now.idling k.1 k.0))))
 
-happening_follows : (now : Standing) (view : List ℕ) (happening : Happening) (turn : Turn) (new : List ℕ) → AreTags now → MayHappen now view happening → leads_to now happening ≡ Some turn
+pub happening_follows : (now : Standing) (view : List ℕ) (happening : Happening) (turn : Turn) (new : List ℕ) → AreTags now → MayHappen now view happening → leads_to now happening ≡ Some turn
     → SeesAll view turn.events new → Leads view turn.bytes new
 happening_follows now view (Line line answers) turn new k may e sees = answer_is_followed now line view answers turn new (may_follow (kept_tag now) now view line (kept_is_tag now.mailing.begun now.idling k.1 k.0) may) e sees
 happening_follows now view LongLine turn new k may e sees = long_follows now view turn new k e sees

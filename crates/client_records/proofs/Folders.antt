@@ -1,0 +1,237 @@
+-- The mailboxes that a session knows by name stay the same: by induction over the exchange, a clause for each answer that there is.
+use Rattle.std.proofs.Common.{zero, suc, ◌≡◌, ℕ, Bool, true, false, List, [], ◌∷◌, length, ap, refl, sym, ◌∙◌}
+use Rattle.std.specs.Prelude.{Option, Some, None, Result, Ok, Err, nat_lt, ◌==◌, ◌&&◌, if◌then◌else◌}
+use Rattle.std.specs.Option.{option_map}
+use Rattle.std.proofs.lemmas.Option.{none-some}
+use Rattle.cursor_set.specs.Lines.{lines}
+use Rattle.mailbox.specs.declared.clients.MailFault.{MailFault}
+use Rattle.mailbox.specs.declared.clients.MailFault.TheVariants.{Stranger, Lapped, Spent, NoMemory}
+use Rattle.imap_grammar.specs.Reading.{read}
+use Rattle.imap_grammar.specs.declared.command.Command.{Command}
+use Rattle.imap_grammar.specs.declared.command.ImapFault.{ImapFault}
+use Rattle.imap_session.specs.declared.standing.After.{After}
+use Rattle.imap_session.specs.declared.standing.After.TheVariants.{Go, Bye}
+use Rattle.imap_session.specs.declared.standing.After.TheVariants as afters
+use Rattle.imap_session.specs.declared.standing.Selected.{Selected}
+use Rattle.imap_session.specs.Exchange.{Answer, Entered, Looked, Found, Counted, Altered, Expunged, Fed, Left, Refused, Starved, Exchange, ForDone, ForLiteral, ForVerdict, ForNothing, Done, Wait, Write, Put, Enter, Look, Read, Count, Alter, Expunge, Feed, Leave, Standing, Turn, Appending, Sent, Waiting, closed, having, keeps_tag, most_in_place, played, refusal_after, refusal_text, refused, saying, tagged, waiting}
+use Rattle.imap_session.specs.Commands.{idle_turn_in, turn_of, fault_text, on_command, on_idle_line, on_read, on_rest, on_verdict, only_says, turn_behind, turn_of_verdict, turn_while, turn_with, without_begun, without_sent}
+use Rattle.delivery_token.specs.declared.Verdict.{Verdict}
+
+abbrev pub the_turn : Turn → Option Turn → Turn
+the_turn d None = d
+the_turn d (Some turn) = turn
+
+-- a turn with an event or a text more
+maps : (now : Standing) (f : Turn → Turn) → ((s : Turn) → (f s).standing ≡ s.standing) → (rest : Option Turn) (turn : Turn) → option_map f rest ≡ Some turn
+    → ((more : Turn) → rest ≡ Some more → more.standing.folders ≡ now.folders) → turn.standing.folders ≡ now.folders
+maps now f keeps None turn e behind = absurd (none-some turn e)
+maps now f keeps (Some more) turn e behind = ap (λ (s : Turn). s.standing.folders) (sym (ap (the_turn turn) e)) ∙ ap (λ (s : Standing). s.folders) (keeps more) ∙ behind more refl
+
+closed_keeps : (now : Standing) (how : After) → (closed now how).standing.folders ≡ now.folders
+closed_keeps now Go = refl
+closed_keeps now Bye = refl
+closed_keeps now afters.Idle = refl
+closed_keeps now (afters.Literal due) = refl
+closed_keeps now afters.Submit = refl
+
+-- a turn that ends
+told : (now : Standing) (f : Turn → Turn) → ((s : Turn) → (f s).standing ≡ s.standing) → (how : After) (turn : Turn) → Some (f (closed now how)) ≡ Some turn → turn.standing.folders ≡ now.folders
+told now f keeps how turn e = maps now f keeps (Some (closed now how)) turn e (λ more d. ap (λ (s : Turn). s.standing.folders) (sym (ap (the_turn more) d)) ∙ closed_keeps now how)
+
+given_up : (tag : List ℕ) (now : Standing) (fault : MailFault) (turn : Turn) → Some (refused tag now fault) ≡ Some turn → turn.standing.folders ≡ now.folders
+given_up tag now fault turn e = told now (saying (refusal_text tag fault)) (λ s. refl) (refusal_after fault) turn e
+
+given_up_if : (b : Bool) (tag : List ℕ) (now : Standing) (fault : MailFault) (turn : Turn) → (if b then Some (refused tag now fault) else None) ≡ Some turn → turn.standing.folders ≡ now.folders
+given_up_if true tag now fault turn e = given_up tag now fault turn e
+given_up_if false tag now fault turn e = absurd (none-some turn e)
+
+waiting_keeps : (tag : List ℕ) (now : Standing) (w : Waiting) → (waiting tag w now).folders ≡ now.folders
+waiting_keeps tag now ForDone = refl
+waiting_keeps tag now (ForLiteral mailbox flags size) = refl
+waiting_keeps tag now (ForVerdict mailbox flags text) = refl
+waiting_keeps tag now ForNothing = refl
+
+pub folders_stay : (tag : List ℕ) (now : Standing) (x : Exchange) (answers : List Answer) (turn : Turn) → played tag now x answers ≡ Some turn → turn.standing.folders ≡ now.folders
+folders_stay tag now (Done words how) [] turn e = told now (saying (tagged tag words)) (λ s. refl) how turn e
+folders_stay tag now (Done words how) (a ∷ more) turn e = absurd (none-some turn e)
+folders_stay tag now (Wait bytes w) [] turn e = ap (λ (s : Turn). s.standing.folders) (sym (ap (the_turn turn) e)) ∙ waiting_keeps tag now w
+folders_stay tag now (Wait bytes w) (Entered a ∷ more) turn e = absurd (none-some turn e)
+folders_stay tag now (Wait bytes w) (Looked a ∷ more) turn e = absurd (none-some turn e)
+folders_stay tag now (Wait bytes w) (Found a ∷ more) turn e = absurd (none-some turn e)
+folders_stay tag now (Wait bytes w) (Counted a ∷ more) turn e = absurd (none-some turn e)
+folders_stay tag now (Wait bytes w) (Altered a ∷ more) turn e = absurd (none-some turn e)
+folders_stay tag now (Wait bytes w) (Expunged a b c ∷ more) turn e = absurd (none-some turn e)
+folders_stay tag now (Wait bytes w) (Fed a b ∷ more) turn e = absurd (none-some turn e)
+folders_stay tag now (Wait bytes w) (Left a ∷ more) turn e = absurd (none-some turn e)
+folders_stay tag now (Wait bytes w) (Refused a ∷ more) turn e = absurd (none-some turn e)
+folders_stay tag now (Wait bytes w) (Starved zero ∷ []) turn e = given_up_if (keeps_tag w && nat_lt most_in_place (length tag)) tag now NoMemory turn e
+folders_stay tag now (Wait bytes w) (Starved zero ∷ b ∷ more) turn e = absurd (none-some turn e)
+folders_stay tag now (Wait bytes w) (Starved (suc n) ∷ more) turn e = absurd (none-some turn e)
+folders_stay tag now (Write bytes x) [] turn e = maps now (saying bytes) (λ s. refl) (played tag now x []) turn e (λ s d. folders_stay tag now x [] s d)
+folders_stay tag now (Write bytes x) (Entered a ∷ more) turn e = maps now (saying bytes) (λ s. refl) (played tag now x (Entered a ∷ more)) turn e (λ s d. folders_stay tag now x (Entered a ∷ more) s d)
+folders_stay tag now (Write bytes x) (Looked a ∷ more) turn e = maps now (saying bytes) (λ s. refl) (played tag now x (Looked a ∷ more)) turn e (λ s d. folders_stay tag now x (Looked a ∷ more) s d)
+folders_stay tag now (Write bytes x) (Found a ∷ more) turn e = maps now (saying bytes) (λ s. refl) (played tag now x (Found a ∷ more)) turn e (λ s d. folders_stay tag now x (Found a ∷ more) s d)
+folders_stay tag now (Write bytes x) (Counted a ∷ more) turn e = maps now (saying bytes) (λ s. refl) (played tag now x (Counted a ∷ more)) turn e (λ s d. folders_stay tag now x (Counted a ∷ more) s d)
+folders_stay tag now (Write bytes x) (Altered a ∷ more) turn e = maps now (saying bytes) (λ s. refl) (played tag now x (Altered a ∷ more)) turn e (λ s d. folders_stay tag now x (Altered a ∷ more) s d)
+folders_stay tag now (Write bytes x) (Expunged a b c ∷ more) turn e = maps now (saying bytes) (λ s. refl) (played tag now x (Expunged a b c ∷ more)) turn e (λ s d. folders_stay tag now x (Expunged a b c ∷ more) s d)
+folders_stay tag now (Write bytes x) (Fed a b ∷ more) turn e = maps now (saying bytes) (λ s. refl) (played tag now x (Fed a b ∷ more)) turn e (λ s d. folders_stay tag now x (Fed a b ∷ more) s d)
+folders_stay tag now (Write bytes x) (Left a ∷ more) turn e = maps now (saying bytes) (λ s. refl) (played tag now x (Left a ∷ more)) turn e (λ s d. folders_stay tag now x (Left a ∷ more) s d)
+folders_stay tag now (Write bytes x) (Refused a ∷ more) turn e = maps now (saying bytes) (λ s. refl) (played tag now x (Refused a ∷ more)) turn e (λ s d. folders_stay tag now x (Refused a ∷ more) s d)
+folders_stay tag now (Write bytes x) (Starved zero ∷ []) turn e = given_up tag now NoMemory turn e
+folders_stay tag now (Write bytes x) (Starved (suc n) ∷ []) turn e = maps now (saying bytes) (λ s. refl) (played tag now x (Starved n ∷ [])) turn e (λ s d. folders_stay tag now x (Starved n ∷ []) s d)
+folders_stay tag now (Write bytes x) (Starved zero ∷ b ∷ more) turn e = maps now (saying bytes) (λ s. refl) (played tag now x (Starved zero ∷ b ∷ more)) turn e (λ s d. folders_stay tag now x (Starved zero ∷ b ∷ more) s d)
+folders_stay tag now (Write bytes x) (Starved (suc n) ∷ b ∷ more) turn e = maps now (saying bytes) (λ s. refl) (played tag now x (Starved (suc n) ∷ b ∷ more)) turn e (λ s d. folders_stay tag now x (Starved (suc n) ∷ b ∷ more) s d)
+folders_stay tag now (Put bytes x) answers turn e = maps now (saying bytes) (λ s. refl) (played tag now x answers) turn e (λ s d. folders_stay tag now x answers s d)
+folders_stay tag now (Enter selected next) [] turn e = absurd (none-some turn e)
+folders_stay tag now (Enter selected next) (Entered a ∷ more) turn e = maps now (having (Enter selected.mailbox) (Entered a)) (λ s. refl) (played tag (record now { selected = Some selected }) (next a) more) turn e (λ s d. folders_stay tag (record now { selected = Some selected }) (next a) more s d)
+folders_stay tag now (Enter selected next) (Looked a ∷ more) turn e = absurd (none-some turn e)
+folders_stay tag now (Enter selected next) (Found a ∷ more) turn e = absurd (none-some turn e)
+folders_stay tag now (Enter selected next) (Counted a ∷ more) turn e = absurd (none-some turn e)
+folders_stay tag now (Enter selected next) (Altered a ∷ more) turn e = absurd (none-some turn e)
+folders_stay tag now (Enter selected next) (Expunged a b c ∷ more) turn e = absurd (none-some turn e)
+folders_stay tag now (Enter selected next) (Fed a b ∷ more) turn e = absurd (none-some turn e)
+folders_stay tag now (Enter selected next) (Left a ∷ more) turn e = absurd (none-some turn e)
+folders_stay tag now (Enter selected next) (Refused a ∷ []) turn e = told now (λ s. having (Enter selected.mailbox) (Refused a) (saying (refusal_text tag a) s)) (λ s. refl) (refusal_after a) turn e
+folders_stay tag now (Enter selected next) (Refused a ∷ b ∷ more) turn e = absurd (none-some turn e)
+folders_stay tag now (Enter selected next) (Starved a ∷ more) turn e = absurd (none-some turn e)
+folders_stay tag now (Look next) [] turn e = absurd (none-some turn e)
+folders_stay tag now (Look next) (Entered a ∷ more) turn e = absurd (none-some turn e)
+folders_stay tag now (Look next) (Looked a ∷ more) turn e = maps now (having Look (Looked a)) (λ s. refl) (played tag now (next a) more) turn e (λ s d. folders_stay tag now (next a) more s d)
+folders_stay tag now (Look next) (Found a ∷ more) turn e = absurd (none-some turn e)
+folders_stay tag now (Look next) (Counted a ∷ more) turn e = absurd (none-some turn e)
+folders_stay tag now (Look next) (Altered a ∷ more) turn e = absurd (none-some turn e)
+folders_stay tag now (Look next) (Expunged a b c ∷ more) turn e = absurd (none-some turn e)
+folders_stay tag now (Look next) (Fed a b ∷ more) turn e = absurd (none-some turn e)
+folders_stay tag now (Look next) (Left a ∷ more) turn e = absurd (none-some turn e)
+folders_stay tag now (Look next) (Refused a ∷ []) turn e = told now (λ s. having Look (Refused a) (saying (refusal_text tag a) s)) (λ s. refl) (refusal_after a) turn e
+folders_stay tag now (Look next) (Refused a ∷ b ∷ more) turn e = absurd (none-some turn e)
+folders_stay tag now (Look next) (Starved zero ∷ []) turn e = given_up tag now NoMemory turn e
+folders_stay tag now (Look next) (Starved zero ∷ b ∷ more) turn e = absurd (none-some turn e)
+folders_stay tag now (Look next) (Starved (suc n) ∷ more) turn e = absurd (none-some turn e)
+folders_stay tag now (Read uid mark next) [] turn e = absurd (none-some turn e)
+folders_stay tag now (Read uid mark next) (Entered a ∷ more) turn e = absurd (none-some turn e)
+folders_stay tag now (Read uid mark next) (Looked a ∷ more) turn e = absurd (none-some turn e)
+folders_stay tag now (Read uid mark next) (Found a ∷ more) turn e = maps now (having (Read uid mark) (Found a)) (λ s. refl) (played tag now (next a) more) turn e (λ s d. folders_stay tag now (next a) more s d)
+folders_stay tag now (Read uid mark next) (Counted a ∷ more) turn e = absurd (none-some turn e)
+folders_stay tag now (Read uid mark next) (Altered a ∷ more) turn e = absurd (none-some turn e)
+folders_stay tag now (Read uid mark next) (Expunged a b c ∷ more) turn e = absurd (none-some turn e)
+folders_stay tag now (Read uid mark next) (Fed a b ∷ more) turn e = absurd (none-some turn e)
+folders_stay tag now (Read uid mark next) (Left a ∷ more) turn e = absurd (none-some turn e)
+folders_stay tag now (Read uid mark next) (Refused a ∷ []) turn e = told now (λ s. having (Read uid mark) (Refused a) (saying (refusal_text tag a) s)) (λ s. refl) (refusal_after a) turn e
+folders_stay tag now (Read uid mark next) (Refused a ∷ b ∷ more) turn e = absurd (none-some turn e)
+folders_stay tag now (Read uid mark next) (Starved a ∷ more) turn e = absurd (none-some turn e)
+folders_stay tag now (Count mailbox next) [] turn e = absurd (none-some turn e)
+folders_stay tag now (Count mailbox next) (Entered a ∷ more) turn e = absurd (none-some turn e)
+folders_stay tag now (Count mailbox next) (Looked a ∷ more) turn e = absurd (none-some turn e)
+folders_stay tag now (Count mailbox next) (Found a ∷ more) turn e = absurd (none-some turn e)
+folders_stay tag now (Count mailbox next) (Counted a ∷ more) turn e = maps now (having (Count mailbox) (Counted a)) (λ s. refl) (played tag now (next a) more) turn e (λ s d. folders_stay tag now (next a) more s d)
+folders_stay tag now (Count mailbox next) (Altered a ∷ more) turn e = absurd (none-some turn e)
+folders_stay tag now (Count mailbox next) (Expunged a b c ∷ more) turn e = absurd (none-some turn e)
+folders_stay tag now (Count mailbox next) (Fed a b ∷ more) turn e = absurd (none-some turn e)
+folders_stay tag now (Count mailbox next) (Left a ∷ more) turn e = absurd (none-some turn e)
+folders_stay tag now (Count mailbox next) (Refused a ∷ []) turn e = told now (λ s. having (Count mailbox) (Refused a) (saying (refusal_text tag a) s)) (λ s. refl) (refusal_after a) turn e
+folders_stay tag now (Count mailbox next) (Refused a ∷ b ∷ more) turn e = absurd (none-some turn e)
+folders_stay tag now (Count mailbox next) (Starved a ∷ more) turn e = absurd (none-some turn e)
+folders_stay tag now (Alter uid op next) [] turn e = absurd (none-some turn e)
+folders_stay tag now (Alter uid op next) (Entered a ∷ more) turn e = absurd (none-some turn e)
+folders_stay tag now (Alter uid op next) (Looked a ∷ more) turn e = absurd (none-some turn e)
+folders_stay tag now (Alter uid op next) (Found a ∷ more) turn e = absurd (none-some turn e)
+folders_stay tag now (Alter uid op next) (Counted a ∷ more) turn e = absurd (none-some turn e)
+folders_stay tag now (Alter uid op next) (Altered a ∷ more) turn e = maps now (having (Alter uid op) (Altered a)) (λ s. refl) (played tag now (next a) more) turn e (λ s d. folders_stay tag now (next a) more s d)
+folders_stay tag now (Alter uid op next) (Expunged a b c ∷ more) turn e = absurd (none-some turn e)
+folders_stay tag now (Alter uid op next) (Fed a b ∷ more) turn e = absurd (none-some turn e)
+folders_stay tag now (Alter uid op next) (Left a ∷ more) turn e = absurd (none-some turn e)
+folders_stay tag now (Alter uid op next) (Refused a ∷ []) turn e = told now (λ s. having (Alter uid op) (Refused a) (saying (refusal_text tag a) s)) (λ s. refl) (refusal_after a) turn e
+folders_stay tag now (Alter uid op next) (Refused a ∷ b ∷ more) turn e = absurd (none-some turn e)
+folders_stay tag now (Alter uid op next) (Starved a ∷ more) turn e = absurd (none-some turn e)
+folders_stay tag now (Expunge uids x) [] turn e = absurd (none-some turn e)
+folders_stay tag now (Expunge uids x) (Entered a ∷ more) turn e = absurd (none-some turn e)
+folders_stay tag now (Expunge uids x) (Looked a ∷ more) turn e = absurd (none-some turn e)
+folders_stay tag now (Expunge uids x) (Found a ∷ more) turn e = absurd (none-some turn e)
+folders_stay tag now (Expunge uids x) (Counted a ∷ more) turn e = absurd (none-some turn e)
+folders_stay tag now (Expunge uids x) (Altered a ∷ more) turn e = absurd (none-some turn e)
+folders_stay tag now (Expunge uids x) (Expunged a b c ∷ more) turn e = maps now (λ s. having (Expunge uids) (Expunged a b c) (saying (lines a b) s)) (λ s. refl) (played tag now x more) turn e (λ s d. folders_stay tag now x more s d)
+folders_stay tag now (Expunge uids x) (Fed a b ∷ more) turn e = absurd (none-some turn e)
+folders_stay tag now (Expunge uids x) (Left a ∷ more) turn e = absurd (none-some turn e)
+folders_stay tag now (Expunge uids x) (Refused a ∷ []) turn e = told now (λ s. having (Expunge uids) (Refused a) (saying (refusal_text tag a) s)) (λ s. refl) (refusal_after a) turn e
+folders_stay tag now (Expunge uids x) (Refused a ∷ b ∷ more) turn e = absurd (none-some turn e)
+folders_stay tag now (Expunge uids x) (Starved a ∷ more) turn e = absurd (none-some turn e)
+folders_stay tag now (Feed limit x) [] turn e = absurd (none-some turn e)
+folders_stay tag now (Feed limit x) (Entered a ∷ more) turn e = absurd (none-some turn e)
+folders_stay tag now (Feed limit x) (Looked a ∷ more) turn e = absurd (none-some turn e)
+folders_stay tag now (Feed limit x) (Found a ∷ more) turn e = absurd (none-some turn e)
+folders_stay tag now (Feed limit x) (Counted a ∷ more) turn e = absurd (none-some turn e)
+folders_stay tag now (Feed limit x) (Altered a ∷ more) turn e = absurd (none-some turn e)
+folders_stay tag now (Feed limit x) (Expunged a b c ∷ more) turn e = absurd (none-some turn e)
+folders_stay tag now (Feed limit x) (Fed a b ∷ more) turn e = maps now (λ s. having (Feed limit) (Fed a b) (saying (lines a b) s)) (λ s. refl) (played tag now x more) turn e (λ s d. folders_stay tag now x more s d)
+folders_stay tag now (Feed limit x) (Left a ∷ more) turn e = absurd (none-some turn e)
+folders_stay tag now (Feed limit x) (Refused a ∷ []) turn e = told now (λ s. having (Feed limit) (Refused a) (saying (refusal_text tag a) s)) (λ s. refl) (refusal_after a) turn e
+folders_stay tag now (Feed limit x) (Refused a ∷ b ∷ more) turn e = absurd (none-some turn e)
+folders_stay tag now (Feed limit x) (Starved a ∷ more) turn e = absurd (none-some turn e)
+folders_stay tag now (Leave remove x) [] turn e = absurd (none-some turn e)
+folders_stay tag now (Leave remove x) (Entered a ∷ more) turn e = absurd (none-some turn e)
+folders_stay tag now (Leave remove x) (Looked a ∷ more) turn e = absurd (none-some turn e)
+folders_stay tag now (Leave remove x) (Found a ∷ more) turn e = absurd (none-some turn e)
+folders_stay tag now (Leave remove x) (Counted a ∷ more) turn e = absurd (none-some turn e)
+folders_stay tag now (Leave remove x) (Altered a ∷ more) turn e = absurd (none-some turn e)
+folders_stay tag now (Leave remove x) (Expunged a b c ∷ more) turn e = absurd (none-some turn e)
+folders_stay tag now (Leave remove x) (Fed a b ∷ more) turn e = absurd (none-some turn e)
+folders_stay tag now (Leave remove x) (Left a ∷ more) turn e = maps now (having (Leave remove) (Left a)) (λ s. refl) (played tag (record now { selected = None }) x more) turn e (λ s d. folders_stay tag (record now { selected = None }) x more s d)
+folders_stay tag now (Leave remove x) (Refused a ∷ []) turn e = told now (λ s. having (Leave remove) (Refused a) (saying (refusal_text tag a) s)) (λ s. refl) (refusal_after a) turn e
+folders_stay tag now (Leave remove x) (Refused a ∷ b ∷ more) turn e = absurd (none-some turn e)
+folders_stay tag now (Leave remove x) (Starved a ∷ more) turn e = absurd (none-some turn e)
+
+-- ---- lines, and verdicts
+
+fault_keeps : (now : Standing) (text : List ℕ) (answers : List Answer) (turn : Turn) → only_says text now answers ≡ Some turn → turn.standing.folders ≡ now.folders
+fault_keeps now text [] turn e = told now (saying text) (λ s. refl) Go turn e
+fault_keeps now text (answer ∷ more) turn e = absurd (none-some turn e)
+
+read_keeps : (now : Standing) (r : Result (List ℕ × Command) ImapFault) (answers : List Answer) (turn : Turn) → on_read now r answers ≡ Some turn → turn.standing.folders ≡ now.folders
+read_keeps now (Ok line) answers turn e = folders_stay line.0 now (on_command now line.1) answers turn e
+read_keeps now (Err fault) answers turn e = fault_keeps now (fault_text fault) answers turn e
+
+while_keeps : (idling : Option (List ℕ)) (now : Standing) (line : List ℕ) (answers : List Answer) (turn : Turn) → turn_while idling now line answers ≡ Some turn → turn.standing.folders ≡ now.folders
+while_keeps None now line answers turn e = read_keeps now (read line) answers turn e
+while_keeps (Some tag) now line answers turn e = folders_stay tag (record now { idling = None }) (on_idle_line now.selected line) answers turn e
+
+behind_keeps : (begun : Option Appending) (now : Standing) (line : List ℕ) (answers : List Answer) (turn : Turn) → turn_behind begun now line answers ≡ Some turn → turn.standing.folders ≡ now.folders
+behind_keeps None now line answers turn e = while_keeps now.idling now line answers turn e
+behind_keeps (Some a) now line answers turn e = folders_stay a.tag (without_begun now) (on_rest now.mailing a (length line == 0)) answers turn e
+
+pub line_folders : (now : Standing) (line : List ℕ) (answers : List Answer) (turn : Turn) → turn_of now line answers ≡ Some turn → turn.standing.folders ≡ now.folders
+line_folders now line answers turn e = behind_keeps now.mailing.begun now line answers turn e
+
+heard_keeps : (sent : Option Sent) (now : Standing) (verdict : Verdict) (answers : List Answer) (turn : Turn) → turn_with sent now verdict answers ≡ Some turn → turn.standing.folders ≡ now.folders
+heard_keeps None now verdict answers turn e = absurd (none-some turn e)
+heard_keeps (Some sent) now verdict answers turn e = folders_stay sent.tag (without_sent now) (on_verdict now.selected sent.append.mailbox verdict) answers turn e
+
+pub verdict_folders : (now : Standing) (verdict : Verdict) (answers : List Answer) (turn : Turn) → turn_of_verdict now verdict answers ≡ Some turn → turn.standing.folders ≡ now.folders
+verdict_folders now verdict answers turn e = heard_keeps now.mailing.sent now verdict answers turn e
+
+-- ---- turns while it idles
+
+pub idle_folders : (selected : Option Selected) (idling : Bool) (now : Standing) (answers : List Answer) (turn : Turn) → idle_turn_in selected idling now answers ≡ Some turn → turn.standing.folders ≡ now.folders
+idle_folders (Some selected) true now [] turn e = absurd (none-some turn e)
+idle_folders (Some selected) true now (Fed met changes ∷ []) turn e = ap (λ (t : Turn). t.standing.folders) (sym (ap (the_turn turn) e))
+idle_folders (Some selected) true now (Fed met changes ∷ b ∷ more) turn e = absurd (none-some turn e)
+idle_folders (Some selected) true now (Refused Lapped ∷ []) turn e = ap (λ (t : Turn). t.standing.folders) (sym (ap (the_turn turn) e))
+idle_folders (Some selected) true now (Refused Lapped ∷ b ∷ more) turn e = absurd (none-some turn e)
+idle_folders (Some selected) true now (Refused Stranger ∷ []) turn e = ap (λ (t : Turn). t.standing.folders) (sym (ap (the_turn turn) e))
+idle_folders (Some selected) true now (Refused Stranger ∷ b ∷ more) turn e = absurd (none-some turn e)
+idle_folders (Some selected) true now (Refused Spent ∷ more) turn e = absurd (none-some turn e)
+idle_folders (Some selected) true now (Refused NoMemory ∷ more) turn e = absurd (none-some turn e)
+idle_folders (Some selected) true now (Entered a ∷ more) turn e = absurd (none-some turn e)
+idle_folders (Some selected) true now (Looked a ∷ more) turn e = absurd (none-some turn e)
+idle_folders (Some selected) true now (Found a ∷ more) turn e = absurd (none-some turn e)
+idle_folders (Some selected) true now (Counted a ∷ more) turn e = absurd (none-some turn e)
+idle_folders (Some selected) true now (Altered a ∷ more) turn e = absurd (none-some turn e)
+idle_folders (Some selected) true now (Expunged a b c ∷ more) turn e = absurd (none-some turn e)
+idle_folders (Some selected) true now (Left a ∷ more) turn e = absurd (none-some turn e)
+idle_folders (Some selected) true now (Starved a ∷ more) turn e = absurd (none-some turn e)
+idle_folders (Some selected) false now [] turn e = ap (λ (t : Turn). t.standing.folders) (sym (ap (the_turn turn) e))
+idle_folders (Some selected) false now (a ∷ more) turn e = absurd (none-some turn e)
+idle_folders None true now [] turn e = ap (λ (t : Turn). t.standing.folders) (sym (ap (the_turn turn) e))
+idle_folders None true now (a ∷ more) turn e = absurd (none-some turn e)
+idle_folders None false now [] turn e = ap (λ (t : Turn). t.standing.folders) (sym (ap (the_turn turn) e))
+idle_folders None false now (a ∷ more) turn e = absurd (none-some turn e)

@@ -1,0 +1,49 @@
+-- What the definitions refuse: a list that is too short, a UID that is another's, events of the session's own, bytes that weren't answered so, a record that leaves out the greeting, two copies of one UID.
+use Rattle.std.proofs.Common.{◌≡◌, ◌≢◌, ℕ, List, [], ◌∷◌, length, Contains, ap, ◌∙◌, sym, subst, refl, arith, length-append}
+use Rattle.std.specs.Prelude.{Some, None, codes, flat_map}
+use Rattle.delivery_token.specs.declared.Job.{Job}
+use Rattle.line_io.specs.Wire.{crlf}
+use Rattle.world.specs.World.{Box, Feed}
+use Rattle.imap_session.specs.Exchange.{Answer as StoreAnswer}
+use Rattle.imap_session.specs.Commands.{greeting}
+use Rattle.house.specs.Setup.{Setup}
+use Rattle.house.specs.Scene.{Scene}
+use Rattle.house_session.specs.Seated.{SeatedSession}
+use Rattle.client_list.specs.Beliefs.{IsRight}
+use Rattle.client_list.specs.Client.{Client, Known, Messages, fresh}
+use Rattle.client_list.specs.Talks.{LongLine, Turned}
+use Rattle.client_records.specs.Clients.{IsRightAbout, bytes_in}
+use Rattle.client_records.specs.Lives.{IsSentFor}
+use Rattle.client_records.specs.Records.{KeepsUp}
+use Rattle.client_records.specs.Views.{IsOfOthers, NamesTheSame}
+
+abbrev the_list : Messages → List Known
+the_list None = []
+the_list (Some list) = list
+
+-- a list with no messages, of a mailbox with one
+too_short : IsRightAbout (7 ∷ []) (Some fresh) → ⊥
+too_short (list, is, right) = subst (λ (l : List Known). IsRight (7 ∷ []) l) (sym (ap (λ (c : Client). the_list c.messages) is)) right
+
+-- a client that was told the UID of another message
+another_uid : IsRight (7 ∷ []) (record { uid = Some 8; flags = None } ∷ []) → ⊥
+another_uid right = absurd (omega (arith, right.0 8 refl))
+
+-- a Feed of the session's own
+its_own : IsOfOthers 3 (Feed 3 9) → ⊥
+its_own h = h refl
+
+-- bytes that a turn of an IDLE answered, and a line of one byte that was too long
+idle_bytes : (answers : List StoreAnswer) → IsSentFor (Turned answers) (codes "a") → ⊥
+idle_bytes answers e = absurd (omega (arith, ap length e))
+
+short_line : IsSentFor LongLine (codes "a\r\n") → ⊥
+short_line (line, many, e) = absurd (omega (arith, many, ap length e, length-append line crlf))
+
+-- one that keeps up, and was never greeted: nothing was printed to it, and nothing is still to be printed
+not_greeted : (k : Setup) (place : ℕ) (v : SeatedSession) (t : Scene) → v.session.unsaid ≡ [] → KeepsUp k [] place v t → ⊥
+not_greeted k place v t none keeps = absurd (omega (arith, ap length keeps.printed, ap length none, length-append greeting (flat_map bytes_in keeps.told)))
+
+-- two copies under one UID
+two_copies : (uid : ℕ) (before now : Box) (a b : Job) → a ≢ b → Contains now.accepted (a, uid) → Contains now.accepted (b, uid) → NamesTheSame uid before now → ⊥
+two_copies uid before now a b differ one two same = differ (same.alone a one ∙ sym (same.alone b two))

@@ -1,0 +1,163 @@
+-- What a session answers and says goes on from what it answered and said before.
+use Rattle.std.proofs.Common.{◌≡◌, ◌≢◌, ℕ, List, [], ◌∷◌, ◌++◌, Contains, refl, sym, subst, ap, ap₂, ◌∙◌, append-nil, append_assoc}
+use Rattle.std.specs.Prelude.{Bool, Option, Some, None, flat_map}
+use Rattle.std.proofs.lemmas.Grind.{flat_map-append}
+use Rattle.line_io.specs.Wire.{crlf}
+use Rattle.delivery_token.specs.declared.Verdict.{Verdict}
+use Rattle.delivery_token.specs.declared.CopyKey.{CopyKey}
+use Rattle.submission.specs.Heard.{HeardFor}
+use Rattle.delivery_token.specs.declared.log.Noted.{Noted}
+use Rattle.world.specs.World.{Config, Event, Step, World}
+use Rattle.imap_session.specs.declared.standing.After.{After}
+use Rattle.imap_session.specs.Exchange.{Standing, Turn, kept_tag, may_send, nothing_more}
+use Rattle.imap_session.specs.Commands.{turn_of_long_line, with_bytes}
+use Rattle.imap_session.specs.Store.{AnswersVerdict, IdleTurns, Met}
+use Rattle.imap_connection.specs.Dialogue as dialogue
+use Rattle.imap_connection.specs.Dialogue.{AnswersLine, AnswersOne, Converses, Sends, goes_on, parts, reads, silent, spelled, too_long}
+use Rattle.house_session.specs.HouseSession.{HouseSession}
+use Rattle.house_session.specs.Seated as seated
+use Rattle.house_session.specs.Seated.{GoesOn, IsAnswered, SeatedSession, Works, keys_of, sent_by}
+use Rattle.client_list.specs.Commands.{IsPrinted}
+use Rattle.client_list.specs.Talks.{Happening, Line, LongLine, Turned, Literal, Heard, leads_to}
+use Rattle.client_records.specs.Clients.{Told, bytes_in}
+use Rattle.client_records.specs.Lives.{IsSentFor, Lives, comes, turns, others}
+use Rattle.client_records.specs.Turns.{VerdictsArePrinted, told_line, told_of}
+use Rattle.client_records.specs.Views.{IsOfOthers}
+use Rattle.client_records.proofs.Moved.{Calls, Moved, rested, stepped}
+
+-- since it came it answered these bytes, and said those
+pub record Talked (k : Config) (n : ℕ) (first : Standing) (began : World) (sent said : List ℕ) (now : Standing) (w : World) : Type 0 where
+  pub told : List Told
+  pub lives : Lives k n first began sent told now w
+  pub bytes : flat_map bytes_in told ≡ said
+
+pub talked_none : (k : Config) (n : ℕ) (first : Standing) (began : World) → Talked k n first began [] [] first began
+talked_none k n first began = record { told = []; lives = comes; bytes = refl }
+
+line_bytes : (tag : Option (List ℕ)) (line bytes : List ℕ) → bytes_in (told_line tag line bytes) ≡ bytes
+line_bytes None line bytes = refl
+line_bytes (Some tag) line bytes = refl
+
+told_bytes : (now : Standing) (happening : Happening) (bytes : List ℕ) → bytes_in (told_of now happening bytes) ≡ bytes
+told_bytes now (Line line answers) bytes = line_bytes (kept_tag now) line bytes
+told_bytes now LongLine bytes = refl
+told_bytes now (Turned answers) bytes = refl
+told_bytes now (Literal kept literal) bytes = refl
+told_bytes now (Heard verdict answers) bytes = refl
+
+-- a turn
+pub talked_turn : (k : Config) (n : ℕ) (first : Standing) (began : World) (sent said : List ℕ) (now : Standing) (w : World) (happening : Happening) (bytes : List ℕ) (turn : Turn) (v : World)
+    → Talked k n first began sent said now w → IsSentFor happening bytes → VerdictsArePrinted happening → leads_to now happening ≡ Some turn → Met (Calls k n) w turn.events v
+    → Talked k n first began (sent ++ bytes) (said ++ turn.bytes) turn.standing v
+talked_turn k n first began sent said now w happening bytes turn v t is printed e met = record {
+  told = t.told ++ told_of now happening turn.bytes ∷ [];
+  lives = turns t.lives happening bytes turn v is printed e met;
+  bytes = flat_map-append bytes_in t.told (told_of now happening turn.bytes ∷ [])
+      ∙ ap₂ (λ (a b : List ℕ). a ++ b) t.bytes (append-nil (bytes_in (told_of now happening turn.bytes)) ∙ told_bytes now happening turn.bytes);
+}
+
+-- what others do
+pub talked_others : (k : Config) (n : ℕ) (first : Standing) (began : World) (sent said : List ℕ) (now : Standing) (w : World) (event : Event) (v : World)
+    → Talked k n first began sent said now w → IsOfOthers n event → Step k w event v → Talked k n first began sent said now v
+talked_others k n first began sent said now w event v t o step = record { told = t.told; lives = others t.lives event v o step; bytes = t.bytes }
+
+pub talked_moved : (k : Config) (n q : ℕ) (first : Standing) (began : World) (sent said : List ℕ) (now : Standing) (w v : World)
+    → n ≢ q → Moved k q w v → Talked k n first began sent said now w → Talked k n first began sent said now v
+talked_moved k n q first began sent said now w v o (rested e) t = rw e t
+talked_moved k n q first began sent said now w v o (stepped event step own short) t = talked_others k n first began sent said now w event v t (own n o) step
+
+-- ---- what its client sends
+
+line_talked : (k : Config) (n : ℕ) (first : Standing) (began : World) (sent heard : List ℕ) (now : Standing) (line : List ℕ) (old new : World) (said : List ℕ) (how : After) (next : Standing)
+    → AnswersLine (Calls k n) now line old new [] said how next → Talked k n first began sent heard now old → Talked k n first began (sent ++ (line ++ crlf)) (heard ++ said) next new
+line_talked k n first began sent heard now line old new said how next (reads few a) t =
+    let turn : Turn = record { events = a.events; bytes = a.bytes; after = how; standing = next } in
+    subst (λ (b : List ℕ). Talked k n first began (sent ++ (line ++ crlf)) (heard ++ b) next new) (sym a.wrote)
+    (talked_turn k n first began sent heard now old (Line line a.answers) (line ++ crlf) turn new t refl tt a.played a.met)
+line_talked k n first began sent heard now line old new said how next (too_long many same w h e) t =
+    subst (λ (s : Standing). Talked k n first began (sent ++ (line ++ crlf)) (heard ++ said) s new) (sym e)
+    (subst (λ (b : List ℕ). Talked k n first began (sent ++ (line ++ crlf)) (heard ++ b) (turn_of_long_line now).standing new) (sym w)
+    (talked_turn k n first began sent heard now old LongLine (line ++ crlf) (turn_of_long_line now) new t (line, many, refl) tt refl same))
+
+one_talked : (k : Config) (n : ℕ) (first : Standing) (began : World) (sent heard : List ℕ) (now : Standing) (one : Sends) (old new : World) (said : List ℕ) (how : After) (next : Standing)
+    → AnswersOne (Calls k n) now one old new [] said how next → Talked k n first began sent heard now old → Talked k n first began (sent ++ spelled one) (heard ++ said) next new
+one_talked k n first began sent heard now (dialogue.Line line) old new said how next a t = line_talked k n first began sent heard now line old new said how next a.1 t
+one_talked k n first began sent heard now (dialogue.Bytes bytes) old new said how next a t =
+    let kept : Bool = a.takes.0 in
+    let turn : Turn = nothing_more (may_send (with_bytes kept bytes now)) (with_bytes kept bytes now) in
+    subst (λ (s : Standing). Talked k n first began (sent ++ bytes) (heard ++ said) s new) (sym a.takes.1)
+    (subst (λ (b : List ℕ). Talked k n first began (sent ++ bytes) (heard ++ b) (with_bytes kept bytes now) new) (sym a.silent)
+    (talked_turn k n first began sent heard now old (Literal kept bytes) bytes turn new t refl tt refl a.unasked))
+
+pub converses_talked : (k : Config) (n : ℕ) (first : Standing) (began : World) (sent heard : List ℕ) {now next : Standing} {sends : List Sends} {old new : World} {said : List ℕ} {how : After}
+    → Converses (Calls k n) now sends old new said how next → Talked k n first began sent heard now old → Talked k n first began (sent ++ flat_map spelled sends) (heard ++ said) next new
+converses_talked k n first began sent heard (silent now old) t =
+    subst (λ (s : List ℕ). Talked k n first began s (heard ++ []) now old) (sym (append-nil sent)) (subst (λ (h : List ℕ). Talked k n first began sent h now old) (sym (append-nil heard)) t)
+converses_talked k n first began sent heard (parts now next one old new said how stops a) t =
+    subst (λ (s : List ℕ). Talked k n first began (sent ++ s) (heard ++ said) next new) (sym (append-nil (spelled one))) (one_talked k n first began sent heard now one old new said how next a t)
+converses_talked k n first began sent heard (goes_on now between next one more old mid new before behind how follows a rest) t =
+    subst (λ (s : List ℕ). Talked k n first began s (heard ++ (before ++ behind)) next new) (append_assoc sent (spelled one) (flat_map spelled more))
+    (subst (λ (h : List ℕ). Talked k n first began ((sent ++ spelled one) ++ flat_map spelled more) h next new) (append_assoc heard before behind)
+    (converses_talked k n first began (sent ++ spelled one) (heard ++ before) rest (one_talked k n first began sent heard now one old mid before _ between a t)))
+
+-- ---- a session at its seat
+
+-- each UID of which its seat has heard can be printed
+abbrev pub AreHeardSmall : List Noted → Type 0
+AreHeardSmall heard = (noted : Noted) → Contains heard noted → IsPrinted noted.verdict
+
+-- it has talked, and these bytes of its client came and all but those that wait were answered
+pub record Reached (k : Config) (n : ℕ) (first : Standing) (began : World) (came said : List ℕ) (v : HouseSession) (w : World) : Type 0 where
+  pub sent : List ℕ
+  pub talked : Talked k n first began sent said v.standing w
+  pub waits : came ≡ sent ++ v.waits
+
+works_reached : (k : Config) (n seat : ℕ) (first : Standing) (began : World) (came heard : List ℕ) (v after : SeatedSession) (old new : World) (said : List ℕ)
+    → Works (Calls k n) seat v old new after said → Reached k n first began came heard v.session old → Reached k n first began came (heard ++ said) after.session new
+works_reached k n seat first began came heard v after old new said w r = record {
+  sent = r.sent ++ flat_map spelled w.answers.sent;
+  talked = converses_talked k n first began r.sent heard w.answers.converses r.talked;
+  waits = r.waits ∙ ap (λ (x : List ℕ). r.sent ++ x) w.answers.waited ∙ sym (append_assoc r.sent (flat_map spelled w.answers.sent) after.session.waits);
+}
+
+verdict_printed : (seat : ℕ) (heard : List Noted) (v : SeatedSession) (verdict : Verdict) → AreHeardSmall heard → IsAnswered seat heard v verdict → IsPrinted verdict
+verdict_printed seat heard v verdict small known = by (keys_of seat v.serial (sent_by v)) known.each
+  where
+    by : (keys : List CopyKey) → HeardFor heard keys (verdict ∷ []) → IsPrinted verdict
+    by [] h = absurd h
+    by (key ∷ keys) h = small (record { key = key; mailbox = h.0.0; verdict = verdict }) h.0.1
+
+verdict_talked : (k : Config) (n : ℕ) (first : Standing) (began : World) (sent heard : List ℕ) (now : Standing) (verdict : Verdict) (old new : World) (said : List ℕ) (how : After) (next : Standing) → IsPrinted verdict
+    → AnswersVerdict (Calls k n) now verdict old new [] said how next → Talked k n first began sent heard now old → Talked k n first began (sent ++ []) (heard ++ said) next new
+verdict_talked k n first began sent heard now verdict old new said how next printed a t =
+    let turn : Turn = record { events = a.events; bytes = a.bytes; after = how; standing = next } in
+    subst (λ (b : List ℕ). Talked k n first began (sent ++ []) (heard ++ b) next new) (sym a.wrote)
+    (talked_turn k n first began sent heard now old (Heard verdict a.answers) [] turn new t refl printed a.played a.met)
+
+same_reached : (k : Config) (n : ℕ) (first : Standing) (began : World) (came heard : List ℕ) (v after : SeatedSession) (old new : World) (said : List ℕ) → new ≡ old → after ≡ v → said ≡ []
+    → Reached k n first began came heard v.session old → Reached k n first began came (heard ++ said) after.session new
+same_reached k n first began came heard v after old new said e f g r = rw (e, f, g, append-nil heard) r
+
+pub goes_reached : (k : Config) (n : ℕ) (whole : Bool) (seat : ℕ) (notes : List Noted) (first : Standing) (began : World) (came heard : List ℕ) (v after : SeatedSession) (old new : World) (said : List ℕ) → AreHeardSmall notes
+    → GoesOn (Calls k n) whole seat notes v old new after said → Reached k n first began came heard v.session old → Reached k n first began came (heard ++ said) after.session new
+goes_reached k n whole seat notes first began came heard v after old new said small (seated.works none w) r = works_reached k n seat first began came heard v after old new said w r
+goes_reached k n whole seat notes first began came heard v after old new said small (seated.answers verdict mid one two how next known a w e) r =
+    let t = verdict_talked k n first began r.sent heard v.session.standing verdict old mid one how next (verdict_printed seat notes v verdict small known) a r.talked in
+    let between : Reached k n first began came (heard ++ one) (record { standing = next; waits = v.session.waits; unsaid = v.session.unsaid }) mid =
+    record { sent = r.sent ++ []; talked = t; waits = r.waits ∙ ap (λ (s : List ℕ). s ++ v.session.waits) (sym (append-nil r.sent)) } in
+    subst (λ (h : List ℕ). Reached k n first began came h after.session new) (append_assoc heard one two ∙ ap (λ (s : List ℕ). heard ++ s) (sym e))
+    (works_reached k n seat first began came (heard ++ one) (seated.told v next) after mid new two w between)
+goes_reached k n whole seat notes first began came heard v after old new said small (seated.waits a e f g) r = same_reached k n first began came heard v after old new said e f g r
+goes_reached k n whole seat notes first began came heard v after old new said small (seated.rests a e f g) r = same_reached k n first began came heard v after old new said e f g r
+goes_reached k n whole seat notes first began came heard v after old new said small (seated.stalls a e f g) r = same_reached k n first began came heard v after old new said e f g r
+
+pub idles_reached : (k : Config) (n : ℕ) (first : Standing) (began : World) (came heard : List ℕ) (v after : HouseSession) (old new : World) (said : List ℕ) (count : ℕ)
+    → IdleTurns (Calls k n) v.standing old new [] said count after.standing → after.waits ≡ v.waits → Reached k n first began came heard v old → Reached k n first began came (heard ++ said) after new
+idles_reached k n first began came heard v after old new said count a waits r =
+    let turn : Turn = record { events = a.events; bytes = a.bytes; after = a.how; standing = after.standing } in
+    record {
+      sent = r.sent ++ [];
+      talked = subst (λ (b : List ℕ). Talked k n first began (r.sent ++ []) (heard ++ b) after.standing new) (sym a.wrote)
+          (talked_turn k n first began r.sent heard v.standing old (Turned a.answers) [] turn new r.talked refl tt a.played a.met);
+      waits = r.waits ∙ ap₂ (λ (s w : List ℕ). s ++ w) (sym (append-nil r.sent)) (sym waits);
+    }

@@ -1,0 +1,8 @@
+use Rattle.client_records.proofs.Known.{stands_still, turn_is_known}
+use Rattle.client_records.proofs.laws.turns_are_known.Goals as goal
+
+pub returns-clause-turn : goal.returns-clause-turn
+returns-clause-turn c = turn_is_known
+
+pub returns-clause-stands : goal.returns-clause-stands
+returns-clause-stands c = stands_still

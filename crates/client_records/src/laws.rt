@@ -1,0 +1,81 @@
+//! Laws of what a client reads of a house, as functions that do nothing: what its session counts in every world, what its calls
+//! come to, its turns, and its whole life.
+
+ghost use Rattle.client_records.specs.Clients.{KnowsWhereItIs};
+ghost use Rattle.client_records.specs.Current.{DoneCommandsMakeCurrent, DoneMakesCurrent, FeedsMakeCurrent, ListsAreCurrent, NoopMakesCurrent};
+ghost use Rattle.client_records.specs.Laws.{CallsAreSeen, CountedAreGiven, EntriesAreCounted, GoneStayGone, LeaversCountNothing, OthersLeaveViews, UidsStay, ViewsAreNumbered};
+ghost use Rattle.client_records.specs.Lives.{LivesAreKnown};
+ghost use Rattle.client_records.specs.One.{OneLifeIsLived};
+ghost use Rattle.client_records.specs.Records.{ClientsKeepUp, ClientsOfHousesKeepUp, RecordsMoveOn, SettingsCanBePrinted, TextsStayShort};
+ghost use Rattle.client_records.specs.Selecting.{KnowingIsSelected};
+ghost use Rattle.client_records.specs.Turns.{StandsStill, TurnIsKnown};
+
+/// In every world that came from the empty one: the UIDs and the places of what a session counts can be printed, and what
+/// others do leaves it as it was. What a call of the session shows may be shown to its client, what is read is the row of the
+/// UID that was asked for, and what is counted can be printed. A session that enters a mailbox counts all that is there, as
+/// many as it tells, and one that leaves counts nothing.
+pub fn calls_are_seen()
+    ensures numbered { ViewsAreNumbered }
+    ensures others { OthersLeaveViews }
+    ensures calls { CallsAreSeen }
+    ensures entries { EntriesAreCounted }
+    ensures leavers { LeaversCountNothing }
+{}
+
+/// A client that comes again, and compares by UID: a UID that its session counted is the name of one copy for good, with one
+/// text, whatever happened since; and what is gone doesn't come back (RFC 9051, 2.3.1.1). Each UID that a session counts was
+/// given, and over a record of a house the world moves on by its events, so this is so from any moment to any later one.
+pub fn uids_stay()
+    ensures same { UidsStay }
+    ensures gone { GoneStayGone }
+    ensures given { CountedAreGiven }
+    ensures records { RecordsMoveOn }
+{}
+
+/// A client that knows which of its lines were SELECT, EXAMINE, CLOSE or UNSELECT, and was right about what its session counts
+/// before a turn, hears what is said in it, and is right about what the session counts then; whatever it sent, whatever is
+/// answered, and wherever the store or memory refuses. Of the session it is asked that its mailboxes' names stand in lines,
+/// and that its tags are tags; it stays so.
+pub fn turns_are_known()
+    ensures turn { TurnIsKnown }
+    ensures stands { StandsStill }
+{}
+
+/// So it is at each moment of a session's life, with all that others do between its turns: since a SELECT or EXAMINE was
+/// answered OK, the client's list is as long as what the session counts, each UID that it knows is the one at that place, and
+/// no number was out of its list. It knows where it is from that answer on, for as long as it asks for none of SELECT, EXAMINE, CLOSE
+/// and UNSELECT. Where it knows where it is, its session has selected a mailbox.
+pub fn lives_are_known()
+    ensures life { LivesAreKnown }
+    ensures knows { KnowsWhereItIs }
+    ensures selected { KnowingIsSelected }
+{}
+
+/// One life, by computing: a session selects an empty mailbox, a copy comes there meanwhile, and a NOOP shows it. Its client then
+/// has a list of one message, and the session counts one.
+pub fn one_life_happens()
+    ensures { OneLifeIsLived }
+{}
+
+/// Where all that was pending was shown in a session's last call, what it counts is all that is there at that moment. So it is
+/// where NOOP, LIST, STATUS, EXPUNGE, UID EXPUNGE, UID FETCH, UID STORE or the DONE of an IDLE is answered OK in a mailbox that is
+/// selected (RFC 9051, 5.2 and 6.1.2; RFC 2177). A client that knows where it is, and has read such a command's answer to its end,
+/// has a list of the mailbox as it is.
+pub fn lists_are_current()
+    ensures fed { FeedsMakeCurrent }
+    ensures commands { DoneCommandsMakeCurrent }
+    ensures noop { NoopMakesCurrent }
+    ensures done { DoneMakesCurrent }
+    ensures list { ListsAreCurrent }
+{}
+
+/// Over any record of a house that was new, of whatever events: the client of each session that is there, by all that it sent
+/// since it was let in and all that was printed to it since, is right about what its session counts, wherever it is in a mailbox
+/// that it knows: since a SELECT or EXAMINE was answered OK. Of the house it is asked that numbers and names can be printed
+/// and messages have less than 2 GiB, which settings that are right see to; then no text was accepted that is too long to be told of.
+pub fn clients_keep_up()
+    ensures record { ClientsKeepUp }
+    ensures house { ClientsOfHousesKeepUp }
+    ensures texts { TextsStayShort }
+    ensures settings { SettingsCanBePrinted }
+{}
