@@ -530,16 +530,19 @@ fn idle_through<'x, R: Threads + Wait + Sync>(
 ) -> Result<bool, AllocError> {
     let mailboxes = a_mailbox(rt, alloc, false)?;
     let job = copy(alloc)?;
-    let (tally, marks) = (Tally::new(), Marks::new());
     let sleeper = Sleeper::new(alloc)?;
+    let idling = sleeper.idling()?;
+    let bell = sleeper.bell()?;
+    let tally = Tally::new();
+    let marks = Marks::new();
     let scene = Scene {
         mailboxes: &mailboxes,
         tally: &tally,
         job: &job,
         marks: &marks,
         nap,
-        place: Place::new(sleeper.idling()?),
-        bell: sleeper.bell()?,
+        place: Place::new(idling),
+        bell,
     };
     let is_served = idle_in(rt, alloc, &scene, bytes, sleeper);
     Ok(is_served && marks.hushed.load(Ordering::SeqCst) == nap.says.is_empty())
