@@ -1,0 +1,3 @@
+mod Moments
+mod Distinct
+mod Following

@@ -1,0 +1,28 @@
+//! Laws of what a client believes of flags, as functions that do nothing.
+
+ghost use Rattle.client_flags.specs.Laws.{AnswerTellsFlags, FlagsAreCurrent, FlagsOutlast, IdleTellsFlags, LinesTellFlags, RowTellsFlags, StoreTellsFlags, VerdictTellsFlags};
+
+/// Flags that a message had at some moment not before the cursor are such whatever is logged later, and where nothing is
+/// pending they are those that it has now.
+pub fn flags_have_moments()
+    ensures outlast { FlagsOutlast }
+    ensures current { FlagsAreCurrent }
+{}
+
+/// A client is right about flags where each that it knows were those of the message at some moment not before its session's
+/// cursor. It stays so when it reads the lines of changes that the cursor moves over, the answer to a FETCH with the flags that
+/// the message has, also where reading it set `\Seen`, and the flags after a STORE (RFC 9051, 6.4.6, 7.5.2).
+pub fn flags_are_told()
+    ensures lines { LinesTellFlags }
+    ensures row { RowTellsFlags }
+    ensures store { StoreTellsFlags }
+{}
+
+/// Over any store, whatever it answers: so it is of the answer to any line but SELECT, EXAMINE, CLOSE and UNSELECT, of the
+/// answer to the verdict on a message, and of a turn while the session idles. Of the store it is asked that what it shows are
+/// the changes that were pending, in their order, and the flags that it answers are the message's (`SeesAllFlags`).
+pub fn turns_tell_flags()
+    ensures answer { AnswerTellsFlags }
+    ensures verdict { VerdictTellsFlags }
+    ensures idle { IdleTellsFlags }
+{}
