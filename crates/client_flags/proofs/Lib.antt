@@ -1,3 +1,6 @@
 mod Moments
 mod Distinct
 mod Following
+mod Telling
+mod Turning
+mod Played

@@ -122,7 +122,7 @@ tail_unspaced w true h = list_all-append is_unspaced w (41 ∷ []) ∙ rw h refl
 tail_unspaced w false h = ap (list_all is_unspaced) (append-nil w) ∙ h
 
 -- the digits, with the parenthesis that closes behind them or without
-digits_closed : (ds : List ℕ) (last : Bool) → list_all is_digit ds ≡ true → closing (ds ++ tail last) ≡ ((if last then 1 else 0), ds)
+pub digits_closed : (ds : List ℕ) (last : Bool) → list_all is_digit ds ≡ true → closing (ds ++ tail last) ≡ ((if last then 1 else 0), ds)
 digits_closed [] true h = refl
 digits_closed [] false h = refl
 digits_closed (b ∷ bs) last h =

@@ -70,7 +70,7 @@ tagged_has tag words t =
     (sym t.is) (at_tag t.first t.others (codes " " ++ (words ++ codes "\r\n")) t.inner)
 
 -- a line that begins with a star has none
-at_star : (tag rest : List ℕ) → IsTag tag → has_ok true tag (42 ∷ rest) ≡ has_ok false tag rest
+pub at_star : (tag rest : List ℕ) → IsTag tag → has_ok true tag (42 ∷ rest) ≡ has_ok false tag rest
 at_star tag rest t = ap (λ (b : Bool). b || has_ok false tag rest) none
   where
     none : begins (tag ++ codes " OK ") (42 ∷ rest) ≡ false
