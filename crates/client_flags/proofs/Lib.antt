@@ -4,3 +4,5 @@ mod Following
 mod Telling
 mod Turning
 mod Played
+mod Saying
+mod Idling

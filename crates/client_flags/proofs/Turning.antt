@@ -1,5 +1,5 @@
 -- What a client reads of a turn, by the session's first call and its answer.
-use Rattle.std.proofs.Common.{◌≡◌, ℕ, ◌+◌, ◌≤◌, List, [], ◌∷◌, ◌++◌, Bool, true, false, length, take, drop, ap, ◌∙◌, sym, refl, subst, arith, append-nil, length-append}
+use Rattle.std.proofs.Common.{◌≡◌, ℕ, ◌+◌, ◌≤◌, List, [], ◌∷◌, ◌++◌, Bool, true, false, length, take, drop, ap, ap₂, ◌∙◌, sym, refl, subst, arith, append-nil, length-append}
 use Rattle.std.specs.Prelude.{Option, Some, None, if◌then◌else◌}
 use Rattle.std.specs.Option.{option_map}
 use Rattle.std.proofs.lemmas.List.{length-drop, take-append-le}
@@ -58,13 +58,16 @@ shown_within p event q s =
     let parts : length (drop p.cursor p.log) ≡ length (shown_in event.answer) + length s.rest = ap length s.shows ∙ length-append (shown_in event.answer) s.rest in
     omega (arith, parts, length-drop p.cursor p.log, s.within)
 
+-- its cursor isn't past the end of its log
+pub still_within : (p : Point) (event : Event) (q : Point) → SeesFlags p event q → q.cursor ≤ length q.log
+still_within p event q s = omega (arith, shown_within p event q s, s.cursor, ap length s.log, length-append p.log s.later)
+
+abbrev point_at : List Change → ℕ → Point
+point_at log cursor = record { log = log; cursor = cursor }
+
 -- the point that the call leads to, by what was logged and shown
-the_point : (p : Point) (event : Event) (q : Point) (s : SeesFlags p event q) → record { log = p.log ++ s.later; cursor = p.cursor + length (shown_in event.answer) } ≡ q
-the_point p event q s = sym (point q.log q.cursor s.log s.cursor)
-  where
-    point : (log : List Change) (cursor : ℕ) → log ≡ p.log ++ s.later → cursor ≡ p.cursor + length (shown_in event.answer)
-        → (record { log = log; cursor = cursor } : Point) ≡ record { log = p.log ++ s.later; cursor = p.cursor + length (shown_in event.answer) }
-    point log cursor e f = rw (e, f) refl
+the_point : (p : Point) (event : Event) (q : Point) (s : SeesFlags p event q) → point_at (p.log ++ s.later) (p.cursor + length (shown_in event.answer)) ≡ q
+the_point p event q s = sym (ap₂ point_at s.log s.cursor)
 
 -- the log grows, and what is believed stays so
 pub grown : (p : Point) (event : Event) (q : Point) → SeesFlags p event q → (list : List Known) → KnowsFlags (past_shown p event) list → KnowsFlags q list
@@ -96,11 +99,11 @@ pub writes : (p : Point) (text : List ℕ) (rest : Option Turn) (turn : Turn) (q
     → option_map (saying text) rest ≡ Some turn → SeesAllFlags p turn.events q → LeavesFlags p text
     → ((more : Turn) → rest ≡ Some more → SeesAllFlags p more.events q → LeadsFlags p more.bytes q)
     → LeadsFlags p turn.bytes q
-writes p text None turn q e sees leaves behind = absurd (none-some turn e)
-writes p text (Some more) turn q e sees leaves behind list right =
+writes p text None turn q e sees stays behind list right = absurd (none-some turn e)
+writes p text (Some more) turn q e sees stays behind list right =
     let same : saying text more ≡ turn = ap (the_turn turn) e in
     let s : SeesAllFlags p more.events q = subst (λ (t : Turn). SeesAllFlags p t.events q) (sym same) sees in
-    let f = leaves list right in
+    let f = stays list right in
     subst (λ (t : Turn). Follows (Believes q) list t.bytes (counted q)) same (then_tells p q list text more.bytes f (behind more refl s f.after f.each))
 
 -- a call that shows nothing
@@ -138,25 +141,25 @@ shows p call answer met changes tells is rest turn q e sees behind list right =
 
 -- nothing more is met, and this text is all
 alone : (p : Point) (text : List ℕ) (last : Turn) (q : Point) → last.bytes ≡ [] → q ≡ p → LeavesFlags p text → LeadsFlags p (text ++ last.bytes) q
-alone p text last q silent same leaves list right =
+alone p text last q silent same stays list right =
     subst (λ (r : Point). Follows (Believes r) list (text ++ last.bytes) (counted r)) (sym same)
-    (subst (λ (b : List ℕ). Follows (Believes p) list b (counted p)) (sym (ap (λ (b : List ℕ). text ++ b) silent ∙ append-nil text)) (leaves list right))
+    (subst (λ (b : List ℕ). Follows (Believes p) list b (counted p)) (sym (ap (λ (b : List ℕ). text ++ b) silent ∙ append-nil text)) (stays list right))
 
 pub ends : (p : Point) (now : Standing) (text : List ℕ) (how : After) (turn : Turn) (q : Point) → Some (saying text (closed now how)) ≡ Some turn → LeavesFlags p text → SeesAllFlags p turn.events q
     → LeadsFlags p turn.bytes q
-ends p now text how turn q e leaves sees =
+ends p now text how turn q e stays sees =
     let same : saying text (closed now how) ≡ turn = ap (the_turn turn) e in
     let s : SeesAllFlags p [] q = subst (λ (events : List Event). SeesAllFlags p events q) (ap (λ (t : Turn). t.events) (sym same) ∙ closed_quiet now how) sees in
-    subst (λ (t : Turn). LeadsFlags p t.bytes q) same (alone p text (closed now how) q (closed_silent now how) s leaves)
+    subst (λ (t : Turn). LeadsFlags p t.bytes q) same (alone p text (closed now how) q (closed_silent now how) s stays)
 
 -- this is said, and the session waits
 pub waits_on : (p : Point) (bytes : List ℕ) (how : After) (now : Standing) (turn : Turn) (q : Point) → Some (saying bytes (nothing_more how now)) ≡ Some turn → LeavesFlags p bytes
     → SeesAllFlags p turn.events q → LeadsFlags p turn.bytes q
-waits_on p bytes how now turn q e leaves sees =
+waits_on p bytes how now turn q e stays sees =
     let last : Turn = nothing_more how now in
     let same : saying bytes last ≡ turn = ap (the_turn turn) e in
     let s : SeesAllFlags p [] q = subst (λ (events : List Event). SeesAllFlags p events q) (ap (λ (t : Turn). t.events) (sym same)) sees in
-    subst (λ (t : Turn). LeadsFlags p t.bytes q) same (alone p bytes last q refl s leaves)
+    subst (λ (t : Turn). LeadsFlags p t.bytes q) same (alone p bytes last q refl s stays)
 
 -- memory was refused, or the store refused
 pub gives_up : (tag : List ℕ) (refusals : Refusals tag) (p : Point) (now : Standing) (fault : MailFault) (turn : Turn) (q : Point) → Some (refused tag now fault) ≡ Some turn
