@@ -16,12 +16,12 @@ tells_in : (selected : Option Selected) (idling : Bool) (p : Point) (now : Stand
     → idle_turn_in selected idling now answers ≡ Some turn → SeesAllFlags p turn.events q → LeadsFlags p turn.bytes q
 tells_in (Some selected) true p now [] turn q e sees = absurd (none-some turn e)
 tells_in (Some selected) true p now (Fed met changes ∷ []) turn q e sees =
-    shows p (Feed most_changes) (Fed met changes) met changes (λ mid s. (s.sees.leads.0, s.sees.fits)) refl (Some (nothing_more afters.Idle now)) turn q e sees (λ t mid d s. rests_in mid afters.Idle now t q d s)
+    shows p (Feed most_changes) (Fed met changes) met changes (λ mid s. (s.sees.leads.0, s.sees.fits)) refl (λ mid s. s) (Some (nothing_more afters.Idle now)) turn q e sees (λ t mid d s. rests_in mid afters.Idle now t q d s)
 tells_in (Some selected) true p now (Refused Lapped ∷ []) turn q e sees =
-    calls p (Feed most_changes) (Refused Lapped) (Some (refused [] now Lapped)) turn q e sees refl
+    calls p (Feed most_changes) (Refused Lapped) (Some (refused [] now Lapped)) turn q e sees refl (λ mid s. s)
     (λ t mid s d more. ends mid now (refusal_text [] Lapped) (refusal_after Lapped) t q d (leaves mid (refusal_text [] Lapped) (λ messages. refl)) more)
 tells_in (Some selected) true p now (Refused Stranger ∷ []) turn q e sees =
-    calls p (Feed most_changes) (Refused Stranger) (Some (refused [] now Stranger)) turn q e sees refl
+    calls p (Feed most_changes) (Refused Stranger) (Some (refused [] now Stranger)) turn q e sees refl (λ mid s. s)
     (λ t mid s d more. ends mid now (refusal_text [] Stranger) (refusal_after Stranger) t q d (leaves mid (refusal_text [] Stranger) (λ messages. refl)) more)
 tells_in (Some selected) true p now (Refused Spent ∷ []) turn q e sees = absurd (none-some turn e)
 tells_in (Some selected) true p now (Refused NoMemory ∷ []) turn q e sees = absurd (none-some turn e)

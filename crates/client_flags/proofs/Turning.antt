@@ -21,7 +21,7 @@ use Rattle.client_list.proofs.Bytes.{reads-append}
 use Rattle.client_list.proofs.Each.{each_weaker}
 use Rattle.client_list.proofs.Turns.{closed_quiet, closed_silent, had, had_and_said, the_turn}
 use Rattle.client_flags.specs.Flags.{Believes, FlagsOf, KnowsFlags, Point, counted}
-use Rattle.client_flags.specs.Turns.{LeadsFlags, LeavesFlags, SeesAllFlags, SeesFlags, shown_in}
+use Rattle.client_flags.specs.Turns.{IfInside, LeadsFlags, LeavesFlags, SeesAllFlags, SeesFlags, shown_in}
 use Rattle.client_flags.proofs.Following.{lines_tell_flags}
 use Rattle.client_flags.proofs.Moments.{flags_outlast}
 
@@ -109,31 +109,34 @@ writes p text (Some more) turn q e sees stays behind list right =
 -- a call that shows nothing
 pub calls : (p : Point) (call : Call) (answer : Answer) (rest : Option Turn) (turn : Turn) (q : Point)
     → option_map (having call answer) rest ≡ Some turn → SeesAllFlags p turn.events q → shown_in answer ≡ []
+    → ((mid : Point) → IfInside answer (SeesFlags p (record { call = call; answer = answer }) mid) → SeesFlags p (record { call = call; answer = answer }) mid)
     → ((more : Turn) (mid : Point) → SeesFlags p (record { call = call; answer = answer }) mid → rest ≡ Some more → SeesAllFlags mid more.events q → LeadsFlags mid more.bytes q)
     → LeadsFlags p turn.bytes q
-calls p call answer rest turn q e sees none behind list right =
+calls p call answer rest turn q e sees none inside behind list right =
     let o = had call answer rest turn e in
     let s : SeesAllFlags p (record { call = call; answer = answer } ∷ o.more.events) q = subst (λ (events : List Event). SeesAllFlags p events q) o.events sees in
     subst (λ (bytes : List ℕ). Follows (Believes q) list bytes (counted q)) (sym o.bytes)
-    (behind o.more s.0 s.1 o.is s.2 list (grown_still p (record { call = call; answer = answer }) s.0 s.1 none list right))
+    (behind o.more s.0 (inside s.0 s.1) o.is s.2 list (grown_still p (record { call = call; answer = answer }) s.0 (inside s.0 s.1) none list right))
 
 -- a call that shows changes
 pub shows : (p : Point) (call : Call) (answer : Answer) (met : List ℕ) (changes : List Change)
     → ((mid : Point) → SeesFlags p (record { call = call; answer = answer }) mid → (met ≡ counted p) × MayShow (counted p) changes) → shown_in answer ≡ changes
+    → ((mid : Point) → IfInside answer (SeesFlags p (record { call = call; answer = answer }) mid) → SeesFlags p (record { call = call; answer = answer }) mid)
     → (rest : Option Turn) (turn : Turn) (q : Point)
     → option_map (λ (t : Turn). having call answer (saying (lines met changes) t)) rest ≡ Some turn → SeesAllFlags p turn.events q
     → ((more : Turn) (mid : Point) → rest ≡ Some more → SeesAllFlags mid more.events q → LeadsFlags mid more.bytes q)
     → LeadsFlags p turn.bytes q
-shows p call answer met changes tells is rest turn q e sees behind list right =
+shows p call answer met changes tells is inside rest turn q e sees behind list right =
     let o = had_and_said call answer (lines met changes) rest turn e in
     let event : Event = record { call = call; answer = answer } in
     let s : SeesAllFlags p (event ∷ o.more.events) q = subst (λ (events : List Event). SeesAllFlags p events q) o.events sees in
-    let t = tells s.0 s.1 in
-    let d : drop p.cursor p.log ≡ changes ++ s.1.rest = subst (λ (cs : List Change). drop p.cursor p.log ≡ cs ++ s.1.rest) is s.1.shows in
+    let one : SeesFlags p event s.0 = inside s.0 s.1 in
+    let t = tells s.0 one in
+    let d : drop p.cursor p.log ≡ changes ++ one.rest = subst (λ (cs : List Change). drop p.cursor p.log ≡ cs ++ one.rest) is one.shows in
     let after : Point = record { log = p.log; cursor = p.cursor + length changes } in
     let f : Follows (Believes after) list (lines met changes) (counted after) =
-    subst (λ (v : List ℕ). Follows (Believes after) list (lines v changes) (counted after)) (sym t.0) (lines_tell_flags p changes s.1.rest s.1.legal s.1.within d t.1 list right) in
-    let more : KnowsFlags s.0 f.after = grown p event s.0 s.1 f.after (subst (λ (cs : List Change). KnowsFlags (record { log = p.log; cursor = p.cursor + length cs }) f.after) (sym is) f.each) in
+    subst (λ (v : List ℕ). Follows (Believes after) list (lines v changes) (counted after)) (sym t.0) (lines_tell_flags p changes one.rest one.legal one.within d t.1 list right) in
+    let more : KnowsFlags s.0 f.after = grown p event s.0 one f.after (subst (λ (cs : List Change). KnowsFlags (record { log = p.log; cursor = p.cursor + length cs }) f.after) (sym is) f.each) in
     subst (λ (bytes : List ℕ). Follows (Believes q) list bytes (counted q)) (sym o.bytes)
     (then_tells after q list (lines met changes) o.more.bytes f (behind o.more s.0 o.is s.2 f.after more))
 
@@ -174,7 +177,7 @@ gives_up_if false tag refusals p now fault turn q e sees = absurd (none-some tur
 pub is_refused : (tag : List ℕ) (refusals : Refusals tag) (p : Point) (now : Standing) (call : Call) (fault : MailFault) (turn : Turn) (q : Point)
     → Some (having call (Refused fault) (refused tag now fault)) ≡ Some turn → SeesAllFlags p turn.events q → LeadsFlags p turn.bytes q
 is_refused tag refusals p now call fault turn q e sees =
-    calls p call (Refused fault) (Some (refused tag now fault)) turn q e sees refl (λ t mid s d more. gives_up tag refusals mid now fault t q d more)
+    calls p call (Refused fault) (Some (refused tag now fault)) turn q e sees refl (λ mid s. s) (λ t mid s d more. gives_up tag refusals mid now fault t q d more)
 
 -- nothing is met, and nothing is written
 pub rests_in : (p : Point) (how : After) (now : Standing) (turn : Turn) (q : Point) → Some (nothing_more how now) ≡ Some turn → SeesAllFlags p turn.events q → LeadsFlags p turn.bytes q

@@ -2,7 +2,7 @@
 use Rattle.std.specs.Prelude.{◌≡◌, ℕ, ◌+◌, ◌≤◌, List, [], ◌∷◌, ◌++◌, length, drop, Some}
 use Rattle.change_ring.specs.declared.change.Change.{Change}
 use Rattle.change_ring.specs.Log.{IsLegalLog}
-use Rattle.imap_session.specs.Exchange.{Call, Answer, Event, Found, Fed, Expunged, Altered, Read, Alter}
+use Rattle.imap_session.specs.Exchange.{Call, Answer, Event, Entered, Found, Fed, Expunged, Altered, Left, Read, Alter}
 use Rattle.client_list.specs.Beliefs.{Follows}
 use Rattle.client_list.specs.Client.{Known}
 use Rattle.client_list.specs.Turns.{Sees}
@@ -36,10 +36,16 @@ pub record SeesFlags (p : Point) (event : Event) (q : Point) : Type 0 where
   pub log : q.log ≡ p.log ++ later
   pub tells : TellsFlags q event.call event.answer
 
+-- unless a mailbox is entered or left, where nothing is asked: what is known of flags ends there, or begins
+abbrev pub IfInside : Answer → Type 0 → Type 0
+IfInside (Entered opening) P = Unit {0}
+IfInside (Left gone) P = Unit {0}
+IfInside answer P = P
+
 -- and so do these, one after the other, with nothing else between them
 abbrev pub SeesAllFlags : Point → List Event → Point → Type 0
 SeesAllFlags p [] q = q ≡ p
-SeesAllFlags p (event ∷ events) q = (mid : Point) × SeesFlags p event mid × SeesAllFlags mid events q
+SeesAllFlags p (event ∷ events) q = (mid : Point) × IfInside event.answer (SeesFlags p event mid) × SeesAllFlags mid events q
 
 -- each client that is right about flags at the one point reads these bytes, and is right about them at the other
 abbrev pub LeadsFlags : Point → List ℕ → Point → Type 0
