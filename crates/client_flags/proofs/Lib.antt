@@ -6,3 +6,6 @@ mod Turning
 mod Played
 mod Saying
 mod Idling
+mod Worlds
+mod Entering
+mod Known

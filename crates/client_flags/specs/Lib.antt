@@ -1,3 +1,4 @@
 pub mod Flags
 pub mod Turns
 pub mod Laws
+pub mod Worlds

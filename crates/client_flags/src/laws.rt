@@ -1,6 +1,7 @@
 //! Laws of what a client believes of flags, as functions that do nothing.
 
 ghost use Rattle.client_flags.specs.Laws.{AnswerTellsFlags, FlagsAreCurrent, FlagsOutlast, IdleTellsFlags, LinesTellFlags, RowTellsFlags, StoreTellsFlags, VerdictTellsFlags};
+ghost use Rattle.client_flags.specs.Worlds.{CallsTellFlags, LivesTellFlags, OthersLeaveFlags, TurnsTellFlags};
 
 /// Flags that a message had at some moment not before the cursor are such whatever is logged later, and where nothing is
 /// pending they are those that it has now.
@@ -25,4 +26,20 @@ pub fn turns_tell_flags()
     ensures answer { AnswerTellsFlags }
     ensures verdict { VerdictTellsFlags }
     ensures idle { IdleTellsFlags }
+{}
+
+/// In every world of a house: what a call of a session shows are the changes that were pending, in their order; the flags of a
+/// row that is read, also where reading sets `\Seen`, and those that a STORE answers are what the message has then. What others
+/// do leaves a client as right about flags as it was.
+pub fn houses_tell_flags()
+    ensures calls { CallsTellFlags }
+    ensures others { OthersLeaveFlags }
+{}
+
+/// In a house a client that knows which of its lines were SELECT, EXAMINE, CLOSE or UNSELECT is right about flags after each
+/// turn, whatever it sent, whatever is answered, and wherever the store or memory refuses; and so at each moment of its
+/// session's life, with all that others do between the turns.
+pub fn lives_tell_flags()
+    ensures turn { TurnsTellFlags }
+    ensures life { LivesTellFlags }
 {}

@@ -3,4 +3,6 @@
 
 mod laws;
 
-pub use laws::{flags_have_moments, flags_are_told, turns_tell_flags};
+pub use laws::{
+    flags_are_told, flags_have_moments, houses_tell_flags, lives_tell_flags, turns_tell_flags,
+};
