@@ -22,7 +22,7 @@ use Rattle.client_list.specs.Commands.{AreNames}
 use Rattle.client_list.specs.Turns.{IsPlain, IsTag}
 use Rattle.client_list.proofs.Bytes.{reads-append}
 use Rattle.client_list.proofs.Ends.{plain_words, refusal_tells_nothing, tagged_tells_nothing}
-use Rattle.client_list.proofs.Opening.{opening_is_followed}
+use Rattle.client_list.proofs.Opening.{opening_told}
 use Rattle.client_list.proofs.Turns.{the_turn}
 use Rattle.client_list.proofs.Untold.{folder_plain}
 use Rattle.client_records.specs.Clients.{has_ok, reads_on}
@@ -52,7 +52,7 @@ opening_at : (P : ℕ → Known → Type 0) (new : (u : ℕ) → P u unknown) (r
     → o.uidnext < 2 ^ 64 → Follows P [] (opening_text read_only name o) view
 opening_at P new read_only name o view plain count few validity next = record {
   after = more o.count;
-  reads = (opening_is_followed read_only name o view plain count few validity next).reads;
+  reads = opening_told read_only name o plain few validity next;
   each = subst (λ (n : ℕ). Each P view (more n)) (sym count) (unknown_all P new view);
 }
 

@@ -9,3 +9,5 @@ mod Idling
 mod Worlds
 mod Entering
 mod Known
+mod Current
+mod Keeping

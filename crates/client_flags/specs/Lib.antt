@@ -2,3 +2,4 @@ pub mod Flags
 pub mod Turns
 pub mod Laws
 pub mod Worlds
+pub mod Records

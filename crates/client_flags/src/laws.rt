@@ -1,7 +1,8 @@
 //! Laws of what a client believes of flags, as functions that do nothing.
 
 ghost use Rattle.client_flags.specs.Laws.{AnswerTellsFlags, FlagsAreCurrent, FlagsOutlast, IdleTellsFlags, LinesTellFlags, RowTellsFlags, StoreTellsFlags, VerdictTellsFlags};
-ghost use Rattle.client_flags.specs.Worlds.{CallsTellFlags, LivesTellFlags, OthersLeaveFlags, TurnsTellFlags};
+ghost use Rattle.client_flags.specs.Records.{ClientsKnowFlags, ClientsOfHousesKnowFlags};
+ghost use Rattle.client_flags.specs.Worlds.{CallsTellFlags, DoneTellsFlags, LivesTellFlags, NoopTellsFlags, OthersLeaveFlags, TurnsTellFlags};
 
 /// Flags that a message had at some moment not before the cursor are such whatever is logged later, and where nothing is
 /// pending they are those that it has now.
@@ -42,4 +43,20 @@ pub fn houses_tell_flags()
 pub fn lives_tell_flags()
     ensures turn { TurnsTellFlags }
     ensures life { LivesTellFlags }
+{}
+
+/// When the client has read that a NOOP is OK, or the IDLE that its DONE ends, all that it knows of flags is what they are in the
+/// mailbox at that moment (RFC 9051, 6.1.2; RFC 2177).
+pub fn flags_become_current()
+    ensures noop { NoopTellsFlags }
+    ensures done { DoneTellsFlags }
+{}
+
+/// Over any record of a house that was new, of whatever events: the client of each session that is there is right about flags,
+/// by all that was printed to it since it was let in; and where nothing is pending all that it knows of flags is what they are.
+/// Of the house it is asked that numbers and names can be printed and messages have less than 2 GiB, which settings that are
+/// right see to.
+pub fn clients_know_flags()
+    ensures record { ClientsKnowFlags }
+    ensures house { ClientsOfHousesKnowFlags }
 {}

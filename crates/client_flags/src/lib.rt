@@ -4,5 +4,6 @@
 mod laws;
 
 pub use laws::{
-    flags_are_told, flags_have_moments, houses_tell_flags, lives_tell_flags, turns_tell_flags,
+    clients_know_flags, flags_are_told, flags_become_current, flags_have_moments, houses_tell_flags,
+    lives_tell_flags, turns_tell_flags,
 };
