@@ -11,3 +11,6 @@ mod Entering
 mod Known
 mod Current
 mod Keeping
+mod Refuted
+mod ByUid
+mod OneLife

@@ -10,11 +10,12 @@ use Rattle.imap_grammar.specs.Answers.{row_answer}
 use Rattle.imap_grammar.specs.declared.items.FetchItem.{FetchItem}
 use Rattle.imap_session.specs.Exchange.{Answer, Standing, Turn, kept_tag}
 use Rattle.imap_session.specs.Commands.{flags_answer, idle_turn, turn_of, turn_of_verdict}
-use Rattle.client_list.specs.Beliefs.{MayShow}
+use Rattle.client_list.specs.Beliefs.{IsRight, MayShow}
+use Rattle.client_list.specs.Client.{Known}
 use Rattle.client_list.specs.Commands.{IsFollowed, IsPrinted}
 use Rattle.client_list.specs.Fetches.{AreToldParts, IsNumbered}
 use Rattle.client_list.specs.Turns.{IsRowOf, IsTag}
-use Rattle.client_flags.specs.Flags.{FlagsOf, HasNow, Point, counted, flags_at}
+use Rattle.client_flags.specs.Flags.{FlagsOf, HasNow, KnowsFlags, Point, counted, flags_at}
 use Rattle.client_flags.specs.Turns.{LeadsFlags, LeavesFlags, SeesAllFlags}
 
 -- ---- moments
@@ -26,6 +27,11 @@ FlagsAreCurrent = (log : List Change) (uid : ℕ) (names : List (List ℕ)) → 
 -- a moment stays one, whatever is logged behind
 abbrev pub FlagsOutlast : Type 0
 FlagsOutlast = (log later : List Change) (cursor uid : ℕ) (names : List (List ℕ)) → FlagsOf log cursor uid names → FlagsOf (log ++ later) cursor uid names
+
+-- Where it knows of a message both its UID and flags, that UID's message had these flags. So a client that keeps its messages by UID is right about flags too.
+abbrev pub FlagsAreByUid : Type 0
+FlagsAreByUid = (p : Point) (list : List Known) (message : Known) (uid : ℕ) (names : List (List ℕ)) → IsRight (counted p) list → KnowsFlags p list → Contains list message
+    → message.uid ≡ Some uid → message.flags ≡ Some names → FlagsOf p.log p.cursor uid names
 
 -- ---- texts that tell flags
 

@@ -1,14 +1,17 @@
 //! Laws of what a client believes of flags, as functions that do nothing.
 
-ghost use Rattle.client_flags.specs.Laws.{AnswerTellsFlags, FlagsAreCurrent, FlagsOutlast, IdleTellsFlags, LinesTellFlags, RowTellsFlags, StoreTellsFlags, VerdictTellsFlags};
+ghost use Rattle.client_flags.specs.Laws.{AnswerTellsFlags, FlagsAreByUid, FlagsAreCurrent, FlagsOutlast, IdleTellsFlags, LinesTellFlags, RowTellsFlags, StoreTellsFlags, VerdictTellsFlags};
+ghost use Rattle.client_flags.specs.One.{OneLifeKnowsFlags};
 ghost use Rattle.client_flags.specs.Records.{ClientsKnowFlags, ClientsOfHousesKnowFlags};
 ghost use Rattle.client_flags.specs.Worlds.{CallsTellFlags, DoneTellsFlags, LivesTellFlags, NoopTellsFlags, OthersLeaveFlags, TurnsTellFlags};
 
 /// Flags that a message had at some moment not before the cursor are such whatever is logged later, and where nothing is
-/// pending they are those that it has now.
+/// pending they are those that it has now. A client that is right about UIDs and about flags is right about the flags under
+/// each UID.
 pub fn flags_have_moments()
     ensures outlast { FlagsOutlast }
     ensures current { FlagsAreCurrent }
+    ensures by_uid { FlagsAreByUid }
 {}
 
 /// A client is right about flags where each that it knows were those of the message at some moment not before its session's
@@ -59,4 +62,10 @@ pub fn flags_become_current()
 pub fn clients_know_flags()
     ensures record { ClientsKnowFlags }
     ensures house { ClientsOfHousesKnowFlags }
+{}
+
+/// One life, by computing: a session selects an empty mailbox, a copy comes there, a NOOP shows it, and its client sets a flag of
+/// it. The client then knows flags that are newer than those that its session was shown.
+pub fn one_life_knows_flags()
+    ensures { OneLifeKnowsFlags }
 {}
