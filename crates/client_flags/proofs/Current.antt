@@ -42,7 +42,7 @@ use Rattle.client_list.proofs.Each.{each_weaker}
 use Rattle.client_list.specs.Beliefs.{Each}
 use Rattle.client_list.specs.Client.{Client}
 use Rattle.client_flags.specs.Flags.{Believes, BelievesNow, Point, counted}
-use Rattle.client_flags.specs.Worlds.{DoneTellsFlags, HasFlagsNow, IsRightOnFlags, NoopTellsFlags, point_of}
+use Rattle.client_flags.specs.Worlds.{DoneTellsFlags, HasFlagsNow, IsRightOnFlags, NoopTellsFlags, NothingPendingTellsFlags, point_of}
 use Rattle.client_flags.proofs.Known.{lives_flags}
 use Rattle.client_flags.proofs.Moments.{flags_are_current}
 use Rattle.client_flags.proofs.Worlds.{the_point}
@@ -71,6 +71,20 @@ flags_now w n s (Some client) is end right = at_end (subst (λ (p : Point). IsRi
           (each_weaker (Believes (record { log = (w.box s.mailbox).log; cursor = length (w.box s.mailbox).log })) (BelievesNow (w.box s.mailbox).log)
           (λ u m b names e. flags_are_current (w.box s.mailbox).log u names (b names e)) (view_at (w.box s.mailbox).log (length (w.box s.mailbox).log)) list each),
     )
+
+-- where nothing is pending the cursor is there
+nothing_waits : (log : List Change) (cursor : ℕ) (rest : List Change) → cursor ≤ length log → rest ≡ [] → length rest ≡ length log - cursor → cursor ≡ length log
+nothing_waits log cursor rest within none long = omega (arith, within, long, ap length none)
+
+pub all_was_shown : (k : Config) (w : World) (n : ℕ) (s : Session) → Kept k w → w.session n ≡ Some s → pending (w.box s.mailbox) s ≡ [] → s.cursor ≡ length (w.box s.mailbox).log
+all_was_shown k w n s K is none =
+    let ok : IsShown (w.box s.mailbox).log s = subst (λ (o : Option Session). SessionOk w.box o) is (K.sessions n) in
+    nothing_waits (w.box s.mailbox).log s.cursor (pending (w.box s.mailbox) s) ok.within none (length-drop s.cursor (w.box s.mailbox).log)
+
+pub nothing_pending_tells_flags : NothingPendingTellsFlags
+nothing_pending_tells_flags k events n first began sent told now w s h is short stands lives at none =
+    let known = lives_flags k n first began h (sound_always k events began h is) stands lives short in
+    flags_now w n s (hears_all None told) at (all_was_shown k w n s known.sound.kept at none) known.right
 
 -- ---- NOOP and DONE
 

@@ -1,6 +1,6 @@
 -- What a client of a house believes of flags, in every world.
 use Rattle.std.specs.Prelude.{◌≡◌, ℕ, Bool, true, List, [], ◌∷◌, ◌++◌, Option, Some, None, Ok}
-use Rattle.world.specs.World.{Box, Config, Event, IsWorld, Session, Step, World}
+use Rattle.world.specs.World.{Box, Config, Event, IsWorld, Session, Step, World, pending}
 use Rattle.imap_grammar.specs.Reading.{is_done, read}
 use Rattle.imap_grammar.specs.declared.command.Command.TheVariants.{Noop}
 use Rattle.imap_session.specs.Exchange.{Call, Answer as StoreAnswer, Standing, Turn, kept_tag}
@@ -65,6 +65,12 @@ LivesTellFlags = (k : Config) (events : List Event) (n : ℕ) (first : Standing)
     → Lives k n first began sent told now w → IsRightOnFlags (point_of w n) (hears_all None told)
 
 -- ---- flags as they are
+
+-- Wherever nothing is pending, whatever was asked, all that it knows of flags is what they are.
+abbrev pub NothingPendingTellsFlags : Type 0
+NothingPendingTellsFlags = (k : Config) (events : List Event) (n : ℕ) (first : Standing) (began : World) (sent : List ℕ) (told : List Told) (now : Standing) (w : World) (s : Session)
+    → HasSmallNumbers k → IsWorld k events began → HasShortTexts w → Stands first → Lives k n first began sent told now w
+    → w.session n ≡ Some s → pending (w.box s.mailbox) s ≡ [] → HasFlagsNow (w.box s.mailbox) (hears_all None told)
 
 -- When it has read that a NOOP is OK (RFC 9051, 6.1.2), all that it knows of flags is what they are.
 abbrev pub NoopTellsFlags : Type 0

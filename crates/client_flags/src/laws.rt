@@ -3,7 +3,7 @@
 ghost use Rattle.client_flags.specs.Laws.{AnswerTellsFlags, FlagsAreByUid, FlagsAreCurrent, FlagsOutlast, IdleTellsFlags, LinesTellFlags, RowTellsFlags, StoreTellsFlags, VerdictTellsFlags};
 ghost use Rattle.client_flags.specs.One.{OneLifeKnowsFlags};
 ghost use Rattle.client_flags.specs.Records.{ClientsKnowFlags, ClientsOfHousesKnowFlags};
-ghost use Rattle.client_flags.specs.Worlds.{CallsTellFlags, DoneTellsFlags, LivesTellFlags, NoopTellsFlags, OthersLeaveFlags, TurnsTellFlags};
+ghost use Rattle.client_flags.specs.Worlds.{CallsTellFlags, DoneTellsFlags, LivesTellFlags, NoopTellsFlags, NothingPendingTellsFlags, OthersLeaveFlags, TurnsTellFlags};
 
 /// Flags that a message had at some moment not before the cursor are such whatever is logged later, and where nothing is
 /// pending they are those that it has now. A client that is right about UIDs and about flags is right about the flags under
@@ -48,9 +48,10 @@ pub fn lives_tell_flags()
     ensures life { LivesTellFlags }
 {}
 
-/// When the client has read that a NOOP is OK, or the IDLE that its DONE ends, all that it knows of flags is what they are in the
-/// mailbox at that moment (RFC 9051, 6.1.2; RFC 2177).
+/// Where nothing is pending all that the client knows of flags is what they are in the mailbox. So it is when it has read that
+/// a NOOP is OK, or the IDLE that its DONE ends (RFC 9051, 6.1.2; RFC 2177).
 pub fn flags_become_current()
+    ensures pending { NothingPendingTellsFlags }
     ensures noop { NoopTellsFlags }
     ensures done { DoneTellsFlags }
 {}
