@@ -1,5 +1,5 @@
 -- Flags by UID.
-use Rattle.std.proofs.Common.{◌≡◌, ℕ, zero, suc, ◌<◌, List, [], ◌∷◌, length, Contains, sym, subst, arith}
+use Rattle.std.proofs.Common.{◌≡◌, ℕ, zero, suc, List, [], ◌∷◌, Contains, sym, subst, arith}
 use Rattle.std.specs.Prelude.{Some}
 use Rattle.client_list.specs.Beliefs.{Each, IsOf}
 use Rattle.client_list.specs.Client.{Known}

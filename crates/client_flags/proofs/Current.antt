@@ -1,5 +1,5 @@
 -- Where nothing is pending, what a client believes of flags is what they are.
-use Rattle.std.proofs.Common.{zero, suc, ◌≡◌, ℕ, ◌+◌, ◌-◌, ◌≤◌, Bool, true, List, [], ◌∷◌, ◌++◌, length, take, drop, refl, sym, subst, ap, ◌∙◌, arith, append-nil}
+use Rattle.std.proofs.Common.{◌≡◌, ℕ, ◌+◌, ◌-◌, ◌≤◌, Bool, true, List, [], ◌∷◌, ◌++◌, length, take, refl, sym, subst, ap, ◌∙◌, arith, append-nil}
 use Rattle.std.specs.Prelude.{Option, Some, None, IfSome, Result, Ok, codes, if◌then◌else◌}
 use Rattle.std.proofs.Math.Seq.{take-length}
 use Rattle.std.proofs.lemmas.Bool.{false≢true}
@@ -41,7 +41,7 @@ use Rattle.client_records.proofs.Current.{all_shown, the_session}
 use Rattle.client_list.proofs.Each.{each_weaker}
 use Rattle.client_list.specs.Beliefs.{Each}
 use Rattle.client_list.specs.Client.{Client}
-use Rattle.client_flags.specs.Flags.{Believes, BelievesNow, Point, counted}
+use Rattle.client_flags.specs.Flags.{Believes, BelievesNow, Point}
 use Rattle.client_flags.specs.Worlds.{DoneTellsFlags, HasFlagsNow, IsRightOnFlags, NoopTellsFlags, NothingPendingTellsFlags, point_of}
 use Rattle.client_flags.proofs.Known.{lives_flags}
 use Rattle.client_flags.proofs.Moments.{flags_are_current}

@@ -1,19 +1,15 @@
 -- SELECT and EXAMINE begin a list of which no flags are known, and CLOSE and UNSELECT end one.
-use Rattle.std.proofs.Common.{◌≡◌, ℕ, ◌<◌, ◌^◌, length, Bool, true, false, ◌==◌, List, [], ◌∷◌, ◌++◌, refl, sym, subst, ap, ◌∙◌, append-nil, append_assoc}
-use Rattle.std.specs.Prelude.{Option, Some, None, IfSome, codes, ◌&&◌, ◌||◌, if◌then◌else◌}
-use Rattle.std.specs.Option.{option_map}
-use Rattle.std.specs.List.{list_all}
-use Rattle.std.proofs.lemmas.Bool.{eq-eqb, false≢true}
+use Rattle.std.proofs.Common.{◌≡◌, ℕ, ◌<◌, ◌^◌, length, Bool, true, false, List, [], ◌∷◌, ◌++◌, refl, sym, subst, ap, ◌∙◌}
+use Rattle.std.specs.Prelude.{Option, Some, None, IfSome, codes, if◌then◌else◌}
+use Rattle.std.proofs.lemmas.Bool.{false≢true}
 use Rattle.std.proofs.lemmas.Option.{none-some}
 use Rattle.mailbox.specs.declared.clients.MailFault.{MailFault}
-use Rattle.mailbox.specs.declared.clients.MailFault.TheVariants.{Stranger, Lapped, Spent, NoMemory}
+use Rattle.mailbox.specs.declared.clients.MailFault.TheVariants.{NoMemory}
 use Rattle.mailbox.specs.declared.clients.Opening.{Opening}
 use Rattle.world.specs.World.{Config, World}
-use Rattle.imap_session.specs.declared.standing.After.{After}
-use Rattle.imap_session.specs.declared.standing.After.TheVariants.{Go, Bye}
-use Rattle.imap_session.specs.declared.standing.After.TheVariants as afters
+use Rattle.imap_session.specs.declared.standing.After.TheVariants.{Go}
 use Rattle.imap_session.specs.declared.standing.Selected.{Selected}
-use Rattle.imap_session.specs.Exchange.{Answer, Entered, Looked, Found, Counted, Altered, Expunged, Fed, Left, Refused, Starved, Event, Exchange, Done, Write, Enter, Leave, Folder, Standing, Turn, closed, having, played, refusal_after, refusal_text, refused, saying, tagged}
+use Rattle.imap_session.specs.Exchange.{Answer, Entered, Looked, Found, Counted, Altered, Expunged, Fed, Left, Refused, Starved, Event, Exchange, Write, Enter, Leave, Folder, Standing, Turn, having, played, refusal_text, refused, tagged}
 use Rattle.imap_session.specs.Commands.{closing, entering, folder_of, on_folder, on_found, opened, opening_text, says, selecting, wrong_state}
 use Rattle.imap_session.specs.Store.{Met}
 use Rattle.client_list.specs.Client.{Client, Known, fresh, more, reads, unknown}
@@ -23,7 +19,6 @@ use Rattle.client_list.specs.Turns.{IsPlain, IsTag}
 use Rattle.client_list.proofs.Bytes.{reads-append}
 use Rattle.client_list.proofs.Ends.{plain_words, refusal_tells_nothing, tagged_tells_nothing}
 use Rattle.client_list.proofs.Opening.{opening_told}
-use Rattle.client_list.proofs.Turns.{the_turn}
 use Rattle.client_list.proofs.Untold.{folder_plain}
 use Rattle.client_records.specs.Clients.{has_ok, reads_on}
 use Rattle.client_records.specs.Sizes.{HasSmallNumbers}

@@ -1,6 +1,6 @@
 -- A client that reads the lines of changes is right about flags where the cursor is then.
-use Rattle.std.proofs.Common.{◌≡◌, ◌⊎◌, inl, inr, eq-eqb, ℕ, ◌+◌, ◌^◌, ◌<◌, ◌≤◌, ◌==◌, Bool, true, false, List, [], ◌∷◌, ◌++◌, length, take, drop, refl, sym, subst, ap, ◌∙◌, arith, append_assoc, append-nil, length-append}
-use Rattle.std.specs.Prelude.{Option, Some, None, if◌then◌else◌}
+use Rattle.std.proofs.Common.{◌≡◌, ◌⊎◌, inl, inr, eq-eqb, ℕ, ◌+◌, ◌^◌, ◌<◌, ◌==◌, Bool, true, false, List, [], ◌∷◌, ◌++◌, length, take, refl, sym, subst, ap, ◌∙◌, arith, append_assoc, append-nil, length-append}
+use Rattle.std.specs.Prelude.{Option, Some, None}
 use Rattle.std.specs.List.Sorted.{IsStrictlyIncreasing}
 use Rattle.std.proofs.Math.Seq.{take-append_seam}
 use Rattle.std.proofs.lemmas.Bool.{false≢true, eqb-true}
@@ -12,14 +12,14 @@ use Rattle.change_ring.specs.declared.change.Flags.{Flags}
 use Rattle.change_ring.specs.Log.{FitsView, Names, added, replay, shown, view_at, without}
 use Rattle.change_ring.proofs.LogLaws.{replay-append}
 use Rattle.cursor_set.specs.Lines.{flag_words, line, lines, place}
-use Rattle.client_list.specs.Client.{Client, Known, fetched, knowing, reads, unknown}
+use Rattle.client_list.specs.Client.{Client, Known, knowing, reads}
 use Rattle.client_list.specs.Beliefs.{ArePrinted, Each, Follows}
 use Rattle.client_list.proofs.Bytes.{reads-append}
-use Rattle.client_list.proofs.Each.{IsIn, WasTold, each_weaker, fetched_next, is_in}
+use Rattle.client_list.proofs.Each.{IsIn, WasTold, fetched_next, is_in}
 use Rattle.client_list.proofs.Follows.{follows_one, place_most, printed_first, shown_most}
 use Rattle.client_list.proofs.LinesRead.{reads_fetch, told_of}
 use Rattle.cursor_set.proofs.Places.{place_pos}
-use Rattle.client_flags.specs.Flags.{Believes, FlagsOf, Point, counted, flags_at}
+use Rattle.client_flags.specs.Flags.{Believes, flags_at}
 use Rattle.client_flags.specs.Laws.{LinesTellFlags}
 use Rattle.client_flags.proofs.Distinct.{Distinct, front_distinct, is_away}
 use Rattle.client_flags.proofs.Moments.{Spares, moves_on, set_at}

@@ -1,12 +1,12 @@
 -- A turn of a session, and its whole life, as they tell its client flags.
-use Rattle.std.proofs.Common.{◌≡◌, ℕ, true, false, List, [], ◌∷◌, ◌++◌, refl, sym, subst, ap, ap₂}
+use Rattle.std.proofs.Common.{◌≡◌, ℕ, true, false, List, refl, sym, subst, ap, ap₂}
 use Rattle.std.specs.Prelude.{Option, Some, None, IfSome, Result, Ok, Err, codes, not}
 use Rattle.world.specs.World.{Config, World}
 use Rattle.imap_grammar.specs.Reading.{read}
 use Rattle.imap_grammar.specs.declared.command.Command.{Command}
 use Rattle.imap_grammar.specs.declared.command.Command.TheVariants as commands
 use Rattle.imap_grammar.specs.declared.command.ImapFault.{ImapFault}
-use Rattle.imap_session.specs.Exchange.{Answer as StoreAnswer, Appending, Standing, Turn, kept_tag, kept_behind, may_send, nothing_more, played}
+use Rattle.imap_session.specs.Exchange.{Answer as StoreAnswer, Appending, Standing, Turn, kept_tag, kept_behind, may_send, played}
 use Rattle.imap_session.specs.Commands.{on_command, on_read, turn_behind, turn_of, turn_of_long_line, turn_while, with_bytes}
 use Rattle.imap_session.specs.Store.{Met}
 use Rattle.client_list.specs.Client.{Client}

@@ -1,6 +1,6 @@
 -- What flags a message has at each moment of a log.
-use Rattle.std.proofs.Common.{◌≡◌, ◌⊎◌, inl, inr, eq-eqb, ℕ, zero, suc, ◌+◌, ◌<◌, ◌≤◌, ◌==◌, Bool, true, false, List, [], ◌∷◌, ◌++◌, length, take, map, refl, sym, subst, ap, ◌∙◌, arith, append_assoc, length-append}
-use Rattle.std.specs.Prelude.{Option, Some, None, option_map, if◌then◌else◌}
+use Rattle.std.proofs.Common.{◌≡◌, ◌⊎◌, inl, inr, eq-eqb, ℕ, ◌+◌, ◌≤◌, ◌==◌, Bool, true, false, List, [], ◌∷◌, ◌++◌, length, take, map, refl, sym, subst, ap, ◌∙◌, arith, append_assoc, length-append}
+use Rattle.std.specs.Prelude.{Option, Some, option_map, if◌then◌else◌}
 use Rattle.std.proofs.Math.Seq.{take-append_seam, take-length}
 use Rattle.std.proofs.lemmas.Bool.{false≢true, eqb-true}
 use Rattle.std.proofs.lemmas.List.{take-append-le}
@@ -8,12 +8,12 @@ use Rattle.std.proofs.lemmas.Option.{none-some}
 use Rattle.change_ring.specs.declared.change.Change.{Change}
 use Rattle.change_ring.specs.declared.change.Change.TheVariants.{Add, Gone, Flags as SetFlags}
 use Rattle.change_ring.specs.declared.change.Flags.{Flags}
-use Rattle.change_ring.specs.Log.{Row, no_flags, row_change, rows_of, with_flags, without_row, replay}
+use Rattle.change_ring.specs.Log.{Row, row_change, rows_of, with_flags, without_row, replay}
 use Rattle.change_ring.proofs.LogLaws.{rows_after-append, uids-rows_after}
 use Rattle.cursor_set.specs.Lines.{flag_words}
 use Rattle.delivery_core.specs.Clients.{row_with}
 use Rattle.client_list.proofs.Each.{IsIn}
-use Rattle.client_flags.specs.Flags.{FlagsOf, HasNow, flags_at}
+use Rattle.client_flags.specs.Flags.{FlagsOf, flags_at}
 use Rattle.client_flags.specs.Laws.{FlagsAreCurrent, FlagsOutlast}
 
 pub flags_are_current : FlagsAreCurrent

@@ -4,7 +4,6 @@ use Rattle.std.specs.Prelude.{codes, true, Some}
 use Rattle.std.specs.Fmt.{digits}
 use Rattle.shard_queue.specs.declared.lane.Entry.TheVariants.{Item}
 use Rattle.change_ring.specs.Log.{no_flags}
-use Rattle.change_ring.specs.declared.change.Change.{Change}
 use Rattle.change_ring.specs.declared.change.Change.TheVariants.{Add, Flags as SetFlags}
 use Rattle.change_ring.specs.declared.change.Flags.{Flags}
 use Rattle.change_ring.specs.declared.flag_op.FlagOp.TheVariants.{Insert}

@@ -1,5 +1,5 @@
 -- What the definitions refuse: flags older than what was shown, flags that another message has, changes that are left out, and an answer to STORE with flags that are no more.
-use Rattle.std.proofs.Common.{◌≡◌, ℕ, zero, suc, ◌+◌, ◌≤◌, Bool, true, false, List, [], ◌∷◌, ◌++◌, length, take, ap, ◌∙◌, sym, refl, subst, arith}
+use Rattle.std.proofs.Common.{◌≡◌, ℕ, zero, suc, ◌≤◌, Bool, true, false, List, [], ◌∷◌, length, take, ap, ◌∙◌, sym, refl, arith}
 use Rattle.std.specs.Prelude.{Option, Some, None, codes}
 use Rattle.std.proofs.lemmas.Bool.{false≢true}
 use Rattle.std.proofs.lemmas.Option.{none-some}
@@ -11,7 +11,7 @@ use Rattle.cursor_set.specs.Lines.{flag_words}
 use Rattle.imap_session.specs.Exchange.{Alter, Altered, Fed, Feed}
 use Rattle.imap_session.specs.Commands.{unlimited}
 use Rattle.change_ring.specs.declared.flag_op.FlagOp.{FlagOp}
-use Rattle.client_list.specs.Client.{Known, unknown}
+use Rattle.client_list.specs.Client.{unknown}
 use Rattle.client_flags.specs.Flags.{FlagsOf, KnowsFlags, HasNow, Point, flags_at}
 use Rattle.client_flags.specs.Turns.{SeesFlags}
 use Rattle.client_flags.specs.rows.FlagRows.{both, flagged, the_log}

@@ -1,7 +1,7 @@
 -- The answers to lines that a client sends, and what they tell of flags.
 use Rattle.std.proofs.Common.{◌≡◌, ℕ, ◌+◌, ◌<◌, ◌≤◌, ◌^◌, ◌==◌, length, sym, subst, ◌∙◌, Bool, true, false, List, [], ◌∷◌, ◌++◌, refl}
-use Rattle.std.specs.Prelude.{Option, Some, None, Result, Ok, Err, IfSome, codes, decimal, nat_le, nat_lt, ◌&&◌, not, if◌then◌else◌}
-use Rattle.std.specs.List.{list_all, list_any}
+use Rattle.std.specs.Prelude.{Option, Some, None, Result, Ok, Err, IfSome, codes, nat_le, nat_lt, ◌&&◌, not, if◌then◌else◌}
+use Rattle.std.specs.List.{list_any}
 use Rattle.std.proofs.lemmas.Bool.{false≢true}
 use Rattle.std.proofs.lemmas.Option.{none-some}
 use Rattle.change_ring.specs.declared.change.Flags.{Flags}
@@ -21,11 +21,10 @@ use Rattle.imap_grammar.specs.declared.command.Fetch.{Fetch}
 use Rattle.imap_grammar.specs.declared.command.Store.{Store}
 use Rattle.imap_grammar.specs.declared.items.StatusItem.{StatusItem}
 use Rattle.imap_grammar.specs.declared.command.ImapFault.{ImapFault}
-use Rattle.imap_grammar.specs.declared.command.ImapFault.TheVariants.{NoTag, Unknown, LeftOut, Arguments}
 use Rattle.imap_session.specs.declared.standing.After.TheVariants.{Go}
 use Rattle.imap_session.specs.declared.standing.Selected.{Selected}
 use Rattle.imap_session.specs.Exchange.{Alter, Altered, Answer, Appending, Exchange, Expunge, Feed, Folder, ForNothing, ForVerdict, Found, Mailing, Read, Sent, Standing, Turn, Wait, Write, bye, kept_behind}
-use Rattle.imap_session.specs.Commands.{appended_words, appending, awaiting, last_number, long_idle_text, long_rest_words, long_text, most_unasked, nowhere, number_named, on_rest, on_text, on_verdict, is_over, over, turn_behind, turn_with, wanting, without_begun, without_sent, completed, counting, expunge_set, fault_text, fetch_messages, fetched, fetching, flags_answer, folder_of, in_selected, in_writable, messages_done, on_chosen, on_command, on_found, on_idle_line, on_read, on_set, only_says, says, showing, store_messages, stored, storing, turn_while, unlimited, wrong_state}
+use Rattle.imap_session.specs.Commands.{appended_words, appending, awaiting, last_number, most_unasked, nowhere, number_named, on_rest, on_text, on_verdict, is_over, over, turn_behind, turn_with, wanting, without_begun, without_sent, completed, counting, expunge_set, fault_text, fetch_messages, fetched, fetching, flags_answer, folder_of, in_selected, in_writable, messages_done, on_chosen, on_command, on_found, on_idle_line, on_read, on_set, only_says, says, showing, store_messages, stored, storing, turn_while, unlimited, wrong_state}
 use Rattle.client_list.specs.Turns.{IsPlain, IsTag}
 use Rattle.client_list.specs.Fetches.{AreToldParts, IsNumbered}
 use Rattle.client_list.specs.Commands.{AreNames, IsFollowed, IsPrinted, MayAnswer, MayAsk}

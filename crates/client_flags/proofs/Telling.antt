@@ -10,17 +10,16 @@ use Rattle.imap_grammar.specs.Answers.{answered, fetch_answer, item_text, part, 
 use Rattle.imap_grammar.specs.declared.items.FetchItem.{FetchItem}
 use Rattle.imap_grammar.specs.declared.items.FetchItem.TheVariants as fetch
 use Rattle.imap_session.specs.Commands.{flags_answer}
-use Rattle.client_list.specs.Beliefs.{Each}
-use Rattle.client_list.specs.Client.{Known, closing, flag_names, fetched, into_first, items, knowing, number, unopened, with_flags, with_uid, words}
+use Rattle.client_list.specs.Client.{Known, closing, flag_names, into_first, items, knowing, number, unopened, with_flags, with_uid, words}
 use Rattle.client_list.specs.Fetches.{AreToldParts, IsToldPart}
-use Rattle.client_list.proofs.Bytes.{decimal_digits, decimal_says, first_of, rest_of}
+use Rattle.client_list.proofs.Bytes.{decimal_digits, decimal_says}
 use Rattle.client_list.proofs.Each.{IsIn, is_in, is_told}
 use Rattle.client_list.proofs.Fetched.{answer_read, answered_told, row_of, store_items, store_shape, store_told}
 use Rattle.client_list.proofs.Chosen.{small_in}
 use Rattle.client_list.proofs.Follows.{place_most}
 use Rattle.client_list.proofs.Items.{body_words, digits_closed, digits_other, flag_list, flag_list_other, flags_of, is_other, number_words, other_passes, tail, words_append}
 use Rattle.client_list.proofs.Kept.{body_word, count_kept, item_kept, IsSmall, part_small}
-use Rattle.client_flags.specs.Flags.{Believes, FlagsOf, Point, counted, flags_at}
+use Rattle.client_flags.specs.Flags.{Believes, Point, counted, flags_at}
 use Rattle.client_flags.specs.Turns.{LeavesFlags}
 use Rattle.client_flags.specs.Laws.{RowTellsFlags, StoreTellsFlags}
 use Rattle.client_flags.proofs.Moments.{now_is_moment}

@@ -1,26 +1,24 @@
 -- What a client reads of a turn, by the session's first call and its answer.
-use Rattle.std.proofs.Common.{◌≡◌, ℕ, ◌+◌, ◌≤◌, List, [], ◌∷◌, ◌++◌, Bool, true, false, length, take, drop, ap, ap₂, ◌∙◌, sym, refl, subst, arith, append-nil, length-append}
+use Rattle.std.proofs.Common.{◌≡◌, ℕ, ◌+◌, ◌≤◌, List, [], ◌∷◌, ◌++◌, Bool, true, false, length, drop, ap, ap₂, ◌∙◌, sym, refl, subst, arith, append-nil, length-append}
 use Rattle.std.specs.Prelude.{Option, Some, None, if◌then◌else◌}
 use Rattle.std.specs.Option.{option_map}
 use Rattle.std.proofs.lemmas.List.{length-drop, take-append-le}
 use Rattle.std.proofs.lemmas.Option.{none-some}
 use Rattle.change_ring.specs.declared.change.Change.{Change}
-use Rattle.change_ring.specs.Log.{replay, view_at}
+use Rattle.change_ring.specs.Log.{replay}
 use Rattle.cursor_set.specs.Lines.{lines}
 use Rattle.mailbox.specs.declared.clients.MailFault.{MailFault}
 use Rattle.mailbox.specs.declared.clients.Row.{Row}
 use Rattle.mailbox.specs.declared.mailbox.Status.{Status}
 use Rattle.change_ring.specs.declared.change.Flags.{Flags}
 use Rattle.imap_session.specs.declared.standing.After.{After}
-use Rattle.imap_session.specs.declared.standing.After.TheVariants as afters
-use Rattle.imap_session.specs.Exchange.{Call, Answer, Entered, Looked, Found, Counted, Altered, Expunged, Fed, Left, Refused, Starved, Event, Exchange, Done, Wait, Write, Put, Enter, Look, Read, Count, Alter, Expunge, Feed, Leave, Standing, Turn, refusal_text, refusal_after, refused, closed, nothing_more, having, saying, tagged}
+use Rattle.imap_session.specs.Exchange.{Call, Answer, Looked, Found, Counted, Altered, Refused, Event, Exchange, Done, Wait, Write, Put, Enter, Look, Read, Count, Alter, Expunge, Feed, Leave, Standing, Turn, refusal_text, refusal_after, refused, closed, nothing_more, having, saying, tagged}
 use Rattle.client_list.specs.Client.{Known, Client, knowing, reads}
 use Rattle.client_list.specs.Beliefs.{Each, Follows, MayShow, TellsNothing}
-use Rattle.client_list.specs.Turns.{Fits}
 use Rattle.client_list.proofs.Bytes.{reads-append}
 use Rattle.client_list.proofs.Each.{each_weaker}
 use Rattle.client_list.proofs.Turns.{closed_quiet, closed_silent, had, had_and_said, the_turn}
-use Rattle.client_flags.specs.Flags.{Believes, FlagsOf, KnowsFlags, Point, counted}
+use Rattle.client_flags.specs.Flags.{Believes, KnowsFlags, Point, counted}
 use Rattle.client_flags.specs.Turns.{IfInside, LeadsFlags, LeavesFlags, SeesAllFlags, SeesFlags, shown_in}
 use Rattle.client_flags.proofs.Following.{lines_tell_flags}
 use Rattle.client_flags.proofs.Moments.{flags_outlast}

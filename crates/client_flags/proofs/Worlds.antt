@@ -1,5 +1,5 @@
 -- What a session's call tells of flags in the world.
-use Rattle.std.proofs.Common.{◌≡◌, ◌≢◌, ℕ, ◌+◌, ◌<◌, ◌≤◌, Bool, true, false, List, [], ◌∷◌, ◌++◌, length, take, drop, refl, sym, subst, ap, ◌∙◌, arith, append-nil}
+use Rattle.std.proofs.Common.{◌≡◌, ℕ, ◌+◌, ◌≤◌, Bool, List, [], ◌∷◌, ◌++◌, length, drop, refl, sym, subst, ap, ◌∙◌, arith, append-nil}
 use Rattle.std.specs.Prelude.{Option, Some, None, option_map}
 use Rattle.std.proofs.lemmas.List.{take-append-drop, take-append-le}
 use Rattle.shard_queue.specs.At.{set_at}
@@ -7,14 +7,11 @@ use Rattle.shard_queue.proofs.AtLaws.{set_at-same}
 use Rattle.change_ring.specs.declared.change.Change.{Change}
 use Rattle.change_ring.specs.declared.change.Flags.{Flags}
 use Rattle.change_ring.specs.declared.flag_op.FlagOp.{FlagOp}
-use Rattle.change_ring.specs.Log.{IsLegalLog, Row, replay, rows_of, view_at}
+use Rattle.change_ring.specs.Log.{IsLegalLog, Row, replay, rows_of}
 use Rattle.change_ring.specs.Logged.{flags_logged, removals, seen_logged}
 use Rattle.mailbox.specs.Events.{in_set}
 use Rattle.mailbox.specs.declared.clients.Row as read
-use Rattle.mailbox.specs.declared.clients.MailFault.{MailFault}
-use Rattle.world.specs.World as world
-use Rattle.world.specs.World.{Box, Config, Event, IsWorld, Session, Step, World, pending, shows}
-use Rattle.world.specs.Law.{IsShown}
+use Rattle.world.specs.World.{Box, Config, Event, Session, Step, World, shows}
 use Rattle.world.proofs.Always.{legal}
 use Rattle.world.proofs.Kept.{Kept, SessionOk}
 use Rattle.delivery_core.specs.Clients.{Done, row_with, rows_then}
@@ -22,16 +19,16 @@ use Rattle.imap_session.specs.Exchange.{Call, Answer, Event as Happened, Look, R
 use Rattle.imap_session.specs.Store.{Met}
 use Rattle.session_store.specs.Meets.{Meets}
 use Rattle.client_list.specs.Beliefs.{Each}
-use Rattle.client_list.specs.Client.{Client, Known}
+use Rattle.client_list.specs.Client.{Client}
 use Rattle.client_list.specs.Turns.{Sees}
 use Rattle.client_list.proofs.Each.{each_weaker}
 use Rattle.client_records.specs.Sizes.{HasShortTexts, HasSmallNumbers}
 use Rattle.client_records.specs.Views.{IsOfOthers, view_in, view_of}
 use Rattle.client_records.proofs.Boxes.{box_goes}
 use Rattle.client_records.proofs.Moved.{Calls, moved, moved_extends, short_before, short_met, sound_moved}
-use Rattle.client_records.proofs.Seen.{all_pending, seen, turned_away, was_refused}
+use Rattle.client_records.proofs.Seen.{seen, turned_away, was_refused}
 use Rattle.client_records.proofs.Worlds.{Grows, Sound, goes_grows, session_stays, sound_always}
-use Rattle.client_flags.specs.Flags.{Believes, KnowsFlags, Point, counted, flags_at}
+use Rattle.client_flags.specs.Flags.{Believes, KnowsFlags, Point, counted}
 use Rattle.client_flags.specs.Turns.{IfInside, SeesAllFlags, SeesFlags, TellsFlags, shown_in}
 use Rattle.client_flags.specs.Worlds.{CallsTellFlags, IsRightOnFlags, OthersLeaveFlags, point_in, point_of}
 use Rattle.client_flags.proofs.Moments.{flags_outlast}
