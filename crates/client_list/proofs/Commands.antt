@@ -216,7 +216,7 @@ rest_says tag view mailing a empty t = kept a.text
     kept (Some text) = ended empty text
 
 -- the line that tells where a message was stored
-stored_plain : (uidvalidity uid : ℕ) → uidvalidity < 2 ^ 64 → uid < 2 ^ 64 → IsPlain (appended_words uidvalidity uid)
+pub stored_plain : (uidvalidity uid : ℕ) → uidvalidity < 2 ^ 64 → uid < 2 ^ 64 → IsPlain (appended_words uidvalidity uid)
 stored_plain uidvalidity uid v u =
     let front : List ℕ = codes "OK [APPENDUID " ++ decimal uidvalidity ++ codes " " ++ decimal uid in
     let inner : list_all is_inner front ≡ true =
@@ -271,7 +271,7 @@ command_says tag view now (commands.Append append) t may = append_says tag view 
 
 -- ---- lines that are no commands
 
-fault_tells_nothing : (fault : ImapFault) → Tagged (Err fault) → TellsNothing (fault_text fault)
+pub fault_tells_nothing : (fault : ImapFault) → Tagged (Err fault) → TellsNothing (fault_text fault)
 fault_tells_nothing NoTag t messages = refl
 fault_tells_nothing (Unknown tag) t messages = tagged_tells_nothing tag (codes "BAD Unknown command") t (plain_words (codes "BAD Unknown comman") 100 refl refl) messages
 fault_tells_nothing (LeftOut tag) t messages = tagged_tells_nothing tag (codes "NO [CANNOT] Not offered here") t (plain_words (codes "NO [CANNOT] Not offered her") 101 refl refl) messages

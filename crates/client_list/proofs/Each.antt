@@ -43,7 +43,7 @@ pub record Went (P : ℕ → Known → Type 0) (uid : ℕ) (view : List ℕ) (ms
   pub is : expunged (place uid view) ms ≡ Some left
   pub each : Each P (without uid view) left
 
-expunged_next : (k : ℕ) (m : Known) (ms left : List Known) → 0 < k → expunged k ms ≡ Some left → expunged (k + 1) (m ∷ ms) ≡ Some (m ∷ left)
+pub expunged_next : (k : ℕ) (m : Known) (ms left : List Known) → 0 < k → expunged k ms ≡ Some left → expunged (k + 1) (m ∷ ms) ≡ Some (m ∷ left)
 expunged_next zero m ms left h e = absurd (omega arith)
 expunged_next (suc k) m ms left h e =
     let more : suc k + 1 ≡ suc (suc k) = omega arith in
@@ -67,7 +67,7 @@ pub record WasTold (P Q : ℕ → Known → Type 0) (uid : ℕ) (told : Known �
   pub is : fetched (place uid view) told ms ≡ Some now
   pub each : Each Q view now
 
-fetched_next : (k : ℕ) (told : Known → Known) (m : Known) (ms now : List Known) → 0 < k → fetched k told ms ≡ Some now → fetched (k + 1) told (m ∷ ms) ≡ Some (m ∷ now)
+pub fetched_next : (k : ℕ) (told : Known → Known) (m : Known) (ms now : List Known) → 0 < k → fetched k told ms ≡ Some now → fetched (k + 1) told (m ∷ ms) ≡ Some (m ∷ now)
 fetched_next zero told m ms now h e = absurd (omega arith)
 fetched_next (suc k) told m ms now h e =
     let more : suc k + 1 ≡ suc (suc k) = omega arith in

@@ -32,7 +32,7 @@ begun_shape : (d kept : List ℕ) → (codes "* " ++ d ++ codes " FETCH (") ++ k
 begun_shape d kept = simp append_assoc
 
 -- what a FETCH answer does to a client's list
-answer_read : (o : Messages) (k : ℕ) (row : Row) (list : List FetchItem) → k < 2 ^ 64 → IsSmall row → AreToldParts list
+pub answer_read : (o : Messages) (k : ℕ) (row : Row) (list : List FetchItem) → k < 2 ^ 64 → IsSmall row → AreToldParts list
     → reads (knowing o) (fetch_answer k (map (item_text row) list))
     ≡ knowing (on_list (fetched k (items (unopened (into_first 40 (words (spaced (map (item_kept row) list) ++ 41 ∷ [])))))) o)
 answer_read o k row list h small parts =
@@ -71,7 +71,7 @@ last_told : (b : Bool) → AreToldParts (if b then fetch.Flags ∷ [] else [])
 last_told true = (tt, tt)
 last_told false = tt
 
-answered_told : (by_uid newly_seen : Bool) (list : List FetchItem) → AreToldParts list → AreToldParts (answered by_uid newly_seen list)
+pub answered_told : (by_uid newly_seen : Bool) (list : List FetchItem) → AreToldParts list → AreToldParts (answered by_uid newly_seen list)
 answered_told by_uid newly_seen list h =
     parts_append (uid_first by_uid list) (list ++ flags_last newly_seen list) (first_told (by_uid && not (list_any is_uid list)))
     (parts_append list (flags_last newly_seen list) h (last_told (newly_seen && not (list_any is_flags list))))
@@ -85,18 +85,18 @@ row_leaves view uid by_uid list row there few fits is small parts =
 
 -- ---- STORE
 
-abbrev row_of : ℕ → Flags → Row
+abbrev pub row_of : ℕ → Flags → Row
 row_of uid flags = record { uid = uid; flags = flags; text = []; newly_seen = false }
 
-abbrev store_items : Bool → List FetchItem
+abbrev pub store_items : Bool → List FetchItem
 store_items true = fetch.Uid ∷ fetch.Flags ∷ []
 store_items false = fetch.Flags ∷ []
 
-store_told : (by_uid : Bool) → AreToldParts (store_items by_uid)
+pub store_told : (by_uid : Bool) → AreToldParts (store_items by_uid)
 store_told true = (tt, (tt, tt))
 store_told false = (tt, tt)
 
-store_shape : (by_uid : Bool) (k uid : ℕ) (flags : Flags) → fetch_answer k (map (item_text (row_of uid flags)) (store_items by_uid)) ≡ flags_answer by_uid k uid flags
+pub store_shape : (by_uid : Bool) (k uid : ℕ) (flags : Flags) → fetch_answer k (map (item_text (row_of uid flags)) (store_items by_uid)) ≡ flags_answer by_uid k uid flags
 store_shape true k uid flags =
     flat (codes "* " ++ decimal k ++ codes " FETCH (") (codes "UID ") (decimal uid) (codes "FLAGS (") (spaced (flag_words flags)) (codes ")") (codes ")\r\n")
   where

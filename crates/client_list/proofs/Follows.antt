@@ -59,12 +59,12 @@ follows_one P view (SetFlags uid flags) ms fits small there tells h =
       each = told.each;
     }
 
-printed_first : (c : Change) (cs : List Change) → ArePrinted (c ∷ cs) → ArePrinted (c ∷ []) × ArePrinted cs
+pub printed_first : (c : Change) (cs : List Change) → ArePrinted (c ∷ cs) → ArePrinted (c ∷ []) × ArePrinted cs
 printed_first (Add uid) cs h = (tt, h)
 printed_first (Gone uid) cs h = (tt, h)
 printed_first (SetFlags uid flags) cs h = ((h.0, tt), h.1)
 
-shown_most : (view : List ℕ) (c : Change) → length (shown view c) ≤ length view + 1
+pub shown_most : (view : List ℕ) (c : Change) → length (shown view c) ≤ length view + 1
 shown_most view (Add uid) = omega (arith, length-append view (uid ∷ []))
 shown_most view (Gone uid) = omega (arith, without_most uid view)
 shown_most view (SetFlags uid flags) = omega arith

@@ -60,7 +60,7 @@ has_words (b ∷ bs) = by (b == 32) refl (has_words bs)
     by false e more = record { first = b ∷ more.first; others = more.others; are = rw e (ap (into_first b) more.are) }
 
 -- a text is cut at each space of its own
-words_append : (a b : List ℕ) → words (a ++ 32 ∷ b) ≡ words a ++ words b
+pub words_append : (a b : List ℕ) → words (a ++ 32 ∷ b) ≡ words a ++ words b
 words_append [] b = refl
 words_append (x ∷ a) b = by (x == 32) (words_append a b) (has_words a)
   where
@@ -72,11 +72,11 @@ words_append (x ∷ a) b = by (x == 32) (words_append a b) (has_words a)
 -- ---- words that are neither UID nor FLAGS
 
 -- by the first byte, which is neither U nor F
-abbrev is_other : List ℕ → Bool
+abbrev pub is_other : List ℕ → Bool
 is_other [] = true
 is_other (b ∷ bs) = not (b == 85) && not (b == 70)
 
-other_passes : (word : List ℕ) (rest : List (List ℕ)) (m : Known) → is_other word ≡ true → items (word ∷ rest) m ≡ items rest m
+pub other_passes : (word : List ℕ) (rest : List (List ℕ)) (m : Known) → is_other word ≡ true → items (word ∷ rest) m ≡ items rest m
 other_passes [] rest m h = refl
 other_passes (b ∷ bs) rest m h = by (b == 85) refl (b == 70) refl h
   where
@@ -105,14 +105,14 @@ harmless_append uid one two h k rest behind m is =
 
 -- ---- numbers, and what may close behind them
 
-abbrev tail : Bool → List ℕ
+abbrev pub tail : Bool → List ℕ
 tail false = []
 tail true = 41 ∷ []
 
 digit_is_other : (b : ℕ) → is_digit b ≡ true → (not (b == 85) && not (b == 70)) ≡ true
 digit_is_other b h = rw (excludes is_digit 85 refl b h, excludes is_digit 70 refl b h) refl
 
-digits_other : (ds : List ℕ) (last : Bool) → list_all is_digit ds ≡ true → is_other (ds ++ tail last) ≡ true
+pub digits_other : (ds : List ℕ) (last : Bool) → list_all is_digit ds ≡ true → is_other (ds ++ tail last) ≡ true
 digits_other [] true h = refl
 digits_other [] false h = refl
 digits_other (b ∷ bs) last h = digit_is_other b (first_of is_digit b bs h)
@@ -122,14 +122,14 @@ tail_unspaced w true h = list_all-append is_unspaced w (41 ∷ []) ∙ rw h refl
 tail_unspaced w false h = ap (list_all is_unspaced) (append-nil w) ∙ h
 
 -- the digits, with the parenthesis that closes behind them or without
-digits_closed : (ds : List ℕ) (last : Bool) → list_all is_digit ds ≡ true → closing (ds ++ tail last) ≡ ((if last then 1 else 0), ds)
+pub digits_closed : (ds : List ℕ) (last : Bool) → list_all is_digit ds ≡ true → closing (ds ++ tail last) ≡ ((if last then 1 else 0), ds)
 digits_closed [] true h = refl
 digits_closed [] false h = refl
 digits_closed (b ∷ bs) last h =
     let other : (b == 41) ≡ false = not_true (b == 41) (excludes is_digit 41 refl b (first_of is_digit b bs h)) in
     rw (other, digits_closed bs last (rest_of is_digit b bs h)) refl
 
-number_words : (n : ℕ) (last : Bool) → n < 2 ^ 64 → words (decimal n ++ tail last) ≡ (decimal n ++ tail last) ∷ []
+pub number_words : (n : ℕ) (last : Bool) → n < 2 ^ 64 → words (decimal n ++ tail last) ≡ (decimal n ++ tail last) ∷ []
 number_words n last h = one_word (decimal n ++ tail last) (tail_unspaced (decimal n) last (unspaced_word (decimal n) (decimal_word n h)))
 
 -- ---- items
@@ -148,10 +148,10 @@ uid_harmless uid last h rest behind m is =
     subst (λ (k : Known). IsOf uid k) (sym (ap (λ (n : Option ℕ). items (word ∷ rest) (with_uid n m)) told ∙ other_passes word rest (with_uid (Some uid) m) (digits_other (decimal uid) last (decimal_digits uid h))))
     (behind (with_uid (Some uid) m) (uid_is uid m))
 
-abbrev flags_of : Bool → Bool → Bool → Bool → Bool → Flags
+abbrev pub flags_of : Bool → Bool → Bool → Bool → Bool → Flags
 flags_of a b c d e = record { answered = a; flagged = b; deleted = c; seen = d; draft = e }
 
-abbrev flag_list : Flags → Bool → List ℕ
+abbrev pub flag_list : Flags → Bool → List ℕ
 flag_list f last = (40 ∷ (spaced (flag_words f) ++ 41 ∷ [])) ++ tail last
 
 flag_words_other : (a b c d e : Bool) → (list_all is_other (words (flag_list (flags_of a b c d e) true)) ≡ true) × (list_all is_other (words (flag_list (flags_of a b c d e) false)) ≡ true)
@@ -188,7 +188,7 @@ flag_words_other false false false true false = (refl, refl)
 flag_words_other false false false false true = (refl, refl)
 flag_words_other false false false false false = (refl, refl)
 
-flag_list_other : (f : Flags) (last : Bool) → list_all is_other (words (flag_list f last)) ≡ true
+pub flag_list_other : (f : Flags) (last : Bool) → list_all is_other (words (flag_list f last)) ≡ true
 flag_list_other f true = (flag_words_other f.answered f.flagged f.deleted f.seen f.draft).0
 flag_list_other f false = (flag_words_other f.answered f.flagged f.deleted f.seen f.draft).1
 
@@ -217,7 +217,7 @@ count_unspaced bytes h =
 regrouped : (a b c : List ℕ) → ((a ++ 32 ∷ []) ++ b) ++ c ≡ a ++ 32 ∷ (b ++ c)
 regrouped a b c = simp append_assoc
 
-body_words : (peek : Bool) (which : Section) (span : Option Span) (bytes : List ℕ) (last : Bool) → IsToldPart (fetch.Body peek which span) → length bytes < 2 ^ 64
+pub body_words : (peek : Bool) (which : Section) (span : Option Span) (bytes : List ℕ) (last : Bool) → IsToldPart (fetch.Body peek which span) → length bytes < 2 ^ 64
     → words ((body_word which span ++ codes " " ++ count_kept bytes) ++ tail last) ≡ body_word which span ∷ (count_kept bytes ++ tail last) ∷ []
 body_words peek which span bytes last told h =
     let body : List ℕ = body_word which span in

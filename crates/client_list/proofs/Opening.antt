@@ -88,17 +88,22 @@ opening_shape read_only name o =
     (codes "* OK [UIDNEXT ") (decimal o.uidnext) (codes "] Predicted next UID\r\n") (codes "* OK [PERMANENTFLAGS (") (if read_only then [] else all_flags) (codes ")] Flags kept\r\n")
     (codes "* LIST () \"/\" ") name (codes "\r\n")
 
-pub opening_is_followed : OpeningIsFollowed
-opening_is_followed read_only name opening view plain count few validity next =
+-- it is read, and so many messages are there of which nothing is known
+pub opening_told : (read_only : Bool) (name : List ℕ) (opening : Opening) → IsPlain name → opening.count < 2 ^ 64 → opening.uidvalidity < 2 ^ 64 → opening.uidnext < 2 ^ 64
+    → reads (knowing (Some [])) (opening_text read_only name opening) ≡ knowing (Some (more opening.count))
+opening_told read_only name opening plain few validity next =
     let rest : List ℕ = behind read_only name opening.uidvalidity opening.uidnext in
-    let entered : Client = knowing (Some []) in record {
-      after = more opening.count;
-      reads =
-          ap (reads entered) (opening_shape read_only name opening)
-          ∙ reads-append entered flags_line (exists_line opening.count ++ rest)
-          ∙ ap (λ (c : Client). reads c (exists_line opening.count ++ rest)) (flags_told (Some []))
-          ∙ reads-append entered (exists_line opening.count) rest
-          ∙ ap (λ (c : Client). reads c rest) (reads_exists (Some []) opening.count few ∙ ap knowing (exists_of_none opening.count))
-          ∙ behind_told read_only name opening.uidvalidity opening.uidnext plain validity next (Some (more opening.count));
-      each = subst (λ (n : ℕ). Each IsOf view (more n)) (sym count) (unknown_all view);
-    }
+    let entered : Client = knowing (Some []) in
+    ap (reads entered) (opening_shape read_only name opening)
+    ∙ reads-append entered flags_line (exists_line opening.count ++ rest)
+    ∙ ap (λ (c : Client). reads c (exists_line opening.count ++ rest)) (flags_told (Some []))
+    ∙ reads-append entered (exists_line opening.count) rest
+    ∙ ap (λ (c : Client). reads c rest) (reads_exists (Some []) opening.count few ∙ ap knowing (exists_of_none opening.count))
+    ∙ behind_told read_only name opening.uidvalidity opening.uidnext plain validity next (Some (more opening.count))
+
+pub opening_is_followed : OpeningIsFollowed
+opening_is_followed read_only name opening view plain count few validity next = record {
+  after = more opening.count;
+  reads = opening_told read_only name opening plain few validity next;
+  each = subst (λ (n : ℕ). Each IsOf view (more n)) (sym count) (unknown_all view);
+}

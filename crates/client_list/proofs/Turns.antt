@@ -33,23 +33,23 @@ then_follows list one two view new f g = record {
 -- ---- a turn by its first answer
 
 -- a turn that is another one with an event and a text first
-record Onward (call : Call) (answer : Answer) (text : List ℕ) (rest : Option Turn) (turn : Turn) : Type 0 where
-  more : Turn
-  is : rest ≡ Some more
-  events : turn.events ≡ record { call = call; answer = answer } ∷ more.events
-  bytes : turn.bytes ≡ text ++ more.bytes
+pub record Onward (call : Call) (answer : Answer) (text : List ℕ) (rest : Option Turn) (turn : Turn) : Type 0 where
+  pub more : Turn
+  pub is : rest ≡ Some more
+  pub events : turn.events ≡ record { call = call; answer = answer } ∷ more.events
+  pub bytes : turn.bytes ≡ text ++ more.bytes
 
 abbrev pub the_turn : Turn → Option Turn → Turn
 the_turn d None = d
 the_turn d (Some t) = t
 
-had : (call : Call) (answer : Answer) (rest : Option Turn) (turn : Turn) → option_map (having call answer) rest ≡ Some turn → Onward call answer [] rest turn
+pub had : (call : Call) (answer : Answer) (rest : Option Turn) (turn : Turn) → option_map (having call answer) rest ≡ Some turn → Onward call answer [] rest turn
 had call answer None turn e = absurd (none-some turn e)
 had call answer (Some more) turn e =
     let same : having call answer more ≡ turn = ap (the_turn turn) e in
     record { more = more; is = refl; events = sym (ap (λ (t : Turn). t.events) same); bytes = sym (ap (λ (t : Turn). t.bytes) same) }
 
-had_and_said : (call : Call) (answer : Answer) (text : List ℕ) (rest : Option Turn) (turn : Turn) → option_map (λ (t : Turn). having call answer (saying text t)) rest ≡ Some turn
+pub had_and_said : (call : Call) (answer : Answer) (text : List ℕ) (rest : Option Turn) (turn : Turn) → option_map (λ (t : Turn). having call answer (saying text t)) rest ≡ Some turn
     → Onward call answer text rest turn
 had_and_said call answer text None turn e = absurd (none-some turn e)
 had_and_said call answer text (Some more) turn e =
@@ -99,14 +99,14 @@ shows view call answer met changes tells fits rest turn new e sees behind list r
 
 -- ---- how a turn ends
 
-closed_silent : (now : Standing) (how : After) → (closed now how).bytes ≡ []
+pub closed_silent : (now : Standing) (how : After) → (closed now how).bytes ≡ []
 closed_silent now Go = refl
 closed_silent now Bye = refl
 closed_silent now afters.Idle = refl
 closed_silent now (afters.Literal due) = refl
 closed_silent now afters.Submit = refl
 
-closed_quiet : (now : Standing) (how : After) → (closed now how).events ≡ []
+pub closed_quiet : (now : Standing) (how : After) → (closed now how).events ≡ []
 closed_quiet now Go = refl
 closed_quiet now Bye = refl
 closed_quiet now afters.Idle = refl

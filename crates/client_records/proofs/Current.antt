@@ -34,7 +34,7 @@ use Rattle.client_records.specs.Views.{messages_of, view_in, view_of}
 use Rattle.client_records.proofs.Entering.{mapped, only_done, only_refused, refusal_has_none}
 use Rattle.client_records.proofs.Moved.{Calls, Moved, moved, rested, stepped}
 
-abbrev the_session : Session → Option Session → Session
+abbrev pub the_session : Session → Option Session → Session
 the_session d None = d
 the_session d (Some s) = s
 
@@ -50,7 +50,7 @@ take_all zero (x ∷ xs) h = absurd (omega arith)
 take_all (suc n) [] h = refl
 take_all (suc n) (x ∷ xs) h = ap (λ ys. x ∷ ys) (take_all n xs (omega (arith, h)))
 
-all_shown : (c limit : ℕ) (log : List Change) → c ≤ length log → length log ≤ limit → c + length (take limit (drop c log)) ≡ length log
+pub all_shown : (c limit : ℕ) (log : List Change) → c ≤ length log → length log ≤ limit → c + length (take limit (drop c log)) ≡ length log
 all_shown c limit log within few =
     let e : length (drop c log) ≡ length log - c = length-drop c log in
     let whole : length (take limit (drop c log)) ≡ length (drop c log) = ap length (take_all limit (drop c log) (omega (arith, few, e))) in

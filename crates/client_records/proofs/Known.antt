@@ -28,7 +28,7 @@ use Rattle.client_records.proofs.Worlds.{Sound, numbered_view, sound_always}
 
 -- ---- lines that are commands
 
-may_ask : (now : Standing) (view : List ℕ) (command : Command) → Stands now → IsNumbered view → HasToldParts command → stays command ≡ true → MayAsk now view command
+pub may_ask : (now : Standing) (view : List ℕ) (command : Command) → Stands now → IsNumbered view → HasToldParts command → stays command ≡ true → MayAsk now view command
 may_ask now view command stands numbered parts stay = record { stays = stay; numbered = numbered; names = stands.names; parts = parts }
 
 command_known : (k : Config) (n : ℕ) (now : Standing) (w : World) (tag : List ℕ) (command : Command) (answers : List StoreAnswer) (turn : Turn) (v : World) (client : Option Client)

@@ -1,0 +1,28 @@
+-- The clients of a house know flags.
+use Rattle.std.proofs.Common.{ℕ, List, []}
+use Rattle.std.specs.Prelude.{None}
+use Rattle.client_records.specs.Clients.{hears_all}
+use Rattle.client_records.specs.Records.{first_standing, user_by_then}
+use Rattle.client_records.specs.Sizes.{HasShortTexts}
+use Rattle.client_records.specs.Turns.{Stands}
+use Rattle.client_records.proofs.Folded.{folders_plain}
+use Rattle.client_records.proofs.Keeping.{clients_keep_up, texts_stay_short}
+use Rattle.client_records.proofs.Worlds.{sound_always}
+use Rattle.client_flags.specs.Records.{ClientsKnowFlags, ClientsOfHousesKnowFlags}
+use Rattle.client_flags.proofs.Current.{all_was_shown, flags_now}
+use Rattle.client_flags.proofs.Known.{lives_flags}
+
+pub clients_know_flags : ClientsKnowFlags
+clients_know_flags k entries t place v printable is there read =
+    let u = clients_keep_up k entries t place v printable is there read in
+    let short : HasShortTexts t.world = texts_stay_short k entries t printable.texts is in
+    let user : List ℕ = user_by_then place [] entries in
+    let first : Stands (first_standing k user) = record { tags = (tt, tt, tt); names = folders_plain k.directory user printable.names } in
+    let known = lives_flags k.config place (first_standing k user) u.began printable.numbers (sound_always k.config u.events u.began printable.numbers u.came) first u.lives short in record {
+      keeps = u;
+      flags = known.right;
+      now = λ s at none. flags_now t.world place s (hears_all None u.told) at (all_was_shown k.config t.world place s known.sound.kept at none) known.right;
+    }
+
+pub clients_of_houses_know_flags : ClientsOfHousesKnowFlags
+clients_of_houses_know_flags k events t printed once place v printable there read = clients_know_flags k once.entries t place v printable once.leads there read

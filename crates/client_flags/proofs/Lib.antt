@@ -1,0 +1,16 @@
+mod Moments
+mod Distinct
+mod Following
+mod Telling
+mod Turning
+mod Played
+mod Saying
+mod Idling
+mod Worlds
+mod Entering
+mod Known
+mod Current
+mod Keeping
+mod Refuted
+mod ByUid
+mod OneLife

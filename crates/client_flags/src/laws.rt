@@ -1,0 +1,72 @@
+//! Laws of what a client believes of flags, as functions that do nothing.
+
+ghost use Rattle.client_flags.specs.Laws.{AnswerTellsFlags, FlagsAreByUid, FlagsAreCurrent, FlagsOutlast, IdleTellsFlags, LinesTellFlags, RowTellsFlags, StoreTellsFlags, VerdictTellsFlags};
+ghost use Rattle.client_flags.specs.One.{OneLifeKnowsFlags};
+ghost use Rattle.client_flags.specs.Records.{ClientsKnowFlags, ClientsOfHousesKnowFlags};
+ghost use Rattle.client_flags.specs.Worlds.{CallsTellFlags, DoneTellsFlags, LivesTellFlags, NoopTellsFlags, NothingPendingTellsFlags, OthersLeaveFlags, TurnsTellFlags};
+
+/// Flags that a message had at some moment not before the cursor are such whatever is logged later, and where nothing is
+/// pending they are those that it has now. A client that is right about UIDs and about flags is right about the flags under
+/// each UID.
+pub fn flags_have_moments()
+    ensures outlast { FlagsOutlast }
+    ensures current { FlagsAreCurrent }
+    ensures by_uid { FlagsAreByUid }
+{}
+
+/// A client is right about flags where each that it knows were those of the message at some moment not before its session's
+/// cursor. It stays so when it reads the lines of changes that the cursor moves over, the answer to a FETCH with the flags that
+/// the message has, also where reading it set `\Seen`, and the flags after a STORE (RFC 9051, 6.4.6, 7.5.2).
+pub fn flags_are_told()
+    ensures lines { LinesTellFlags }
+    ensures row { RowTellsFlags }
+    ensures store { StoreTellsFlags }
+{}
+
+/// Over any store, whatever it answers: so it is of the answer to any line but SELECT, EXAMINE, CLOSE and UNSELECT, of the
+/// answer to the verdict on a message, and of a turn while the session idles. Of the store it is asked that what it shows are
+/// the changes that were pending, in their order, and the flags that it answers are the message's (`SeesAllFlags`).
+pub fn turns_tell_flags()
+    ensures answer { AnswerTellsFlags }
+    ensures verdict { VerdictTellsFlags }
+    ensures idle { IdleTellsFlags }
+{}
+
+/// In every world of a house: what a call of a session shows are the changes that were pending, in their order; the flags of a
+/// row that is read, also where reading sets `\Seen`, and those that a STORE answers are what the message has then. What others
+/// do leaves a client as right about flags as it was.
+pub fn houses_tell_flags()
+    ensures calls { CallsTellFlags }
+    ensures others { OthersLeaveFlags }
+{}
+
+/// In a house a client that knows which of its lines were SELECT, EXAMINE, CLOSE or UNSELECT is right about flags after each
+/// turn, whatever it sent, whatever is answered, and wherever the store or memory refuses; and so at each moment of its
+/// session's life, with all that others do between the turns.
+pub fn lives_tell_flags()
+    ensures turn { TurnsTellFlags }
+    ensures life { LivesTellFlags }
+{}
+
+/// Where nothing is pending all that the client knows of flags is what they are in the mailbox. So it is when it has read that
+/// a NOOP is OK, or the IDLE that its DONE ends (RFC 9051, 6.1.2; RFC 2177).
+pub fn flags_become_current()
+    ensures pending { NothingPendingTellsFlags }
+    ensures noop { NoopTellsFlags }
+    ensures done { DoneTellsFlags }
+{}
+
+/// Over any record of a house that was new, of whatever events: the client of each session that is there is right about flags,
+/// by all that was printed to it since it was let in; and where nothing is pending all that it knows of flags is what they are.
+/// Of the house it is asked that numbers and names can be printed and messages have less than 2 GiB, which settings that are
+/// right see to.
+pub fn clients_know_flags()
+    ensures record { ClientsKnowFlags }
+    ensures house { ClientsOfHousesKnowFlags }
+{}
+
+/// One life, by computing: a session selects an empty mailbox, a copy comes there, a NOOP shows it, and its client sets a flag of
+/// it. The client then knows flags that are newer than those that its session was shown.
+pub fn one_life_knows_flags()
+    ensures { OneLifeKnowsFlags }
+{}
