@@ -31,7 +31,7 @@ each_in P Q (u ∷ us) [] f h = absurd h
 each_in P Q (u ∷ us) (m ∷ ms) f h = (f u m (inl refl) h.0, each_in P Q us ms (λ v n is. f v n (inr is)) h.1)
 
 -- one is told, and of the others something else is known then
-told_here : (P Q : ℕ → Known → Type 0) (uid : ℕ) (told : Known → Known) → ((m : Known) → P uid m → Q uid (told m)) → ((u : ℕ) (m : Known) → (u ≡ uid → ⊥) → P u m → Q u m)
+pub told_here : (P Q : ℕ → Known → Type 0) (uid : ℕ) (told : Known → Known) → ((m : Known) → P uid m → Q uid (told m)) → ((u : ℕ) (m : Known) → (u ≡ uid → ⊥) → P u m → Q u m)
     → (view : List ℕ) (ms : List Known) → Distinct view → IsIn uid view → Each P view ms → WasTold P Q uid told view ms
 told_here P Q uid told f g [] ms d is h = absurd is
 told_here P Q uid told f g (u ∷ us) [] d is h = absurd h

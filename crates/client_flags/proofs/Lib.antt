@@ -14,3 +14,4 @@ mod Keeping
 mod Refuted
 mod ByUid
 mod OneLife
+mod Hearing

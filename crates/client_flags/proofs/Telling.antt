@@ -27,32 +27,32 @@ use Rattle.client_flags.proofs.Moments.{now_is_moment}
 -- ---- words
 
 -- what is so of a message stays so when the row's own UID or flags are told of it
-record Allows (P : Known → Type 0) (row : Row) : Type 0 where
-  uid : (m : Known) → P m → P (with_uid (Some row.uid) m)
-  flags : (m : Known) → P m → P (with_flags (flag_words row.flags) m)
+pub record Allows (P : Known → Type 0) (row : Row) : Type 0 where
+  pub uid : (m : Known) → P m → P (with_uid (Some row.uid) m)
+  pub flags : (m : Known) → P m → P (with_flags (flag_words row.flags) m)
 
--- words that keep it so, whatever comes behind them
-abbrev Keeps : (Known → Type 0) → List (List ℕ) → Type 0
-Keeps P ws = (rest : List (List ℕ)) → ((m : Known) → P m → P (items rest m)) → (m : Known) → P m → P (items (ws ++ rest) m)
+-- words that keep P so of a message, so that what comes behind them leads on to Q
+abbrev pub Keeps : (Known → Type 0) → (Known → Type 0) → List (List ℕ) → Type 0
+Keeps P Q ws = (rest : List (List ℕ)) → ((m : Known) → P m → Q (items rest m)) → (m : Known) → P m → Q (items (ws ++ rest) m)
 
-others_keep : (P : Known → Type 0) (ws : List (List ℕ)) → list_all is_other ws ≡ true → Keeps P ws
-others_keep P [] h rest behind m is = behind m is
-others_keep P (w ∷ ws) h rest behind m is =
-    subst P (sym (other_passes w (ws ++ rest) m (both (is_other w) (list_all is_other ws) h).0)) (others_keep P ws (both (is_other w) (list_all is_other ws) h).1 rest behind m is)
+pub others_keep : (P Q : Known → Type 0) (ws : List (List ℕ)) → list_all is_other ws ≡ true → Keeps P Q ws
+others_keep P Q [] h rest behind m is = behind m is
+others_keep P Q (w ∷ ws) h rest behind m is =
+    subst Q (sym (other_passes w (ws ++ rest) m (both (is_other w) (list_all is_other ws) h).0)) (others_keep P Q ws (both (is_other w) (list_all is_other ws) h).1 rest behind m is)
   where
     both : (a b : Bool) → (a && b) ≡ true → (a ≡ true) × (b ≡ true)
     both true b e = (refl, e)
     both false b e = absurd (false≢true e)
 
-keep_both : (P : Known → Type 0) (one two : List (List ℕ)) → Keeps P one → Keeps P two → Keeps P (one ++ two)
-keep_both P one two h k rest behind m is = subst (λ (ws : List (List ℕ)). P (items ws m)) (sym (append_assoc one two rest)) (h (two ++ rest) (k rest behind) m is)
+keep_both : (P Q : Known → Type 0) (one two : List (List ℕ)) → Keeps P Q one → Keeps P Q two → Keeps P Q (one ++ two)
+keep_both P Q one two h k rest behind m is = subst (λ (ws : List (List ℕ)). Q (items ws m)) (sym (append_assoc one two rest)) (h (two ++ rest) (k rest behind) m is)
 
-uid_keeps : (P : Known → Type 0) (row : Row) (last : Bool) → Allows P row → row.uid < 2 ^ 64 → Keeps P (codes "UID" ∷ (decimal row.uid ++ tail last) ∷ [])
-uid_keeps P row last a h rest behind m is =
+uid_keeps : (P Q : Known → Type 0) (row : Row) (last : Bool) → Allows P row → row.uid < 2 ^ 64 → Keeps P Q (codes "UID" ∷ (decimal row.uid ++ tail last) ∷ [])
+uid_keeps P Q row last a h rest behind m is =
     let uid : ℕ = row.uid in
     let word : List ℕ = decimal uid ++ tail last in
     let told : number (closing word).1 ≡ Some uid = ap (λ (p : ℕ × List ℕ). number p.1) (digits_closed (decimal uid) last (decimal_digits uid h)) ∙ decimal_says uid h in
-    subst P (sym (ap (λ (n : Option ℕ). items (word ∷ rest) (with_uid n m)) told ∙ other_passes word rest (with_uid (Some uid) m) (digits_other (decimal uid) last (decimal_digits uid h))))
+    subst Q (sym (ap (λ (n : Option ℕ). items (word ∷ rest) (with_uid n m)) told ∙ other_passes word rest (with_uid (Some uid) m) (digits_other (decimal uid) last (decimal_digits uid h))))
     (behind (with_uid (Some uid) m) (a.uid m is))
 
 flags_named : (a b c d e : Bool) (rest : List (List ℕ))
@@ -90,41 +90,41 @@ flags_named false false false true false rest = (refl, refl)
 flags_named false false false false true rest = (refl, refl)
 flags_named false false false false false rest = (refl, refl)
 
-list_named : (f : Flags) (last : Bool) (rest : List (List ℕ)) → flag_names (words (flag_list f last) ++ rest) ≡ flag_words f
+pub list_named : (f : Flags) (last : Bool) (rest : List (List ℕ)) → flag_names (words (flag_list f last) ++ rest) ≡ flag_words f
 list_named f true rest = (flags_named f.answered f.flagged f.deleted f.seen f.draft rest).0
 list_named f false rest = (flags_named f.answered f.flagged f.deleted f.seen f.draft rest).1
 
-flags_keep : (P : Known → Type 0) (row : Row) (last : Bool) → Allows P row → Keeps P (codes "FLAGS" ∷ words (flag_list row.flags last))
-flags_keep P row last a rest behind m is =
+flags_keep : (P Q : Known → Type 0) (row : Row) (last : Bool) → Allows P row → Keeps P Q (codes "FLAGS" ∷ words (flag_list row.flags last))
+flags_keep P Q row last a rest behind m is =
     let ws : List (List ℕ) = words (flag_list row.flags last) in
-    subst (λ (names : List (List ℕ)). P (items (ws ++ rest) (with_flags names m))) (sym (list_named row.flags last rest))
-    (others_keep P ws (flag_list_other row.flags last) rest behind (with_flags (flag_words row.flags) m) (a.flags m is))
+    subst (λ (names : List (List ℕ)). Q (items (ws ++ rest) (with_flags names m))) (sym (list_named row.flags last rest))
+    (others_keep P Q ws (flag_list_other row.flags last) rest behind (with_flags (flag_words row.flags) m) (a.flags m is))
 
-item_keeps : (P : Known → Type 0) (row : Row) (item : FetchItem) (last : Bool) → Allows P row → IsSmall row → IsToldPart item → Keeps P (words (item_kept row item ++ tail last))
-item_keeps P row fetch.Uid last a small told =
-    subst (λ (ws : List (List ℕ)). Keeps P (codes "UID" ∷ ws)) (sym (number_words row.uid last small.uid)) (uid_keeps P row last a small.uid)
-item_keeps P row fetch.Flags last a small told = flags_keep P row last a
-item_keeps P row fetch.Size last a small told =
+pub item_keeps : (P Q : Known → Type 0) (row : Row) (item : FetchItem) (last : Bool) → Allows P row → IsSmall row → IsToldPart item → Keeps P Q (words (item_kept row item ++ tail last))
+item_keeps P Q row fetch.Uid last a small told =
+    subst (λ (ws : List (List ℕ)). Keeps P Q (codes "UID" ∷ ws)) (sym (number_words row.uid last small.uid)) (uid_keeps P Q row last a small.uid)
+item_keeps P Q row fetch.Flags last a small told = flags_keep P Q row last a
+item_keeps P Q row fetch.Size last a small told =
     let n : ℕ = length row.text in
-    subst (λ (ws : List (List ℕ)). Keeps P (codes "RFC822.SIZE" ∷ ws)) (sym (number_words n last small.text))
-    (others_keep P (codes "RFC822.SIZE" ∷ (decimal n ++ tail last) ∷ []) (rw (digits_other (decimal n) last (decimal_digits n small.text)) refl))
-item_keeps P row (fetch.Body peek which span) last a small told =
+    subst (λ (ws : List (List ℕ)). Keeps P Q (codes "RFC822.SIZE" ∷ ws)) (sym (number_words n last small.text))
+    (others_keep P Q (codes "RFC822.SIZE" ∷ (decimal n ++ tail last) ∷ []) (rw (digits_other (decimal n) last (decimal_digits n small.text)) refl))
+item_keeps P Q row (fetch.Body peek which span) last a small told =
     let bytes : List ℕ = part span (section which row.text) in
-    subst (λ (ws : List (List ℕ)). Keeps P ws) (sym (body_words peek which span bytes last told (part_small row which span small)))
-    (others_keep P (body_word which span ∷ (count_kept bytes ++ tail last) ∷ []) refl)
+    subst (λ (ws : List (List ℕ)). Keeps P Q ws) (sym (body_words peek which span bytes last told (part_small row which span small)))
+    (others_keep P Q (body_word which span ∷ (count_kept bytes ++ tail last) ∷ []) refl)
 
-items_keep : (P : Known → Type 0) (row : Row) (list : List FetchItem) → Allows P row → IsSmall row → AreToldParts list → Keeps P (words (spaced (map (item_kept row) list) ++ 41 ∷ []))
-items_keep P row [] a small told = others_keep P ((41 ∷ []) ∷ []) refl
-items_keep P row (item ∷ []) a small told = item_keeps P row item true a small told.0
-items_keep P row (item ∷ other ∷ list) a small told =
+pub items_keep : (P Q : Known → Type 0) (row : Row) (list : List FetchItem) → Allows P row → IsSmall row → AreToldParts list → Keeps P Q (words (spaced (map (item_kept row) list) ++ 41 ∷ []))
+items_keep P Q row [] a small told = others_keep P Q ((41 ∷ []) ∷ []) refl
+items_keep P Q row (item ∷ []) a small told = item_keeps P Q row item true a small told.0
+items_keep P Q row (item ∷ other ∷ list) a small told =
     let kept : List ℕ = spaced (map (item_kept row) (other ∷ list)) ++ 41 ∷ [] in
-    let first : Keeps P (words (item_kept row item)) = subst (λ (t : List ℕ). Keeps P (words t)) (append-nil (item_kept row item)) (item_keeps P row item false a small told.0) in
-    subst (λ (ws : List (List ℕ)). Keeps P ws)
+    let first : Keeps P Q (words (item_kept row item)) = subst (λ (t : List ℕ). Keeps P Q (words t)) (append-nil (item_kept row item)) (item_keeps P Q row item false a small told.0) in
+    subst (λ (ws : List (List ℕ)). Keeps P Q ws)
     (sym (ap words (append_assoc (item_kept row item) (32 ∷ spaced (map (item_kept row) (other ∷ list))) (41 ∷ [])) ∙ words_append (item_kept row item) kept))
-    (keep_both P (words (item_kept row item)) (words kept) first (items_keep P row (other ∷ list) a small told.1))
+    (keep_both P Q (words (item_kept row item)) (words kept) first (items_keep P Q row (other ∷ list) a small told.1))
 
 -- with the parenthesis that opens before the first
-opened_keep : (P : Known → Type 0) (ws : List (List ℕ)) → Keeps P ws → (m : Known) → P m → P (items (unopened (into_first 40 ws)) m)
+opened_keep : (P : Known → Type 0) (ws : List (List ℕ)) → Keeps P P ws → (m : Known) → P m → P (items (unopened (into_first 40 ws)) m)
 opened_keep P [] h m is = is
 opened_keep P (w ∷ ws) h m is = subst (λ (list : List (List ℕ)). P (items list m)) (append-nil (w ∷ ws)) (h [] (λ k same. same) m is)
 
@@ -146,7 +146,7 @@ answer_tells : (p : Point) (row : Row) (list : List FetchItem) → IsIn row.uid 
 answer_tells p row list there few small parts has within known right =
     let ws : List (List ℕ) = words (spaced (map (item_kept row) list) ++ 41 ∷ []) in
     let t = is_told (Believes p) row.uid (λ m. items (unopened (into_first 40 ws)) m)
-    (λ m is. opened_keep (Believes p row.uid) ws (items_keep (Believes p row.uid) row list (allows_now p row has within) small parts) m is) (counted p) known there right in record {
+    (λ m is. opened_keep (Believes p row.uid) ws (items_keep (Believes p row.uid) (Believes p row.uid) row list (allows_now p row has within) small parts) m is) (counted p) known there right in record {
       after = t.now;
       reads = answer_read (Some known) (place row.uid (counted p)) row list (omega (arith, few, place_most row.uid (counted p))) small parts ∙ ap knowing t.is;
       each = t.each;

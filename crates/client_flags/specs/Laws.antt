@@ -1,16 +1,18 @@
 -- What holds of what a client believes of flags.
-use Rattle.std.specs.Prelude.{◌≡◌, ℕ, ◌+◌, ◌≤◌, Bool, Contains, List, ◌++◌, length, drop, Some, IfSome}
+use Rattle.std.specs.Prelude.{◌≡◌, ℕ, ◌+◌, ◌≤◌, Bool, true, ◌||◌, Contains, List, ◌++◌, length, drop, Some, IfSome}
+use Rattle.std.specs.List.{list_any}
 use Rattle.change_ring.specs.declared.change.Change.{Change}
+use Rattle.change_ring.specs.declared.change.Change.TheVariants.{Flags as SetFlags}
 use Rattle.change_ring.specs.declared.change.Flags.{Flags}
 use Rattle.change_ring.specs.Log.{IsLegalLog}
-use Rattle.cursor_set.specs.Lines.{lines, place}
+use Rattle.cursor_set.specs.Lines.{flag_words, line, lines, place}
 use Rattle.delivery_token.specs.declared.Verdict.{Verdict}
 use Rattle.mailbox.specs.declared.clients.Row.{Row}
-use Rattle.imap_grammar.specs.Answers.{row_answer}
+use Rattle.imap_grammar.specs.Answers.{is_flags, row_answer}
 use Rattle.imap_grammar.specs.declared.items.FetchItem.{FetchItem}
 use Rattle.imap_session.specs.Exchange.{Answer, Standing, Turn, kept_tag}
 use Rattle.imap_session.specs.Commands.{flags_answer, idle_turn, turn_of, turn_of_verdict}
-use Rattle.client_list.specs.Beliefs.{IsRight, MayShow}
+use Rattle.client_list.specs.Beliefs.{Follows, IsRight, MayShow}
 use Rattle.client_list.specs.Client.{Known}
 use Rattle.client_list.specs.Commands.{IsFollowed, IsPrinted}
 use Rattle.client_list.specs.Fetches.{AreToldParts, IsNumbered}
@@ -49,6 +51,27 @@ RowTellsFlags = (p : Point) (uid : ℕ) (by_uid : Bool) (items : List FetchItem)
 abbrev pub StoreTellsFlags : Type 0
 StoreTellsFlags = (p : Point) (uid : ℕ) (by_uid : Bool) (flags : Flags) → Contains (counted p) uid → IsNumbered (counted p)
     → flags_at uid p.log ≡ Some flags → p.cursor ≤ length p.log → LeavesFlags p (flags_answer by_uid (place uid (counted p)) uid flags)
+
+-- ---- what is told is heard
+
+-- Whatever it knew, a client whose list is as long as the view reads this text, its list stays as long, and of this message it knows these flags then.
+abbrev pub HearsFlags : List ℕ → ℕ → List (List ℕ) → List ℕ → Type 0
+HearsFlags view uid names text = (list : List Known) → length list ≡ length view → Follows (λ (u : ℕ) (message : Known). u ≡ uid → message.flags ≡ Some names) list text view
+
+-- the line of a change of flags
+abbrev pub ChangeIsHeard : Type 0
+ChangeIsHeard = (p : Point) (uid : ℕ) (flags : Flags) → IsLegalLog p.log → Contains (counted p) uid → IsNumbered (counted p)
+    → HearsFlags (counted p) uid (flag_words flags) (line (counted p) (SetFlags uid flags))
+
+-- the flags after a STORE
+abbrev pub StoreIsHeard : Type 0
+StoreIsHeard = (p : Point) (uid : ℕ) (by_uid : Bool) (flags : Flags) → IsLegalLog p.log → Contains (counted p) uid → IsNumbered (counted p)
+    → HearsFlags (counted p) uid (flag_words flags) (flags_answer by_uid (place uid (counted p)) uid flags)
+
+-- and the answer to a FETCH that asked for FLAGS, or that has set \Seen
+abbrev pub FetchIsHeard : Type 0
+FetchIsHeard = (p : Point) (uid : ℕ) (by_uid : Bool) (items : List FetchItem) (row : Row) → IsLegalLog p.log → Contains (counted p) uid → IsNumbered (counted p) → IsRowOf uid (Some row) → AreToldParts items
+    → (list_any is_flags items || row.newly_seen) ≡ true → HearsFlags (counted p) uid (flag_words row.flags) (row_answer (place uid (counted p)) by_uid items row)
 
 -- ---- turns
 

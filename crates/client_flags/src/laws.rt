@@ -1,6 +1,6 @@
 //! Laws of what a client believes of flags, as functions that do nothing.
 
-ghost use Rattle.client_flags.specs.Laws.{AnswerTellsFlags, FlagsAreByUid, FlagsAreCurrent, FlagsOutlast, IdleTellsFlags, LinesTellFlags, RowTellsFlags, StoreTellsFlags, VerdictTellsFlags};
+ghost use Rattle.client_flags.specs.Laws.{AnswerTellsFlags, ChangeIsHeard, FetchIsHeard, FlagsAreByUid, FlagsAreCurrent, FlagsOutlast, IdleTellsFlags, LinesTellFlags, RowTellsFlags, StoreIsHeard, StoreTellsFlags, VerdictTellsFlags};
 ghost use Rattle.client_flags.specs.One.{OneLifeKnowsFlags};
 ghost use Rattle.client_flags.specs.Records.{ClientsKnowFlags, ClientsOfHousesKnowFlags};
 ghost use Rattle.client_flags.specs.Worlds.{CallsTellFlags, DoneTellsFlags, LivesTellFlags, NoopTellsFlags, NothingPendingTellsFlags, OthersLeaveFlags, TurnsTellFlags};
@@ -21,6 +21,14 @@ pub fn flags_are_told()
     ensures lines { LinesTellFlags }
     ensures row { RowTellsFlags }
     ensures store { StoreTellsFlags }
+{}
+
+/// What is told is heard: whatever a client knew, when it has read the line of a change of flags, the flags after a STORE, or
+/// the answer to a FETCH that asked for FLAGS or has set `\Seen`, it knows these flags of that message (7.5.2).
+pub fn flags_are_heard()
+    ensures change { ChangeIsHeard }
+    ensures store { StoreIsHeard }
+    ensures fetch { FetchIsHeard }
 {}
 
 /// Over any store, whatever it answers: so it is of the answer to any line but SELECT, EXAMINE, CLOSE and UNSELECT, of the
