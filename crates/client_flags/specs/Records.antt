@@ -6,6 +6,7 @@ use Rattle.house.specs.Setup.{Setup}
 use Rattle.house.specs.declared.event.Event as house
 use Rattle.world.specs.World.{Session, pending}
 use Rattle.exactly_once.specs.Promise.{Entry, ExactlyOnce, IsRecord}
+use Rattle.script.specs.Promise.{DeliversOnce, entries_of}
 use Rattle.client_records.specs.Clients.{hears_all}
 use Rattle.client_records.specs.Records.{IsPrintable, KeepsUp}
 use Rattle.client_flags.specs.Worlds.{HasFlagsNow, IsRightOnFlags, point_of}
@@ -25,3 +26,8 @@ ClientsKnowFlags = (k : Setup) (entries : List Entry) (t : Scene) (place : ℕ) 
 abbrev pub ClientsOfHousesKnowFlags : Type 0
 ClientsOfHousesKnowFlags = (k : Setup) (events : List house.Event) (t : Scene) (printed : List ℕ) (once : ExactlyOnce k events t printed) (place : ℕ) (v : SeatedSession) → IsPrintable k
     → t.visitor place ≡ Some v → v.gone ≡ false → KnowsFlagsToo k once.entries place v t
+
+-- and of the record that `DeliversOnce` has: of what the lines of a script did
+abbrev pub ClientsOfScriptsKnowFlags : Type 0
+ClientsOfScriptsKnowFlags = (k : Setup) (count : ℕ) (t : Scene) (printed : List ℕ) (once : DeliversOnce k count t printed) (place : ℕ) (v : SeatedSession) → IsPrintable k
+    → t.visitor place ≡ Some v → v.gone ≡ false → KnowsFlagsToo k (entries_of once.parts) place v t

@@ -2,7 +2,7 @@
 
 ghost use Rattle.client_flags.specs.Laws.{AnswerTellsFlags, ChangeIsHeard, FetchIsHeard, FlagsAreByUid, FlagsAreCurrent, FlagsOutlast, IdleTellsFlags, LinesTellFlags, RowTellsFlags, StoreIsHeard, StoreTellsFlags, VerdictTellsFlags};
 ghost use Rattle.client_flags.specs.One.{OneLifeKnowsFlags};
-ghost use Rattle.client_flags.specs.Records.{ClientsKnowFlags, ClientsOfHousesKnowFlags};
+ghost use Rattle.client_flags.specs.Records.{ClientsKnowFlags, ClientsOfHousesKnowFlags, ClientsOfScriptsKnowFlags};
 ghost use Rattle.client_flags.specs.Worlds.{CallsTellFlags, DoneTellsFlags, LivesTellFlags, NoopTellsFlags, NothingPendingTellsFlags, OthersLeaveFlags, TurnsTellFlags};
 
 /// Flags that a message had at some moment not before the cursor are such whatever is logged later, and where nothing is
@@ -71,6 +71,7 @@ pub fn flags_become_current()
 pub fn clients_know_flags()
     ensures record { ClientsKnowFlags }
     ensures house { ClientsOfHousesKnowFlags }
+    ensures scripts { ClientsOfScriptsKnowFlags }
 {}
 
 /// One life, by computing: a session selects an empty mailbox, a copy comes there, a NOOP shows it, and its client sets a flag of
