@@ -43,9 +43,10 @@ told_here P Q uid told f g (u ∷ us) (m ∷ ms) d is h = by (u == uid) refl is 
         record {
           now = told m ∷ ms;
           is = rw e refl;
-          each =
-              (subst (λ (v : ℕ). Q v (told m)) (sym same) (f m (subst (λ (v : ℕ). P v m) same h.0)),
-              each_in P Q us ms (λ v n there. g v n (λ is. d.0 (subst (λ (x : ℕ). IsIn x us) (is ∙ sym same) there))) h.1);
+          each = (
+            subst (λ (v : ℕ). Q v (told m)) (sym same) (f m (subst (λ (v : ℕ). P v m) same h.0)),
+            each_in P Q us ms (λ v n there. g v n (λ is. d.0 (subst (λ (x : ℕ). IsIn x us) (is ∙ sym same) there))) h.1,
+          );
         }
     by false e (inl same) behind = absurd (false≢true (sym e ∙ eq-eqb u uid same))
     by false e (inr other) behind =

@@ -52,34 +52,34 @@ one_life_knows_flags = (
   _,
   turns
       (turns
-        (others
-        (others
-        (others
-        (others
-        (others
-        (turns comes (Line (codes "a1 SELECT INBOX") (Entered (record { count = 0; uidvalidity = 1; uidnext = 1 }) ∷ [])) (codes "a1 SELECT INBOX\r\n") selects _ refl tt refl
-        (_, (enters (omega arith) (omega arith) refl (omega arith) refl, (_, refl, refl), (refl, refl), refl), refl))
-        (Put 0 0 one_copy) _ tt
-        (put_joins (record { seat = omega arith; own = refl; mailbox = omega arith; shard = (omega arith, refl); above_sent = λ t i d l. absurd (omega arith); above_heard = λ i d l. absurd (omega arith) }) refl (omega arith) refl))
-        (Take 0) _ tt (takes (Item 0 one_copy) [] refl refl refl))
-        (Deliver 0) _ tt (delivers one_copy box refl (omega arith, omega arith) (omega arith) (record { room = omega arith; log = refl; base = inl refl; accepted = refl }) refl))
-        (AnswerEvent 0) _ tt (answers one_reply refl (omega arith) refl))
-        (Hear 0) _ tt (hears_one 0 one_reply [] refl refl))
-        (Line (codes "a2 NOOP") (Fed [] (Add 1 ∷ []) ∷ [])) (codes "a2 NOOP\r\n") shows_it _ refl tt refl (
-          _,
+      (others
+      (others
+      (others
+      (others
+      (others
+      (turns comes (Line (codes "a1 SELECT INBOX") (Entered (record { count = 0; uidvalidity = 1; uidnext = 1 }) ∷ [])) (codes "a1 SELECT INBOX\r\n") selects _ refl tt refl
+      (_, (enters (omega arith) (omega arith) refl (omega arith) refl, (_, refl, refl), (refl, refl), refl), refl))
+      (Put 0 0 one_copy) _ tt
+      (put_joins (record { seat = omega arith; own = refl; mailbox = omega arith; shard = (omega arith, refl); above_sent = λ t i d l. absurd (omega arith); above_heard = λ i d l. absurd (omega arith) }) refl (omega arith) refl))
+      (Take 0) _ tt (takes (Item 0 one_copy) [] refl refl refl))
+      (Deliver 0) _ tt (delivers one_copy box refl (omega arith, omega arith) (omega arith) (record { room = omega arith; log = refl; base = inl refl; accepted = refl }) refl))
+      (AnswerEvent 0) _ tt (answers one_reply refl (omega arith) refl))
+      (Hear 0) _ tt (hears_one 0 one_reply [] refl refl))
+      (Line (codes "a2 NOOP") (Fed [] (Add 1 ∷ []) ∷ [])) (codes "a2 NOOP\r\n") shows_it _ refl tt refl (
+        _,
+        (
+          (_, refl, mails box (omega arith) (record { room = omega arith; log = refl; base = refl; accepted = refl }) refl),
           (
-            (_, refl, mails box (omega arith) (record { room = omega arith; log = refl; base = refl; accepted = refl }) refl),
+            _,
+            refl,
             (
-              _,
-              refl,
-              (
-                record { kept = omega arith; mailbox = box; logs = record { room = omega arith; log = refl; base = refl; accepted = refl }; made = refl },
-                record { kept = omega arith; counted = refl; handed = refl },
-              ),
+              record { kept = omega arith; mailbox = box; logs = record { room = omega arith; log = refl; base = refl; accepted = refl }; made = refl },
+              record { kept = omega arith; counted = refl; handed = refl },
             ),
           ),
-          refl,
-        ))
+        ),
+        refl,
+      ))
       (Line (codes "a3 STORE 1 +FLAGS (\\Flagged)") (Looked (1 ∷ []) ∷ Altered (Some flagged) ∷ [])) (codes "a3 STORE 1 +FLAGS (\\Flagged)\r\n") sets_it _ refl tt refl (
         _,
         (refl, (_, refl, refl)),

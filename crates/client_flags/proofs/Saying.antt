@@ -108,8 +108,7 @@ fetching_says tag view fetch mark done ends parts numbered (uid ∷ uids) p gone
     by more (Some row) q s =
         let is : counted q ≡ view = s.sees.leads ∙ same in
         let here : IsIn uid (counted q) = subst (λ (v : List ℕ). IsIn uid v) (sym is) there.0 in
-        let few : length (counted q) + 1 < 2 ^ 64 = subst (λ (v : List ℕ). length v + 1 < 2 ^ 64) (sym is) numbered.few in
-        (
+        let few : length (counted q) + 1 < 2 ^ 64 = subst (λ (v : List ℕ). length v + 1 < 2 ^ 64) (sym is) numbered.few in (
           subst (λ (v : List ℕ). LeavesFlags q (row_answer (place uid v) fetch.by_uid fetch.items row)) is
               (row_tells q uid fetch.by_uid fetch.items row here few (small_in uid view numbered.small there.0) s.sees.fits.0 s.sees.fits.1 parts s.tells (still_within p (record { call = Read uid mark; answer = Found (Some row) }) q s)),
           more q gone is there.1,
