@@ -1,5 +1,5 @@
--- What the definitions refuse: flags older than what was shown, flags that another message has, changes that are left out, and an answer to STORE with flags that are no more.
-use Rattle.std.proofs.Common.{◌≡◌, ℕ, zero, suc, ◌≤◌, Bool, true, false, List, [], ◌∷◌, length, take, ap, ◌∙◌, sym, refl, arith}
+-- What the definitions refuse: flags older than what was shown, flags that another message has, an answer that tells none, changes that are left out, and an answer to STORE with flags that are no more.
+use Rattle.std.proofs.Common.{◌≡◌, ℕ, zero, suc, ◌≤◌, Bool, true, false, List, [], ◌∷◌, length, take, ap, ◌∙◌, sym, refl, subst, arith}
 use Rattle.std.specs.Prelude.{Option, Some, None, codes}
 use Rattle.std.proofs.lemmas.Bool.{false≢true}
 use Rattle.std.proofs.lemmas.Option.{none-some}
@@ -11,7 +11,9 @@ use Rattle.cursor_set.specs.Lines.{flag_words}
 use Rattle.imap_session.specs.Exchange.{Alter, Altered, Fed, Feed}
 use Rattle.imap_session.specs.Commands.{unlimited}
 use Rattle.change_ring.specs.declared.flag_op.FlagOp.{FlagOp}
-use Rattle.client_list.specs.Client.{unknown}
+use Rattle.client_list.specs.Beliefs.{Each, Follows}
+use Rattle.client_list.specs.Client.{Client, Known, Messages, unknown}
+use Rattle.client_flags.specs.Laws.{HearsFlags}
 use Rattle.client_flags.specs.Flags.{FlagsOf, KnowsFlags, HasNow, Point, flags_at}
 use Rattle.client_flags.specs.Turns.{SeesFlags}
 use Rattle.client_flags.specs.rows.FlagRows.{both, flagged, the_log}
@@ -60,6 +62,21 @@ numbered_by_the_mailbox right = wrong (right.0 (codes "\\Seen" ∷ []) refl)
 -- a client that believes \Flagged alone, when nothing is pending and both are set
 not_now : HasNow the_log 7 (codes "\\Flagged" ∷ []) → ⊥
 not_now h = absurd (omega (arith, ap length (named_so both h.flags (codes "\\Flagged" ∷ []) h.has h.named)))
+
+-- ---- texts
+
+abbrev the_list : Messages → List Known
+the_list None = []
+the_list (Some list) = list
+
+-- an answer that tells a UID alone: of flags nothing is heard
+unheard : HearsFlags (7 ∷ []) 7 (codes "\\Seen" ∷ []) (codes "* 1 FETCH (UID 7)\r\n") → ⊥
+unheard hears = by (hears (unknown ∷ []) refl)
+  where
+    by : Follows (λ (u : ℕ) (m : Known). u ≡ 7 → m.flags ≡ Some (codes "\\Seen" ∷ [])) (unknown ∷ []) (codes "* 1 FETCH (UID 7)\r\n") (7 ∷ []) → ⊥
+    by f =
+        let after : record { uid = Some 7; flags = None } ∷ [] ≡ f.after = ap (λ (c : Client). the_list c.messages) f.reads in
+        none-some (codes "\\Seen" ∷ []) ((subst (λ (l : List Known). Each (λ (u : ℕ) (m : Known). u ≡ 7 → m.flags ≡ Some (codes "\\Seen" ∷ [])) (7 ∷ []) l) (sym after) f.each).0 refl)
 
 -- ---- stores
 

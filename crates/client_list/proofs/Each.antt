@@ -43,7 +43,7 @@ pub record Went (P : ℕ → Known → Type 0) (uid : ℕ) (view : List ℕ) (ms
   pub is : expunged (place uid view) ms ≡ Some left
   pub each : Each P (without uid view) left
 
-pub expunged_next : (k : ℕ) (m : Known) (ms left : List Known) → 0 < k → expunged k ms ≡ Some left → expunged (k + 1) (m ∷ ms) ≡ Some (m ∷ left)
+expunged_next : (k : ℕ) (m : Known) (ms left : List Known) → 0 < k → expunged k ms ≡ Some left → expunged (k + 1) (m ∷ ms) ≡ Some (m ∷ left)
 expunged_next zero m ms left h e = absurd (omega arith)
 expunged_next (suc k) m ms left h e =
     let more : suc k + 1 ≡ suc (suc k) = omega arith in

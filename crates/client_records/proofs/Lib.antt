@@ -1,26 +1,26 @@
 pub mod Boxes
-pub mod Logs
+mod Logs
 pub mod Worlds
 pub mod Names
 pub mod Seen
 pub mod Moved
-pub mod Folders
+mod Folders
 pub mod Parts
 pub mod Entering
 pub mod Known
 pub mod Living
 pub mod Current
-pub mod Talked
+mod Talked
 pub mod Folded
-pub mod Recording
-pub mod Entries
+mod Recording
+mod Entries
 pub mod Keeping
-pub mod Refuted
-pub mod Onward
-pub mod OneLife
-pub mod Dialogues
-pub mod Texts
-pub mod Mailed
-pub mod Shortness
-pub mod OkCurrent
-pub mod Selecting
+mod Refuted
+mod Onward
+mod OneLife
+mod Dialogues
+mod Texts
+mod Mailed
+mod Shortness
+mod OkCurrent
+mod Selecting

@@ -71,11 +71,11 @@ may_show log c l fits small few short =
 
 -- ---- a call that was not refused
 
-pub the_view : (w : World) (n : ℕ) (s : Session) → w.session n ≡ Some s → view_of w n ≡ view_at (w.box s.mailbox).log s.cursor
+the_view : (w : World) (n : ℕ) (s : Session) → w.session n ≡ Some s → view_of w n ≡ view_at (w.box s.mailbox).log s.cursor
 the_view w n s is = ap (view_in w) is
 
 -- the session's view is what the changes that it was shown leave of it
-pub done_view : (k : Config) (w : World) (n : ℕ) (s : Session) (l : ℕ) (shown changes : List Change) (v : World) → Kept k w → w.session n ≡ Some s → shown ≡ take l (drop s.cursor (w.box s.mailbox).log)
+done_view : (k : Config) (w : World) (n : ℕ) (s : Session) (l : ℕ) (shown changes : List Change) (v : World) → Kept k w → w.session n ≡ Some s → shown ≡ take l (drop s.cursor (w.box s.mailbox).log)
     → Done k w n s shown changes v → view_of v n ≡ replay (view_of w n) shown
 done_view k w n s l shown changes v K is cut D =
     let log : List Change = (w.box s.mailbox).log in
@@ -181,7 +181,7 @@ alter_seen : (k : Config) (w : World) (n uid : ℕ) (op : FlagOp) (flags : Optio
     → Sees (view_of w n) (record { call = Alter uid op; answer = Altered flags }) (view_of v n)
 alter_seen k w n uid op flags v S (step, (s, is, (D, altered))) = record { leads = done_view k w n s 0 [] (flags_logged (rows_of (w.box s.mailbox).log) uid op) v S.kept is refl D; fits = tt }
 
-pub all_pending : (w : World) (s : Session) → pending (w.box s.mailbox) s ≡ take (length (pending (w.box s.mailbox) s)) (drop s.cursor (w.box s.mailbox).log)
+all_pending : (w : World) (s : Session) → pending (w.box s.mailbox) s ≡ take (length (pending (w.box s.mailbox) s)) (drop s.cursor (w.box s.mailbox).log)
 all_pending w s = sym (take-length (pending (w.box s.mailbox) s))
 
 expunge_seen : (k : Config) (w : World) (n : ℕ) (uids : Option (List ℕ)) (met : List ℕ) (changes : List Change) (gone : ℕ) (v : World) → Sound k w → Meets k n w (ExpungeCall uids) (Expunged met changes gone) v
