@@ -46,7 +46,7 @@ const IDLES: &[Step] = &[
     },
     Step {
         says: b"a1 SELECT INBOX\r\n",
-        hears_to: b"* 1 EXISTS",
+        hears_to: b"* 1 EXISTS\r\n",
         wanted: Wanted::Front(b"* "),
     },
     Step {
@@ -64,7 +64,7 @@ const IDLES: &[Step] = &[
 // And is told of the next.
 const IS_SHOWN: &[Step] = &[Step {
     says: b"",
-    hears_to: b"* 2 EXISTS",
+    hears_to: b"* 2 EXISTS\r\n",
     wanted: Wanted::All(b"* 2 EXISTS\r\n"),
 }];
 
