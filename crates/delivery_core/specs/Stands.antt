@@ -91,5 +91,5 @@ abbrev pub Follows : Config → Held → List Event → Held → Type 0
 Follows k old events new = (w : World) → StandsFor k old w → (v : World) × Steps k w events v × StandsFor k new v
 
 -- In no world that it stood for does this event change anything.
-abbrev pub Idle : Config → Held → Event → Type 0
-Idle k old event = (w v : World) → StandsFor k old w → Step k w event v → v ≡ w
+abbrev pub ChangesNothing : Config → Held → Event → Type 0
+ChangesNothing k old event = (w v : World) → StandsFor k old w → Step k w event v → v ≡ w

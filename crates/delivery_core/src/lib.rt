@@ -7,4 +7,4 @@ mod clients;
 mod make;
 mod steps;
 
-pub use steps::{DeliveryCore, Fault, Settings};
+pub use steps::{DeliveryCore, Fault, HearFault, Settings};

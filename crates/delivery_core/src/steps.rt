@@ -12,7 +12,7 @@ ghost use Rattle.delivery_core.specs.Seated.{cursors_of};
 ghost use Rattle.delivery_core.specs.Puts.{IsNextKey};
 ghost use Rattle.delivery_core.specs.inner.Puts.{LanePuts};
 ghost use Rattle.delivery_token.specs.Keys.{AtLeast, past};
-ghost use Rattle.delivery_core.specs.Stands.{EachAt, Follows, Idle, StandsFor, StandsForBox};
+ghost use Rattle.delivery_core.specs.Stands.{EachAt, Follows, ChangesNothing, StandsFor, StandsForBox};
 ghost use Rattle.delivery_core.specs.inner.Stands.{Lives};
 ghost use Rattle.delivery_core.specs.inner.Boxes.{verdict_of, BoxDelivers};
 ghost use Rattle.delivery_core.specs.Settled.{IsFor};
@@ -37,6 +37,15 @@ pub enum Fault {
     /// There is no such shard or seat.
     Nobody,
     /// The event would change nothing, or is not one of those that may happen now.
+    Nothing,
+}
+
+/// Why a seat heard nothing. Nothing is changed then.
+#[derive(Clone, Copy, Debug, PartialEq, Eq)]
+pub enum HearFault {
+    /// There is no such seat.
+    Nobody,
+    /// No verdict waits for it.
     Nothing,
     /// Memory was refused.
     NoMemory,
@@ -213,14 +222,14 @@ impl DeliveryCore {
     /// why: as Shut where the seat has put its end into that lane, or else as Full where the lane is,
     /// or for want of memory. Either way the key is used up.
     ///
-    /// NoMemory where its log has no room for the note of a refusal and gets none.
+    /// An error where its log has no room for the note of a refusal and gets none; nothing is then changed.
     pub fn put(
         &mut self,
         key: CopyKey,
         mailbox: u8,
         text: &Text,
         flags: Flags,
-    ) -> Result<Option<Refusal>, Fault>
+    ) -> Result<Option<Refusal>, AllocError>
         requires seat { key.seat < length self.old.replies }
         requires next { AtLeast (slice_index_or self.old.next key.seat key) key }
         requires last { key.recipient < 255 }
@@ -228,9 +237,7 @@ impl DeliveryCore {
         requires shards { 0 < length self.old.lanes }
         ensures follows { OnOk result ((k : Config) → Follows k self.old (Put key.seat (mailbox % length self.old.lanes) (record { key = key; mailbox = mailbox; text = text.now; flags = flags }) ∷ []) self.new) }
         ensures next { OnOk result (self.new.next ≡ slice_set self.old.next key.seat (past key)) }
-        ensures somebody { result ≡ Err Fault.Nobody → ⊥ }
-        ensures memory { result ≡ Err Fault.NoMemory → (d : Book) → (slice_index_or self.old.heard key.seat d).spare ≡ 0 }
-        ensures nothing_left { result ≡ Err Fault.Nothing → ⊥ }
+        ensures memory { OnErr result ((d : Book) → (slice_index_or self.old.heard key.seat d).spare ≡ 0) }
         ensures shut { IfOk result (λ why. (why ≡ Some Refusal.Shut) ↔ (is_ended key.seat (lane_of self.old (mailbox % length self.old.lanes)) ≡ true)) }
         ensures heard { IfOk result (λ why. Hears self.old self.new key.seat (heard_at_once key mailbox why)) }
         ensures boxes { self.new.boxes ≡ self.old.boxes }
@@ -242,7 +249,7 @@ impl DeliveryCore {
         let seat = usize::from(key.seat);
         let shard = usize::from(mailbox) % self.lanes.len();
         if self.heard[seat].reserve(1).is_err() {
-            return Err(Fault::NoMemory);
+            return Err(AllocError);
         }
         self.next[seat] = CopyKey {
             seat: key.seat,
@@ -278,8 +285,7 @@ impl DeliveryCore {
     pub fn end(&mut self, seat: u8, shard: u8) -> Result<(), Fault>
         ensures follows { OnOk result ((k : Config) → Follows k self.old (PutEnd seat shard ∷ []) self.new) }
         ensures nobody { (result ≡ Err Fault.Nobody) ↔ ((length self.old.lanes ≤ shard) ⊎ (length self.old.replies ≤ seat)) }
-        ensures no_memory { result ≡ Err Fault.NoMemory → ⊥ }
-        ensures idle { result ≡ Err Fault.Nothing → (k : Config) → Idle k self.old (PutEnd seat shard) }
+        ensures changes_nothing { result ≡ Err Fault.Nothing → (k : Config) → ChangesNothing k self.old (PutEnd seat shard) }
         ensures ends { OnOk result (Ends self.old self.new seat shard) }
         ensures nothing { result ≡ Err Fault.Nothing → CannotEnd self.old seat shard }
         ensures heard { self.new.heard ≡ self.old.heard }
@@ -309,8 +315,7 @@ impl DeliveryCore {
     pub fn take(&mut self, shard: u8) -> Result<(), Fault>
         ensures follows { OnOk result ((k : Config) → Follows k self.old (Take shard ∷ []) self.new) }
         ensures nobody { (result ≡ Err Fault.Nobody) ↔ (length self.old.lanes ≤ shard) }
-        ensures no_memory { result ≡ Err Fault.NoMemory → ⊥ }
-        ensures idle { result ≡ Err Fault.Nothing → (k : Config) → Idle k self.old (Take shard) }
+        ensures changes_nothing { result ≡ Err Fault.Nothing → (k : Config) → ChangesNothing k self.old (Take shard) }
         ensures heard { self.new.heard ≡ self.old.heard }
         ensures next { self.new.next ≡ self.old.next }
         ensures boxes { self.new.boxes ≡ self.old.boxes }
@@ -341,8 +346,7 @@ impl DeliveryCore {
     pub fn deliver(&mut self, shard: u8) -> Result<(), Fault>
         ensures follows { OnOk result ((k : Config) → Follows k self.old (Deliver shard ∷ []) self.new) }
         ensures nobody { (result ≡ Err Fault.Nobody) ↔ (length self.old.lanes ≤ shard) }
-        ensures no_memory { result ≡ Err Fault.NoMemory → ⊥ }
-        ensures idle { result ≡ Err Fault.Nothing → (k : Config) → Idle k self.old (Deliver shard) }
+        ensures changes_nothing { result ≡ Err Fault.Nothing → (k : Config) → ChangesNothing k self.old (Deliver shard) }
         ensures heard { self.new.heard ≡ self.old.heard }
         ensures next { self.new.next ≡ self.old.next }
         ensures cursors { cursors_of self.new.boxes ≡ cursors_of self.old.boxes }
@@ -379,8 +383,7 @@ impl DeliveryCore {
     pub fn answer(&mut self, shard: u8) -> Result<(), Fault>
         ensures follows { OnOk result ((k : Config) → Follows k self.old (Answer shard ∷ []) self.new) }
         ensures nobody { (result ≡ Err Fault.Nobody) ↔ (length self.old.lanes ≤ shard) }
-        ensures no_memory { result ≡ Err Fault.NoMemory → ⊥ }
-        ensures idle { result ≡ Err Fault.Nothing → (k : Config) → Idle k self.old (Answer shard) }
+        ensures changes_nothing { result ≡ Err Fault.Nothing → (k : Config) → ChangesNothing k self.old (Answer shard) }
         ensures heard { self.new.heard ≡ self.old.heard }
         ensures next { self.new.next ≡ self.old.next }
         ensures boxes { self.new.boxes ≡ self.old.boxes }
@@ -413,11 +416,11 @@ impl DeliveryCore {
     /// A seat hears the verdict at the front of its reply lane, and notes it. Nobody where the seat
     /// is not there, Nothing where no verdict waits, and NoMemory where its log has no room for the
     /// note and gets none.
-    pub fn hear(&mut self, seat: u8) -> Result<Noted, Fault>
+    pub fn hear(&mut self, seat: u8) -> Result<Noted, HearFault>
         ensures follows { OnOk result ((k : Config) → Follows k self.old (Hear seat ∷ []) self.new) }
-        ensures nobody { (result ≡ Err Fault.Nobody) ↔ (length self.old.replies ≤ seat) }
-        ensures memory { result ≡ Err Fault.NoMemory → (d : Book) → (slice_index_or self.old.heard seat d).spare ≡ 0 }
-        ensures idle { result ≡ Err Fault.Nothing → (k : Config) → Idle k self.old (Hear seat) }
+        ensures nobody { (result ≡ Err HearFault.Nobody) ↔ (length self.old.replies ≤ seat) }
+        ensures memory { result ≡ Err HearFault.NoMemory → (d : Book) → (slice_index_or self.old.heard seat d).spare ≡ 0 }
+        ensures changes_nothing { result ≡ Err HearFault.Nothing → (k : Config) → ChangesNothing k self.old (Hear seat) }
         ensures heard { IfOk result (λ noted. Hears self.old self.new seat (noted ∷ [])) }
         ensures next { self.new.next ≡ self.old.next }
         ensures boxes { self.new.boxes ≡ self.old.boxes }
@@ -428,17 +431,17 @@ impl DeliveryCore {
     {
         let at = usize::from(seat);
         if at >= self.replies.len() {
-            return Err(Fault::Nobody);
+            return Err(HearFault::Nobody);
         }
         if !self.replies[at].has_item() {
-            return Err(Fault::Nothing);
+            return Err(HearFault::Nothing);
         }
         if self.heard[at].reserve(1).is_err() {
-            return Err(Fault::NoMemory);
+            return Err(HearFault::NoMemory);
         }
         let lane = &mut self.replies[at];
         let Taken::Item(_, noted) = lane.take() else {
-            return Err(Fault::Nothing);
+            return Err(HearFault::Nothing);
         };
         let book = &mut self.heard[at];
         book.note(noted.key, noted.mailbox, noted.verdict);

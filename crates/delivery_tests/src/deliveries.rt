@@ -4,7 +4,7 @@
 ghost use Rattle.std.specs.Prelude.{◌<◌};
 
 use change_ring::{FlagOp, Flags, NO_FLAGS};
-use delivery_core::{DeliveryCore, Fault, Settings};
+use delivery_core::{DeliveryCore, Fault, HearFault, Settings};
 use delivery_token::{CopyKey, Noted, Refusal, Text, Verdict};
 use mailbox::{Limits, MailFault, Opening, Status};
 use std::alloc::{AllocError, Global};
@@ -63,7 +63,7 @@ const OTHER: CopyKey = CopyKey { seat: 1, ..KEY };
 // A call, and what it is to answer.
 enum Act {
     // This seat's copy of "hi" for this recipient goes to this mailbox's lane.
-    Put(u8, u8, u8, Result<Option<Refusal>, Fault>),
+    Put(u8, u8, u8, Result<Option<Refusal>, AllocError>),
     // Whether it may.
     MayPut(u8, u8, u8, bool),
     // The shard of this number does so.
@@ -71,7 +71,7 @@ enum Act {
     Deliver(u8, Result<(), Fault>),
     Answer(u8, Result<(), Fault>),
     // The seat of this number does so; it ends in this lane.
-    Hear(u8, Result<Noted, Fault>),
+    Hear(u8, Result<Noted, HearFault>),
     End(u8, u8, Result<(), Fault>),
     // Such a copy goes the whole way.
     Arrives(u8, u8),
@@ -109,7 +109,7 @@ fn puts(
     core: &mut DeliveryCore,
     key: CopyKey,
     mailbox: u8,
-    wanted: Result<Option<Refusal>, Fault>,
+    wanted: Result<Option<Refusal>, AllocError>,
 ) -> Result<bool, AllocError> {
     let text = Text::new(Vec::from_slice(alloc, b"hi\r\n")?)?;
     Ok(core.may_put(key, mailbox) && core.put(key, mailbox, &text, NO_FLAGS) == wanted)
@@ -235,7 +235,7 @@ fn play(alloc: Global, settings: Settings, acts: &[Act]) -> Result<Option<usize>
 
 const ONE_COPY: &[Act] = &[
     Act::Put(0, 0, 1, Ok(None)),
-    Act::Hear(0, Err(Fault::Nothing)),
+    Act::Hear(0, Err(HearFault::Nothing)),
     Act::Deliver(0, Err(Fault::Nothing)),
     Act::Take(0, Ok(())),
     Act::Deliver(0, Ok(())),

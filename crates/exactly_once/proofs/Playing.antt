@@ -11,7 +11,7 @@ use Rattle.house.specs.Settled.{HappenedFrom}
 use Rattle.house.specs.Settling.{Happened}
 use Rattle.house.specs.Stands.{StandsFor}
 use Rattle.house.specs.State.{State}
-use Rattle.house.specs.Steps.{Follows, FollowsInPart, IsBusy, IsIdle, IsNobody, Led}
+use Rattle.house.specs.Steps.{Follows, FollowsInPart, IsBusy, ChangesNothing, IsNobody, Led}
 use Rattle.house.proofs.Settlement.{happened-append, plays_part}
 use Rattle.exactly_once.specs.Promise.{CameOnce, EachTried, IsTried, TriedFrom, happens, refused}
 use Rattle.exactly_once.proofs.Going.{happened_once}
@@ -64,7 +64,7 @@ it_happened k s e h g old new st f =
       out = w.out;
     }
 
-pub it_was_refused : (k : Setup) (s : Scene) (e : Event) (h g : State) (old new : List ℕ) → StandsFor k h s → IsNobody h e ⊎ (IsBusy h e ⊎ IsIdle h e) → (g ≡ h) × (new ≡ old) → TriedFrom k (e ∷ []) h s g old new
+pub it_was_refused : (k : Setup) (s : Scene) (e : Event) (h g : State) (old new : List ℕ) → StandsFor k h s → IsNobody h e ⊎ (IsBusy h e ⊎ ChangesNothing h e) → (g ≡ h) × (new ≡ old) → TriedFrom k (e ∷ []) h s g old new
 it_was_refused k s e h g old new st why (same, silent) =
     let stands : StandsFor k g s = subst (λ (x : State). StandsFor k x s) (sym same) st in
     record {
@@ -75,7 +75,7 @@ it_was_refused k s e h g old new st why (same, silent) =
       out = silent ∙ sym (append-nil old);
     }
   where
-    reason : IsNobody h e ⊎ (IsBusy h e ⊎ IsIdle h e) → IsNobody h e ⊎ (IsBusy h e ⊎ HasNothing k s e)
+    reason : IsNobody h e ⊎ (IsBusy h e ⊎ ChangesNothing h e) → IsNobody h e ⊎ (IsBusy h e ⊎ HasNothing k s e)
     reason (inl n) = inl n
     reason (inr (inl b)) = inr (inl b)
     reason (inr (inr i)) = inr (inr (i k s st))

@@ -114,7 +114,7 @@ ends_done seats seat shard h o h1 o1 b all e c =
 -- of a shard that isn't shut nothing is tried
 pub ends_none : (shard : ℕ) (shut : Bool) (h : State) (o : List ℕ) → shut ≡ false → DidVisits (λ k. shard < k.config.shards) (λ k. ends_where k.config.seats shard shut) h o h o false
 ends_none shard true h o e = cc
-ends_none shard false h o e = record { same = refl; silent = refl; idle = λ k s q st. All-nil (λ group. All (HasNothing k s) group) }
+ends_none shard false h o e = record { same = refl; silent = refl; changes_nothing = λ k s q st. All-nil (λ group. All (HasNothing k s) group) }
 
 pub ends_here : {E : Type 0} (shard : ℕ) (shut : Bool) (h : State) (o : List ℕ) (h1 : State) (o1 : List ℕ) (r : Result Bool E) → shut ≡ true
     → CameVisits {E = E} (λ k. shard < k.config.shards) (λ k. ends k.config.seats shard) h o h1 o1 r → CameVisits {E = E} (λ k. shard < k.config.shards) (λ k. ends_where k.config.seats shard shut) h o h1 o1 r

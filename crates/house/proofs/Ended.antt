@@ -9,8 +9,6 @@ use Rattle.delivery_core.specs.Held.{Held}
 use Rattle.delivery_core.specs.Stands as core
 use Rattle.std.proofs.lemmas.List.{append-nil}
 use Rattle.delivery_token.specs.declared.CopyKey.{CopyKey}
-use Rattle.delivery_core.specs.declared.steps.Fault.{Fault}
-use Rattle.delivery_core.specs.declared.steps.Fault.TheVariants as faults
 use Rattle.world.specs.World as world
 use Rattle.house_connection.specs.Line.{Line}
 use Rattle.house.specs.State.{State}
@@ -22,7 +20,7 @@ use Rattle.house.specs.Scene.{Moves, Scene, with_world}
 use Rattle.house.specs.Stands.{StandsFor, StandsForOne, StandsForVisit}
 use Rattle.house_connection.specs.Taking.{due}
 use Rattle.house.specs.Steps.{IsNoNumber, IsVacant, due_at, due_by, due_of, is_taken}
-use Rattle.house.proofs.Worldly.{idles, moves}
+use Rattle.house.proofs.Worldly.{moves}
 
 -- nobody stands at this seat, neither a connection nor a session
 pub record IsFree (k : Setup) (s : Scene) (seat : ℕ) : Type 0 where
@@ -36,16 +34,6 @@ pub end_led : (k : Setup) (h : State) (s : Scene) (c : Held) (seat shard : ℕ) 
 end_led k h s c seat shard old st follows eh en =
     let m = moves k h c s (world.PutEnd seat shard) st follows eh en in
     (with_world s m.0, [], m.1, m.2, sym (append-nil old))
-
--- where no end was put, none could be
-pub end_idles : (k : Setup) (h : State) (s : Scene) (seat shard : ℕ) (f : Fault) → StandsFor k h s → seat < k.config.seats → shard < length h.core.lanes → (f ≡ faults.Nobody → (length h.core.lanes ≤ shard) ⊎ (length h.core.replies ≤ seat))
-    → (f ≡ faults.NoMemory → ⊥) → (f ≡ faults.Nothing → (x : Config) → core.Idle x h.core (world.PutEnd seat shard)) → (t : Scene) (printed : List ℕ) → Moves k s (world.PutEnd seat shard) t printed → (t ≡ s) × (printed ≡ [])
-end_idles k h s seat shard faults.Nobody st ls lh nobody memory idle t printed m = elim (nobody refl) [
-  | inl l ↦ absurd (omega (arith, l, lh))
-  | inr l ↦ absurd (let a = st.core.seats in omega (arith, l, ls, a))
-]
-end_idles k h s seat shard faults.Nothing st ls lh nobody memory idle t printed m = idles k h s (world.PutEnd seat shard) st (idle refl) t printed m
-end_idles k h s seat shard faults.NoMemory st ls lh nobody memory idle t printed m = absurd (memory refl)
 
 -- nobody is in the scene where no line stands
 pub nobody_at : (k : Setup) (h : State) (s : Scene) (seat : ℕ) → StandsFor k h s → seat < length h.callers → get_or h.callers seat None ≡ None → s.caller seat ≡ None

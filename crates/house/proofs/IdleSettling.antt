@@ -35,12 +35,12 @@ turn_again n h o h1 o1 h2 o2 f g k s q st =
 pub turns_done : (n : ℕ) (h : State) (o : List ℕ) (h1 : State) (o1 : List ℕ) (h2 : State) (o2 : List ℕ) → Turns n h o h1 o1 → h2 ≡ h1 → o2 ≡ o1
     → ((k : Setup) (s : Scene) → IsAmong k (Idle n) → StandsFor k h1 s → HasNothing k s (Idle n))
     → Goes (λ k. IsAmong k (Idle n)) (λ k s t printed. Visit k (Idle n ∷ []) s t printed) h o h2 o2
-turns_done n h o h1 o1 h2 o2 f same silent idle k s q st =
+turns_done n h o h1 o1 h2 o2 f same silent still k s q st =
     let w = f k s q st in
     record {
       after = w.after;
       printed = w.printed;
-      goes = visit_of k (Idle n ∷ []) s w.after w.printed w.goes (All-one (HasNothing k w.after) (Idle n) (idle k w.after q w.stands));
+      goes = visit_of k (Idle n ∷ []) s w.after w.printed w.goes (All-one (HasNothing k w.after) (Idle n) (still k w.after q w.stands));
       stands = subst (λ (x : State). StandsFor k x w.after) (sym same) w.stands;
       out = silent ∙ w.out;
     }

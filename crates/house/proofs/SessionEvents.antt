@@ -285,8 +285,8 @@ heard_led k whole h s place g c d r x q old new st lt some follows hears nexts s
       w.out,
     )
 
-pub hear_idles : (k : Setup) (h : State) (s : Scene) (place : ℕ) (t : Scene) (printed : List ℕ) → StandsFor k h s → ((x : Config) → core.Idle x h.core (world.Hear (session_seat k place))) → SessionHears k true s place t printed → ⊥
-hear_idles k h s place t printed st idle p = hear_moves s.world (session_seat k place) p.moved p.step (idle k.config s.world p.moved st.core p.step)
+pub hear_changes_nothing : (k : Setup) (h : State) (s : Scene) (place : ℕ) (t : Scene) (printed : List ℕ) → StandsFor k h s → ((x : Config) → core.ChangesNothing x h.core (world.Hear (session_seat k place))) → SessionHears k true s place t printed → ⊥
+hear_changes_nothing k h s place t printed st still p = hear_moves s.world (session_seat k place) p.moved p.step (still k.config s.world p.moved st.core p.step)
 
 -- the session at a place heard it
 pub heard_at : (o p : Option Seat) (r : Noted) (g : Seat) → o ≡ Some g → MatchOption o (p ≡ None) (λ x. IsSomeAnd p (HearsVerdict x r)) → (q : Seat) × (p ≡ Some q) × HearsVerdict g r q
@@ -303,9 +303,9 @@ pub puts_none : (k : Setup) (h : State) (s : Scene) (place : ℕ) (g : Seat) (t 
 puts_none k h s place g t printed st lt some why (connection_puts l p) = omega (arith, l)
 puts_none k h s place g t printed st lt some why (session_puts other e p) = put_idles k h s place g t printed st lt some why (subst (λ (n : ℕ). SessionPuts k true s n t printed) (sym (same_place k place other e)) p)
 
-pub hears_none : (k : Setup) (h : State) (s : Scene) (place : ℕ) (t : Scene) (printed : List ℕ) → StandsFor k h s → ((x : Config) → core.Idle x h.core (world.Hear (session_seat k place))) → HearPlay k true s (session_seat k place) t printed → ⊥
-hears_none k h s place t printed st idle (connection_hears l p) = omega (arith, l)
-hears_none k h s place t printed st idle (session_hears other e p) = hear_idles k h s place t printed st idle (subst (λ (n : ℕ). SessionHears k true s n t printed) (sym (same_place k place other e)) p)
+pub hears_none : (k : Setup) (h : State) (s : Scene) (place : ℕ) (t : Scene) (printed : List ℕ) → StandsFor k h s → ((x : Config) → core.ChangesNothing x h.core (world.Hear (session_seat k place))) → HearPlay k true s (session_seat k place) t printed → ⊥
+hears_none k h s place t printed st still (connection_hears l p) = omega (arith, l)
+hears_none k h s place t printed st still (session_hears other e p) = hear_changes_nothing k h s place t printed st still (subst (λ (n : ℕ). SessionHears k true s n t printed) (sym (same_place k place other e)) p)
 
 -- ---- whether its client is there
 

@@ -269,7 +269,7 @@ went Q P I h o h1 o1 true f c k s q st = c.went k s q st
 went Q P I h o h1 o1 false f c k s q st = record {
   after = s;
   printed = [];
-  goes = f k s (c.idle k s q st);
+  goes = f k s (c.changes_nothing k s q st);
   stands = subst (λ (x : State). StandsFor k x s) (sym c.same) st;
   out = c.silent ∙ sym (append-nil o);
 }
@@ -301,7 +301,7 @@ did_then Q P₁ P₂ P I₁ I₂ I h o h1 o1 h2 o2 false true j c d = record {
 did_then Q P₁ P₂ P I₁ I₂ I h o h1 o1 h2 o2 false false j c d = record {
   same = d.same ∙ c.same;
   silent = d.silent ∙ c.silent;
-  idle = λ k s q st. j.both k s (c.idle k s q st) (d.idle k s q (subst (λ (x : State). StandsFor k x s) (sym c.same) st));
+  changes_nothing = λ k s q st. j.both k s (c.changes_nothing k s q st) (d.changes_nothing k s q (subst (λ (x : State). StandsFor k x s) (sym c.same) st));
 }
 
 -- want of memory after what came before
@@ -337,7 +337,7 @@ did_as Q Q' P P' I I' h o h1 o1 true f p i c = record {
   went = λ k s q st. let w = c.went k s (f k s q st) st in record { after = w.after; printed = w.printed; goes = p k s q st w.after w.printed w.goes; stands = w.stands; out = w.out };
   less = c.less;
 }
-did_as Q Q' P P' I I' h o h1 o1 false f p i c = record { same = c.same; silent = c.silent; idle = λ k s q st. i k s q st (c.idle k s (f k s q st) st) }
+did_as Q Q' P P' I I' h o h1 o1 false f p i c = record { same = c.same; silent = c.silent; changes_nothing = λ k s q st. i k s q st (c.changes_nothing k s (f k s q st) st) }
 
 pub wants_as : (Q Q' : Setup → Type 0) (h : State) (o : List ℕ) (h1 : State) (o1 : List ℕ) → ((k : Setup) (s : Scene) → Q' k → StandsFor k h s → Q k) → Wants Q h o h1 o1 → Wants Q' h o h1 o1
 wants_as Q Q' h o h1 o1 f c = record { happened = λ k s q st. c.happened k s (f k s q st) st }
@@ -555,7 +555,7 @@ visit_rests group h o h1 o1 h2 o2 true c d = record {
   went = λ k s q st. let w = c.went k s q st in record {
     after = w.after;
     printed = w.printed;
-    goes = visit_of k group s w.after w.printed w.goes (d.idle k w.after q w.stands);
+    goes = visit_of k group s w.after w.printed w.goes (d.changes_nothing k w.after q w.stands);
     stands = subst (λ (x : State). StandsFor k x w.after) (sym d.same) w.stands;
     out = d.silent ∙ w.out;
   };
@@ -564,7 +564,7 @@ visit_rests group h o h1 o1 h2 o2 true c d = record {
 visit_rests group h o h1 o1 h2 o2 false c d = record {
   same = d.same ∙ c.same;
   silent = d.silent ∙ c.silent;
-  idle = λ k s q st. d.idle k s q (subst (λ (x : State). StandsFor k x s) (sym c.same) st);
+  changes_nothing = λ k s q st. d.changes_nothing k s q (subst (λ (x : State). StandsFor k x s) (sym c.same) st);
 }
 
 pub visit_done : (group : List Event) (h : State) (o : List ℕ) (h1 : State) (o1 : List ℕ) (h2 : State) (o2 : List ℕ) (a b : Bool) → b ≡ false → DidOften group h o h1 o1 a → DidTurn group group h1 o1 h2 o2 b → DidVisit group h o h2 o2 a
@@ -688,7 +688,7 @@ rounds_done held shut k s h1 h2 o o1 o2 false marks e w d = record {
   after = w.after;
   printed = w.printed;
   goes = rounds_of w.after w.printed (w.goes.0) (subst (λ (x : ℕ → Bool). Visits k (in_a_row (replicate w.goes.0 (round k held x))) s w.after w.printed) marks w.goes.1)
-      (subst (λ (x : ℕ → Bool). All (λ group. All (HasNothing k w.after) group) (round k held x)) marks (d.idle k w.after tt w.stands));
+      (subst (λ (x : ℕ → Bool). All (λ group. All (HasNothing k w.after) group) (round k held x)) marks (d.changes_nothing k w.after tt w.stands));
   stands = subst (λ (x : State). StandsFor k x w.after) (sym d.same) w.stands;
   out = d.silent ∙ w.out;
 }

@@ -145,8 +145,8 @@ heard_led k h s number seat directory g c r q l whole old new st e dir lt some f
       w.out,
     )
 
-pub hear_idles : (k : Setup) (h : State) (s : Scene) (seat : ℕ) (t : Scene) (printed : List ℕ) → StandsFor k h s → ((x : Config) → core.Idle x h.core (world.Hear seat)) → ConnectionHears k true s seat t printed → ⊥
-hear_idles k h s seat t printed st idle p = hear_moves s.world seat p.moved p.step (idle k.config s.world p.moved st.core p.step)
+pub hear_changes_nothing : (k : Setup) (h : State) (s : Scene) (seat : ℕ) (t : Scene) (printed : List ℕ) → StandsFor k h s → ((x : Config) → core.ChangesNothing x h.core (world.Hear seat)) → ConnectionHears k true s seat t printed → ⊥
+hear_changes_nothing k h s seat t printed st still p = hear_moves s.world seat p.moved p.step (still k.config s.world p.moved st.core p.step)
 
 -- who stands at a place heard it
 pub heard_at : (o p : Option Line) (r : Noted) (g : Line) → o ≡ Some g → MatchOption o (p ≡ None) (λ h. IsSomeAnd p (HearsVerdict h r)) → (q : Line) × (p ≡ Some q) × HearsVerdict g r q
@@ -160,6 +160,6 @@ pub puts_none : (k : Setup) (h : State) (s : Scene) (seat : ℕ) (g : Line) (t :
 puts_none k h s seat g t printed st lt some why (connection_puts l p) = put_idles k h s seat g t printed st lt some why p
 puts_none k h s seat g t printed st lt some why (session_puts place e p) = seat_behind k h s seat place st lt (sym e)
 
-pub hears_none : (k : Setup) (h : State) (s : Scene) (seat : ℕ) (t : Scene) (printed : List ℕ) → StandsFor k h s → seat < length h.callers → ((x : Config) → core.Idle x h.core (world.Hear seat)) → HearPlay k true s seat t printed → ⊥
-hears_none k h s seat t printed st lt idle (connection_hears l p) = hear_idles k h s seat t printed st idle p
-hears_none k h s seat t printed st lt idle (session_hears place e p) = seat_behind k h s seat place st lt (sym e)
+pub hears_none : (k : Setup) (h : State) (s : Scene) (seat : ℕ) (t : Scene) (printed : List ℕ) → StandsFor k h s → seat < length h.callers → ((x : Config) → core.ChangesNothing x h.core (world.Hear seat)) → HearPlay k true s seat t printed → ⊥
+hears_none k h s seat t printed st lt still (connection_hears l p) = hear_changes_nothing k h s seat t printed st still p
+hears_none k h s seat t printed st lt still (session_hears place e p) = seat_behind k h s seat place st lt (sym e)

@@ -17,12 +17,6 @@ use Rattle.house.proofs.Seats.{moved, one_step}
 pub is_nothing : (f : Fault) → fault_of f ≡ house_faults.Nothing → f ≡ faults.Nothing
 is_nothing faults.Nobody e = cc
 is_nothing faults.Nothing e = refl
-is_nothing faults.NoMemory e = cc
-
-pub is_nobody : (f : Fault) → fault_of f ≡ house_faults.Nobody → f ≡ faults.Nobody
-is_nobody faults.Nobody e = refl
-is_nobody faults.Nothing e = cc
-is_nobody faults.NoMemory e = cc
 
 -- the world moves as the delivery side does
 pub moves : (k : Setup) (h : State) (c : Held) (s : Scene) (e : world.Event) → StandsFor k h s → ((x : Config) → core.Follows x h.core (e ∷ []) c) → c.heard ≡ h.core.heard → c.next ≡ h.core.next
@@ -32,5 +26,5 @@ moves k h c s e st f eh en =
     (g.0, record { moved = g.0; step = one_step k.config s.world g.0 e g.1; after = refl; silent = refl }, moved k h c s g.0 st g.2 eh en)
 
 -- what changes nothing in any world changes nothing in any scene
-pub idles : (k : Setup) (h : State) (s : Scene) (e : world.Event) → StandsFor k h s → ((x : Config) → core.Idle x h.core e) → (t : Scene) (printed : List ℕ) → Moves k s e t printed → (t ≡ s) × (printed ≡ [])
-idles k h s e st idle t printed m = (m.after ∙ ap (with_world s) (idle k.config s.world m.moved st.core m.step), m.silent)
+pub nothing_changes : (k : Setup) (h : State) (s : Scene) (e : world.Event) → StandsFor k h s → ((x : Config) → core.ChangesNothing x h.core e) → (t : Scene) (printed : List ℕ) → Moves k s e t printed → (t ≡ s) × (printed ≡ [])
+nothing_changes k h s e st still t printed m = (m.after ∙ ap (with_world s) (still k.config s.world m.moved st.core m.step), m.silent)

@@ -165,8 +165,8 @@ KeepsMarks (Idle session) old new = Unit {0}
 KeepsMarks (Leave session) old new = Unit {0}
 
 -- In no scene for which it stood does the event change anything.
-abbrev pub IsIdle : State → Event → Type 0
-IsIdle before event = (k : Setup) (s : Scene) → StandsFor k before s → HasNothing k s event
+abbrev pub ChangesNothing : State → Event → Type 0
+ChangesNothing before event = (k : Setup) (s : Scene) → StandsFor k before s → HasNothing k s event
 
 -- the copies that are still to be put at a seat, by its connection or by its session
 abbrev pub due_by : Option Line → List Job

@@ -21,9 +21,9 @@ pub enum Event<'a> {
     Answer(u8),
     /// A connection, or a session behind them, hears the verdict at the front of its reply lane.
     Hear(u8),
-    /// The seat of a connection, or of a session behind them, whoever stands there, puts its end into a shard's lane. After that each copy that it puts there
-    /// is refused at once, as Shut.
-    End(u8, u8),
+    /// The seat of a producer, a connection or a session behind them, whoever stands there, puts its end into a shard's lane. After that each copy that it
+    /// puts there is refused at once, as Shut.
+    End { producer: u8, shard: u8 },
     /// A shard is shut: no recipient of its mailboxes is accepted any more. That marks it alone; what waits in its lane is still delivered.
     Close(u8),
     /// A user opens a session, which is greeted. The user is named as in the words of the settings, byte by byte.

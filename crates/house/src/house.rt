@@ -18,13 +18,13 @@ ghost use Rattle.house.specs.Stands.{StandsFor};
 ghost use Rattle.house.specs.Effort.{MakesLess, place_effort};
 ghost use Rattle.delivery_core.specs.Load.{load};
 ghost use Rattle.std.specs.Borrow.{Bor};
-ghost use Rattle.house.specs.Steps.{CannotNote, CorePuts, Follows, FollowsInPart, HasNoRoom, IsBusy, IsEmptySeat, IsIdle, IsNoNumber, IsNobody, IsVacant, KeepsMarks, Led, MayWant, PutsNext, is_unread};
+ghost use Rattle.house.specs.Steps.{CannotNote, CorePuts, Follows, FollowsInPart, HasNoRoom, IsBusy, IsEmptySeat, ChangesNothing, IsNoNumber, IsNobody, IsVacant, KeepsMarks, Led, MayWant, PutsNext, is_unread};
 ghost use Rattle.house.specs.inner.Steps.{HasSeat, IsNoNext, IsOpen, IsRead, MayNotPut, PlaceWentOn, StandsForMaybe, fault_of, job_of};
 ghost use Rattle.house.specs.declared.event.Event.TheVariants as events;
 
 use crate::event::{Event, HouseFault};
 use crate::printing::proceed;
-use delivery_core::{DeliveryCore, Fault};
+use delivery_core::{DeliveryCore, Fault, HearFault};
 use delivery_token::{Noted, Refusal, Verdict};
 use envelope::Directory;
 use house_connection::HouseConnection;
@@ -70,7 +70,7 @@ impl Model for House {
 }
 
 // The caller at a place goes on, and leaves it where its connection has ended.
-fn go_on_at(
+fn caller_goes_on(
     place: &mut Option<HouseConnection>,
     number: u8,
     directory: &Directory,
@@ -117,7 +117,7 @@ fn opened(
 }
 
 // Bytes more wait for the caller at a place.
-fn append_at(place: &mut Option<HouseConnection>, piece: &[u8]) -> Result<(), AllocError>
+fn append_to_caller(place: &mut Option<HouseConnection>, piece: &[u8]) -> Result<(), AllocError>
     ensures ok { OnOk result (place.new ≡ option_map (with_more piece.now) place.old) }
     ensures err { OnErr result (place.new ≡ place.old) }
 {
@@ -138,7 +138,7 @@ fn is_unread(place: &Option<HouseConnection>) -> bool
 }
 
 // The peer of the caller at a place is gone.
-fn vanish_at(place: &mut Option<HouseConnection>)
+fn caller_vanishes(place: &mut Option<HouseConnection>)
     ensures { place.new ≡ option_map with_nobody_there place.old }
 {
     if let Some(caller) = place {
@@ -164,9 +164,7 @@ pub(crate) fn put_copy(
     }
     match core.put(copy.key, copy.mailbox, copy.text, copy.flags) {
         Ok(why) => Ok(why),
-        Err(Fault::NoMemory) => Err(HouseFault::NoMemory),
-        Err(Fault::Nothing) => Err(HouseFault::Nothing),
-        Err(Fault::Nobody) => Err(HouseFault::Nothing),
+        Err(AllocError) => Err(HouseFault::NoMemory),
     }
 }
 
@@ -193,7 +191,7 @@ fn put_next(
 }
 
 // The next copy of the caller at a place was put, and this was heard of it at once.
-fn note_put_at(place: &mut Option<HouseConnection>, why: Option<Refusal>)
+fn caller_notes_put(place: &mut Option<HouseConnection>, why: Option<Refusal>)
     requires { IfSome place.old (λ h. 0 < length (due h)) }
     ensures { place.new ≡ option_map (noted_put (heard_verdict why)) place.old }
 {
@@ -207,7 +205,7 @@ fn note_put_at(place: &mut Option<HouseConnection>, why: Option<Refusal>)
 }
 
 // The caller at a place hears a verdict.
-fn hear_at(place: &mut Option<HouseConnection>, noted: &Noted)
+fn caller_hears(place: &mut Option<HouseConnection>, noted: &Noted)
     ensures { MatchOption place.old (place.new ≡ None) (λ h. IsSomeAnd place.new (HearsVerdict h noted.now)) }
 {
     if let Some(caller) = place {
@@ -224,10 +222,10 @@ impl House {
         ensures no_memory { OnErr result (FollowsInPart self.old (events.Bytes connection piece.entry) self.new out.old.items out.new.items) }
     {
         let place = &mut self.callers[usize::from(connection - 1)];
-        let Ok(()) = append_at(place, piece) else {
+        let Ok(()) = append_to_caller(place, piece) else {
             return Err(HouseFault::NoMemory);
         };
-        let Ok(()) = go_on_at(place, connection, &self.directory, out) else {
+        let Ok(()) = caller_goes_on(place, connection, &self.directory, out) else {
             return Err(HouseFault::NoMemory);
         };
         Ok(())
@@ -238,9 +236,9 @@ impl House {
         ensures { Follows self.old (events.Vanish connection) self.new out.old.items out.new.items }
     {
         let place = &mut self.callers[usize::from(connection - 1)];
-        vanish_at(place);
+        caller_vanishes(place);
         // Nobody is told anything any more, so this asks for no memory.
-        let _ = go_on_at(place, connection, &self.directory, out);
+        let _ = caller_goes_on(place, connection, &self.directory, out);
     }
 
     // Bytes came for a connection at whose place nobody stands: one is opened first, with the seat's next serial.
@@ -268,21 +266,21 @@ impl House {
         self.serials[seat] = serial + 1;
         let place = &mut self.callers[seat];
         *place = Some(caller);
-        let Ok(()) = go_on_at(place, connection, &self.directory, out) else {
+        let Ok(()) = caller_goes_on(place, connection, &self.directory, out) else {
             return Err(HouseFault::NoMemory);
         };
         Ok(())
     }
 
     // A connection puts the next copy of its message.
-    fn put(&mut self, connection: u8, out: &mut Vec<u8>) -> Result<(), HouseFault>
+    fn put_of_connection(&mut self, connection: u8, out: &mut Vec<u8>) -> Result<(), HouseFault>
         requires seat { HasSeat self.old connection }
         ensures follows { OnOk result (Follows self.old (events.Put connection) self.new out.old.items out.new.items) }
         ensures effort { OnOk result (MakesLess (events.Put connection) self.old self.new) }
         ensures marks { self.new.directory ≡ self.old.directory }
         ensures nobody { (result ≡ Err HouseFault.Nobody) ↔ IsEmptySeat self.old connection }
         ensures busy { result ≢ Err HouseFault.Busy }
-        ensures idle { result ≡ Err HouseFault.Nothing → IsIdle self.old (events.Put connection) }
+        ensures changes_nothing { result ≡ Err HouseFault.Nothing → ChangesNothing self.old (events.Put connection) }
         ensures no_memory { result ≡ Err HouseFault.NoMemory → FollowsInPart self.old (events.Put connection) self.new out.old.items out.new.items }
         ensures asks { result ≡ Err HouseFault.NoMemory → MayWant (events.Put connection) self.old self.new }
         ensures refused { result ≢ Err HouseFault.NoMemory → OnErr result ((self.new ≡ self.old) × (out.new.items ≡ out.old.items)) }
@@ -293,22 +291,22 @@ impl House {
             Err(fault) => return Err(fault),
         };
         let place = &mut self.callers[seat];
-        note_put_at(place, why);
-        let Ok(()) = go_on_at(place, connection, &self.directory, out) else {
+        caller_notes_put(place, why);
+        let Ok(()) = caller_goes_on(place, connection, &self.directory, out) else {
             return Err(HouseFault::NoMemory);
         };
         Ok(())
     }
 
     // A connection hears the verdict at the front of its reply lane.
-    fn hear(&mut self, connection: u8, out: &mut Vec<u8>) -> Result<(), HouseFault>
+    fn hear_of_connection(&mut self, connection: u8, out: &mut Vec<u8>) -> Result<(), HouseFault>
         requires seat { HasSeat self.old connection }
         ensures follows { OnOk result (Follows self.old (events.Hear connection) self.new out.old.items out.new.items) }
         ensures effort { OnOk result (MakesLess (events.Hear connection) self.old self.new) }
         ensures marks { self.new.directory ≡ self.old.directory }
         ensures nobody { (result ≡ Err HouseFault.Nobody) ↔ IsEmptySeat self.old connection }
         ensures busy { result ≢ Err HouseFault.Busy }
-        ensures idle { result ≡ Err HouseFault.Nothing → IsIdle self.old (events.Hear connection) }
+        ensures changes_nothing { result ≡ Err HouseFault.Nothing → ChangesNothing self.old (events.Hear connection) }
         ensures no_memory { result ≡ Err HouseFault.NoMemory → FollowsInPart self.old (events.Hear connection) self.new out.old.items out.new.items }
         ensures asks { result ≡ Err HouseFault.NoMemory → MayWant (events.Hear connection) self.old self.new }
         ensures refused { result ≢ Err HouseFault.NoMemory → OnErr result ((self.new ≡ self.old) × (out.new.items ≡ out.old.items)) }
@@ -319,13 +317,13 @@ impl House {
         }
         let noted = match self.desk.core.hear(connection - 1) {
             Ok(noted) => noted,
-            Err(Fault::NoMemory) => return Err(HouseFault::NoMemory),
-            Err(Fault::Nothing) => return Err(HouseFault::Nothing),
-            Err(Fault::Nobody) => return Err(HouseFault::Nothing),
+            Err(HearFault::NoMemory) => return Err(HouseFault::NoMemory),
+            Err(HearFault::Nothing) => return Err(HouseFault::Nothing),
+            Err(HearFault::Nobody) => return Err(HouseFault::Nobody),
         };
         let place = &mut self.callers[seat];
-        hear_at(place, &noted);
-        let Ok(()) = go_on_at(place, connection, &self.directory, out) else {
+        caller_hears(place, &noted);
+        let Ok(()) = caller_goes_on(place, connection, &self.directory, out) else {
             return Err(HouseFault::NoMemory);
         };
         Ok(())
@@ -337,7 +335,7 @@ impl House {
         ensures effort { OnOk result (MakesLess (events.Take shard) self.old self.new) }
         ensures marks { self.new.directory ≡ self.old.directory }
         ensures nobody { (result ≡ Err HouseFault.Nobody) ↔ IsNobody self.old (events.Take shard) }
-        ensures idle { result ≡ Err HouseFault.Nothing → IsIdle self.old (events.Take shard) }
+        ensures changes_nothing { result ≡ Err HouseFault.Nothing → ChangesNothing self.old (events.Take shard) }
         ensures only { IfErr result (λ e. (e ≡ HouseFault.Nobody) ⊎ (e ≡ HouseFault.Nothing)) }
         ensures refused { OnErr result (self.new ≡ self.old) }
     {
@@ -353,7 +351,7 @@ impl House {
         ensures effort { OnOk result (MakesLess (events.Deliver shard) self.old self.new) }
         ensures marks { self.new.directory ≡ self.old.directory }
         ensures nobody { (result ≡ Err HouseFault.Nobody) ↔ IsNobody self.old (events.Deliver shard) }
-        ensures idle { result ≡ Err HouseFault.Nothing → IsIdle self.old (events.Deliver shard) }
+        ensures changes_nothing { result ≡ Err HouseFault.Nothing → ChangesNothing self.old (events.Deliver shard) }
         ensures only { IfErr result (λ e. (e ≡ HouseFault.Nobody) ⊎ (e ≡ HouseFault.Nothing)) }
         ensures refused { OnErr result (self.new ≡ self.old) }
     {
@@ -369,7 +367,7 @@ impl House {
         ensures effort { OnOk result (MakesLess (events.Answer shard) self.old self.new) }
         ensures marks { self.new.directory ≡ self.old.directory }
         ensures nobody { (result ≡ Err HouseFault.Nobody) ↔ IsNobody self.old (events.Answer shard) }
-        ensures idle { result ≡ Err HouseFault.Nothing → IsIdle self.old (events.Answer shard) }
+        ensures changes_nothing { result ≡ Err HouseFault.Nothing → ChangesNothing self.old (events.Answer shard) }
         ensures only { IfErr result (λ e. (e ≡ HouseFault.Nobody) ⊎ (e ≡ HouseFault.Nothing)) }
         ensures refused { OnErr result (self.new ≡ self.old) }
     {
@@ -393,7 +391,7 @@ impl House {
         ensures marks { KeepsMarks event.entry self.old self.new }
         ensures nobody { (result ≡ Err HouseFault.Nobody) ↔ IsNobody self.old event.entry }
         ensures busy { (result ≡ Err HouseFault.Busy) ↔ IsBusy self.old event.entry }
-        ensures idle { result ≡ Err HouseFault.Nothing → IsIdle self.old event.entry }
+        ensures changes_nothing { result ≡ Err HouseFault.Nothing → ChangesNothing self.old event.entry }
         ensures bytes { (connection : ℕ) (piece : Bor (List ℕ)) → event.entry ≡ events.Bytes connection piece → result ≢ Err HouseFault.Nothing }
         ensures no_memory { result ≡ Err HouseFault.NoMemory → FollowsInPart self.old event.entry self.new out.old.items out.new.items }
         ensures asks { result ≡ Err HouseFault.NoMemory → MayWant event.entry self.old self.new }
@@ -402,12 +400,12 @@ impl House {
         match event {
             Event::Bytes(connection, piece) => self.bytes(connection, piece, out),
             Event::Vanish(connection) => self.vanish(connection, out),
-            Event::Put(number) => self.put_at(number, out),
+            Event::Put(number) => self.put(number, out),
             Event::Take(shard) => self.take(shard),
             Event::Deliver(shard) => self.deliver(shard),
             Event::Answer(shard) => self.answer(shard),
-            Event::Hear(number) => self.hear_at(number, out),
-            Event::End(number, shard) => self.end(number, shard),
+            Event::Hear(number) => self.hear(number, out),
+            Event::End { producer, shard } => self.end(producer, shard),
             Event::Close(shard) => self.close(shard),
             Event::Enter(session, user) => self.enter(session, user, out),
             Event::Say(session, piece) => self.say(session, piece, out),
@@ -503,7 +501,7 @@ impl House {
         ensures marks { self.new.directory ≡ self.old.directory }
         ensures nobody { (result ≡ Err HouseFault.Nobody) ↔ IsNobody self.old (events.End number shard) }
         ensures busy { result ≢ Err HouseFault.Busy }
-        ensures idle { result ≡ Err HouseFault.Nothing → IsIdle self.old (events.End number shard) }
+        ensures changes_nothing { result ≡ Err HouseFault.Nothing → ChangesNothing self.old (events.End number shard) }
         ensures memory { result ≢ Err HouseFault.NoMemory }
         ensures effort { OnOk result (MakesLess (events.End number shard) self.old self.new) }
         ensures refused { OnErr result (self.new ≡ self.old) }
@@ -516,21 +514,20 @@ impl House {
         }
         match self.desk.core.end(number - 1, shard) {
             Ok(()) => {}
-            Err(Fault::NoMemory) => return Err(HouseFault::Nothing),
             Err(Fault::Nothing) => return Err(HouseFault::Nothing),
-            Err(Fault::Nobody) => return Err(HouseFault::Nothing),
+            Err(Fault::Nobody) => return Err(HouseFault::Nobody),
         }
         Ok(())
     }
 
     // A connection or a session puts the next copy of its message.
-    fn put_at(&mut self, number: u8, out: &mut Vec<u8>) -> Result<(), HouseFault>
+    fn put(&mut self, number: u8, out: &mut Vec<u8>) -> Result<(), HouseFault>
         ensures follows { OnOk result (Follows self.old (events.Put number) self.new out.old.items out.new.items) }
         ensures effort { OnOk result (MakesLess (events.Put number) self.old self.new) }
         ensures marks { self.new.directory ≡ self.old.directory }
         ensures nobody { (result ≡ Err HouseFault.Nobody) ↔ IsNobody self.old (events.Put number) }
         ensures busy { result ≢ Err HouseFault.Busy }
-        ensures idle { result ≡ Err HouseFault.Nothing → IsIdle self.old (events.Put number) }
+        ensures changes_nothing { result ≡ Err HouseFault.Nothing → ChangesNothing self.old (events.Put number) }
         ensures no_memory { result ≡ Err HouseFault.NoMemory → FollowsInPart self.old (events.Put number) self.new out.old.items out.new.items }
         ensures asks { result ≡ Err HouseFault.NoMemory → MayWant (events.Put number) self.old self.new }
         ensures refused { result ≢ Err HouseFault.NoMemory → OnErr result ((self.new ≡ self.old) × (out.new.items ≡ out.old.items)) }
@@ -541,17 +538,17 @@ impl House {
         if usize::from(number) > self.callers.len() {
             return self.put_of_session(number, out);
         }
-        self.put(number, out)
+        self.put_of_connection(number, out)
     }
 
     // A connection or a session hears the verdict at the front of its reply lane.
-    fn hear_at(&mut self, number: u8, out: &mut Vec<u8>) -> Result<(), HouseFault>
+    fn hear(&mut self, number: u8, out: &mut Vec<u8>) -> Result<(), HouseFault>
         ensures follows { OnOk result (Follows self.old (events.Hear number) self.new out.old.items out.new.items) }
         ensures effort { OnOk result (MakesLess (events.Hear number) self.old self.new) }
         ensures marks { self.new.directory ≡ self.old.directory }
         ensures nobody { (result ≡ Err HouseFault.Nobody) ↔ IsNobody self.old (events.Hear number) }
         ensures busy { result ≢ Err HouseFault.Busy }
-        ensures idle { result ≡ Err HouseFault.Nothing → IsIdle self.old (events.Hear number) }
+        ensures changes_nothing { result ≡ Err HouseFault.Nothing → ChangesNothing self.old (events.Hear number) }
         ensures no_memory { result ≡ Err HouseFault.NoMemory → FollowsInPart self.old (events.Hear number) self.new out.old.items out.new.items }
         ensures asks { result ≡ Err HouseFault.NoMemory → MayWant (events.Hear number) self.old self.new }
         ensures refused { result ≢ Err HouseFault.NoMemory → OnErr result ((self.new ≡ self.old) × (out.new.items ≡ out.old.items)) }
@@ -562,7 +559,7 @@ impl House {
         if usize::from(number) > self.callers.len() {
             return self.hear_of_session(number, out);
         }
-        self.hear(number, out)
+        self.hear_of_connection(number, out)
     }
 }
 
@@ -572,6 +569,5 @@ fn fault_of(fault: Fault) -> HouseFault
     match fault {
         Fault::Nobody => HouseFault::Nobody,
         Fault::Nothing => HouseFault::Nothing,
-        Fault::NoMemory => HouseFault::NoMemory,
     }
 }

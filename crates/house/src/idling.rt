@@ -8,7 +8,7 @@ ghost use Rattle.delivery_core.specs.Stands as core;
 ghost use Rattle.house.specs.Effort.{MakesLess, turns_left};
 ghost use Rattle.house.specs.Settling.{Visit, Visits, idle_turns};
 ghost use Rattle.house.specs.Stands.{StandsFor};
-ghost use Rattle.house.specs.Steps.{Follows, FollowsInPart, IsBusy, IsIdle, IsNobody, MayIdle, MayWant};
+ghost use Rattle.house.specs.Steps.{Follows, FollowsInPart, IsBusy, ChangesNothing, IsNobody, MayIdle, MayWant};
 ghost use Rattle.house.specs.inner.Steps.{HasNoTurn, PlaceIdled, PlaceIdledInPart, StandsForSomebody};
 ghost use Rattle.house.specs.inner.Trying.{Goes, IsAmong, Wants};
 ghost use Rattle.house.specs.declared.event.Event.TheVariants as events;
@@ -79,7 +79,7 @@ impl House {
         ensures effort { OnOk result (MakesLess (events.Idle session) self.old self.new) }
         ensures nobody { (result ≡ Err HouseFault.Nobody) ↔ IsNobody self.old (events.Idle session) }
         ensures busy { (result ≡ Err HouseFault.Busy) ↔ IsBusy self.old (events.Idle session) }
-        ensures idle { result ≡ Err HouseFault.Nothing → IsIdle self.old (events.Idle session) }
+        ensures changes_nothing { result ≡ Err HouseFault.Nothing → ChangesNothing self.old (events.Idle session) }
         ensures no_memory { result ≡ Err HouseFault.NoMemory → FollowsInPart self.old (events.Idle session) self.new out.old.items out.new.items }
         ensures asks { result ≡ Err HouseFault.NoMemory → MayWant (events.Idle session) self.old self.new }
         ensures refused { result ≢ Err HouseFault.NoMemory → OnErr result ((self.new ≡ self.old) × (out.new.items ≡ out.old.items)) }

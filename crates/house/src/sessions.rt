@@ -12,7 +12,7 @@ ghost use Rattle.house.specs.Effort.{MakesLess, visit_effort};
 ghost use Rattle.house.specs.Scene as scene;
 ghost use Rattle.house.specs.Setup.{Setup, session_seat};
 ghost use Rattle.house.specs.Stands.{StandsFor, first_of};
-ghost use Rattle.house.specs.Steps.{CannotNote, Follows, FollowsInPart, IsBusy, IsIdle, IsNobody, IsNoPlace, IsVacant, Led, MayWant, PutsNext, is_left};
+ghost use Rattle.house.specs.Steps.{CannotNote, Follows, FollowsInPart, IsBusy, ChangesNothing, IsNobody, IsNoPlace, IsVacant, Led, MayWant, PutsNext, is_left};
 ghost use Rattle.house.specs.inner.Steps.{CanEnter, HasLingered, IsSession, IsTalking, MayNotPut, PlaceTalked, PlaceVisited, StandsForSomebody, with_more_came};
 ghost use Rattle.house.specs.declared.event.Event.TheVariants as events;
 ghost use Rattle.house_session.specs.Seated as spec;
@@ -23,7 +23,7 @@ ghost use Rattle.world.specs.World.{World};
 use crate::event::HouseFault;
 use crate::house::{House, put_copy};
 use crate::printing::go_on;
-use delivery_core::{DeliveryCore, Fault};
+use delivery_core::{DeliveryCore, HearFault};
 use delivery_token::{Noted, Refusal, Verdict};
 use house_session::{SeatedSession, folders_of, has_user};
 use imap_session::{Folder, Store};
@@ -41,7 +41,7 @@ pub(crate) fn is_left(place: &Option<SeatedSession>) -> bool
 }
 
 // The session at a place, whose client is there, goes on, and leaves its mailbox and its place where it has ended.
-fn talk_at(
+fn visitor_talks(
     place: &mut Option<SeatedSession>,
     alloc: Global,
     number: u8,
@@ -72,7 +72,7 @@ fn talk_at(
 }
 
 // Where the client of the session at a place is gone, it leaves its place as soon as the verdict that it awaited was heard.
-fn linger_at(place: &mut Option<SeatedSession>)
+fn visitor_lingers(place: &mut Option<SeatedSession>)
     ensures less { visit_effort place.new ≤ visit_effort place.old }
     ensures who { (seat : ℕ) (next : CopyKey) (heard : List NotedSpec) (b : spec.SeatedSession) → StandsForSomebody seat next heard place.old (Some b) → HasLingered seat next heard b place.new }
 {
@@ -85,7 +85,7 @@ fn linger_at(place: &mut Option<SeatedSession>)
 }
 
 // The session at a place goes on, whether its client is there or not.
-fn go_on_at(
+fn visitor_goes_on(
     place: &mut Option<SeatedSession>,
     alloc: Global,
     number: u8,
@@ -101,10 +101,10 @@ fn go_on_at(
         PlaceVisited k false (number - 1) next heard w b place.new desk.new.core out.old.items out.new.items) }
 {
     if is_left(place) {
-        linger_at(place);
+        visitor_lingers(place);
         return Ok(());
     }
-    talk_at(place, alloc, number, desk, out)
+    visitor_talks(place, alloc, number, desk, out)
 }
 
 // A session that was just let in to a seat, with these of the user's mailboxes.
@@ -121,7 +121,7 @@ fn admitted(
 }
 
 // Bytes more wait for the session at a place.
-fn append_at(place: &mut Option<SeatedSession>, piece: &[u8]) -> Result<(), AllocError>
+fn append_to_visitor(place: &mut Option<SeatedSession>, piece: &[u8]) -> Result<(), AllocError>
     ensures ok { OnOk result (place.new ≡ option_map (with_more_came piece.now) place.old) }
     ensures err { OnErr result (place.new ≡ place.old) }
 {
@@ -132,7 +132,7 @@ fn append_at(place: &mut Option<SeatedSession>, piece: &[u8]) -> Result<(), Allo
 }
 
 // The client of the session at a place is gone.
-fn vanish_at(place: &mut Option<SeatedSession>)
+fn visitor_vanishes(place: &mut Option<SeatedSession>)
     ensures { place.new ≡ option_map with_nobody_there place.old }
 {
     if let Some(visitor) = place {
@@ -163,7 +163,7 @@ fn put_next(
 }
 
 // The copy of the session at a place was put, and this was heard of it at once.
-fn note_put_at(place: &mut Option<SeatedSession>, why: Option<Refusal>)
+fn visitor_notes_put(place: &mut Option<SeatedSession>, why: Option<Refusal>)
     requires { IfSome place.old (λ p. 0 < length (due p)) }
     ensures { place.new ≡ option_map (noted_put (heard_verdict why)) place.old }
 {
@@ -177,7 +177,7 @@ fn note_put_at(place: &mut Option<SeatedSession>, why: Option<Refusal>)
 }
 
 // The session at a place hears a verdict.
-fn hear_at(place: &mut Option<SeatedSession>, noted: &Noted)
+fn visitor_hears(place: &mut Option<SeatedSession>, noted: &Noted)
     ensures { MatchOption place.old (place.new ≡ None) (λ p. IsSomeAnd place.new (HearsVerdict p noted.now)) }
 {
     if let Some(visitor) = place {
@@ -221,7 +221,7 @@ impl House {
         self.entered[place] = serial + 1;
         let here = &mut self.visitors[place];
         *here = Some(visitor);
-        let Ok(()) = talk_at(here, alloc, session, &mut self.desk, out) else {
+        let Ok(()) = visitor_talks(here, alloc, session, &mut self.desk, out) else {
             return Err(HouseFault::NoMemory);
         };
         Ok(())
@@ -262,11 +262,11 @@ impl House {
         ensures no_memory { OnErr result (FollowsInPart self.old (events.Say session piece.entry) self.new out.old.items out.new.items) }
     {
         let place = &mut self.visitors[usize::from(session - 1)];
-        let Ok(()) = append_at(place, piece) else {
+        let Ok(()) = append_to_visitor(place, piece) else {
             return Err(HouseFault::NoMemory);
         };
         let alloc = *self.host.allocator();
-        let Ok(()) = talk_at(place, alloc, session, &mut self.desk, out) else {
+        let Ok(()) = visitor_talks(place, alloc, session, &mut self.desk, out) else {
             return Err(HouseFault::NoMemory);
         };
         Ok(())
@@ -307,8 +307,8 @@ impl House {
         self.desk.session = session - 1;
         let _ = self.desk.leave(false);
         let place = &mut self.visitors[usize::from(session - 1)];
-        vanish_at(place);
-        linger_at(place);
+        visitor_vanishes(place);
+        visitor_lingers(place);
     }
 
     // A session's client is gone.
@@ -341,7 +341,7 @@ impl House {
         ensures marks { self.new.directory ≡ self.old.directory }
         ensures nobody { (result ≡ Err HouseFault.Nobody) ↔ IsVacant self.old number }
         ensures busy { result ≢ Err HouseFault.Busy }
-        ensures idle { result ≡ Err HouseFault.Nothing → IsIdle self.old (events.Put number) }
+        ensures changes_nothing { result ≡ Err HouseFault.Nothing → ChangesNothing self.old (events.Put number) }
         ensures no_memory { result ≡ Err HouseFault.NoMemory → FollowsInPart self.old (events.Put number) self.new out.old.items out.new.items }
         ensures asks { result ≡ Err HouseFault.NoMemory → MayWant (events.Put number) self.old self.new }
         ensures refused { result ≢ Err HouseFault.NoMemory → OnErr result ((self.new ≡ self.old) × (out.new.items ≡ out.old.items)) }
@@ -353,9 +353,9 @@ impl House {
             Err(fault) => return Err(fault),
         };
         let here = &mut self.visitors[place];
-        note_put_at(here, why);
+        visitor_notes_put(here, why);
         let alloc = *self.host.allocator();
-        let Ok(()) = go_on_at(here, alloc, session, &mut self.desk, out) else {
+        let Ok(()) = visitor_goes_on(here, alloc, session, &mut self.desk, out) else {
             return Err(HouseFault::NoMemory);
         };
         Ok(())
@@ -373,7 +373,7 @@ impl House {
         ensures marks { self.new.directory ≡ self.old.directory }
         ensures nobody { (result ≡ Err HouseFault.Nobody) ↔ IsVacant self.old number }
         ensures busy { result ≢ Err HouseFault.Busy }
-        ensures idle { result ≡ Err HouseFault.Nothing → IsIdle self.old (events.Hear number) }
+        ensures changes_nothing { result ≡ Err HouseFault.Nothing → ChangesNothing self.old (events.Hear number) }
         ensures no_memory { result ≡ Err HouseFault.NoMemory → FollowsInPart self.old (events.Hear number) self.new out.old.items out.new.items }
         ensures asks { result ≡ Err HouseFault.NoMemory → MayWant (events.Hear number) self.old self.new }
         ensures refused { result ≢ Err HouseFault.NoMemory → OnErr result ((self.new ≡ self.old) × (out.new.items ≡ out.old.items)) }
@@ -385,14 +385,14 @@ impl House {
         }
         let noted = match self.desk.core.hear(number - 1) {
             Ok(noted) => noted,
-            Err(Fault::NoMemory) => return Err(HouseFault::NoMemory),
-            Err(Fault::Nothing) => return Err(HouseFault::Nothing),
-            Err(Fault::Nobody) => return Err(HouseFault::Nothing),
+            Err(HearFault::NoMemory) => return Err(HouseFault::NoMemory),
+            Err(HearFault::Nothing) => return Err(HouseFault::Nothing),
+            Err(HearFault::Nobody) => return Err(HouseFault::Nobody),
         };
         let here = &mut self.visitors[place];
-        hear_at(here, &noted);
+        visitor_hears(here, &noted);
         let alloc = *self.host.allocator();
-        let Ok(()) = go_on_at(here, alloc, session, &mut self.desk, out) else {
+        let Ok(()) = visitor_goes_on(here, alloc, session, &mut self.desk, out) else {
             return Err(HouseFault::NoMemory);
         };
         Ok(())

@@ -13,7 +13,7 @@ use Rattle.envelope.specs.Values.{Path, Command}
 use Rattle.envelope.specs.Values as say
 use Rattle.envelope.proofs.Law.{reads}
 use Rattle.relay_replies.specs.Relay.{is_code}
-use Rattle.relay_replies.specs.Handed.{Ask, AsksMail, AsksRcpt, AsksData, AsksDrop, AsksOther, Relay, Idle, Begun, Sends, after_reply, ask_of, begins}
+use Rattle.relay_replies.specs.Handed.{Ask, AsksMail, AsksRcpt, AsksData, AsksDrop, AsksOther, Relay, Between, Begun, Sends, after_reply, ask_of, begins}
 
 -- the word of a command
 abbrev pub word : Command → List ℕ
@@ -148,18 +148,18 @@ abbrev pub IsNo : List ℕ → Type 0
 IsNo reply = (is_code (codes "250") reply ≡ false) × (is_code (codes "354") reply ≡ false)
 
 pub unchanged : (ask : Ask) (relay : Relay) (line reply : List ℕ) → IsNo reply → after_reply ask relay line reply ≡ relay
-unchanged AsksMail Idle line reply h = ap (λ (b : Bool). if b then Begun line [] else Idle) h.0
+unchanged AsksMail Between line reply h = ap (λ (b : Bool). if b then Begun line [] else Between) h.0
 unchanged AsksMail (Begun mail recipients) line reply h = refl
 unchanged AsksMail (Sends mail recipients lines) line reply h = refl
-unchanged AsksRcpt Idle line reply h = refl
+unchanged AsksRcpt Between line reply h = refl
 unchanged AsksRcpt (Begun mail recipients) line reply h = ap (λ (b : Bool). if b then Begun mail (recipients ++ line ∷ []) else Begun mail recipients) h.0
 unchanged AsksRcpt (Sends mail recipients lines) line reply h = refl
-unchanged AsksData Idle line reply h = refl
+unchanged AsksData Between line reply h = refl
 unchanged AsksData (Begun mail recipients) line reply h = ap (λ (b : Bool). if b then Sends mail recipients [] else Begun mail recipients) h.1
 unchanged AsksData (Sends mail recipients lines) line reply h = refl
-unchanged AsksDrop Idle line reply h = refl
-unchanged AsksDrop (Begun mail recipients) line reply h = ap (λ (b : Bool). if b then Idle else Begun mail recipients) h.0
+unchanged AsksDrop Between line reply h = refl
+unchanged AsksDrop (Begun mail recipients) line reply h = ap (λ (b : Bool). if b then Between else Begun mail recipients) h.0
 unchanged AsksDrop (Sends mail recipients lines) line reply h = refl
-unchanged AsksOther Idle line reply h = refl
+unchanged AsksOther Between line reply h = refl
 unchanged AsksOther (Begun mail recipients) line reply h = refl
 unchanged AsksOther (Sends mail recipients lines) line reply h = refl

@@ -10,13 +10,13 @@ use Rattle.lmtp_machine.specs.Dialogue.{Submission, dialogue, fresh}
 use Rattle.lmtp_machine.specs.Replies.{wire}
 use Rattle.relay_replies.specs.Relay.{is_code, last_lines, replies_of}
 use Rattle.relay_replies.specs.Laws.{IsInLine, last_line}
-use Rattle.relay_replies.specs.Handed.{Handed, Relay, Idle, Begun, Sends, after_reply, ask_of, handed, handed_over, is_end, is_taken, no_message}
+use Rattle.relay_replies.specs.Handed.{Handed, Relay, Between, Begun, Sends, after_reply, ask_of, handed, handed_over, is_end, is_taken, no_message}
 use Rattle.relay_replies.specs.Fates.{Unheard, AreCut, AreKnown, cut, lines_of, none, same, was_stored}
 use Rattle.relay_replies.specs.Moments.{dialogue_over, events_of}
 use Rattle.relay_replies.specs.Conclusions.{FrontsAreCut, MayForget, MessagesAreKnownByBytes, RelaysMayForget, RelaysMayForgetWhileShardsAreShut, WhatIsReadStays}
 use Rattle.relay_replies.proofs.Cuts.{replies_are_read}
 use Rattle.relay_replies.proofs.Fronts.{replies_of_front}
-use Rattle.relay_replies.proofs.Known.{idle_none, messages_are_known, messages_are_known_while_shards_are_shut}
+use Rattle.relay_replies.proofs.Known.{between_none, messages_are_known, messages_are_known_while_shards_are_shut}
 use Rattle.relay_replies.proofs.Taken.{taken_are_stored, taken_within}
 
 -- ---- of lines and replies
@@ -39,54 +39,54 @@ abbrev message_of : List ℕ → List (List ℕ) → List (List ℕ) → List (L
 message_of mail recipients lines replies = record { mail = mail; recipients = recipients; lines = lines; replies = replies }
 
 end_cut : (mail : List ℕ) (recipients lines sent told untold : List (List ℕ)) → Parts (length recipients) told untold
-    → AreCut (handed Idle sent (drop (length recipients) told)) (handed Idle sent (drop (length recipients) told ++ untold))
-    → AreCut (message_of mail recipients lines (take (length recipients) told) ∷ handed Idle sent (drop (length recipients) told))
-    (message_of mail recipients lines (take (length recipients) (told ++ untold)) ∷ handed Idle sent (drop (length recipients) (told ++ untold)))
+    → AreCut (handed Between sent (drop (length recipients) told)) (handed Between sent (drop (length recipients) told ++ untold))
+    → AreCut (message_of mail recipients lines (take (length recipients) told) ∷ handed Between sent (drop (length recipients) told))
+    (message_of mail recipients lines (take (length recipients) (told ++ untold)) ∷ handed Between sent (drop (length recipients) (told ++ untold)))
 end_cut mail recipients lines sent told untold (whole t d) others =
     let count : ℕ = length recipients in
     let first : Handed = message_of mail recipients lines (take count told) in
-    let all : message_of mail recipients lines (take count (told ++ untold)) ∷ handed Idle sent (drop count (told ++ untold)) ≡ first ∷ handed Idle sent (drop count told ++ untold) =
-    ap (λ (rs : List (List ℕ)). message_of mail recipients lines rs ∷ handed Idle sent (drop count (told ++ untold))) t ∙ ap (λ (rs : List (List ℕ)). first ∷ handed Idle sent rs) d in
-    subst (λ (ms : List Handed). AreCut (first ∷ handed Idle sent (drop count told)) ms) (sym all) (same first others)
+    let all : message_of mail recipients lines (take count (told ++ untold)) ∷ handed Between sent (drop count (told ++ untold)) ≡ first ∷ handed Between sent (drop count told ++ untold) =
+    ap (λ (rs : List (List ℕ)). message_of mail recipients lines rs ∷ handed Between sent (drop count (told ++ untold))) t ∙ ap (λ (rs : List (List ℕ)). first ∷ handed Between sent rs) d in
+    subst (λ (ms : List Handed). AreCut (first ∷ handed Between sent (drop count told)) ms) (sym all) (same first others)
 end_cut mail recipients lines sent told untold (short more t d) others =
     let count : ℕ = length recipients in
     let first : Handed = message_of mail recipients lines (take count told) in
-    let rest : List Handed = handed Idle sent (drop count (told ++ untold)) in
-    let front : first ∷ handed Idle sent (drop count told) ≡ first ∷ [] = ap (λ (rs : List (List ℕ)). first ∷ handed Idle sent rs) d ∙ ap (λ (ms : List Handed). first ∷ ms) (idle_none sent [] tt) in
+    let rest : List Handed = handed Between sent (drop count (told ++ untold)) in
+    let front : first ∷ handed Between sent (drop count told) ≡ first ∷ [] = ap (λ (rs : List (List ℕ)). first ∷ handed Between sent rs) d ∙ ap (λ (ms : List Handed). first ∷ ms) (between_none sent [] tt) in
     let all : message_of mail recipients lines (take count (told ++ untold)) ∷ rest ≡ message_of mail recipients lines (take count told ++ more) ∷ rest =
     ap (λ (rs : List (List ℕ)). message_of mail recipients lines rs ∷ rest) t in
     subst (λ (ms : List Handed). AreCut ms (message_of mail recipients lines (take count (told ++ untold)) ∷ rest)) (sym front)
     (subst (λ (ms : List Handed). AreCut (first ∷ []) ms) (sym all) (cut mail recipients lines (take count told) more))
 
 pub fronts_known : (relay : Relay) (sent told untold : List (List ℕ)) → AreCut (handed relay sent told) (handed relay sent (told ++ untold))
-fronts_known Idle [] told untold = none
+fronts_known Between [] told untold = none
 fronts_known (Begun mail recipients) [] told untold = none
 fronts_known (Sends mail recipients lines) [] told untold = none
-fronts_known Idle (line ∷ sent) [] untold = none
-fronts_known Idle (line ∷ sent) (reply ∷ told) untold = fronts_known (after_reply (ask_of line) Idle line reply) sent told untold
+fronts_known Between (line ∷ sent) [] untold = none
+fronts_known Between (line ∷ sent) (reply ∷ told) untold = fronts_known (after_reply (ask_of line) Between line reply) sent told untold
 fronts_known (Begun mail recipients) (line ∷ sent) [] untold = none
 fronts_known (Begun mail recipients) (line ∷ sent) (reply ∷ told) untold = fronts_known (after_reply (ask_of line) (Begun mail recipients) line reply) sent told untold
 fronts_known (Sends mail recipients lines) (line ∷ sent) told untold =
-    by (is_end line) (fronts_known (Sends mail recipients (lines ++ line ∷ [])) sent told untold) (fronts_known Idle sent (drop (length recipients) told) untold)
+    by (is_end line) (fronts_known (Sends mail recipients (lines ++ line ∷ [])) sent told untold) (fronts_known Between sent (drop (length recipients) told) untold)
   where
     by : (b : Bool) → AreCut (handed (Sends mail recipients (lines ++ line ∷ [])) sent told) (handed (Sends mail recipients (lines ++ line ∷ [])) sent (told ++ untold))
-        → AreCut (handed Idle sent (drop (length recipients) told)) (handed Idle sent (drop (length recipients) told ++ untold))
+        → AreCut (handed Between sent (drop (length recipients) told)) (handed Between sent (drop (length recipients) told ++ untold))
         → AreCut
-        (if b then message_of mail recipients lines (take (length recipients) told) ∷ handed Idle sent (drop (length recipients) told) else handed (Sends mail recipients (lines ++ line ∷ [])) sent told)
-        (if b then message_of mail recipients lines (take (length recipients) (told ++ untold)) ∷ handed Idle sent (drop (length recipients) (told ++ untold))
+        (if b then message_of mail recipients lines (take (length recipients) told) ∷ handed Between sent (drop (length recipients) told) else handed (Sends mail recipients (lines ++ line ∷ [])) sent told)
+        (if b then message_of mail recipients lines (take (length recipients) (told ++ untold)) ∷ handed Between sent (drop (length recipients) (told ++ untold))
         else handed (Sends mail recipients (lines ++ line ∷ [])) sent (told ++ untold))
     by false more others = more
     by true more others = end_cut mail recipients lines sent told untold (parts (length recipients) told untold) others
 
 -- ---- of bytes
 
-behind_greeting : (lines told untold : List (List ℕ)) → AreCut (handed Idle lines (drop 1 told)) (handed Idle lines (drop 1 (told ++ untold)))
-behind_greeting lines [] untold = subst (λ (ms : List Handed). AreCut ms (handed Idle lines (drop 1 untold))) (sym (idle_none lines [] tt)) none
-behind_greeting lines (reply ∷ told) untold = fronts_known Idle lines told untold
+behind_greeting : (lines told untold : List (List ℕ)) → AreCut (handed Between lines (drop 1 told)) (handed Between lines (drop 1 (told ++ untold)))
+behind_greeting lines [] untold = subst (λ (ms : List Handed). AreCut ms (handed Between lines (drop 1 untold))) (sym (between_none lines [] tt)) none
+behind_greeting lines (reply ∷ told) untold = fronts_known Between lines told untold
 
 pub fronts_are_cut : FrontsAreCut
 fronts_are_cut sent told untold =
-    subst (λ (rs : List (List ℕ)). AreCut (handed_over sent told) (handed Idle (wire_lines sent) (drop 1 rs))) (sym (replies_of_front told untold))
+    subst (λ (rs : List (List ℕ)). AreCut (handed_over sent told) (handed Between (wire_lines sent) (drop 1 rs))) (sym (replies_of_front told untold))
     (behind_greeting (wire_lines sent) (replies_of told) (last_lines (wire_lines (wire_rest told ++ untold))))
 
 reply_of_front : (told untold : List (List ℕ)) (i : ℕ) → i < length told → slice_index_or told i [] ≡ slice_index_or (told ++ untold) i []
@@ -112,12 +112,12 @@ what_is_read_stays front all c = reads_on c
 
 -- what is known by lines and replies is known by the bytes
 known_by_bytes : (host : List ℕ) (directory : Directory) (lines : List (List ℕ)) (replies : List Reply) (ends : List (List Submission)) (submissions : List Submission) (answers : List (List Verdict)) (sent told : List ℕ) → IsInLine host
-    → wire_lines sent ≡ lines → told ≡ wire host (Greeting ∷ replies) → AreKnown host directory (handed Idle lines (map (last_line host) replies)) ends submissions answers
+    → wire_lines sent ≡ lines → told ≡ wire host (Greeting ∷ replies) → AreKnown host directory (handed Between lines (map (last_line host) replies)) ends submissions answers
     → AreKnown host directory (handed_over sent told) ends submissions answers
 known_by_bytes host directory lines replies ends submissions answers sent told h s t k =
-    let read : handed_over sent told ≡ handed Idle lines (map (last_line host) replies) =
-    ap (λ (ls : List (List ℕ)). handed Idle ls (drop 1 (replies_of told))) s
-    ∙ ap (λ (rs : List (List ℕ)). handed Idle lines (drop 1 rs)) (ap replies_of t ∙ replies_are_read host (Greeting ∷ replies) h) in
+    let read : handed_over sent told ≡ handed Between lines (map (last_line host) replies) =
+    ap (λ (ls : List (List ℕ)). handed Between ls (drop 1 (replies_of told))) s
+    ∙ ap (λ (rs : List (List ℕ)). handed Between lines (drop 1 rs)) (ap replies_of t ∙ replies_are_read host (Greeting ∷ replies) h) in
     subst (λ (ms : List Handed). AreKnown host directory ms ends submissions answers) (sym read) k
 
 pub messages_are_known_by_bytes : MessagesAreKnownByBytes
@@ -140,7 +140,7 @@ may_forget host directory known all ends submissions answers c k =
 
 forget_by_bytes : (host : List ℕ) (directory : Directory) (lines : List (List ℕ)) (replies : List Reply) (ends : List (List Submission)) (submissions : List Submission) (answers : List (List Verdict)) (sent told untold : List ℕ)
     → IsInLine host → wire_lines sent ≡ lines → told ++ untold ≡ wire host (Greeting ∷ replies)
-    → AreKnown host directory (handed Idle lines (map (last_line host) replies)) ends submissions answers
+    → AreKnown host directory (handed Between lines (map (last_line host) replies)) ends submissions answers
     → MayForget host directory (handed_over sent told) (handed_over sent (told ++ untold)) submissions answers
 forget_by_bytes host directory lines replies ends submissions answers sent told untold h s t k =
     may_forget host directory (handed_over sent told) (handed_over sent (told ++ untold)) ends submissions answers (fronts_are_cut sent told untold)

@@ -12,7 +12,7 @@ use Rattle.lmtp_machine.specs.Conversation.{IsListening}
 use Rattle.lmtp_machine.specs.Dialogue.{Phase, Ended, Setting, Standing, Submission, Event, Opened, Line, Starved, Answered, Shut, Turn, dialogue, fresh, on_event}
 use Rattle.relay_replies.specs.Relay.{is_code}
 use Rattle.relay_replies.specs.Laws.{last_line}
-use Rattle.relay_replies.specs.Handed.{Handed, Relay, Idle, Begun, Sends, ask_of, handed, is_end}
+use Rattle.relay_replies.specs.Handed.{Handed, Relay, Between, Begun, Sends, ask_of, handed, is_end}
 use Rattle.relay_replies.specs.Fates.{Fate, Awaited, Unheard, AreKnown, AreFarewells, EachMayHappen, HaveFates, IsSubmitted, MayHappen, all_ends, all_submitted, all_told, answers_in, answers_of, awaited, end_of, ends_in, ends_of, lines_in, lines_of, none, submitted_of, told_of, unheard}
 use Rattle.relay_replies.specs.Conclusions.{MessagesAreKnown, MessagesAreKnownWhileShardsAreShut}
 use Rattle.relay_replies.specs.Moments.{Moment, EachMomentMayHappen, dialogue_over, ends_over, events_of}
@@ -45,10 +45,10 @@ no_more [] h = refl
 no_more (reply ∷ replies) h = ap (λ (b : Bool). b && list_all (is_code (codes "421")) replies) h.0.1 ∙ no_more replies h.1
 
 -- by which nothing is handed over that wasn't begun
-pub idle_none : (sent replies : List (List ℕ)) → AreNo replies → handed Idle sent replies ≡ []
-idle_none [] replies h = refl
-idle_none (line ∷ sent) [] h = refl
-idle_none (line ∷ sent) (reply ∷ replies) h = ap (λ (r : Relay). handed r sent replies) (unchanged (ask_of line) Idle line reply h.0.0) ∙ idle_none sent replies h.1
+pub between_none : (sent replies : List (List ℕ)) → AreNo replies → handed Between sent replies ≡ []
+between_none [] replies h = refl
+between_none (line ∷ sent) [] h = refl
+between_none (line ∷ sent) (reply ∷ replies) h = ap (λ (r : Relay). handed r sent replies) (unchanged (ask_of line) Between line reply h.0.0) ∙ between_none sent replies h.1
 
 begun_none : (mail : List ℕ) (recipients sent replies : List (List ℕ)) → AreNo replies → handed (Begun mail recipients) sent replies ≡ []
 begun_none mail recipients [] replies h = refl
@@ -73,12 +73,12 @@ sends_end host directory mail recipients lines (line ∷ sent) replies h = by (i
   where
     by : (b : Bool) → Ends host directory (handed (Sends mail recipients (lines ++ line ∷ [])) sent replies)
         → Ends host directory (if b
-        then record { mail = mail; recipients = recipients; lines = lines; replies = take (length recipients) replies } ∷ handed Idle sent (drop (length recipients) replies)
+        then record { mail = mail; recipients = recipients; lines = lines; replies = take (length recipients) replies } ∷ handed Between sent (drop (length recipients) replies)
         else handed (Sends mail recipients (lines ++ line ∷ [])) sent replies)
     by false more = more
     by true more =
         let message : Handed = record { mail = mail; recipients = recipients; lines = lines; replies = take (length recipients) replies } in
-        let others : handed Idle sent (drop (length recipients) replies) ≡ [] = idle_none sent (drop (length recipients) replies) (drop_no (length recipients) replies h) in
+        let others : handed Between sent (drop (length recipients) replies) ≡ [] = between_none sent (drop (length recipients) replies) (drop_no (length recipients) replies h) in
         record {
           fates = Unheard ∷ [];
           each = subst (λ (ms : List Handed). HaveFates host directory (message ∷ ms) (Unheard ∷ [])) (sym others)
@@ -89,7 +89,7 @@ sends_end host directory mail recipients lines (line ∷ sent) replies h = by (i
         }
 
 relay_ends : (host : List ℕ) (directory : Directory) (relay : Relay) (sent replies : List (List ℕ)) → AreNo replies → Ends host directory (handed relay sent replies)
-relay_ends host directory Idle sent replies h = none_ends host directory (handed Idle sent replies) (idle_none sent replies h)
+relay_ends host directory Between sent replies h = none_ends host directory (handed Between sent replies) (between_none sent replies h)
 relay_ends host directory (Begun mail recipients) sent replies h = none_ends host directory (handed (Begun mail recipients) sent replies) (begun_none mail recipients sent replies h)
 relay_ends host directory (Sends mail recipients lines) sent replies h = sends_end host directory mail recipients lines sent replies h
 
@@ -117,8 +117,8 @@ waits_known : (host : List ℕ) (directory : Directory) (mail : List ℕ) (recip
 waits_known host directory mail recipients lines submission sent i =
     let message : Handed = sent_message mail recipients lines in
     let all : handed_at (Pends mail recipients lines submission) sent [] ≡ message ∷ [] =
-    ap (λ (rs : List (List ℕ)). record { mail = mail; recipients = recipients; lines = lines; replies = rs } ∷ handed Idle sent (drop (length recipients) [])) (take_nil (length recipients))
-    ∙ ap (λ (rs : List (List ℕ)). message ∷ handed Idle sent rs) (drop_nil (length recipients)) ∙ ap (λ (ms : List Handed). message ∷ ms) (idle_none sent [] tt) in
+    ap (λ (rs : List (List ℕ)). record { mail = mail; recipients = recipients; lines = lines; replies = rs } ∷ handed Between sent (drop (length recipients) [])) (take_nil (length recipients))
+    ∙ ap (λ (rs : List (List ℕ)). message ∷ handed Between sent rs) (drop_nil (length recipients)) ∙ ap (λ (ms : List Handed). message ∷ ms) (between_none sent [] tt) in
     record {
       fates = Awaited submission ∷ [];
       each = subst (λ (ms : List Handed). HaveFates host directory ms (Awaited submission ∷ [])) (sym all) (awaited message submission i refl);
@@ -128,8 +128,8 @@ waits_known host directory mail recipients lines submission sent i =
     }
 
 rest_known : (host : List ℕ) (directory : Directory) (phase : Phase) (stand : Stand) (sent : List (List ℕ)) → Goes directory phase stand → KnownAt host directory stand sent [] [] [] []
-rest_known host directory _ _ sent start = at_end_known host directory Idle sent [] tt
-rest_known host directory _ _ sent ready = at_end_known host directory Idle sent [] tt
+rest_known host directory _ _ sent start = at_end_known host directory Between sent [] tt
+rest_known host directory _ _ sent ready = at_end_known host directory Between sent [] tt
 rest_known host directory _ _ sent (begun {mail = mail} {recipients = recipients} s a) = at_end_known host directory (Begun mail recipients) sent [] tt
 rest_known host directory _ _ sent (sends {mail = mail} {recipients = recipients} {lines = lines} s a) = at_end_known host directory (Sends mail recipients lines) sent [] tt
 rest_known host directory _ _ sent (waits {mail = mail} {recipients = recipients} {lines = lines} {submission = submission} i m) =
@@ -139,8 +139,8 @@ rest_known host directory _ _ sent (ended {relay = relay}) = at_end_known host d
 -- and where the server says that it shuts down
 shut_known : (host : List ℕ) (directory : Directory) (phase : Phase) (stand : Stand) (sent : List (List ℕ)) (t : Turn) → Goes directory phase stand → IsListening phase
     → KnownAt host directory stand sent (last_line host ShuttingDown ∷ []) (ends_in phase Shut t ++ []) [] []
-shut_known host directory _ _ sent t start l = at_end_known host directory Idle sent _ (((refl, refl), refl), tt)
-shut_known host directory _ _ sent t ready l = at_end_known host directory Idle sent _ (((refl, refl), refl), tt)
+shut_known host directory _ _ sent t start l = at_end_known host directory Between sent _ (((refl, refl), refl), tt)
+shut_known host directory _ _ sent t ready l = at_end_known host directory Between sent _ (((refl, refl), refl), tt)
 shut_known host directory _ _ sent t (begun {mail = mail} {recipients = recipients} s a) l = at_end_known host directory (Begun mail recipients) sent _ (((refl, refl), refl), tt)
 shut_known host directory _ _ sent t (sends {mail = mail} {recipients = recipients} {lines = lines} s a) l = at_end_known host directory (Sends mail recipients lines) sent _ (((refl, refl), refl), tt)
 shut_known host directory _ _ sent t (waits i m) l = absurd l
@@ -209,7 +209,7 @@ known_from host setting directory left (Shut ∷ []) s stand g may = shut_known 
 known_from host setting directory left (Shut ∷ event ∷ events) s stand g may = absurd (none_after event may.1.0)
 
 pub messages_are_known : MessagesAreKnown
-messages_are_known host setting directory events left may = known_from host setting directory left events fresh (At Idle) start may
+messages_are_known host setting directory events left may = known_from host setting directory left events fresh (At Between) start may
 
 -- ---- while shards are shut
 
@@ -252,4 +252,4 @@ known_over host setting directory left (moment ∷ moments) s stand g may =
     (λ next go. known_over host setting directory left moments (on_event setting (marked moment.shut directory) s moment.event).standing next go may.1)
 
 pub messages_are_known_while_shards_are_shut : MessagesAreKnownWhileShardsAreShut
-messages_are_known_while_shards_are_shut host setting directory moments left may = known_over host setting directory left moments fresh (At Idle) start may
+messages_are_known_while_shards_are_shut host setting directory moments left may = known_over host setting directory left moments fresh (At Between) start may

@@ -14,7 +14,7 @@ use Rattle.lmtp_machine.specs.Conversation.{IsInData, IsListening}
 use Rattle.lmtp_machine.specs.Dialogue.{Line, Starved, Answered, Phase, Start, Ready, Transaction, Data, Waiting, Setting, Submission, Turn, turn, at_end, failed, is_dot, keys_from, on_line, on_outcome, on_starved, on_verdicts, verdict_reply}
 use Rattle.relay_replies.specs.Relay.{is_code}
 use Rattle.relay_replies.specs.Laws.{last_line}
-use Rattle.relay_replies.specs.Handed.{Handed, Idle, Begun, Sends, after_reply, ask_of, handed, is_end}
+use Rattle.relay_replies.specs.Handed.{Handed, Between, Begun, Sends, after_reply, ask_of, handed, is_end}
 use Rattle.relay_replies.specs.Fates.{Fate, Judged, TurnedAway, AreNamed, AreRefusals, HaveFates, IsSender, all_ends, ends_in, all_submitted, all_told, judged, turned_away}
 use Rattle.relay_replies.proofs.Turned.{Stand, At, Pends, Goes, LooksSame, Spoken, begun, ended, handed_at, line_spoken, named_length, owed, owed_ends, ready, sends, start, waits}
 
@@ -32,14 +32,14 @@ pub record Step (host : List ℕ) (directory : Directory) (before : Stand) (hear
 
 -- ---- commands
 
-idle_step : (host : List ℕ) (directory : Directory) (line : List ℕ) (t : Turn) → Spoken host directory Idle line t → Step host directory (At Idle) (line ∷ []) [] [] t
-idle_step host directory line t s = record {
-  next = At (after_reply (ask_of line) Idle line (last_line host s.reply));
+between_step : (host : List ℕ) (directory : Directory) (line : List ℕ) (t : Turn) → Spoken host directory Between line t → Step host directory (At Between) (line ∷ []) [] [] t
+between_step host directory line t s = record {
+  next = At (after_reply (ask_of line) Between line (last_line host s.reply));
   messages = [];
   fates = [];
   goes = s.goes;
   each = λ more others h. h;
-  reads = λ sent replies. ap (λ (rs : List Reply). handed Idle (line ∷ sent) (map (last_line host) rs ++ replies)) s.says;
+  reads = λ sent replies. ap (λ (rs : List Reply). handed Between (line ∷ sent) (map (last_line host) rs ++ replies)) s.says;
   submits = s.quiet;
   tells = refl;
   closes = refl;
@@ -80,17 +80,17 @@ more_read mail recipients lines line sent replies e = rw e refl
 
 end_read : (mail : List ℕ) (recipients lines : List (List ℕ)) (line : List ℕ) (sent replies : List (List ℕ)) → is_end line ≡ true
     → handed (Sends mail recipients lines) (line ∷ sent) replies
-    ≡ record { mail = mail; recipients = recipients; lines = lines; replies = take (length recipients) replies } ∷ handed Idle sent (drop (length recipients) replies)
+    ≡ record { mail = mail; recipients = recipients; lines = lines; replies = take (length recipients) replies } ∷ handed Between sent (drop (length recipients) replies)
 end_read mail recipients lines line sent replies e = rw e refl
 
 -- as many replies as recipients are those to this message
 own_replies : (mail : List ℕ) (recipients lines own sent replies : List (List ℕ)) → length own ≡ length recipients
-    → ◌≡◌ {A = List Handed} (record { mail = mail; recipients = recipients; lines = lines; replies = take (length recipients) (own ++ replies) } ∷ handed Idle sent (drop (length recipients) (own ++ replies)))
-    (record { mail = mail; recipients = recipients; lines = lines; replies = own } ∷ handed Idle sent replies)
+    → ◌≡◌ {A = List Handed} (record { mail = mail; recipients = recipients; lines = lines; replies = take (length recipients) (own ++ replies) } ∷ handed Between sent (drop (length recipients) (own ++ replies)))
+    (record { mail = mail; recipients = recipients; lines = lines; replies = own } ∷ handed Between sent replies)
 own_replies mail recipients lines own sent replies e =
-    ap (λ (rs : List (List ℕ)). record { mail = mail; recipients = recipients; lines = lines; replies = rs } ∷ handed Idle sent (drop (length recipients) (own ++ replies)))
+    ap (λ (rs : List (List ℕ)). record { mail = mail; recipients = recipients; lines = lines; replies = rs } ∷ handed Between sent (drop (length recipients) (own ++ replies)))
     (take_at own replies (length recipients) e)
-    ∙ ap (λ (rs : List (List ℕ)). record { mail = mail; recipients = recipients; lines = lines; replies = own } ∷ handed Idle sent rs)
+    ∙ ap (λ (rs : List (List ℕ)). record { mail = mail; recipients = recipients; lines = lines; replies = own } ∷ handed Between sent rs)
     (drop_at own replies (length recipients) e)
 
 all_refuse : (host : List ℕ) (count : ℕ) (reply : Reply) → is_code (codes "250") (last_line host reply) ≡ false → AreRefusals (map (last_line host) (replicate count reply))
@@ -108,7 +108,7 @@ failed_step host directory n mail recipients lines mailboxes line reply a e c =
     length-map (replicate (length mailboxes) reply) (last_line host) ∙ length-replicate (length mailboxes) reply ∙ sym (named_length directory recipients mailboxes a) in
     let message : Handed = record { mail = mail; recipients = recipients; lines = lines; replies = own } in
     record {
-      next = At Idle;
+      next = At Between;
       messages = message ∷ [];
       fates = TurnedAway ∷ [];
       goes = ready;
@@ -162,8 +162,8 @@ data_step host directory setting n mail recipients lines sender mailboxes line f
 
 pub line_step : (host : List ℕ) (directory now : Directory) → LooksSame directory now → (setting : Setting) (phase : Phase) (n : ℕ) (before : Stand) (line : List ℕ) → Goes directory phase before
     → IsListening phase → Step host directory before (line ∷ []) [] (ends_in phase (Line line) (on_line setting now phase n line)) (on_line setting now phase n line)
-line_step host directory now same setting _ n _ line start l = idle_step host directory line _ (line_spoken host directory now same Start n Idle line start tt (λ d. d))
-line_step host directory now same setting _ n _ line ready l = idle_step host directory line _ (line_spoken host directory now same Ready n Idle line ready tt (λ d. d))
+line_step host directory now same setting _ n _ line start l = between_step host directory line _ (line_spoken host directory now same Start n Between line start tt (λ d. d))
+line_step host directory now same setting _ n _ line ready l = between_step host directory line _ (line_spoken host directory now same Ready n Between line ready tt (λ d. d))
 line_step host directory now same setting _ n _ line (begun {sender = sender} {mailboxes = mailboxes} {mail = mail} {recipients = recipients} s a) l =
     begun_step host directory mail recipients line _ (line_spoken host directory now same (Transaction sender mailboxes) n (Begun mail recipients) line (begun s a) tt (λ d. d))
 line_step host directory now same setting _ n _ line (sends {sender = sender} {mailboxes = mailboxes} {mail = mail} {recipients = recipients} {lines = lines} s a) l =
@@ -196,7 +196,7 @@ verdicts_step host directory _ n _ verdicts (waits {count = count} {mail = mail}
     let size : length own ≡ length recipients = length-map (map verdict_reply verdicts) (last_line host) ∙ length-map verdicts verdict_reply ∙ many in
     let message : Handed = record { mail = mail; recipients = recipients; lines = lines; replies = own } in
     record {
-      next = At Idle;
+      next = At Between;
       messages = message ∷ [];
       fates = Judged submission verdicts ∷ [];
       goes = ready;

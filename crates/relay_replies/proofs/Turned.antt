@@ -15,7 +15,7 @@ use Rattle.lmtp_machine.specs.Message.{sender_text}
 use Rattle.lmtp_machine.specs.Conversation.{IsInData, IsListening}
 use Rattle.lmtp_machine.specs.Dialogue.{Phase, Start, Ready, Transaction, Data, Waiting, Ended, Standing, Submission, Turn, turn, refuse, fault_reply, last_number, on_command, on_command_line, on_mail, on_reading, on_recipient}
 use Rattle.relay_replies.specs.Laws.{last_line}
-use Rattle.relay_replies.specs.Handed.{Ask, Handed, Relay, Idle, Begun, Sends, after_reply, ask_of, handed}
+use Rattle.relay_replies.specs.Handed.{Ask, Handed, Relay, Between, Begun, Sends, after_reply, ask_of, handed}
 use Rattle.relay_replies.specs.Fates.{AreNamed, IsSender, IsSubmitted, Names}
 use Rattle.relay_replies.proofs.Asks.{IsNo, asks, line_asks, unchanged}
 
@@ -29,7 +29,7 @@ pub data Stand : Type 0 where
 abbrev pub handed_at : Stand → (sent replies : List (List ℕ)) → List Handed
 handed_at (At relay) sent replies = handed relay sent replies
 handed_at (Pends mail recipients lines submission) sent replies =
-    record { mail = mail; recipients = recipients; lines = lines; replies = take (length recipients) replies } ∷ handed Idle sent (drop (length recipients) replies)
+    record { mail = mail; recipients = recipients; lines = lines; replies = take (length recipients) replies } ∷ handed Between sent (drop (length recipients) replies)
 
 -- what was submitted and isn't answered
 abbrev pub owed : Stand → List Submission
@@ -44,8 +44,8 @@ abbrev pub sent_message : List ℕ → List (List ℕ) → List (List ℕ) → H
 sent_message mail recipients lines = record { mail = mail; recipients = recipients; lines = lines; replies = [] }
 
 pub data Goes (directory : Directory) : Phase → Stand → Type 0 where
-  start : Goes directory Start (At Idle)
-  ready : Goes directory Ready (At Idle)
+  start : Goes directory Start (At Between)
+  ready : Goes directory Ready (At Between)
   begun : {sender mailboxes mail : List ℕ} {recipients : List (List ℕ)} → IsSender mail sender → AreNamed directory recipients mailboxes
       → Goes directory (Transaction sender mailboxes) (At (Begun mail recipients))
   sends : {sender mailboxes mail : List ℕ} {recipients lines : List (List ℕ)} → IsSender mail sender → AreNamed directory recipients mailboxes
@@ -94,9 +94,9 @@ either P true x y p q = p
 either P false x y p q = q
 
 mail_obeyed : (host : List ℕ) (directory : Directory) (n : ℕ) (line : List ℕ) (path : Path) → read line ≡ Ok (say.Mail path)
-    → Obeyed host directory Idle line (say.Mail path) (on_mail Ready n path)
+    → Obeyed host directory Between line (say.Mail path) (on_mail Ready n path)
 mail_obeyed host directory n line path e =
-    either (Obeyed host directory Idle line (say.Mail path)) (n == last_number) (turn Ended n (ShuttingDown ∷ [])) (turn (Transaction (sender_text path) []) n (SenderOk ∷ []))
+    either (Obeyed host directory Between line (say.Mail path)) (n == last_number) (turn Ended n (ShuttingDown ∷ [])) (turn (Transaction (sender_text path) []) n (SenderOk ∷ []))
     (record { reply = ShuttingDown; says = refl; quiet = refl; goes = ended })
     (record { reply = SenderOk; says = refl; quiet = refl; goes = begun (path, e, refl) tt })
 

@@ -7,20 +7,20 @@ use Rattle.lmtp_machine.specs.declared.reply.Reply.TheVariants.{Greeting}
 use Rattle.lmtp_machine.specs.Dialogue.{Setting, Submission, Event, dialogue, fresh}
 use Rattle.lmtp_machine.specs.Replies.{wire}
 use Rattle.relay_replies.specs.Laws.{IsInLine, last_line}
-use Rattle.relay_replies.specs.Handed.{Handed, Idle, handed, handed_over, is_taken, no_message}
+use Rattle.relay_replies.specs.Handed.{Handed, Between, handed, handed_over, is_taken, no_message}
 use Rattle.relay_replies.specs.Moments.{Moment, EachMomentMayHappen, dialogue_over, ends_over, events_of}
 use Rattle.relay_replies.specs.Fates.{Fate, Unheard, HaveFates, AreKnown, AreCut, EachMayHappen, all_submitted, all_told, answers_of, ends_of, lines_of, was_stored}
 
 -- A relay that sent the lines that were heard, and perhaps more, and read the replies, knows just the messages that were submitted and those that were turned away, and of each the replies to it.
 abbrev pub MessagesAreKnown : Type 0
 MessagesAreKnown = (host : List ℕ) (setting : Setting) (directory : Directory) (events : List Event) (unheard : List (List ℕ)) → EachMayHappen setting directory fresh events
-    → AreKnown host directory (handed Idle (lines_of events ++ unheard) (map (last_line host) (dialogue setting directory fresh events).replies))
+    → AreKnown host directory (handed Between (lines_of events ++ unheard) (map (last_line host) (dialogue setting directory fresh events).replies))
     (ends_of setting directory fresh events) (dialogue setting directory fresh events).submissions (answers_of events)
 
 -- the same of a dialogue during which shards are shut
 abbrev pub MessagesAreKnownWhileShardsAreShut : Type 0
 MessagesAreKnownWhileShardsAreShut = (host : List ℕ) (setting : Setting) (directory : Directory) (moments : List Moment) (unheard : List (List ℕ)) → EachMomentMayHappen setting directory fresh moments
-    → AreKnown host directory (handed Idle (lines_of (events_of moments) ++ unheard) (map (last_line host) (dialogue_over setting directory fresh moments).replies))
+    → AreKnown host directory (handed Between (lines_of (events_of moments) ++ unheard) (map (last_line host) (dialogue_over setting directory fresh moments).replies))
     (ends_over setting directory fresh moments) (dialogue_over setting directory fresh moments).submissions (answers_of (events_of moments))
 
 -- the same by the bytes that it sent and was told

@@ -39,18 +39,18 @@ pub record Handed : Type 0 where
 
 -- where it stands: between messages; behind a MAIL line and RCPT lines that were accepted; or within the data
 pub data Relay : Type 0 where
-  Idle : Relay
+  Between : Relay
   Begun : (mail : List ℕ) → (recipients : List (List ℕ)) → Relay
   Sends : (mail : List ℕ) → (recipients lines : List (List ℕ)) → Relay
 
 -- what a command's reply comes to: by its code alone
 abbrev pub after_reply : Ask → Relay → (line reply : List ℕ) → Relay
-after_reply AsksMail Idle line reply = if is_code (codes "250") reply then Begun line [] else Idle
+after_reply AsksMail Between line reply = if is_code (codes "250") reply then Begun line [] else Between
 after_reply AsksRcpt (Begun mail recipients) line reply =
     if is_code (codes "250") reply then Begun mail (recipients ++ line ∷ []) else Begun mail recipients
 after_reply AsksData (Begun mail recipients) line reply =
     if is_code (codes "354") reply then Sends mail recipients [] else Begun mail recipients
-after_reply AsksDrop (Begun mail recipients) line reply = if is_code (codes "250") reply then Idle else Begun mail recipients
+after_reply AsksDrop (Begun mail recipients) line reply = if is_code (codes "250") reply then Between else Begun mail recipients
 after_reply _ relay line reply = relay
 
 -- What it handed over, in order, from where it stands on, by the lines that it sent and the replies that it read. Each command has one reply; the lines of data have none, and the dot has one for
@@ -60,16 +60,16 @@ handed relay [] replies = []
 handed (Sends mail recipients lines) (line ∷ sent) replies =
     if is_end line
     then record { mail = mail; recipients = recipients; lines = lines; replies = take (length recipients) replies }
-    ∷ handed Idle sent (drop (length recipients) replies)
+    ∷ handed Between sent (drop (length recipients) replies)
     else handed (Sends mail recipients (lines ++ line ∷ [])) sent replies
-handed Idle (line ∷ sent) [] = []
-handed Idle (line ∷ sent) (reply ∷ replies) = handed (after_reply (ask_of line) Idle line reply) sent replies
+handed Between (line ∷ sent) [] = []
+handed Between (line ∷ sent) (reply ∷ replies) = handed (after_reply (ask_of line) Between line reply) sent replies
 handed (Begun mail recipients) (line ∷ sent) [] = []
 handed (Begun mail recipients) (line ∷ sent) (reply ∷ replies) = handed (after_reply (ask_of line) (Begun mail recipients) line reply) sent replies
 
 -- by the bytes that it sent and was told on a connection. The first reply is the greeting, and no command's
 abbrev pub handed_over : (sent told : List ℕ) → List Handed
-handed_over sent told = handed Idle (wire_lines sent) (drop 1 (replies_of told))
+handed_over sent told = handed Between (wire_lines sent) (drop 1 (replies_of told))
 
 -- ---- what it makes of that
 

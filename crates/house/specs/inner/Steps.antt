@@ -105,7 +105,6 @@ pub record PlaceWentOn (k : Terms) (whole : Bool) (seat : ℕ) (next : CopyKey) 
 abbrev pub fault_of : Fault → HouseFault
 fault_of faults.Nobody = house_faults.Nobody
 fault_of faults.Nothing = house_faults.Nothing
-fault_of faults.NoMemory = house_faults.NoMemory
 
 -- the copy that is lent
 abbrev pub job_of : NextCopy → Job

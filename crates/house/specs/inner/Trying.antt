@@ -91,7 +91,7 @@ pub record Moved (Q : Setup → Type 0) (P : Setup → Scene → Scene → List 
 pub record Rests (Q : Setup → Type 0) (I : Setup → Scene → Type 0) (before : State) (old : List ℕ) (h : State) (new : List ℕ) : Type 0 where
   pub same : h ≡ before
   pub silent : new ≡ old
-  pub idle : (k : Setup) (s : Scene) → Q k → StandsFor k before s → I k s
+  pub changes_nothing : (k : Setup) (s : Scene) → Q k → StandsFor k before s → I k s
 
 -- memory was wanting: what happened by then stands
 pub record Wants (Q : Setup → Type 0) (before : State) (old : List ℕ) (h : State) (new : List ℕ) : Type 0 where

@@ -8,7 +8,7 @@ use Rattle.envelope.specs.Values.{Path, To}
 use Rattle.envelope.specs.Reading.{read, forward_at}
 use Rattle.lmtp_machine.specs.Dialogue.{Event, Line, Starved, Answered, Shut, Setting, Submission, dialogue, fresh}
 use Rattle.relay_replies.specs.Laws.{last_line}
-use Rattle.relay_replies.specs.Handed.{Handed, Idle, AsksMail, AsksDrop, AsksOther, ask_of, handed, handed_over, is_taken}
+use Rattle.relay_replies.specs.Handed.{Handed, Between, AsksMail, AsksDrop, AsksOther, ask_of, handed, handed_over, is_taken}
 use Rattle.relay_replies.specs.Numbers.{number_of}
 use Rattle.relay_replies.specs.Fates.{Awaited, Judged, TurnedAway, EachMayHappen, HaveFates, answers_of, ends_of, judged, lines_of, none, turned_away}
 
@@ -157,7 +157,7 @@ handed_over_then =
     ∷ message (codes "MAIL FROM:<>") (bob ∷ []) (codes "mail" ∷ []) (codes "552 5.3.4 Message too big" ∷ [])
     ∷ message (codes "MAIL FROM:<>") (alice ∷ []) [] (codes "451 4.3.0 Out of memory" ∷ []) ∷ []
 
-known : handed Idle (lines_of heard) (map (last_line (codes "mx.example.org")) (dialogue setting home fresh heard).replies) ≡ handed_over_then
+known : handed Between (lines_of heard) (map (last_line (codes "mx.example.org")) (dialogue setting home fresh heard).replies) ≡ handed_over_then
 unfolding read forward_at
 known = refl
 

@@ -24,5 +24,5 @@ returns-in-Err-Busy-clause-tried c k s st =
 pub returns-in-Err-Nothing-clause-tried : goal.returns-in-Err-Nothing-clause-tried
 returns-in-Err-Nothing-clause-tried c k s st =
     let e = c.in-Err-Nothing.ensures in
-    it_was_refused k s _ _ _ _ _ st (inr (inr (e.idle (is_fault c.in-Err-Nothing.field-0 faults.Nothing c.in-Err-Nothing.field-0-is))))
+    it_was_refused k s _ _ _ _ _ st (inr (inr (e.changes_nothing (is_fault c.in-Err-Nothing.field-0 faults.Nothing c.in-Err-Nothing.field-0-is))))
     (e.refused (is_other c.in-Err-Nothing.field-0 faults.Nothing c.in-Err-Nothing.field-0-is nothing_wanting))

@@ -6,8 +6,8 @@ use Rattle.delivery_core.proofs.Takes.{reply_place, reply_live, answer_follows}
 use Rattle.delivery_core.proofs.steps.DeliveryCore.answer.Goals.{then-seat-len-via-then-seat-len, then-seat-len-via-else-seat-len+then-not-is_live}
 use Rattle.delivery_core.proofs.steps.DeliveryCore.answer.Goals as goal
 
-pub returns-then-seat-len-clause-idle : goal.returns-then-seat-len-clause-idle
-returns-then-seat-len-clause-idle c e k w v S step =
+pub returns-then-seat-len-clause-changes_nothing : goal.returns-then-seat-len-clause-changes_nothing
+returns-then-seat-len-clause-changes_nothing c e k w v S step =
     let S2 = subst (λ (h : Held). StandsFor k h w) (sym c.self.view_is) S in
     let there = reply_place k w _ c.from-at.result c.in-Done.noted S2 (omega (arith, c.len.ensures, c.if-at-len.false, c.self.invariant.0)) (rw c.in-Done.is at c.index.ensures) in
     elim c.then-seat-len.branch [

@@ -7,8 +7,8 @@ use Rattle.delivery_core.specs.Seated.{AreSeated}
 use Rattle.delivery_core.proofs.Delivers.{job_place, deliver_follows}
 use Rattle.delivery_core.proofs.steps.DeliveryCore.deliver.Goals as goal
 
-pub returns-then-place-len-clause-idle : goal.returns-then-place-len-clause-idle
-returns-then-place-len-clause-idle c e k w v S step =
+pub returns-then-place-len-clause-changes_nothing : goal.returns-then-place-len-clause-changes_nothing
+returns-then-place-len-clause-changes_nothing c e k w v S step =
     let there = job_place k w _ c.from-at.result c.in-Taken.job (subst (λ (h : Held). StandsFor k h w) (sym c.self.view_is) S) (omega (arith, c.len.ensures, c.if-at-len.false, c.self.invariant.0)) (rw c.in-Taken.is at c.index.ensures) in
     absurd (omega (arith, there, c.len-2.ensures, c.if-place-len.true, c.from-place.ensures))
 

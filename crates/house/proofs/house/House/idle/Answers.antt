@@ -13,8 +13,8 @@ use Rattle.house.proofs.Visiting.{has_place}
 use Rattle.house.proofs.IdleTurn.{idle_led, idle_led_in_part, idle_none}
 use Rattle.house.proofs.house.House.idle.Goals as goal
 
-pub returns-then-not-has_turn-clause-idle : goal.returns-then-not-has_turn-clause-idle
-returns-then-not-has_turn-clause-idle c e k s st t printed play =
+pub returns-then-not-has_turn-clause-changes_nothing : goal.returns-then-not-has_turn-clause-changes_nothing
+returns-then-not-has_turn-clause-changes_nothing c e k s st t printed play =
     let i = c.self.inside in
     let h : State = record { core = i.desk.core; callers = i.callers.items; serials = i.serials.items; visitors = i.visitors.items; entered = i.entered.items; directory = i.directory; host = i.host.items; max_message = i.max_message } in
     let st1 = subst (λ (x : State). StandsFor k x s) (sym c.self.view_is) st in

@@ -19,7 +19,7 @@ returns-in-Err-Nobody-clause-ok c =
 pub returns-in-Err-Nothing-clause-ok : goal.returns-in-Err-Nothing-clause-ok
 returns-in-Err-Nothing-clause-ok c =
     turns_done c.args.session c.args.self.now c.args.out.now.items c.loop.self c.loop.out.items c.step.new.self c.step.new.out.items c.loop.invariant (search rules) (search rules)
-    (λ k s q st. c.in-Err-Nothing.ensures.idle (ap (λ x. Err x) c.in-Err-Nothing.field-0-is) k s st)
+    (λ k s q st. c.in-Err-Nothing.ensures.changes_nothing (ap (λ x. Err x) c.in-Err-Nothing.field-0-is) k s st)
 
 pub returns-in-Err-Busy-clause-ok : goal.returns-in-Err-Busy-clause-ok
 returns-in-Err-Busy-clause-ok c =

@@ -28,10 +28,10 @@ returns-in_default-clause-no_memory c e k s st =
     let mine : c.args.number - 1 ≡ session_seat k place = at ∙ ap (λ (n : ℕ). n + place) st1.connections in
     let p = c.in-Ok.ensures.puts in
     let some : ◌≡◌ {A = Option Seat} (get_or i.visitors.items place None) (Some p.0) = get_or-any i.visitors.items place None c.index.result.now lt ∙ sym c.index.ensures ∙ p.1 in
-    let here = c.note_put_at.ensures ∙ ap (option_map (noted_put (heard_verdict c.in-Ok.why))) (c.index_mut-here.ensures.value ∙ get_or-any i.visitors.items place _ None lt ∙ some) in
-    let r = put_led k false h s place p.0 c.put_next.new.core c.go_on_at.new.desk.core c.in-Ok.why c.note_put_at.new.place c.go_on_at.new.place c.args.out.now.items c.go_on_at.new.out.items st1 lt some p.2 here c.go_on_at.ensures.delivery
-    (λ next heard w b stands is. subst (λ (n : ℕ). PlaceVisited k false n next heard w b c.go_on_at.new.place c.go_on_at.new.desk.core c.args.out.now.items c.go_on_at.new.out.items) (sym number)
-    (c.in_default.ensures.err k next heard w b stands (subst (λ (n : ℕ). StandsForSomebody (session_seat k n) next heard c.note_put_at.new.place (Some b)) number is))) in
+    let here = c.visitor_notes_put.ensures ∙ ap (option_map (noted_put (heard_verdict c.in-Ok.why))) (c.index_mut-here.ensures.value ∙ get_or-any i.visitors.items place _ None lt ∙ some) in
+    let r = put_led k false h s place p.0 c.put_next.new.core c.visitor_goes_on.new.desk.core c.in-Ok.why c.visitor_notes_put.new.place c.visitor_goes_on.new.place c.args.out.now.items c.visitor_goes_on.new.out.items st1 lt some p.2 here c.visitor_goes_on.ensures.delivery
+    (λ next heard w b stands is. subst (λ (n : ℕ). PlaceVisited k false n next heard w b c.visitor_goes_on.new.place c.visitor_goes_on.new.desk.core c.args.out.now.items c.visitor_goes_on.new.out.items) (sym number)
+    (c.in_default.ensures.err k next heard w b stands (subst (λ (n : ℕ). StandsForSomebody (session_seat k n) next heard c.visitor_notes_put.new.place (Some b)) number is))) in
     inl (record { after = r.0; printed = r.1; plays = session_puts place mine r.2; stands = r.3; out = r.4 })
 
 pub returns-clause-follows : goal.returns-clause-follows
@@ -49,14 +49,14 @@ returns-clause-follows c k s st =
     let mine : c.args.number - 1 ≡ session_seat k place = at ∙ ap (λ (n : ℕ). n + place) st1.connections in
     let p = c.in-Ok.ensures.puts in
     let some : ◌≡◌ {A = Option Seat} (get_or i.visitors.items place None) (Some p.0) = get_or-any i.visitors.items place None c.index.result.now lt ∙ sym c.index.ensures ∙ p.1 in
-    let here = c.note_put_at.ensures ∙ ap (option_map (noted_put (heard_verdict c.in-Ok.why))) (c.index_mut-here.ensures.value ∙ get_or-any i.visitors.items place _ None lt ∙ some) in
-    let r = put_led k true h s place p.0 c.put_next.new.core c.go_on_at.new.desk.core c.in-Ok.why c.note_put_at.new.place c.go_on_at.new.place c.args.out.now.items c.go_on_at.new.out.items st1 lt some p.2 here c.go_on_at.ensures.delivery
-    (λ next heard w b stands is. subst (λ (n : ℕ). PlaceVisited k true n next heard w b c.go_on_at.new.place c.go_on_at.new.desk.core c.args.out.now.items c.go_on_at.new.out.items) (sym number)
-    (c.in-Ok-go_on_at.ensures.ok k next heard w b stands (subst (λ (n : ℕ). StandsForSomebody (session_seat k n) next heard c.note_put_at.new.place (Some b)) number is))) in
+    let here = c.visitor_notes_put.ensures ∙ ap (option_map (noted_put (heard_verdict c.in-Ok.why))) (c.index_mut-here.ensures.value ∙ get_or-any i.visitors.items place _ None lt ∙ some) in
+    let r = put_led k true h s place p.0 c.put_next.new.core c.visitor_goes_on.new.desk.core c.in-Ok.why c.visitor_notes_put.new.place c.visitor_goes_on.new.place c.args.out.now.items c.visitor_goes_on.new.out.items st1 lt some p.2 here c.visitor_goes_on.ensures.delivery
+    (λ next heard w b stands is. subst (λ (n : ℕ). PlaceVisited k true n next heard w b c.visitor_goes_on.new.place c.visitor_goes_on.new.desk.core c.args.out.now.items c.visitor_goes_on.new.out.items) (sym number)
+    (c.in-Ok-visitor_goes_on.ensures.ok k next heard w b stands (subst (λ (n : ℕ). StandsForSomebody (session_seat k n) next heard c.visitor_notes_put.new.place (Some b)) number is))) in
     record { after = r.0; printed = r.1; plays = session_puts place mine r.2; stands = r.3; out = r.4 }
 
-pub returns-in-Err-clause-idle : goal.returns-in-Err-clause-idle
-returns-in-Err-clause-idle c e k s st t printed p =
+pub returns-in-Err-clause-changes_nothing : goal.returns-in-Err-clause-changes_nothing
+returns-in-Err-clause-changes_nothing c e k s st t printed p =
     let i = c.self.inside in
     let h : State = record { core = i.desk.core; callers = i.callers.items; serials = i.serials.items; visitors = i.visitors.items; entered = i.entered.items; directory = i.directory; host = i.host.items; max_message = i.max_message } in
     let st1 = subst (λ (x : State). StandsFor k x s) (sym c.self.view_is) st in
@@ -86,7 +86,7 @@ returns-in_default-clause-asks c e =
     let lt : place < length i.visitors.items = let b = c.requires.number.behind in let w = c.requires.number.within in omega (arith, b, w, first, many, counted, number) in
     let p = c.in-Ok.ensures.puts in
     let some : ◌≡◌ {A = Option Seat} (get_or i.visitors.items place None) (Some p.0) = get_or-any i.visitors.items place None c.index.result.now lt ∙ sym c.index.ensures ∙ p.1 in
-    rw (← c.self.view_is, due_behind h (c.args.number - 1) place p.0 at some) (inr (c.put_next.new.core, c.in-Ok.why, p.2, c.go_on_at.ensures.delivery))
+    rw (← c.self.view_is, due_behind h (c.args.number - 1) place p.0 at some) (inr (c.put_next.new.core, c.in-Ok.why, p.2, c.visitor_goes_on.ensures.delivery))
 
 pub returns-in-Err-clause-asks : goal.returns-in-Err-clause-asks
 returns-in-Err-clause-asks c e =

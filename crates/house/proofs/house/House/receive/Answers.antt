@@ -9,8 +9,8 @@ use Rattle.house.specs.Steps.{is_unread}
 use Rattle.house.proofs.Events.{received}
 use Rattle.house.proofs.house.House.receive.Goals as goal
 
-pub returns-in_default-go_on_at-clause-no_memory : goal.returns-in_default-go_on_at-clause-no_memory
-returns-in_default-go_on_at-clause-no_memory c k s st =
+pub returns-in_default-caller_goes_on-clause-no_memory : goal.returns-in_default-caller_goes_on-clause-no_memory
+returns-in_default-caller_goes_on-clause-no_memory c k s st =
     let i = c.self.inside in
     let h : State = record { core = i.desk.core; callers = i.callers.items; serials = i.serials.items; visitors = i.visitors.items; entered = i.entered.items; directory = i.directory; host = i.host.items; max_message = i.max_message } in
     let st1 = subst (λ (x : State). StandsFor k x s) (sym c.self.view_is) st in
@@ -21,8 +21,8 @@ returns-in_default-go_on_at-clause-no_memory c k s st =
     let number : c.args.connection ≡ c.from.result + 1 = let n = c.requires.there.number in omega (arith, n, e) in
     let lt : c.from.result < length i.callers.items = let m = c.requires.there.seat in omega (arith, number, m, many) in
     let at = c.in-Ok.ensures.ok ∙ ap (option_map (with_more c.args.piece.now)) (c.index_mut-place.ensures.value ∙ get_or-any i.callers.items c.from.result _ None lt) in
-    let r = received k h s c.args.connection c.from.result c.args.piece.now i.directory c.go_on_at.new.place c.append_at.new.place false c.args.out.now.items c.go_on_at.new.out.items st1
-    number refl lt who read at c.in_default-go_on_at.ensures.err in
+    let r = received k h s c.args.connection c.from.result c.args.piece.now i.directory c.caller_goes_on.new.place c.append_to_caller.new.place false c.args.out.now.items c.caller_goes_on.new.out.items st1
+    number refl lt who read at c.in_default-caller_goes_on.ensures.err in
     inl (record { after = r.0; printed = r.1; plays = subst (λ (n : ℕ). BytesPlay k false s n c.args.piece.now r.0 r.1) e r.2; stands = r.3; out = r.4 })
 
 pub returns-clause-follows : goal.returns-clause-follows
@@ -37,6 +37,6 @@ returns-clause-follows c k s st =
     let number : c.args.connection ≡ c.from.result + 1 = let n = c.requires.there.number in omega (arith, n, e) in
     let lt : c.from.result < length i.callers.items = let m = c.requires.there.seat in omega (arith, number, m, many) in
     let at = c.in-Ok.ensures.ok ∙ ap (option_map (with_more c.args.piece.now)) (c.index_mut-place.ensures.value ∙ get_or-any i.callers.items c.from.result _ None lt) in
-    let r = received k h s c.args.connection c.from.result c.args.piece.now i.directory c.go_on_at.new.place c.append_at.new.place true c.args.out.now.items c.go_on_at.new.out.items st1
-    number refl lt who read at c.in-Ok-go_on_at.ensures.ok in
+    let r = received k h s c.args.connection c.from.result c.args.piece.now i.directory c.caller_goes_on.new.place c.append_to_caller.new.place true c.args.out.now.items c.caller_goes_on.new.out.items st1
+    number refl lt who read at c.in-Ok-caller_goes_on.ensures.ok in
     record { after = r.0; printed = r.1; plays = subst (λ (n : ℕ). BytesPlay k true s n c.args.piece.now r.0 r.1) e r.2; stands = r.3; out = r.4 }

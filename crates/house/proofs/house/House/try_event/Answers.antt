@@ -13,7 +13,7 @@ pub returns-in-Err-Nobody-clause-came : goal.returns-in-Err-Nobody-clause-came
 returns-in-Err-Nobody-clause-came c = record {
   same = search rules;
   silent = search rules;
-  idle = λ k s q st. nobody_nothing k c.args.self.now s c.args.event q st (c.in-Err-Nobody.ensures.nobody.0 (ap (λ x. Err x) c.in-Err-Nobody.field-0-is));
+  changes_nothing = λ k s q st. nobody_nothing k c.args.self.now s c.args.event q st (c.in-Err-Nobody.ensures.nobody.0 (ap (λ x. Err x) c.in-Err-Nobody.field-0-is));
 }
 
 pub returns-in-Ok-clause-marks : goal.returns-in-Ok-clause-marks

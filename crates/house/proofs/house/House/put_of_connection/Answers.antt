@@ -10,7 +10,7 @@ use Rattle.house.specs.Stands.{StandsFor}
 use Rattle.session_store.proofs.Serving.{same_delivery}
 use Rattle.house.proofs.Ended.{due_first}
 use Rattle.house.proofs.Turns.{put_led, puts_none}
-use Rattle.house.proofs.house.House.put.Goals as goal
+use Rattle.house.proofs.house.House.put_of_connection.Goals as goal
 
 pub returns-in_default-clause-no_memory : goal.returns-in_default-clause-no_memory
 returns-in_default-clause-no_memory c e k s st =
@@ -23,8 +23,8 @@ returns-in_default-clause-no_memory c e k s st =
     let lt : c.from-seat.result < length i.callers.items = let m = c.requires.seat.seat in omega (arith, number, m, many) in
     let p = c.in-Ok.ensures.puts in
     let some = get_or-any i.callers.items c.from-seat.result None c.index.result.now lt ∙ sym c.index.ensures ∙ p.1 in
-    let at = c.note_put_at.ensures ∙ ap (option_map (noted_put (heard_verdict c.in-Ok.why))) (c.index_mut-place.ensures.value ∙ get_or-any i.callers.items c.from-seat.result _ None lt ∙ some) in
-    let r = put_led k h s c.args.connection c.from-seat.result i.directory p.0 c.put_next.new.core c.in-Ok.why c.note_put_at.new.place c.go_on_at.new.place false c.args.out.now.items c.go_on_at.new.out.items
+    let at = c.caller_notes_put.ensures ∙ ap (option_map (noted_put (heard_verdict c.in-Ok.why))) (c.index_mut-place.ensures.value ∙ get_or-any i.callers.items c.from-seat.result _ None lt ∙ some) in
+    let r = put_led k h s c.args.connection c.from-seat.result i.directory p.0 c.put_next.new.core c.in-Ok.why c.caller_notes_put.new.place c.caller_goes_on.new.place false c.args.out.now.items c.caller_goes_on.new.out.items
     st1 number refl lt some p.2 at c.in_default.ensures.err in
     inl (record { after = r.0; printed = r.1; plays = subst (λ (n : ℕ). PutPlay k false s n r.0 r.1) e1 (connection_puts (let b = st1.connections in omega (arith, lt, b)) r.2); stands = r.3; out = r.4 })
 
@@ -39,13 +39,13 @@ returns-clause-follows c k s st =
     let lt : c.from-seat.result < length i.callers.items = let m = c.requires.seat.seat in omega (arith, number, m, many) in
     let p = c.in-Ok.ensures.puts in
     let some = get_or-any i.callers.items c.from-seat.result None c.index.result.now lt ∙ sym c.index.ensures ∙ p.1 in
-    let at = c.note_put_at.ensures ∙ ap (option_map (noted_put (heard_verdict c.in-Ok.why))) (c.index_mut-place.ensures.value ∙ get_or-any i.callers.items c.from-seat.result _ None lt ∙ some) in
-    let r = put_led k h s c.args.connection c.from-seat.result i.directory p.0 c.put_next.new.core c.in-Ok.why c.note_put_at.new.place c.go_on_at.new.place true c.args.out.now.items c.go_on_at.new.out.items
-    st1 number refl lt some p.2 at c.in-Ok-go_on_at.ensures.ok in
+    let at = c.caller_notes_put.ensures ∙ ap (option_map (noted_put (heard_verdict c.in-Ok.why))) (c.index_mut-place.ensures.value ∙ get_or-any i.callers.items c.from-seat.result _ None lt ∙ some) in
+    let r = put_led k h s c.args.connection c.from-seat.result i.directory p.0 c.put_next.new.core c.in-Ok.why c.caller_notes_put.new.place c.caller_goes_on.new.place true c.args.out.now.items c.caller_goes_on.new.out.items
+    st1 number refl lt some p.2 at c.in-Ok-caller_goes_on.ensures.ok in
     record { after = r.0; printed = r.1; plays = subst (λ (n : ℕ). PutPlay k true s n r.0 r.1) e1 (connection_puts (let b = st1.connections in omega (arith, lt, b)) r.2); stands = r.3; out = r.4 }
 
-pub returns-in-Err-clause-idle : goal.returns-in-Err-clause-idle
-returns-in-Err-clause-idle c e k s st t printed p =
+pub returns-in-Err-clause-changes_nothing : goal.returns-in-Err-clause-changes_nothing
+returns-in-Err-clause-changes_nothing c e k s st t printed p =
     let i = c.self.inside in
     let h : State = record { core = i.desk.core; callers = i.callers.items; serials = i.serials.items; visitors = i.visitors.items; entered = i.entered.items; directory = i.directory; host = i.host.items; max_message = i.max_message } in
     let st1 = subst (λ (x : State). StandsFor k x s) (sym c.self.view_is) st in

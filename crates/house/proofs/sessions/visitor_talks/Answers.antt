@@ -6,7 +6,7 @@ use Rattle.house_session.specs.Seat.{Seat}
 use Rattle.house.specs.Setup.{session_seat}
 use Rattle.house.specs.inner.Steps.{StandsForSomebody}
 use Rattle.house.proofs.Visiting.{delivery_then, parted, talked}
-use Rattle.house.proofs.sessions.talk_at.Goals as goal
+use Rattle.house.proofs.sessions.visitor_talks.Goals as goal
 
 pub returns-in_default-go_on-clause-err : goal.returns-in_default-go_on-clause-err
 returns-in_default-go_on-clause-err c k next heard w b stands there =

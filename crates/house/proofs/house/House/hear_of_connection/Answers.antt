@@ -10,7 +10,7 @@ use Rattle.house.specs.Stands.{StandsFor}
 use Rattle.house.specs.inner.Steps.{StandsForMaybe}
 use Rattle.delivery_core.specs.Changes.{Hears}
 use Rattle.house.proofs.Turns.{heard_at, heard_led, hears_none}
-use Rattle.house.proofs.house.House.hear.Goals as goal
+use Rattle.house.proofs.house.House.hear_of_connection.Goals as goal
 
 there : (o : Option Line) → is_some o ≡ true → (g : Line) × (o ≡ Some g)
 there None e = absurd (let x : false ≡ true = e in cc)
@@ -27,9 +27,9 @@ returns-in_default-clause-no_memory c e k s st =
     let lt : c.from-seat.result < length i.callers.items = let m = c.requires.seat.seat in omega (arith, number, m, many) in
     let g = there c.index.result.now (c.is_none.ensures ∙ ap not c.if-is_none.false) in
     let some = get_or-any i.callers.items c.from-seat.result None c.index.result.now lt ∙ sym c.index.ensures ∙ g.1 in
-    let q = heard_at c.index_mut-place.result.now c.hear_at.new.place c.in-Ok.noted g.0 (c.index_mut-place.ensures.value ∙ get_or-any i.callers.items c.from-seat.result _ None lt ∙ some) c.hear_at.ensures in
+    let q = heard_at c.index_mut-place.result.now c.caller_hears.new.place c.in-Ok.noted g.0 (c.index_mut-place.ensures.value ∙ get_or-any i.callers.items c.from-seat.result _ None lt ∙ some) c.caller_hears.ensures in
     let f = c.in-Ok.ensures in
-    let r = heard_led k h s c.args.connection c.from-seat.result i.directory g.0 c.hear.new.self c.in-Ok.noted q.0 c.go_on_at.new.place false c.args.out.now.items c.go_on_at.new.out.items
+    let r = heard_led k h s c.args.connection c.from-seat.result i.directory g.0 c.hear.new.self c.in-Ok.noted q.0 c.caller_goes_on.new.place false c.args.out.now.items c.caller_goes_on.new.out.items
     st1 number refl lt some (subst (λ (n : ℕ). (x : world.Config) → core.Follows x i.desk.core (world.Hear n ∷ []) c.hear.new.self) (sym e1) f.follows) (subst (λ (n : ℕ). Hears i.desk.core c.hear.new.self n (c.in-Ok.noted ∷ [])) (sym e1) f.heard) f.next q.2
     (λ x p next heard b of m. c.in_default.ensures.err x p next heard b of (subst (λ (o : Option Line). StandsForMaybe x p next heard o (Some b)) (sym q.1) m)) in
     inl (record { after = r.0; printed = r.1; plays = subst (λ (n : ℕ). HearPlay k false s n r.0 r.1) e1 (connection_hears (let b = st1.connections in omega (arith, lt, b)) r.2); stands = r.3; out = r.4 })
@@ -45,21 +45,21 @@ returns-clause-follows c k s st =
     let lt : c.from-seat.result < length i.callers.items = let m = c.requires.seat.seat in omega (arith, number, m, many) in
     let g = there c.index.result.now (c.is_none.ensures ∙ ap not c.if-is_none.false) in
     let some = get_or-any i.callers.items c.from-seat.result None c.index.result.now lt ∙ sym c.index.ensures ∙ g.1 in
-    let q = heard_at c.index_mut-place.result.now c.hear_at.new.place c.in-Ok.noted g.0 (c.index_mut-place.ensures.value ∙ get_or-any i.callers.items c.from-seat.result _ None lt ∙ some) c.hear_at.ensures in
+    let q = heard_at c.index_mut-place.result.now c.caller_hears.new.place c.in-Ok.noted g.0 (c.index_mut-place.ensures.value ∙ get_or-any i.callers.items c.from-seat.result _ None lt ∙ some) c.caller_hears.ensures in
     let f = c.in-Ok.ensures in
-    let r = heard_led k h s c.args.connection c.from-seat.result i.directory g.0 c.hear.new.self c.in-Ok.noted q.0 c.go_on_at.new.place true c.args.out.now.items c.go_on_at.new.out.items
+    let r = heard_led k h s c.args.connection c.from-seat.result i.directory g.0 c.hear.new.self c.in-Ok.noted q.0 c.caller_goes_on.new.place true c.args.out.now.items c.caller_goes_on.new.out.items
     st1 number refl lt some (subst (λ (n : ℕ). (x : world.Config) → core.Follows x i.desk.core (world.Hear n ∷ []) c.hear.new.self) (sym e1) f.follows) (subst (λ (n : ℕ). Hears i.desk.core c.hear.new.self n (c.in-Ok.noted ∷ [])) (sym e1) f.heard) f.next q.2
-    (λ x p next heard b of m. c.in-Ok-go_on_at.ensures.ok x p next heard b of (subst (λ (o : Option Line). StandsForMaybe x p next heard o (Some b)) (sym q.1) m)) in
+    (λ x p next heard b of m. c.in-Ok-caller_goes_on.ensures.ok x p next heard b of (subst (λ (o : Option Line). StandsForMaybe x p next heard o (Some b)) (sym q.1) m)) in
     record { after = r.0; printed = r.1; plays = subst (λ (n : ℕ). HearPlay k true s n r.0 r.1) e1 (connection_hears (let b = st1.connections in omega (arith, lt, b)) r.2); stands = r.3; out = r.4 }
 
-pub returns-in-Err-Nothing-clause-idle : goal.returns-in-Err-Nothing-clause-idle
-returns-in-Err-Nothing-clause-idle c e k s st t printed p =
+pub returns-in-Err-Nothing-clause-changes_nothing : goal.returns-in-Err-Nothing-clause-changes_nothing
+returns-in-Err-Nothing-clause-changes_nothing c e k s st t printed p =
     let i = c.self.inside in
     let h : State = record { core = i.desk.core; callers = i.callers.items; serials = i.serials.items; visitors = i.visitors.items; entered = i.entered.items; directory = i.directory; host = i.host.items; max_message = i.max_message } in
     let st1 = subst (λ (x : State). StandsFor k x s) (sym c.self.view_is) st in
     let many = ap (λ (x : State). length x.callers) c.self.view_is in
     let lt : seat_of c.args.connection < length i.callers.items = let n = c.requires.seat.number in let m = c.requires.seat.seat in omega (arith, n, m, many) in
-    absurd (hears_none k h s (seat_of c.args.connection) t printed st1 lt (c.in-Err-Nothing.ensures.idle (ap (λ x. Err x) c.in-Err-Nothing.field-0-is)) p)
+    absurd (hears_none k h s (seat_of c.args.connection) t printed st1 lt (c.in-Err-Nothing.ensures.changes_nothing (ap (λ x. Err x) c.in-Err-Nothing.field-0-is)) p)
 
 pub returns-in_default-clause-asks : goal.returns-in_default-clause-asks
 returns-in_default-clause-asks c e = rw (← c.self.view_is) (inr (c.in-Ok.noted, c.in-Ok.ensures.heard))

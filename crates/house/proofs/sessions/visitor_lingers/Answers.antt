@@ -2,7 +2,7 @@ use Rattle.std.proofs.Common.{None, Option, refl, Some, subst}
 use Rattle.house_session.specs.Seat.{Seat}
 use Rattle.house.specs.Scene.{fades, waits}
 use Rattle.house.specs.inner.Steps.{StandsForSomebody}
-use Rattle.house.proofs.sessions.linger_at.Goals as goal
+use Rattle.house.proofs.sessions.visitor_lingers.Goals as goal
 
 pub returns-then-not-awaits_verdict-clause-who : goal.returns-then-not-awaits_verdict-clause-who
 returns-then-not-awaits_verdict-clause-who c seat next heard b s =
