@@ -1,4 +1,4 @@
-pub mod Service
+pub mod Clerk
 pub mod Keeping
 pub mod Staff
 pub mod inner

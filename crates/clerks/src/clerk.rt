@@ -49,9 +49,9 @@ pub struct Clerk<H: Hall> {
 }
 
 impl<H: Hall> Model for Clerk<H> {
-    ghost use Rattle.clerks.specs.Service.{Service};
+    ghost use Rattle.clerks.specs.Clerk.{Clerk};
 
-    ghost Value = { Service };
+    ghost Value = { Clerk };
 
     ghost use Rattle.shard_queue.specs.Seats.{got, take_seen};
     ghost use Rattle.clerks.specs.inner.Keeping.{Keeps};

@@ -11,11 +11,11 @@ use Rattle.world.specs.World.{Event, IsWorld, Step, World, empty_world}
 use Rattle.world.proofs.Always.{steps_join}
 use Rattle.imap_session.specs.Exchange as calls
 use Rattle.imap_session.specs.Commands.{greeting}
-use Rattle.house_connection.specs.HouseConnection.{HouseConnection}
+use Rattle.house_connection.specs.Caller.{Caller}
 use Rattle.house_session.specs.Folders.{folders_of}
-use Rattle.house_session.specs.HouseSession.{HouseSession, greeted}
-use Rattle.house_session.specs.HouseSession.{more_waits as session_more_waits}
-use Rattle.house_session.specs.Seated.{SeatedSession, seated_greeted}
+use Rattle.house_session.specs.Visitor.{Visitor, greeted}
+use Rattle.house_session.specs.Visitor.{more_waits as session_more_waits}
+use Rattle.house_session.specs.SeatedVisitor.{SeatedVisitor, seated_greeted}
 use Rattle.house.specs.Setup.{Setup, session_seat}
 use Rattle.house.specs.Printing.{with_session}
 use Rattle.house.specs.Scene as scene
@@ -63,11 +63,11 @@ pub record IsAt (q : ℕ) (event : house.Event) (piece : Piece) (lets : Bool) (m
   pub not_sent : (n : ℕ) → n ≢ q → sent_in n event ≡ []
   pub not_shown : (n : ℕ) → n ≢ q → shown_in n piece ≡ []
 
-elsewhere : (k : Setup) (n : ℕ) (user named s h : List ℕ) (w : World) (o : Option SeatedSession) (lets : Bool) (more new : List ℕ) → named ≡ user → lets ≡ false → more ≡ [] → new ≡ [] → Watched k n user s h w o
+elsewhere : (k : Setup) (n : ℕ) (user named s h : List ℕ) (w : World) (o : Option SeatedVisitor) (lets : Bool) (more new : List ℕ) → named ≡ user → lets ≡ false → more ≡ [] → new ≡ [] → Watched k n user s h w o
     → Watched k n named (unless lets s ++ more) (unless lets h ++ new) w o
 elsewhere k n user named s h w o lets more new u e f g c = rw (u, e, f, g, append-nil s, append-nil h) c
 
-here : (k : Setup) (n : ℕ) (name named s h : List ℕ) (w : World) (o : Option SeatedSession) (lets is : Bool) (more sent new shown : List ℕ) → named ≡ name → is ≡ lets → sent ≡ more → shown ≡ new
+here : (k : Setup) (n : ℕ) (name named s h : List ℕ) (w : World) (o : Option SeatedVisitor) (lets is : Bool) (more sent new shown : List ℕ) → named ≡ name → is ≡ lets → sent ≡ more → shown ≡ new
     → Watched k n name (unless lets s ++ more) (unless lets h ++ new) w o → Watched k n named (unless is s ++ sent) (unless is h ++ shown) w o
 here k n name named s h w o lets is more sent new shown u e f g c = rw (u, e, f, g) c
 
@@ -88,8 +88,8 @@ user_stays n (Idle c) before e = refl
 user_stays n (Leave c) before e = refl
 
 -- the session at a place did something
-pub visit_known : (k : Setup) (users sent shown : ℕ → List ℕ) (s : Scene) (q : ℕ) (event : house.Event) (piece : Piece) (lets : Bool) (more new : List ℕ) (v : World) (o : Option SeatedSession)
-    (caller : ℕ → Option HouseConnection) (next entered : ℕ → ℕ) (shut : List Bool) (name : List ℕ) → SceneKnown k users sent shown s → IsAt q event piece lets more new → user_in q event (users q) ≡ name
+pub visit_known : (k : Setup) (users sent shown : ℕ → List ℕ) (s : Scene) (q : ℕ) (event : house.Event) (piece : Piece) (lets : Bool) (more new : List ℕ) (v : World) (o : Option SeatedVisitor)
+    (caller : ℕ → Option Caller) (next entered : ℕ → ℕ) (shut : List Bool) (name : List ℕ) → SceneKnown k users sent shown s → IsAt q event piece lets more new → user_in q event (users q) ≡ name
     → Walk k.config q s.world v → Watched k q name (unless lets (sent q) ++ more) (unless lets (shown q) ++ new) v o
     → SceneKnown k (users_then users event) (sent_then sent event) (shown_then shown event piece) (record { world = v; caller = caller; next = next; visitor = set_at s.visitor q o; entered = entered; shut = shut })
 visit_known k users sent shown s q event piece lets more new v o caller next entered shut name K at named walk watched =
@@ -109,7 +109,7 @@ pub record IsAside (event : house.Event) (piece : Piece) : Type 0 where
   pub not_sent : (n : ℕ) → sent_in n event ≡ []
   pub not_shown : (n : ℕ) → shown_in n piece ≡ []
 
-pub aside_known : (k : Setup) (users sent shown : ℕ → List ℕ) (s : Scene) (event : house.Event) (piece : Piece) (caller : ℕ → Option HouseConnection) (next entered : ℕ → ℕ) (shut : List Bool) → SceneKnown k users sent shown s → IsAside event piece
+pub aside_known : (k : Setup) (users sent shown : ℕ → List ℕ) (s : Scene) (event : house.Event) (piece : Piece) (caller : ℕ → Option Caller) (next entered : ℕ → ℕ) (shut : List Bool) → SceneKnown k users sent shown s → IsAside event piece
     → SceneKnown k (users_then users event) (sent_then sent event) (shown_then shown event piece) (record { world = s.world; caller = caller; next = next; visitor = s.visitor; entered = entered; shut = shut })
 aside_known k users sent shown s event piece caller next entered shut K aside = record {
   events = K.events;
@@ -118,7 +118,7 @@ aside_known k users sent shown s event piece caller next entered shut K aside = 
 }
 
 -- and the world moves by what is no session's
-pub moves_known : (k : Setup) (users sent shown : ℕ → List ℕ) (s : Scene) (event : house.Event) (piece : Piece) (moves : Event) (v : World) (caller : ℕ → Option HouseConnection) (next entered : ℕ → ℕ) (shut : List Bool)
+pub moves_known : (k : Setup) (users sent shown : ℕ → List ℕ) (s : Scene) (event : house.Event) (piece : Piece) (moves : Event) (v : World) (caller : ℕ → Option Caller) (next entered : ℕ → ℕ) (shut : List Bool)
     → SceneKnown k users sent shown s → IsAside event piece → ((n : ℕ) → IsOfOthers n moves) → Step k.config s.world moves v
     → SceneKnown k (users_then users event) (sent_then sent event) (shown_then shown event piece) (record { world = v; caller = caller; next = next; visitor = s.visitor; entered = entered; shut = shut })
 moves_known k users sent shown s event piece moves v caller next entered shut K aside own step = record {
@@ -152,7 +152,7 @@ pub let_known : (k : Setup) (users sent shown : ℕ → List ℕ) (s : Scene) (s
     → SceneKnown k (users_then users (Enter session user)) (sent_then sent (Enter session user)) (shown_then shown (Enter session user) piece) t
 let_known k users sent shown s session user t printed new piece h K p at fits =
     let q : ℕ = place_of session in
-    let first : HouseSession = greeted (Some k.max_message) (folders_of k.directory user.now) in
+    let first : Visitor = greeted (Some k.max_message) (folders_of k.directory user.now) in
     let c : Client k q user.now [] [] s.world first = record {
       began = s.world;
       events = K.events;
@@ -170,8 +170,8 @@ let_known k users sent shown s session user t printed new piece h K p at fits =
 
 -- ---- its client sends
 
-pub the_client : (k : Setup) (users sent shown : ℕ → List ℕ) (s : Scene) (q : ℕ) (v : SeatedSession) → SceneKnown k users sent shown s → s.visitor q ≡ Some v → v.gone ≡ false → Client k q (users q) (sent q) (shown q) s.world v.session
-the_client k users sent shown s q v K there read = subst (λ (o : Option SeatedSession). Watched k q (users q) (sent q) (shown q) s.world o) there (K.watched q) read
+pub the_client : (k : Setup) (users sent shown : ℕ → List ℕ) (s : Scene) (q : ℕ) (v : SeatedVisitor) → SceneKnown k users sent shown s → s.visitor q ≡ Some v → v.gone ≡ false → Client k q (users q) (sent q) (shown q) s.world v.session
+the_client k users sent shown s q v K there read = subst (λ (o : Option SeatedVisitor). Watched k q (users q) (sent q) (shown q) s.world o) there (K.watched q) read
 
 pub say_known : (k : Setup) (users sent shown : ℕ → List ℕ) (s : Scene) (session : ℕ) (bytes : Bor (List ℕ)) (t : Scene) (printed new : List ℕ) (piece : Piece) → HasSmallNumbers k.config → SceneKnown k users sent shown s
     → (p : SayPlay k false s (place_of session) bytes.now t printed) → IsAt (place_of session) (Say session bytes) piece false bytes.now new → new ++ p.goes.speaks.still ≡ p.visitor.session.unsaid ++ p.goes.speaks.said
@@ -179,7 +179,7 @@ pub say_known : (k : Setup) (users sent shown : ℕ → List ℕ) (s : Scene) (s
 say_known k users sent shown s session bytes t printed new piece h K p at fits =
     let q : ℕ = place_of session in
     let c = client_more k q (users q) (sent q) (shown q) bytes.now s.world p.visitor.session (the_client k users sent shown s q p.visitor K p.there p.is_read) in
-    let b : SeatedSession = with_session (session_more_waits p.visitor.session bytes.now) p.visitor in
+    let b : SeatedVisitor = with_session (session_more_waits p.visitor.session bytes.now) p.visitor in
     subst (λ (x : Scene). SceneKnown k (users_then users (Say session bytes)) (sent_then sent (Say session bytes)) (shown_then shown (Say session bytes) piece) x) (sym p.after)
     (visit_known k users sent shown s q (Say session bytes) piece false bytes.now new p.moved p.left s.caller s.next s.entered s.shut (users q) K at refl
     (talks_walk k false q (s.world.heard (session_seat k q)) s.world b p.moved p.left printed p.goes)
@@ -216,15 +216,15 @@ leave_known k users sent shown s session t printed K p =
 -- ---- its copy is put, and its verdict is heard
 
 -- what it says next, in a world that was moved, where its client is there
-pub data Speech (k : Setup) (q : ℕ) (heard : _) (w : World) (b : SeatedSession) (v : World) (o : Option SeatedSession) (new : List ℕ) : Type 0 where
+pub data Speech (k : Setup) (q : ℕ) (heard : _) (w : World) (b : SeatedVisitor) (v : World) (o : Option SeatedVisitor) (new : List ℕ) : Type 0 where
   says : {printed : List ℕ} → b.gone ≡ false → (g : SessionTalks k false q heard w b v o printed) → new ++ g.speaks.still ≡ b.session.unsaid ++ g.speaks.said → Speech k q heard w b v o new
   lingers : b.gone ≡ true → scene.Lingers (session_seat k q) heard b o → v ≡ w → Speech k q heard w b v o new
 
-speech_walk : (k : Setup) (q : ℕ) (heard : _) (w : World) (b : SeatedSession) (v : World) (o : Option SeatedSession) (new : List ℕ) → Speech k q heard w b v o new → Walk k.config q w v
+speech_walk : (k : Setup) (q : ℕ) (heard : _) (w : World) (b : SeatedVisitor) (v : World) (o : Option SeatedVisitor) (new : List ℕ) → Speech k q heard w b v o new → Walk k.config q w v
 speech_walk k q heard w b v o new (says {printed = printed} l g fits) = talks_walk k false q heard w b v o printed g
 speech_walk k q heard w b v o new (lingers l g same) = rw same stands
 
-pub moved_known : (k : Setup) (users sent shown : ℕ → List ℕ) (s : Scene) (event : house.Event) (q : ℕ) (moves : Event) (moved : World) (visitor b : SeatedSession) (later : World) (left : Option SeatedSession) (new : List ℕ) (piece : Piece)
+pub moved_known : (k : Setup) (users sent shown : ℕ → List ℕ) (s : Scene) (event : house.Event) (q : ℕ) (moves : Event) (moved : World) (visitor b : SeatedVisitor) (later : World) (left : Option SeatedVisitor) (new : List ℕ) (piece : Piece)
     → HasSmallNumbers k.config → SceneKnown k users sent shown s → s.visitor q ≡ Some visitor → b.session ≡ visitor.session → b.gone ≡ visitor.gone → IsAt q event piece false [] new → ((n : ℕ) → IsOfOthers n moves) → Step k.config s.world moves moved
     → Speech k q (moved.heard (session_seat k q)) moved b later left new
     → SceneKnown k (users_then users event) (sent_then sent event) (shown_then shown event piece) (record { world = later; caller = s.caller; next = s.next; visitor = set_at s.visitor q left; entered = s.entered; shut = s.shut })
@@ -237,7 +237,7 @@ moved_known k users sent shown s event q moves moved visitor b later left new pi
     by (says {printed = printed} l g fits) =
         let c0 = the_client k users sent shown s q visitor K there (sym alike ∙ l) in
         let c1 = client_others k q (users q) (sent q) (shown q) s.world visitor.session moves moved c0 (own q) step in
-        let c : Client k q (users q) (sent q) (shown q) moved b.session = subst (λ (x : HouseSession). Client k q (users q) (sent q) (shown q) moved x) (sym same) c1 in
+        let c : Client k q (users q) (sent q) (shown q) moved b.session = subst (λ (x : Visitor). Client k q (users q) (sent q) (shown q) moved x) (sym same) c1 in
         let came : IsWorld k.config (K.events ++ moves ∷ []) moved = steps_join k.config empty_world K.events s.world (moves ∷ []) moved K.came (moved, step, refl) in
         talks_watched k false q (users q) (sent q) (shown q) new (moved.heard (session_seat k q)) moved b later left printed
         (heard_small k.config (K.events ++ moves ∷ []) moved (session_seat k q) h came) g fits c

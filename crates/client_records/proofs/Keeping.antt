@@ -6,7 +6,7 @@ use Rattle.std.specs.Borrow.{Bor}
 use Rattle.line_io.specs.Wire.{IsCut, joined}
 use Rattle.world.specs.World as world
 use Rattle.world.specs.World.{empty_world}
-use Rattle.house_session.specs.Seated.{SeatedSession}
+use Rattle.house_session.specs.SeatedVisitor.{SeatedVisitor}
 use Rattle.house.specs.Setup.{Setup, session_seat}
 use Rattle.house.specs.Printing.{Prints, of_session}
 use Rattle.house.specs.Scene as scene
@@ -65,7 +65,7 @@ hears_known k users sent shown s number seat t printed piece K aside p =
 -- ---- sessions that put and hear
 
 -- nothing was printed of it
-silent_speech : (k : Setup) (users sent shown : ℕ → List ℕ) (s : Scene) (q : ℕ) (visitor b : SeatedSession) (heard : _) (w v : world.World) (o : Option SeatedSession) → SceneKnown k users sent shown s → s.visitor q ≡ Some visitor → b.session ≡ visitor.session → b.gone ≡ visitor.gone
+silent_speech : (k : Setup) (users sent shown : ℕ → List ℕ) (s : Scene) (q : ℕ) (visitor b : SeatedVisitor) (heard : _) (w v : world.World) (o : Option SeatedVisitor) → SceneKnown k users sent shown s → s.visitor q ≡ Some visitor → b.session ≡ visitor.session → b.gone ≡ visitor.gone
     → SessionGoes k false q heard w b v o [] → Speech k q heard w b v o []
 silent_speech k users sent shown s q visitor b heard w v o K there same alike (scene.talks l g) =
     let c = the_client k users sent shown s q visitor K there (sym alike ∙ l) in
@@ -75,7 +75,7 @@ silent_speech k users sent shown s q visitor b heard w v o K there same alike (s
 silent_speech k users sent shown s q visitor b heard w v o K there same alike (scene.lingers l g e f) = lingers l g e
 
 -- these lines were
-lines_speech : (k : Setup) (q : ℕ) (b : SeatedSession) (heard : _) (w v : world.World) (o : Option SeatedSession) (lines : List (List ℕ)) (number : ℕ) → number ≡ q + 1
+lines_speech : (k : Setup) (q : ℕ) (b : SeatedVisitor) (heard : _) (w v : world.World) (o : Option SeatedVisitor) (lines : List (List ℕ)) (number : ℕ) → number ≡ q + 1
     → SessionGoes k false q heard w b v o (text_of k (Lines number lines)) → (g : SessionTalks k false q heard w b v o (text_of k (Lines number lines))) → IsCut (b.session.unsaid ++ g.speaks.said) lines []
     → Speech k q heard w b v o (joined lines)
 lines_speech k q b heard w v o lines number own (scene.talks l other) g cut =

@@ -11,7 +11,7 @@ use Rattle.house.specs.Scene as scene
 use Rattle.house.specs.Scene.{BytesPlay, HearPlay, IdlePlay, Plays, PutPlay, Scene, SessionGoes, connection_hears, connection_puts, goes_on, opens, place_of, seat_of, session_hears, session_puts}
 use Rattle.house.specs.declared.event.Event as house
 use Rattle.house.specs.declared.event.Event.TheVariants.{Bytes, Vanish, Put, Take, Deliver, Answer, Hear, End, Close, Enter, Say, Idle, Leave}
-use Rattle.house_session.specs.Seated.{SeatedSession}
+use Rattle.house_session.specs.SeatedVisitor.{SeatedVisitor}
 use Rattle.exactly_once.specs.Promise.{text_of}
 use Rattle.client_records.specs.Records.{RecordsMoveOn}
 use Rattle.client_records.proofs.Recording.{Walk, goes, stands, talks_walk, walk_call, walk_met, walk_parts}
@@ -33,7 +33,7 @@ walks : (k : Config) (q : ℕ) (w : World) {v : World} → Walk k q w v → Onwa
 walks k q w stands = ([], refl)
 walks k q w (goes {u = u} walk event own v step) = onward_then k w u v (walks k q w walk) (moves k u event v step)
 
-speaks : (k : Setup) (q : ℕ) (heard : _) (w : World) (b : SeatedSession) (v : World) (o : Option SeatedSession) (printed : List ℕ) → SessionGoes k false q heard w b v o printed → Onward k.config w v
+speaks : (k : Setup) (q : ℕ) (heard : _) (w : World) (b : SeatedVisitor) (v : World) (o : Option SeatedVisitor) (printed : List ℕ) → SessionGoes k false q heard w b v o printed → Onward k.config w v
 speaks k q heard w b v o printed (scene.talks l g) = walks k.config q w (talks_walk k false q heard w b v o printed g)
 speaks k q heard w b v o printed (scene.lingers l g e f) = rests k.config w v e
 

@@ -18,8 +18,8 @@ use Rattle.imap_session.specs.Exchange.{Call, Answer, Standing}
 use Rattle.imap_session.specs.Commands.{greeting}
 use Rattle.imap_session.specs.Store.{Met}
 use Rattle.session_store.specs.Meets.{Meets}
-use Rattle.house_session.specs.HouseSession.{HouseSession}
-use Rattle.house_session.specs.Seated.{SeatedSession}
+use Rattle.house_session.specs.Visitor.{Visitor}
+use Rattle.house_session.specs.SeatedVisitor.{SeatedVisitor}
 use Rattle.house.specs.Setup.{Setup, session_seat}
 use Rattle.house.specs.Printing.{Prints, Speaks, marked_session, of_session, prints_all, prints_none, still_unsaid}
 use Rattle.house.specs.Scene.{Lingers, Parts, SessionTalks, parts, remains, waits, fades}
@@ -86,13 +86,13 @@ walk_world k q w events is (goes {u = u} walk event own v step) =
     let before = walk_world k q w events is walk in
     (before.0 ++ event ∷ [], steps_join k empty_world before.0 u (event ∷ []) v before.1 (v, step, refl))
 
-walk_speaks : (k : Config) (q : ℕ) (whole : Bool) (seat n : ℕ) (heard : List Noted) (w mid : World) (before after : SeatedSession) (printed : List ℕ) → Speaks (Meets k q) whole seat n heard before w mid after printed → Walk k q w mid
+walk_speaks : (k : Config) (q : ℕ) (whole : Bool) (seat n : ℕ) (heard : List Noted) (w mid : World) (before after : SeatedVisitor) (printed : List ℕ) → Speaks (Meets k q) whole seat n heard before w mid after printed → Walk k q w mid
 walk_speaks k q whole seat n heard w mid before after printed s =
     (speaks_carried {S = World} {T = Unit {0}} (Meets k q) (λ a call answer b. Unit {0}) (λ v x. Walk k q w v)
     (λ old new call answer x step walk. (tt, tt, walk_call k q w old call answer new walk step))
     whole seat n heard before w mid after printed tt s stands).2
 
-pub walk_parts : (k : Setup) (whole : Bool) (q : ℕ) (w u : World) (after : SeatedSession) (v : World) (o : Option SeatedSession) → Walk k.config q w u → Parts k whole q after u v o → Walk k.config q w v
+pub walk_parts : (k : Setup) (whole : Bool) (q : ℕ) (w u : World) (after : SeatedVisitor) (v : World) (o : Option SeatedVisitor) → Walk k.config q w u → Parts k whole q after u v o → Walk k.config q w v
 walk_parts k whole q w u after v o walk (parts ended said left e) = walk_call k.config q w u (calls.Leave false) left.0 v walk left.1
 walk_parts k whole q w u after v o walk (remains not e f) = rw e walk
 
@@ -127,7 +127,7 @@ still_whole n bytes still printed w (prints_none all p) = subst IsWhole (sym all
 
 -- ---- the client of a session that is there
 
-pub record Client (k : Setup) (place : ℕ) (user sent shown : List ℕ) (w : World) (v : HouseSession) : Type 0 where
+pub record Client (k : Setup) (place : ℕ) (user sent shown : List ℕ) (w : World) (v : Visitor) : Type 0 where
   pub began : World
   pub events : List Event
   pub came : IsWorld k.config events began
@@ -136,12 +136,12 @@ pub record Client (k : Setup) (place : ℕ) (user sent shown : List ℕ) (w : Wo
   pub printed : greeting ++ said ≡ shown ++ v.unsaid
   pub whole : IsWhole v.unsaid
 
-abbrev pub Watched : Setup → ℕ → List ℕ → List ℕ → List ℕ → World → Option SeatedSession → Type 0
+abbrev pub Watched : Setup → ℕ → List ℕ → List ℕ → List ℕ → World → Option SeatedVisitor → Type 0
 Watched k place user sent shown w None = Unit {0}
 Watched k place user sent shown w (Some v) = v.gone ≡ false → Client k place user sent shown w v.session
 
 -- an event of others
-pub client_others : (k : Setup) (n : ℕ) (user sent shown : List ℕ) (w : World) (v : HouseSession) (event : Event) (u : World) → Client k n user sent shown w v → IsOfOthers n event → Step k.config w event u → Client k n user sent shown u v
+pub client_others : (k : Setup) (n : ℕ) (user sent shown : List ℕ) (w : World) (v : Visitor) (event : Event) (u : World) → Client k n user sent shown w v → IsOfOthers n event → Step k.config w event u → Client k n user sent shown u v
 client_others k n user sent shown w v event u c o step = record {
   began = c.began;
   events = c.events;
@@ -156,17 +156,17 @@ client_others k n user sent shown w v event u c o step = record {
   whole = c.whole;
 }
 
-pub watched_others : (k : Setup) (n : ℕ) (user sent shown : List ℕ) (w : World) (o : Option SeatedSession) (event : Event) (u : World) → IsOfOthers n event → Step k.config w event u → Watched k n user sent shown w o → Watched k n user sent shown u o
+pub watched_others : (k : Setup) (n : ℕ) (user sent shown : List ℕ) (w : World) (o : Option SeatedVisitor) (event : Event) (u : World) → IsOfOthers n event → Step k.config w event u → Watched k n user sent shown w o → Watched k n user sent shown u o
 watched_others k n user sent shown w None event u own step c = tt
 watched_others k n user sent shown w (Some v) event u own step c = λ there. client_others k n user sent shown w v.session event u (c there) own step
 
-pub watched_walk : (k : Setup) (n q : ℕ) (user sent shown : List ℕ) (w : World) (o : Option SeatedSession) {u : World} → n ≢ q → Walk k.config q w u → Watched k n user sent shown w o → Watched k n user sent shown u o
+pub watched_walk : (k : Setup) (n q : ℕ) (user sent shown : List ℕ) (w : World) (o : Option SeatedVisitor) {u : World} → n ≢ q → Walk k.config q w u → Watched k n user sent shown w o → Watched k n user sent shown u o
 watched_walk k n q user sent shown w o other stands c = c
 watched_walk k n q user sent shown w o other (goes {u = u} walk event own v step) c =
     watched_others k n user sent shown u o event v (own n other) step (watched_walk k n q user sent shown w o other walk c)
 
 -- more came
-pub client_more : (k : Setup) (n : ℕ) (user sent shown more : List ℕ) (w : World) (v : HouseSession) → Client k n user sent shown w v
+pub client_more : (k : Setup) (n : ℕ) (user sent shown more : List ℕ) (w : World) (v : Visitor) → Client k n user sent shown w v
     → Client k n user (sent ++ more) shown w (record { standing = v.standing; waits = v.waits ++ more; unsaid = v.unsaid })
 client_more k n user sent shown more w v c = record {
   began = c.began;
@@ -186,7 +186,7 @@ regroup : (g a b s u : List ℕ) → g ++ a ≡ s ++ u → g ++ (a ++ b) ≡ s +
 regroup g a b s u e = sym (append_assoc g a b) ∙ ap (λ (x : List ℕ). x ++ b) e ∙ append_assoc s u b
 
 -- it said more, of which this was printed
-pub client_said : (k : Setup) (n : ℕ) (user sent shown new said : List ℕ) (w u : World) (v after : HouseSession) → (c : Client k n user sent shown w v) → Reached k.config n (first_standing k user) c.began sent (c.said ++ said) after u
+pub client_said : (k : Setup) (n : ℕ) (user sent shown new said : List ℕ) (w u : World) (v after : Visitor) → (c : Client k n user sent shown w v) → Reached k.config n (first_standing k user) c.began sent (c.said ++ said) after u
     → new ++ after.unsaid ≡ v.unsaid ++ said → IsWhole after.unsaid → Client k n user sent (shown ++ new) u after
 client_said k n user sent shown new said w u v after c reached fits whole = record {
   began = c.began;
@@ -200,30 +200,30 @@ client_said k n user sent shown new said w u v after c reached fits whole = reco
 
 -- ---- a session that talks
 
-pub parted : (k : Setup) (whole : Bool) (n : ℕ) (user sent shown : List ℕ) (after : SeatedSession) (u v : World) (o : Option SeatedSession) → Client k n user sent shown u after.session → Parts k whole n after u v o → Watched k n user sent shown v o
+pub parted : (k : Setup) (whole : Bool) (n : ℕ) (user sent shown : List ℕ) (after : SeatedVisitor) (u v : World) (o : Option SeatedVisitor) → Client k n user sent shown u after.session → Parts k whole n after u v o → Watched k n user sent shown v o
 parted k whole n user sent shown after u v o c (parts ended said left e) = rw e tt
 parted k whole n user sent shown after u v o c (remains not e f) = rw (f, e) (λ there. c)
 
 -- what it said was printed so
-pub talks_watched : (k : Setup) (whole : Bool) (n : ℕ) (user sent shown new : List ℕ) (heard : List Noted) (w : World) (b : SeatedSession) (v : World) (o : Option SeatedSession) (printed : List ℕ) → AreHeardSmall heard
+pub talks_watched : (k : Setup) (whole : Bool) (n : ℕ) (user sent shown new : List ℕ) (heard : List Noted) (w : World) (b : SeatedVisitor) (v : World) (o : Option SeatedVisitor) (printed : List ℕ) → AreHeardSmall heard
     → (g : SessionTalks k whole n heard w b v o printed) → new ++ g.speaks.still ≡ b.session.unsaid ++ g.speaks.said → Client k n user sent shown w b.session → Watched k n user sent (shown ++ new) v o
 talks_watched k whole n user sent shown new heard w b v o printed small g fits c =
-    let spoken : SeatedSession = g.speaks.spoken in
+    let spoken : SeatedVisitor = g.speaks.spoken in
     let r : Reached k.config n (first_standing k user) c.began sent (c.said ++ g.speaks.said) spoken.session g.mid =
     goes_reached k.config n whole (session_seat k n) heard (first_standing k user) c.began sent c.said b spoken w g.mid g.speaks.said small g.speaks.goes c.reached in
-    let still : SeatedSession = still_unsaid g.speaks.still spoken in
+    let still : SeatedVisitor = still_unsaid g.speaks.still spoken in
     let all : IsWhole (b.session.unsaid ++ g.speaks.said) =
     whole_append b.session.unsaid g.speaks.said c.whole (goes_whole (Meets k.config n) whole (session_seat k n) heard b w g.mid spoken g.speaks.said g.speaks.goes) in
     let d : Client k n user sent (shown ++ new) g.mid still.session =
     client_said k n user sent shown new g.speaks.said w g.mid b.session still.session c (record { sent = r.sent; talked = r.talked; waits = r.waits }) fits
     (still_whole (n + 1) (b.session.unsaid ++ g.speaks.said) g.speaks.still printed all g.speaks.prints) in
-    parted k whole n user sent (shown ++ new) g.after g.mid v o (subst (λ (x : SeatedSession). Client k n user sent (shown ++ new) g.mid x.session) (sym g.speaks.is) d) g.left
+    parted k whole n user sent (shown ++ new) g.after g.mid v o (subst (λ (x : SeatedVisitor). Client k n user sent (shown ++ new) g.mid x.session) (sym g.speaks.is) d) g.left
 
-pub talks_walk : (k : Setup) (whole : Bool) (n : ℕ) (heard : List Noted) (w : World) (b : SeatedSession) (v : World) (o : Option SeatedSession) (printed : List ℕ) → SessionTalks k whole n heard w b v o printed → Walk k.config n w v
+pub talks_walk : (k : Setup) (whole : Bool) (n : ℕ) (heard : List Noted) (w : World) (b : SeatedVisitor) (v : World) (o : Option SeatedVisitor) (printed : List ℕ) → SessionTalks k whole n heard w b v o printed → Walk k.config n w v
 talks_walk k whole n heard w b v o printed g =
     walk_parts k whole n w g.mid g.after v o (walk_speaks k.config n whole (session_seat k n) (n + 1) heard w g.mid b g.after printed g.speaks) g.left
 
 -- one whose client is gone isn't watched
-pub lingers_watched : (k : Setup) (n seat : ℕ) (user sent shown : List ℕ) (heard : List Noted) (w : World) (b : SeatedSession) (o : Option SeatedSession) → b.gone ≡ true → Lingers seat heard b o → Watched k n user sent shown w o
+pub lingers_watched : (k : Setup) (n seat : ℕ) (user sent shown : List ℕ) (heard : List Noted) (w : World) (b : SeatedVisitor) (o : Option SeatedVisitor) → b.gone ≡ true → Lingers seat heard b o → Watched k n user sent shown w o
 lingers_watched k n seat user sent shown heard w b o gone (waits a e) = rw e (λ there. absurd (false≢true (sym there ∙ gone)))
 lingers_watched k n seat user sent shown heard w b o gone (fades a e) = rw e tt

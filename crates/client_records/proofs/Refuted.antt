@@ -8,7 +8,7 @@ use Rattle.imap_session.specs.Exchange.{Answer as StoreAnswer}
 use Rattle.imap_session.specs.Commands.{greeting}
 use Rattle.house.specs.Setup.{Setup}
 use Rattle.house.specs.Scene.{Scene}
-use Rattle.house_session.specs.Seated.{SeatedSession}
+use Rattle.house_session.specs.SeatedVisitor.{SeatedVisitor}
 use Rattle.client_list.specs.Beliefs.{IsRight}
 use Rattle.client_list.specs.Client.{Client, Known, Messages, fresh}
 use Rattle.client_list.specs.Talks.{LongLine, Turned}
@@ -41,7 +41,7 @@ short_line : IsSentFor LongLine (codes "a\r\n") → ⊥
 short_line (line, many, e) = absurd (omega (arith, many, ap length e, length-append line crlf))
 
 -- one that keeps up, and was never greeted: nothing was printed to it, and nothing is still to be printed
-not_greeted : (k : Setup) (place : ℕ) (v : SeatedSession) (t : Scene) → v.session.unsaid ≡ [] → KeepsUp k [] place v t → ⊥
+not_greeted : (k : Setup) (place : ℕ) (v : SeatedVisitor) (t : Scene) → v.session.unsaid ≡ [] → KeepsUp k [] place v t → ⊥
 not_greeted k place v t none keeps = absurd (omega (arith, ap length keeps.printed, ap length none, length-append greeting (flat_map bytes_in keeps.told)))
 
 -- two copies under one UID

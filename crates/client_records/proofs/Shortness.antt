@@ -14,8 +14,8 @@ use Rattle.world.proofs.Base.{Every, every_append}
 use Rattle.lmtp_machine.specs.declared.connection.What.{What}
 use Rattle.lmtp_machine.specs.Dialogue as dialogue
 use Rattle.lmtp_machine.specs.Dialogue.{Submission}
-use Rattle.house_connection.specs.HouseConnection as connection
-use Rattle.house_connection.specs.HouseConnection.{HouseConnection, Proceeds, Terms, Works, copies_of, greeted, meets, more_waits, setting_of, with_unsaid}
+use Rattle.house_connection.specs.Caller as connection
+use Rattle.house_connection.specs.Caller.{Caller, Proceeds, Terms, Works, copies_of, greeted, meets, more_waits, setting_of, with_unsaid}
 use Rattle.imap_session.specs.declared.standing.After.{After}
 use Rattle.imap_session.specs.Exchange as calls
 use Rattle.imap_session.specs.Exchange.{Appending, Mailing, Sent, Standing, is_idling}
@@ -25,8 +25,8 @@ use Rattle.imap_connection.specs.Dialogue as imap
 use Rattle.imap_connection.specs.Dialogue.{AnswersLine, AnswersOne, Converses, Sends, goes_on, parts as ends_with, reads, silent, too_long}
 use Rattle.session_store.specs.Meets.{Meets}
 use Rattle.house_session.specs.Folders.{folders_of}
-use Rattle.house_session.specs.Seated as seated
-use Rattle.house_session.specs.Seated.{GoesOn, SeatedSession, seated_greeted}
+use Rattle.house_session.specs.SeatedVisitor as seated
+use Rattle.house_session.specs.SeatedVisitor.{GoesOn, SeatedVisitor, seated_greeted}
 use Rattle.house.specs.Setup.{Setup, session_seat, terms_of}
 use Rattle.house.specs.Printing.{ConnectionGoes, Leaves, goes, stays, still_unsaid, with_session}
 use Rattle.house.specs.Scene as scene
@@ -56,15 +56,15 @@ all_short most (s ∷ ss) small h = every_append IsJobShort (copies s.keys s.mai
 
 -- ---- connections
 
-pub record ConnectionShort (b : HouseConnection) : Type 0 where
+pub record ConnectionShort (b : Caller) : Type 0 where
   pub to_put : Every IsJobShort b.to_put
   pub sender : IsSenderShort b.talk.at.standing.phase
 
-abbrev pub CallerShort : Option HouseConnection → Type 0
+abbrev pub CallerShort : Option Caller → Type 0
 CallerShort None = Unit {0}
 CallerShort (Some b) = ConnectionShort b
 
-works_short : (k : Terms) (whole : Bool) (seat : ℕ) (b : HouseConnection) (what : What) (after : HouseConnection) → k.max_message < 2 ^ 31 → ConnectionShort b → Works k whole seat b what after → ConnectionShort after
+works_short : (k : Terms) (whole : Bool) (seat : ℕ) (b : Caller) (what : What) (after : Caller) → k.max_message < 2 ^ 31 → ConnectionShort b → Works k whole seat b what after → ConnectionShort after
 works_short k whole seat b what after small B w =
     let leads = w.works.leads in
     let fine = dialogue_fine (setting_of k seat b.serial) k.directory b.talk.at.standing leads.events B.sender in
@@ -73,36 +73,36 @@ works_short k whole seat b what after small B w =
       sender = subst (λ (s : dialogue.Standing). IsSenderShort s.phase) (sym (leads.stands ∙ ap (λ (t : dialogue.Turn). t.standing) leads.turns)) fine.sender;
     })
 
-meets_short : (k : Terms) (seat : ℕ) (b : HouseConnection) (e : dialogue.Event) → IsSenderShort b.talk.at.standing.phase → ConnectionShort (meets k seat b e)
+meets_short : (k : Terms) (seat : ℕ) (b : Caller) (e : dialogue.Event) → IsSenderShort b.talk.at.standing.phase → ConnectionShort (meets k seat b e)
 meets_short k seat b e h = record { to_put = tt; sender = (event_fine (setting_of k seat b.serial) k.directory b.talk.at.standing e h).sender }
 
-connection_on : (k : Terms) (whole : Bool) (seat : ℕ) (heard : List Noted) (b : HouseConnection) (what : What) (after : HouseConnection) → k.max_message < 2 ^ 31 → ConnectionShort b → connection.GoesOn k whole seat heard b what after → ConnectionShort after
+connection_on : (k : Terms) (whole : Bool) (seat : ℕ) (heard : List Noted) (b : Caller) (what : What) (after : Caller) → k.max_message < 2 ^ 31 → ConnectionShort b → connection.GoesOn k whole seat heard b what after → ConnectionShort after
 connection_on k whole seat heard b what after small B (connection.works p w) = works_short k whole seat b what after small B w
 connection_on k whole seat heard b what after small B (connection.waits p n w e) = rw e B
 connection_on k whole seat heard b what after small B (connection.answers vs p a w) = works_short k whole seat (meets k seat b (dialogue.Answered vs)) what after small (meets_short k seat b (dialogue.Answered vs) B.sender) w
 connection_on k whole seat heard b what after small B (connection.stalls p w e) = rw e B
 
-proceeds_short : (k : Terms) (whole : Bool) (seat : ℕ) (heard : List Noted) (b : HouseConnection) (what : What) (after : HouseConnection) → k.max_message < 2 ^ 31 → ConnectionShort b → Proceeds k whole seat heard b what after → ConnectionShort after
+proceeds_short : (k : Terms) (whole : Bool) (seat : ℕ) (heard : List Noted) (b : Caller) (what : What) (after : Caller) → k.max_message < 2 ^ 31 → ConnectionShort b → Proceeds k whole seat heard b what after → ConnectionShort after
 proceeds_short k whole seat heard b what after small B (connection.talks g on) = connection_on k whole seat heard b what after small B on
 proceeds_short k whole seat heard b what after small B (connection.lingers g u n w e) = rw e B
 proceeds_short k whole seat heard b what after small B (connection.fades vs g u a w e) = rw e B
 
-left_short : (whole : Bool) (what : What) (after : HouseConnection) (o : Option HouseConnection) → ConnectionShort after → Leaves whole what after o → CallerShort o
+left_short : (whole : Bool) (what : What) (after : Caller) (o : Option Caller) → ConnectionShort after → Leaves whole what after o → CallerShort o
 left_short whole what after o B (goes w u e) = rw e tt
 left_short whole what after o B (stays a b e) = rw e B
 
-goes_short : (k : Terms) (whole : Bool) (seat : ℕ) (heard : List Noted) (b : HouseConnection) (o : Option HouseConnection) (printed : List ℕ) → k.max_message < 2 ^ 31 → ConnectionShort b → ConnectionGoes k whole seat heard b o printed → CallerShort o
+goes_short : (k : Terms) (whole : Bool) (seat : ℕ) (heard : List Noted) (b : Caller) (o : Option Caller) (printed : List ℕ) → k.max_message < 2 ^ 31 → ConnectionShort b → ConnectionGoes k whole seat heard b o printed → CallerShort o
 goes_short k whole seat heard b o printed small B g =
     let after = proceeds_short k whole seat heard b g.what g.after small B g.proceeds in
     left_short whole g.what (with_unsaid g.still g.after) o (record { to_put = after.to_put; sender = after.sender }) g.leaves
 
 -- ---- sessions
 
-pub record SessionShort (most : ℕ) (v : SeatedSession) : Type 0 where
+pub record SessionShort (most : ℕ) (v : SeatedVisitor) : Type 0 where
   pub to_put : Every IsJobShort v.to_put
   pub mail : IsMailShort most v.session.standing.mailing
 
-abbrev pub VisitorShort : ℕ → Option SeatedSession → Type 0
+abbrev pub VisitorShort : ℕ → Option SeatedVisitor → Type 0
 VisitorShort most None = Unit {0}
 VisitorShort most (Some v) = SessionShort most v
 
@@ -142,13 +142,13 @@ sent_short : (most seat serial : ℕ) (sent : Option Sent) → most < 2 ^ 31 →
 sent_short most seat serial None small h = tt
 sent_short most seat serial (Some s) small h = copies_short (seated.keys_of seat serial (Some s)) (s.append.mailbox ∷ []) s.append.text s.append.flags (omega (arith, small, h))
 
-session_works : {S : Type 0} (step : S → calls.Call → calls.Answer → S → Type 0) (most seat : ℕ) (v : SeatedSession) (old new : S) (after : SeatedSession) (said : List ℕ) → most < 2 ^ 31 → IsMailShort most v.session.standing.mailing
+session_works : {S : Type 0} (step : S → calls.Call → calls.Answer → S → Type 0) (most seat : ℕ) (v : SeatedVisitor) (old new : S) (after : SeatedVisitor) (said : List ℕ) → most < 2 ^ 31 → IsMailShort most v.session.standing.mailing
     → seated.Works step seat v old new after said → SessionShort most after
 session_works step most seat v old new after said small k w =
     let mail : IsMailShort most after.session.standing.mailing = converses_short step most w.answers.converses k in
     subst (SessionShort most) (sym w.is) (record { to_put = sent_short most seat v.serial (seated.sent_by after) small mail.sent; mail = mail })
 
-session_on : {S : Type 0} (step : S → calls.Call → calls.Answer → S → Type 0) (most : ℕ) (whole : Bool) (seat : ℕ) (heard : List Noted) (v : SeatedSession) (old new : S) (after : SeatedSession) (said : List ℕ) → most < 2 ^ 31 → SessionShort most v
+session_on : {S : Type 0} (step : S → calls.Call → calls.Answer → S → Type 0) (most : ℕ) (whole : Bool) (seat : ℕ) (heard : List Noted) (v : SeatedVisitor) (old new : S) (after : SeatedVisitor) (said : List ℕ) → most < 2 ^ 31 → SessionShort most v
     → GoesOn step whole seat heard v old new after said → SessionShort most after
 session_on step most whole seat heard v old new after said small B (seated.works n w) = session_works step most seat v old new after said small B.mail w
 session_on step most whole seat heard v old new after said small B (seated.answers verdict mid first second how next known a w e) =
@@ -158,11 +158,11 @@ session_on step most whole seat heard v old new after said small B (seated.waits
 session_on step most whole seat heard v old new after said small B (seated.rests a n e f) = rw e B
 session_on step most whole seat heard v old new after said small B (seated.stalls a n e f) = rw e B
 
-parts_short : (k : Setup) (whole : Bool) (q most : ℕ) (after : SeatedSession) (w v : World) (o : Option SeatedSession) → SessionShort most after → AreShort w → Parts k whole q after w v o → VisitorShort most o × AreShort v
+parts_short : (k : Setup) (whole : Bool) (q most : ℕ) (after : SeatedVisitor) (w v : World) (o : Option SeatedVisitor) → SessionShort most after → AreShort w → Parts k whole q after w v o → VisitorShort most o × AreShort v
 parts_short k whole q most after w v o B S (parts ended said left e) = (rw e tt, call_short k.config q w (calls.Leave false) left.0 v S left.1)
 parts_short k whole q most after w v o B S (remains not e f) = (rw f B, rw e S)
 
-talks_short : (k : Setup) (whole : Bool) (q : ℕ) (heard : List Noted) (w : World) (b : SeatedSession) (v : World) (o : Option SeatedSession) (printed : List ℕ) → k.max_message < 2 ^ 31 → SessionShort k.max_message b → AreShort w
+talks_short : (k : Setup) (whole : Bool) (q : ℕ) (heard : List Noted) (w : World) (b : SeatedVisitor) (v : World) (o : Option SeatedVisitor) (printed : List ℕ) → k.max_message < 2 ^ 31 → SessionShort k.max_message b → AreShort w
     → SessionTalks k whole q heard w b v o printed → VisitorShort k.max_message o × AreShort v
 talks_short k whole q heard w b v o printed small B S g =
     let spoken = session_on (Meets k.config q) k.max_message whole (session_seat k q) heard b w g.mid g.speaks.spoken g.speaks.said small B g.speaks.goes in
@@ -171,11 +171,11 @@ talks_short k whole q heard w b v o printed small B S g =
     let still : SessionShort k.max_message (still_unsaid g.speaks.still g.speaks.spoken) = record { to_put = spoken.to_put; mail = spoken.mail } in
     parts_short k whole q k.max_message g.after g.mid v o (subst (SessionShort k.max_message) (sym g.speaks.is) still) mid g.left
 
-lingers_short : (most seat : ℕ) (heard : List Noted) (b : SeatedSession) (o : Option SeatedSession) → SessionShort most b → Lingers seat heard b o → VisitorShort most o
+lingers_short : (most seat : ℕ) (heard : List Noted) (b : SeatedVisitor) (o : Option SeatedVisitor) → SessionShort most b → Lingers seat heard b o → VisitorShort most o
 lingers_short most seat heard b o B (waits a e) = rw e B
 lingers_short most seat heard b o B (fades a e) = rw e tt
 
-speech_short : (k : Setup) (q : ℕ) (heard : List Noted) (w : World) (b : SeatedSession) (v : World) (o : Option SeatedSession) (printed : List ℕ) → k.max_message < 2 ^ 31 → SessionShort k.max_message b → AreShort w
+speech_short : (k : Setup) (q : ℕ) (heard : List Noted) (w : World) (b : SeatedVisitor) (v : World) (o : Option SeatedVisitor) (printed : List ℕ) → k.max_message < 2 ^ 31 → SessionShort k.max_message b → AreShort w
     → SessionGoes k false q heard w b v o printed → VisitorShort k.max_message o × AreShort v
 speech_short k q heard w b v o printed small B S (scene.talks l g) = talks_short k false q heard w b v o printed small B S g
 speech_short k q heard w b v o printed small B S (scene.lingers l g e f) = (lingers_short k.max_message (session_seat k q) heard b o B g, rw e S)
@@ -187,21 +187,21 @@ pub record SceneShort (k : Setup) (s : Scene) : Type 0 where
   pub callers : (n : ℕ) → CallerShort (s.caller n)
   pub visitors : (n : ℕ) → VisitorShort k.max_message (s.visitor n)
 
-caller_at : (k : Setup) (s : Scene) (v : World) (seat : ℕ) (o : Option HouseConnection) (next entered : ℕ → ℕ) (shut : List Bool) → SceneShort k s → AreShort v → CallerShort o
+caller_at : (k : Setup) (s : Scene) (v : World) (seat : ℕ) (o : Option Caller) (next entered : ℕ → ℕ) (shut : List Bool) → SceneShort k s → AreShort v → CallerShort o
     → SceneShort k (record { world = v; caller = set_at s.caller seat o; next = next; visitor = s.visitor; entered = entered; shut = shut })
-caller_at k s v seat o next entered shut B S h = record { world = S; callers = at_each (λ j (x : Option HouseConnection). CallerShort x) s.caller seat o B.callers h; visitors = B.visitors }
+caller_at k s v seat o next entered shut B S h = record { world = S; callers = at_each (λ j (x : Option Caller). CallerShort x) s.caller seat o B.callers h; visitors = B.visitors }
 
-visitor_at : (k : Setup) (s : Scene) (v : World) (q : ℕ) (o : Option SeatedSession) (next entered : ℕ → ℕ) (shut : List Bool) → SceneShort k s → AreShort v → VisitorShort k.max_message o
+visitor_at : (k : Setup) (s : Scene) (v : World) (q : ℕ) (o : Option SeatedVisitor) (next entered : ℕ → ℕ) (shut : List Bool) → SceneShort k s → AreShort v → VisitorShort k.max_message o
     → SceneShort k (record { world = v; caller = s.caller; next = next; visitor = set_at s.visitor q o; entered = entered; shut = shut })
-visitor_at k s v q o next entered shut B S h = record { world = S; callers = B.callers; visitors = at_each (λ j (x : Option SeatedSession). VisitorShort k.max_message x) s.visitor q o B.visitors h }
+visitor_at k s v q o next entered shut B S h = record { world = S; callers = B.callers; visitors = at_each (λ j (x : Option SeatedVisitor). VisitorShort k.max_message x) s.visitor q o B.visitors h }
 
 same_as : (k : Setup) (t u : Scene) → t ≡ u → SceneShort k u → SceneShort k t
 same_as k t u e B = subst (SceneShort k) (sym e) B
 
-the_caller : (k : Setup) (s : Scene) (seat : ℕ) (b : HouseConnection) → SceneShort k s → s.caller seat ≡ Some b → ConnectionShort b
+the_caller : (k : Setup) (s : Scene) (seat : ℕ) (b : Caller) → SceneShort k s → s.caller seat ≡ Some b → ConnectionShort b
 the_caller k s seat b B there = subst CallerShort there (B.callers seat)
 
-the_visitor : (k : Setup) (s : Scene) (q : ℕ) (v : SeatedSession) → SceneShort k s → s.visitor q ≡ Some v → SessionShort k.max_message v
+the_visitor : (k : Setup) (s : Scene) (q : ℕ) (v : SeatedVisitor) → SceneShort k s → s.visitor q ≡ Some v → SessionShort k.max_message v
 the_visitor k s q v B there = subst (VisitorShort k.max_message) there (B.visitors q)
 
 first_short : (k : Terms) (seat serial : ℕ) (piece : List ℕ) → ConnectionShort (more_waits (greeted k seat serial) piece)

@@ -14,9 +14,9 @@ use Rattle.imap_session.specs.Commands.{turn_of_long_line, with_bytes}
 use Rattle.imap_session.specs.Store.{AnswersVerdict, IdleTurns, Met}
 use Rattle.imap_connection.specs.Dialogue as dialogue
 use Rattle.imap_connection.specs.Dialogue.{AnswersLine, AnswersOne, Converses, Sends, goes_on, parts, reads, silent, spelled, too_long}
-use Rattle.house_session.specs.HouseSession.{HouseSession}
-use Rattle.house_session.specs.Seated as seated
-use Rattle.house_session.specs.Seated.{GoesOn, IsAnswered, SeatedSession, Works, keys_of, sent_by}
+use Rattle.house_session.specs.Visitor.{Visitor}
+use Rattle.house_session.specs.SeatedVisitor as seated
+use Rattle.house_session.specs.SeatedVisitor.{GoesOn, IsAnswered, SeatedVisitor, Works, keys_of, sent_by}
 use Rattle.client_list.specs.Commands.{IsPrinted}
 use Rattle.client_list.specs.Talks.{Happening, Line, LongLine, Turned, Literal, Heard, leads_to}
 use Rattle.client_records.specs.Clients.{Told, bytes_in}
@@ -107,12 +107,12 @@ abbrev pub AreHeardSmall : List Noted → Type 0
 AreHeardSmall heard = (noted : Noted) → Contains heard noted → IsPrinted noted.verdict
 
 -- it has talked, and these bytes of its client came and all but those that wait were answered
-pub record Reached (k : Config) (n : ℕ) (first : Standing) (began : World) (came said : List ℕ) (v : HouseSession) (w : World) : Type 0 where
+pub record Reached (k : Config) (n : ℕ) (first : Standing) (began : World) (came said : List ℕ) (v : Visitor) (w : World) : Type 0 where
   pub sent : List ℕ
   pub talked : Talked k n first began sent said v.standing w
   pub waits : came ≡ sent ++ v.waits
 
-works_reached : (k : Config) (n seat : ℕ) (first : Standing) (began : World) (came heard : List ℕ) (v after : SeatedSession) (old new : World) (said : List ℕ)
+works_reached : (k : Config) (n seat : ℕ) (first : Standing) (began : World) (came heard : List ℕ) (v after : SeatedVisitor) (old new : World) (said : List ℕ)
     → Works (Calls k n) seat v old new after said → Reached k n first began came heard v.session old → Reached k n first began came (heard ++ said) after.session new
 works_reached k n seat first began came heard v after old new said w r = record {
   sent = r.sent ++ flat_map spelled w.answers.sent;
@@ -120,7 +120,7 @@ works_reached k n seat first began came heard v after old new said w r = record 
   waits = r.waits ∙ ap (λ (x : List ℕ). r.sent ++ x) w.answers.waited ∙ sym (append_assoc r.sent (flat_map spelled w.answers.sent) after.session.waits);
 }
 
-verdict_printed : (seat : ℕ) (heard : List Noted) (v : SeatedSession) (verdict : Verdict) → AreHeardSmall heard → IsAnswered seat heard v verdict → IsPrinted verdict
+verdict_printed : (seat : ℕ) (heard : List Noted) (v : SeatedVisitor) (verdict : Verdict) → AreHeardSmall heard → IsAnswered seat heard v verdict → IsPrinted verdict
 verdict_printed seat heard v verdict small known = by (keys_of seat v.serial (sent_by v)) known.each
   where
     by : (keys : List CopyKey) → HeardFor heard keys (verdict ∷ []) → IsPrinted verdict
@@ -134,11 +134,11 @@ verdict_talked k n first began sent heard now verdict old new said how next prin
     subst (λ (b : List ℕ). Talked k n first began (sent ++ []) (heard ++ b) next new) (sym a.wrote)
     (talked_turn k n first began sent heard now old (Heard verdict a.answers) [] turn new t refl printed a.played a.met)
 
-same_reached : (k : Config) (n : ℕ) (first : Standing) (began : World) (came heard : List ℕ) (v after : SeatedSession) (old new : World) (said : List ℕ) → new ≡ old → after ≡ v → said ≡ []
+same_reached : (k : Config) (n : ℕ) (first : Standing) (began : World) (came heard : List ℕ) (v after : SeatedVisitor) (old new : World) (said : List ℕ) → new ≡ old → after ≡ v → said ≡ []
     → Reached k n first began came heard v.session old → Reached k n first began came (heard ++ said) after.session new
 same_reached k n first began came heard v after old new said e f g r = rw (e, f, g, append-nil heard) r
 
-pub goes_reached : (k : Config) (n : ℕ) (whole : Bool) (seat : ℕ) (notes : List Noted) (first : Standing) (began : World) (came heard : List ℕ) (v after : SeatedSession) (old new : World) (said : List ℕ) → AreHeardSmall notes
+pub goes_reached : (k : Config) (n : ℕ) (whole : Bool) (seat : ℕ) (notes : List Noted) (first : Standing) (began : World) (came heard : List ℕ) (v after : SeatedVisitor) (old new : World) (said : List ℕ) → AreHeardSmall notes
     → GoesOn (Calls k n) whole seat notes v old new after said → Reached k n first began came heard v.session old → Reached k n first began came (heard ++ said) after.session new
 goes_reached k n whole seat notes first began came heard v after old new said small (seated.works none w) r = works_reached k n seat first began came heard v after old new said w r
 goes_reached k n whole seat notes first began came heard v after old new said small (seated.answers verdict mid one two how next known a w e) r =
@@ -151,7 +151,7 @@ goes_reached k n whole seat notes first began came heard v after old new said sm
 goes_reached k n whole seat notes first began came heard v after old new said small (seated.rests a e f g) r = same_reached k n first began came heard v after old new said e f g r
 goes_reached k n whole seat notes first began came heard v after old new said small (seated.stalls a e f g) r = same_reached k n first began came heard v after old new said e f g r
 
-pub idles_reached : (k : Config) (n : ℕ) (first : Standing) (began : World) (came heard : List ℕ) (v after : HouseSession) (old new : World) (said : List ℕ) (count : ℕ)
+pub idles_reached : (k : Config) (n : ℕ) (first : Standing) (began : World) (came heard : List ℕ) (v after : Visitor) (old new : World) (said : List ℕ) (count : ℕ)
     → IdleTurns (Calls k n) v.standing old new [] said count after.standing → after.waits ≡ v.waits → Reached k n first began came heard v old → Reached k n first began came (heard ++ said) after new
 idles_reached k n first began came heard v after old new said count a waits r =
     let turn : Turn = record { events = a.events; bytes = a.bytes; after = a.how; standing = after.standing } in

@@ -7,8 +7,8 @@ use Rattle.world.specs.World.{Event as WorldEvent, IsWorld, Steps, World}
 use Rattle.imap_session.specs.Commands.{greeting}
 use Rattle.imap_session.specs.Exchange.{Standing}
 use Rattle.house_session.specs.Folders.{folders_of}
-use Rattle.house_session.specs.HouseSession.{greeted}
-use Rattle.house_session.specs.Seated.{SeatedSession}
+use Rattle.house_session.specs.Visitor.{greeted}
+use Rattle.house_session.specs.SeatedVisitor.{SeatedVisitor}
 use Rattle.house.specs.Scene.{Scene, empty_scene, place_of}
 use Rattle.house.specs.Setup.{Setup}
 use Rattle.house.specs.declared.config.Config.{Config}
@@ -81,7 +81,7 @@ abbrev pub first_standing : Setup → (user : List ℕ) → Standing
 first_standing k user = (greeted (Some k.max_message) (folders_of k.directory user)).standing
 
 -- The client of a session that is there: of all that it sent since it was let in and of all that was printed to it, turn by turn, it knows what its session counts.
-pub record KeepsUp (k : Setup) (entries : List Entry) (place : ℕ) (v : SeatedSession) (t : Scene) : Type 0 where
+pub record KeepsUp (k : Setup) (entries : List Entry) (place : ℕ) (v : SeatedVisitor) (t : Scene) : Type 0 where
   -- the world in which it was let in, which came from the empty one
   pub began : World
   pub events : List WorldEvent
@@ -99,12 +99,12 @@ pub record KeepsUp (k : Setup) (entries : List Entry) (place : ℕ) (v : SeatedS
 
 -- Over whatever record of a house that was new: whoever is there keeps up.
 abbrev pub ClientsKeepUp : Type 0
-ClientsKeepUp = (k : Setup) (entries : List Entry) (t : Scene) (place : ℕ) (v : SeatedSession) → IsPrintable k → IsRecord k entries (empty_scene k) t
+ClientsKeepUp = (k : Setup) (entries : List Entry) (t : Scene) (place : ℕ) (v : SeatedVisitor) → IsPrintable k → IsRecord k entries (empty_scene k) t
     → t.visitor place ≡ Some v → v.gone ≡ false → KeepsUp k entries place v t
 
 -- so it is of the record that `ExactlyOnce` has: of whatever events happened in the house
 abbrev pub ClientsOfHousesKeepUp : Type 0
-ClientsOfHousesKeepUp = (k : Setup) (events : List house.Event) (t : Scene) (printed : List ℕ) (once : ExactlyOnce k events t printed) (place : ℕ) (v : SeatedSession) → IsPrintable k
+ClientsOfHousesKeepUp = (k : Setup) (events : List house.Event) (t : Scene) (printed : List ℕ) (once : ExactlyOnce k events t printed) (place : ℕ) (v : SeatedVisitor) → IsPrintable k
     → t.visitor place ≡ Some v → v.gone ≡ false → KeepsUp k once.entries place v t
 
 -- No text that was accepted is too long to be told of: what a connection takes is limited, and so is what a session does

@@ -4,13 +4,13 @@ use Rattle.std.specs.Prelude.{option_map}
 use Rattle.std.proofs.lemmas.List.{take-append-drop, drop-drop}
 use Rattle.change_ring.specs.declared.change.Change.{Change}
 use Rattle.change_ring.specs.Window.{Window, total, changes_from}
-use Rattle.cursor_set.specs.Cursors.{Cursors, Open, Seat, Updates, after_showing, held, next_changes}
+use Rattle.cursor_set.specs.Cursors.{CursorSet, Open, CursorSeat, Updates, after_showing, held, next_changes}
 use Rattle.cursor_set.specs.Legal.{IsLegalOn}
 use Rattle.cursor_set.proofs.LegalLaws.{legal_rest}
 use Rattle.cursor_set.proofs.OpenedLemmas.{held_in_slot}
 
 -- the cursor's next change is within the log, and the changes from there on may be shown to its client
-pub record IsKnownTo (s : Cursors) (seat : Seat) (w : Window) : Type 0 where
+pub record IsKnownTo (s : CursorSet) (seat : CursorSeat) (w : Window) : Type 0 where
   pub known : (o : Open) → held s seat ≡ Some o → w.base ≤ seat.at → (seat.at ≤ total w) × IsLegalOn o.view (changes_from seat.at w)
 
 from_map : (f : Open → Open) (x : Option Open) (o : Open) → option_map f x ≡ Some o → (p : Open) × (x ≡ Some p) × (o ≡ f p)
@@ -18,7 +18,7 @@ from_map f None o e = absurd (cc)
 from_map f (Some p) o e = (p, refl, cc)
 
 -- after a feed of n changes
-pub known_after : (old new : Cursors) (seat : Seat) (w : Window) (n : ℕ) → IsKnownTo old seat w → w.base ≤ seat.at → n ≤ total w - seat.at →
+pub known_after : (old new : CursorSet) (seat : CursorSeat) (w : Window) (n : ℕ) → IsKnownTo old seat w → w.base ≤ seat.at → n ≤ total w - seat.at →
     Updates old new seat.slot (option_map (after_showing (next_changes w seat.at n)) (held old seat)) → IsKnownTo new (record seat { at = seat.at + n }) w
 known_after old new seat w n h low few u = record {
   known = λ o e _.

@@ -12,33 +12,33 @@ pub record Open : Type 0 where
   pub view : List ℕ
 
 -- the cursors of the mailbox of this number, each in its slot, and the serial of the next one
-pub record Cursors : Type 0 where
+pub record CursorSet : Type 0 where
   pub number : ℕ
   pub next : ℕ
   pub slots : List (Option Open)
 
 -- what a client holds of its cursor
-pub record Seat : Type 0 where
+pub record CursorSeat : Type 0 where
   pub number : ℕ
   pub slot : ℕ
   pub serial : ℕ
   pub at : ℕ
 
 -- the cursor in a slot
-abbrev pub in_slot : Cursors → ℕ → Option Open
+abbrev pub in_slot : CursorSet → ℕ → Option Open
 in_slot s slot = slice_index_or s.slots slot None
 
 -- the cursor, if it is the seat's
-abbrev pub if_of : Seat → Option Open → Option Open
+abbrev pub if_of : CursorSeat → Option Open → Option Open
 if_of seat None = None
 if_of seat (Some o) = if (o.serial == seat.serial) && (o.at == seat.at) then Some o else None
 
 -- the cursor of a seat; a stranger has none
-abbrev pub held : Cursors → Seat → Option Open
+abbrev pub held : CursorSet → CursorSeat → Option Open
 held s seat = if s.number == seat.number then if_of seat (in_slot s seat.slot) else None
 
 -- one slot has this now, and no other slot changed
-pub record Updates (old new : Cursors) (slot : ℕ) (cursor : Option Open) : Type 0 where
+pub record Updates (old new : CursorSet) (slot : ℕ) (cursor : Option Open) : Type 0 where
   pub changed : in_slot new slot ≡ cursor
   pub others : (other : ℕ) → other ≢ slot → in_slot new other ≡ in_slot old other
   pub number : new.number ≡ old.number
@@ -52,7 +52,7 @@ abbrev pub after_showing : List Change → Open → Open
 after_showing changes o = record { serial = o.serial; at = o.at + length changes; view = replay o.view changes }
 
 -- the numbers that the open cursors stand at
-abbrev pub open_numbers : Cursors → List ℕ
+abbrev pub open_numbers : CursorSet → List ℕ
 open_numbers s = filter_map (option_map (λ (o : Open). o.at)) s.slots
 
 -- n is the least of these numbers that isn't below base

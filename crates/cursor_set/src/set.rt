@@ -47,9 +47,9 @@ pub struct CursorSeat {
 }
 
 impl Model for CursorSeat {
-    ghost use Rattle.cursor_set.specs.Cursors.{Seat};
+    ghost use Rattle.cursor_set.specs.Cursors.{CursorSeat};
 
-    ghost Value = { Seat };
+    ghost Value = { CursorSeat };
 
     ghost view = { λ s. record { number = s.number; slot = s.slot; serial = s.serial; at = s.at } };
 }
@@ -180,9 +180,9 @@ pub struct CursorSet {
 }
 
 impl Model for CursorSet {
-    ghost use Rattle.cursor_set.specs.Cursors.{Cursors};
+    ghost use Rattle.cursor_set.specs.Cursors.{CursorSet};
 
-    ghost Value = { Cursors };
+    ghost Value = { CursorSet };
 
     ghost use Rattle.cursor_set.specs.Opened.{opened};
 

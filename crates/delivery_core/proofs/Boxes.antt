@@ -15,8 +15,8 @@ use Rattle.change_ring.specs.Log.{rows_of}
 use Rattle.change_ring.specs.Logged.{arrival}
 use Rattle.change_ring.specs.Window.{Window, total, BaseAfter}
 use Rattle.change_ring.proofs.WindowLaws.{BaseAfter-less}
-use Rattle.cursor_set.specs.Cursors.{Cursors, Seat}
-use Rattle.mailbox.specs.Mail.{Mail, Message, SameMailbox, next_uid as mail_uid, is_spent, is_full as mail_full, row_of}
+use Rattle.cursor_set.specs.Cursors.{CursorSet, CursorSeat}
+use Rattle.mailbox.specs.Mailbox.{Mailbox, Message, SameMailbox, next_uid as mail_uid, is_spent, is_full as mail_full, row_of}
 use Rattle.mailbox.specs.Events.{Logs as MailLogs, Moves}
 use Rattle.mailbox.specs.declared.mailbox.Receipt.{Receipt}
 use Rattle.mailbox.specs.declared.history.History.TheVariants.{Kept}
@@ -24,14 +24,14 @@ use Rattle.mailbox.proofs.WindowMoves.{moves_base, moves_grows, moves_held, move
 use Rattle.world.specs.World.{Config, Box, HasUid, IsSpent, is_full, next_uid}
 use Rattle.world.specs.Law.{IsPart, pair_of, pairs}
 use Rattle.world.proofs.Base.{part_append}
-use Rattle.delivery_core.specs.inner.Held.{AreKept}
+use Rattle.delivery_core.specs.inner.DeliveryCore.{AreKept}
 use Rattle.delivery_core.specs.Stands.{StandsForBox, text_of, accepted_text}
 use Rattle.delivery_core.specs.inner.Boxes.{verdict_of, BoxDelivers, stores, has_no_uid, has_no_place, has_no_memory}
 
-pub same_uid : (k : Config) (b : Mail) (w : Box) → StandsForBox k b w → mail_uid b ≡ next_uid k w
+pub same_uid : (k : Config) (b : Mailbox) (w : Box) → StandsForBox k b w → mail_uid b ≡ next_uid k w
 same_uid k b w S = omega (arith, S.first_uid, ap length S.accepted, length-map w.accepted pair_of)
 
-pub same_rows : (k : Config) (b : Mail) (w : Box) → StandsForBox k b w → length b.messages ≡ length (rows_of w.log)
+pub same_rows : (k : Config) (b : Mailbox) (w : Box) → StandsForBox k b w → length b.messages ≡ length (rows_of w.log)
 same_rows k b w S = sym (length-map b.messages row_of) ∙ ap length S.log.messages
 
 or_false : (a b : Bool) → (a || b) ≡ false → (a ≡ false) × (b ≡ false)
@@ -42,7 +42,7 @@ or_true : (a b : Bool) → (a || b) ≡ true → (a ≡ true) ⊎ (b ≡ true)
 or_true true b e = inl refl
 or_true false b e = inr e
 
-same_arrival : (k : Config) (flags : Flags) (b : Mail) (w : Box) → StandsForBox k b w → length (arrival (mail_uid b) flags) ≡ length (arrival (next_uid k w) flags)
+same_arrival : (k : Config) (flags : Flags) (b : Mailbox) (w : Box) → StandsForBox k b w → length (arrival (mail_uid b) flags) ≡ length (arrival (next_uid k w) flags)
 same_arrival k flags b w S = ap (λ (u : ℕ). length (arrival u flags)) (same_uid k b w S)
 
 not_less : (a b : ℕ) → nat_lt a b ≡ false → b ≤ a
@@ -52,32 +52,32 @@ is_less : (a b : ℕ) → nat_lt a b ≡ true → a < b
 is_less a b e = grind (arith, nat_tests)
 
 -- the tests of a mailbox, as the facts of its box
-has_uid : (k : Config) (flags : Flags) (b : Mail) (w : Box) → StandsForBox k b w → is_spent flags b ≡ false → HasUid k flags w
+has_uid : (k : Config) (flags : Flags) (b : Mailbox) (w : Box) → StandsForBox k b w → is_spent flags b ≡ false → HasUid k flags w
 has_uid k flags b w S e =
     let both : (nat_le 4294967295 (mail_uid b) ≡ false) × (nat_lt 4611686018427387904 (total b.window + length (arrival (mail_uid b) flags)) ≡ false) = or_false _ _ e in
     (omega (arith, leb-false _ _ both.0, same_uid k b w S), omega (arith, not_less _ _ both.1, same_arrival k flags b w S, S.log.window.long))
 
-spent : (k : Config) (flags : Flags) (b : Mail) (w : Box) → StandsForBox k b w → is_spent flags b ≡ true → IsSpent k flags w
+spent : (k : Config) (flags : Flags) (b : Mailbox) (w : Box) → StandsForBox k b w → is_spent flags b ≡ true → IsSpent k flags w
 spent k flags b w S e = go (or_true _ _ e)
   where
     go : (nat_le 4294967295 (mail_uid b) ≡ true) ⊎ (nat_lt 4611686018427387904 (total b.window + length (arrival (mail_uid b) flags)) ≡ true) → IsSpent k flags w
     go (inl t) = inl (omega (arith, leb-true _ _ t, same_uid k b w S))
     go (inr t) = inr (omega (arith, is_less _ _ t, same_arrival k flags b w S, S.log.window.long))
 
-full : (k : Config) (b : Mail) (w : Box) → StandsForBox k b w → mail_full b ≡ true → is_full k w
+full : (k : Config) (b : Mailbox) (w : Box) → StandsForBox k b w → mail_full b ≡ true → is_full k w
 full k b w S e = omega (arith, leb-true _ _ e, same_rows k b w S, S.messages)
 
-has_place : (k : Config) (b : Mail) (w : Box) → StandsForBox k b w → mail_full b ≡ false → length (rows_of w.log) < k.messages
+has_place : (k : Config) (b : Mailbox) (w : Box) → StandsForBox k b w → mail_full b ≡ false → length (rows_of w.log) < k.messages
 has_place k b w S e = omega (arith, leb-false _ _ e, same_rows k b w S, S.messages)
 
-base_after : (k : Config) (b new : Mail) (w : Box) (cs : List Change) → StandsForBox k b w → Moves b.cursors b.window new.window cs → BaseAfter k.ring (length w.log) w.base cs new.window.base
+base_after : (k : Config) (b new : Mailbox) (w : Box) (cs : List Change) → StandsForBox k b w → Moves b.cursors b.window new.window cs → BaseAfter k.ring (length w.log) w.base cs new.window.base
 base_after k b new w cs S moves =
     subst (λ (n : ℕ). BaseAfter k.ring n w.base cs new.window.base) (sym S.log.window.long)
     (subst (λ (n : ℕ). BaseAfter k.ring (total b.window) n cs new.window.base) S.base
     (BaseAfter-less b.window.capacity k.ring (total b.window) b.window.base cs new.window.base S.ring (moves_base b.cursors b.window new.window cs moves)))
 
 -- where a mailbox neither said that it has no UID nor that it has no place, it has both
-open_of : (flags : Flags) (old : Mail) (A B : Type 0) → (A → ⊥) → (B → ⊥) → A ↔ (is_spent flags old ≡ true) → B ↔ ((is_spent flags old ≡ false) × (mail_full old ≡ true)) → (is_spent flags old ≡ false) × (mail_full old ≡ false)
+open_of : (flags : Flags) (old : Mailbox) (A B : Type 0) → (A → ⊥) → (B → ⊥) → A ↔ (is_spent flags old ≡ true) → B ↔ ((is_spent flags old ≡ false) × (mail_full old ≡ true)) → (is_spent flags old ≡ false) × (mail_full old ≡ false)
 open_of flags old A B na nb spends fills = go (is_spent flags old) (mail_full old) spends fills
   where
     go : (s f : Bool) → A ↔ (s ≡ true) → B ↔ ((s ≡ false) × (f ≡ true)) → (s ≡ false) × (f ≡ false)
@@ -86,7 +86,7 @@ open_of flags old A B na nb spends fills = go (is_spent flags old) (mail_full ol
     go false false a b = (refl, refl)
 
 -- a copy that was stored
-stored : (k : Config) (old new : Mail) (w : Box) (c : Job) (uid : ℕ) → StandsForBox k old w → (is_spent c.flags old ≡ false) × (mail_full old ≡ false)
+stored : (k : Config) (old new : Mailbox) (w : Box) (c : Job) (uid : ℕ) → StandsForBox k old w → (is_spent c.flags old ≡ false) × (mail_full old ≡ false)
     → MailLogs old new (arrival (mail_uid old) c.flags) → new.accepted ≡ old.accepted ++ (c.key, mail_uid old) ∷ []
     → new.messages ≡ old.messages ++ record { uid = mail_uid old; flags = c.flags; text = c.text } ∷ []
     → Moves old.cursors old.window new.window (arrival (mail_uid old) c.flags) → SameMailbox old new → uid ≡ mail_uid old → BoxDelivers k w c (Stored uid) new
@@ -115,7 +115,7 @@ stored k old new w c uid S room logs accepts messages drops stays is =
       ring_max = moves_max old.cursors old.window new.window (arrival (mail_uid old) c.flags) drops ∙ S.ring_max;
     })
 
-pub box_delivers : (k : Config) (old new : Mail) (w : Box) (c : Job) (r : Result Receipt Refusal) → StandsForBox k old w
+pub box_delivers : (k : Config) (old new : Mailbox) (w : Box) (c : Job) (r : Result Receipt Refusal) → StandsForBox k old w
     → (r ≡ Err UidSpent) ↔ (is_spent c.flags old ≡ true) → (r ≡ Err MailboxFull) ↔ ((is_spent c.flags old ≡ false) × (mail_full old ≡ true)) → (r ≡ Err Full → ⊥) → (r ≡ Err Shut → ⊥)
     → OnErr r (new ≡ old) → OnOk r (MailLogs old new (arrival (mail_uid old) c.flags)) → OnOk r (new.accepted ≡ old.accepted ++ (c.key, mail_uid old) ∷ [])
     → OnOk r (new.messages ≡ old.messages ++ record { uid = mail_uid old; flags = c.flags; text = c.text } ∷ [])
@@ -130,16 +130,16 @@ box_delivers k old new w c (Err NoMemory) S spends fills queued shut same logs a
 box_delivers k old new w c (Err Full) S spends fills queued shut same logs accepts messages drops stays uid = absurd (queued refl)
 box_delivers k old new w c (Err Shut) S spends fills queued shut same logs accepts messages drops stays uid = absurd (shut refl)
 
-pub same_mailbox : (r : Result Receipt Refusal) (old new : Mail) → OnOk r (SameMailbox old new) → OnErr r (new ≡ old) → SameMailbox old new
+pub same_mailbox : (r : Result Receipt Refusal) (old new : Mailbox) → OnOk r (SameMailbox old new) → OnErr r (new ≡ old) → SameMailbox old new
 same_mailbox (Ok x) old new same err = same
 same_mailbox (Err x) old new same err = rw err (record { number = refl; uidvalidity = refl; first_uid = refl; limit = refl; history = refl })
 
 -- one mailbox of a list took a copy
-pub same_boxes : (boxes : List Mail) (i : ℕ) (old new : Mail) → i < length boxes → old ≡ get_or boxes i old → SameMailbox old new
-    → (m : ℕ) (d : Mail) → SameMailbox (get_or boxes m d) (get_or (set boxes i new) m d)
+pub same_boxes : (boxes : List Mailbox) (i : ℕ) (old new : Mailbox) → i < length boxes → old ≡ get_or boxes i old → SameMailbox old new
+    → (m : ℕ) (d : Mailbox) → SameMailbox (get_or boxes m d) (get_or (set boxes i new) m d)
 same_boxes boxes i old new l there same m d = go (cases_eq m i)
   where
-    same_self : (b : Mail) → SameMailbox b b
+    same_self : (b : Mailbox) → SameMailbox b b
     same_self b = record { number = refl; uidvalidity = refl; first_uid = refl; limit = refl; history = refl }
 
     was : get_or boxes i d ≡ old
@@ -150,7 +150,7 @@ same_boxes boxes i old new l there same m d = go (cases_eq m i)
     go (inr e) = rw (get_or-set_other boxes i m new d e) (same_self (get_or boxes m d))
 
 -- one mailbox of a list became another, which keeps its copies as it did
-pub kept_set : (boxes : List Mail) (i : ℕ) (old new : Mail) → AreKept boxes → old ≡ get_or boxes i old → new.history ≡ old.history → AreKept (set boxes i new)
+pub kept_set : (boxes : List Mailbox) (i : ℕ) (old new : Mailbox) → AreKept boxes → old ≡ get_or boxes i old → new.history ≡ old.history → AreKept (set boxes i new)
 kept_set boxes i old new kept there same m d l = go (cases_eq m i)
   where
     within : m < length boxes
@@ -159,34 +159,34 @@ kept_set boxes i old new kept there same m d l = go (cases_eq m i)
     go : (m ≡ i) ⊎ (m ≢ i) → (get_or (set boxes i new) m d).history ≡ Kept
     go (inl e) =
         let here : i < length boxes = omega (arith, within, e) in
-        ap (λ (j : ℕ). (get_or (set boxes i new) j d).history) e ∙ ap (λ (z : Mail). z.history) (get_or-set_same boxes i new d here)
-        ∙ same ∙ ap (λ (z : Mail). z.history) there ∙ kept i old here
-    go (inr other) = ap (λ (z : Mail). z.history) (get_or-set_other boxes i m new d other) ∙ kept m d within
+        ap (λ (j : ℕ). (get_or (set boxes i new) j d).history) e ∙ ap (λ (z : Mailbox). z.history) (get_or-set_same boxes i new d here)
+        ∙ same ∙ ap (λ (z : Mailbox). z.history) there ∙ kept i old here
+    go (inr other) = ap (λ (z : Mailbox). z.history) (get_or-set_other boxes i m new d other) ∙ kept m d within
 
 -- what a client's call may change of its mailbox
-pub same_rest : (b b2 : Mail) (ms : List Message) (w : Window) (s : Cursors) → b2 ≡ record b { messages = ms; window = w; cursors = s } → SameMailbox b b2
+pub same_rest : (b b2 : Mailbox) (ms : List Message) (w : Window) (s : CursorSet) → b2 ≡ record b { messages = ms; window = w; cursors = s } → SameMailbox b b2
 same_rest b b2 ms w s is = record {
-  number = ap (λ (z : Mail). z.number) is;
-  uidvalidity = ap (λ (z : Mail). z.uidvalidity) is;
-  first_uid = ap (λ (z : Mail). z.first_uid) is;
-  limit = ap (λ (z : Mail). z.limit) is;
-  history = ap (λ (z : Mail). z.history) is;
+  number = ap (λ (z : Mailbox). z.number) is;
+  uidvalidity = ap (λ (z : Mailbox). z.uidvalidity) is;
+  first_uid = ap (λ (z : Mailbox). z.first_uid) is;
+  limit = ap (λ (z : Mailbox). z.limit) is;
+  history = ap (λ (z : Mailbox). z.history) is;
 }
 
-pub same_ok : {T E : Type 0} (r : Result T E) (boxes : List Mail) (i : ℕ) (b b2 : Mail) → i < length boxes → b ≡ get_or boxes i b → OnOk r (SameMailbox b b2)
-    → OnOk r ((m : ℕ) (d : Mail) → SameMailbox (get_or boxes m d) (get_or (set boxes i b2) m d))
+pub same_ok : {T E : Type 0} (r : Result T E) (boxes : List Mailbox) (i : ℕ) (b b2 : Mailbox) → i < length boxes → b ≡ get_or boxes i b → OnOk r (SameMailbox b b2)
+    → OnOk r ((m : ℕ) (d : Mailbox) → SameMailbox (get_or boxes m d) (get_or (set boxes i b2) m d))
 same_ok (Ok x) boxes i b b2 l there same = same_boxes boxes i b b2 l there same
 same_ok (Err x) boxes i b b2 l there same = tt
 
-pub rest_always : {T E : Type 0} (r : Result T E) (b b2 : Mail) (ms : List Message) (w : Window) (s : Cursors) → b2 ≡ record b { messages = ms; window = w; cursors = s } → OnOk r (SameMailbox b b2)
+pub rest_always : {T E : Type 0} (r : Result T E) (b b2 : Mailbox) (ms : List Message) (w : Window) (s : CursorSet) → b2 ≡ record b { messages = ms; window = w; cursors = s } → OnOk r (SameMailbox b b2)
 rest_always (Ok x) b b2 ms w s is = same_rest b b2 ms w s is
 rest_always (Err x) b b2 ms w s is = tt
 
 -- a call that changes a mailbox, or nothing, leaves how it keeps its copies
-pub history_stays : {T E : Type 0} (r : Result T E) (b b2 : Mail) (seat seat2 : Seat) (before after : List ℕ) → OnErr r ((b2 ≡ b) × (seat2 ≡ seat) × (after ≡ before)) → OnOk r (SameMailbox b b2) → b2.history ≡ b.history
+pub history_stays : {T E : Type 0} (r : Result T E) (b b2 : Mailbox) (seat seat2 : CursorSeat) (before after : List ℕ) → OnErr r ((b2 ≡ b) × (seat2 ≡ seat) × (after ≡ before)) → OnOk r (SameMailbox b b2) → b2.history ≡ b.history
 history_stays (Ok x) b b2 seat seat2 before after err same = same.history
-history_stays (Err x) b b2 seat seat2 before after err same = ap (λ (z : Mail). z.history) err.0
+history_stays (Err x) b b2 seat seat2 before after err same = ap (λ (z : Mailbox). z.history) err.0
 
-pub rest_ok : {T E : Type 0} (r : Result T E) (b b2 : Mail) (ms : List Message) (w : Window) (s : Cursors) → OnOk r (b2 ≡ record b { messages = ms; window = w; cursors = s }) → OnOk r (SameMailbox b b2)
+pub rest_ok : {T E : Type 0} (r : Result T E) (b b2 : Mailbox) (ms : List Message) (w : Window) (s : CursorSet) → OnOk r (b2 ≡ record b { messages = ms; window = w; cursors = s }) → OnOk r (SameMailbox b b2)
 rest_ok (Ok x) b b2 ms w s is = same_rest b b2 ms w s is
 rest_ok (Err x) b b2 ms w s is = tt

@@ -10,13 +10,13 @@ use Rattle.mailbox.specs.declared.clients.MailFault.{MailFault}
 use Rattle.mailbox.specs.declared.clients.MailFault.TheVariants.{Stranger, Lapped, Spent, NoMemory}
 use Rattle.mailbox.specs.declared.clients.Row as read
 use Rattle.mailbox.specs.Events.{Logs as MailLogs, Moves, IsTooMany, IsStranger, IsLapped, IsCurrent, seen_after, was_logged}
-use Rattle.mailbox.specs.Mail.{Mail, Message, row_of, rows, flagged, message_with}
+use Rattle.mailbox.specs.Mailbox.{Mailbox, Message, row_of, rows, flagged, message_with}
 use Rattle.world.specs.World.{Config, World, Box, Session, Event, MailStep, Read, Selected, Step, Store, most_changes}
 use Rattle.world.specs.Law.{IsPart}
 use Rattle.world.proofs.Base.{part_both}
 use Rattle.world.proofs.Kept.{BoxOk}
 use Rattle.delivery_core.specs.declared.client.Client.{Client}
-use Rattle.delivery_core.specs.Held.{Held}
+use Rattle.delivery_core.specs.DeliveryCore.{DeliveryCore}
 use Rattle.delivery_core.specs.Seated.{AreSeated, client_at, cursors_of}
 use Rattle.delivery_core.specs.Stands.{StandsFor, StandsForBox, text_of, accepted_text}
 use Rattle.delivery_core.specs.Clients.{Reads, Alters, Makes, Refuses, read_of, flags_of, text_with}
@@ -39,7 +39,7 @@ ok_map P Q (Err x) f h = tt
 abbrev row_read : Bool → ℕ → List Row → Message → read.Row
 row_read mark_seen uid rs m = record { uid = m.uid; flags = m.flags; newly_seen = was_logged (seen_logged mark_seen rs uid); text = m.text }
 
-pub read_tells : (k : Config) (b b2 : Mail) (x : Box) (mark_seen : Bool) (uid : ℕ) → StandsForBox k b x → BoxOk k x → MailLogs b b2 (seen_logged mark_seen (rows b) uid) → IsPart (map text_of b2.messages) (map accepted_text x.accepted)
+pub read_tells : (k : Config) (b b2 : Mailbox) (x : Box) (mark_seen : Bool) (uid : ℕ) → StandsForBox k b x → BoxOk k x → MailLogs b b2 (seen_logged mark_seen (rows b) uid) → IsPart (map text_of b2.messages) (map accepted_text x.accepted)
     → option_map (row_read mark_seen uid (rows b)) (message_with uid b2.messages) ≡ read_of mark_seen uid x
 read_tells k b b2 x mark_seen uid S ok logs texts =
     ap (λ (rs : List Row). option_map (row_read mark_seen uid rs) (message_with uid b2.messages)) (same_rows k b x S)
@@ -54,7 +54,7 @@ read_tells k b b2 x mark_seen uid S ok logs texts =
         (text_told k x b2.messages uid m ok texts e)
 
 -- a call's tests of its seat
-told : {T : Type 0} (r : Result T MailFault) (old : Held) (n m : ℕ) (c : Client) (b : Mail) (cs : List Change) → AreSeated (cursors_of old.boxes) old.clients → client_at old.clients n ≡ Some c → m ≡ c.mailbox → b ≡ get_or old.boxes m b
+told : {T : Type 0} (r : Result T MailFault) (old : DeliveryCore) (n m : ℕ) (c : Client) (b : Mailbox) (cs : List Change) → AreSeated (cursors_of old.boxes) old.clients → client_at old.clients n ≡ Some c → m ≡ c.mailbox → b ≡ get_or old.boxes m b
     → (r ≡ Err Stranger) ↔ IsStranger b c.seat → (r ≡ Err Lapped) ↔ IsLapped b c.seat → (r ≡ Err Spent) ↔ (IsCurrent b c.seat × IsTooMany b cs) → Told r b c.seat cs
 told r old n m c b cs S e same there strange lapses spends = record {
   known = known_at old.boxes old.clients n c b S e (there ∙ ap (λ (i : ℕ). get_or old.boxes i b) same);
@@ -64,7 +64,7 @@ told r old n m c b cs S e same there strange lapses spends = record {
 }
 
 -- where a client stands no call answers that it is a stranger
-pub not_strange : {T : Type 0} (r : Result T MailFault) (boxes : List Mail) (clients : List (Option Client)) (n m : ℕ) (c : Client) (b : Mail) → AreSeated (cursors_of boxes) clients → client_at clients n ≡ Some c → m ≡ c.mailbox → b ≡ get_or boxes m b
+pub not_strange : {T : Type 0} (r : Result T MailFault) (boxes : List Mailbox) (clients : List (Option Client)) (n m : ℕ) (c : Client) (b : Mailbox) → AreSeated (cursors_of boxes) clients → client_at clients n ≡ Some c → m ≡ c.mailbox → b ≡ get_or boxes m b
     → (r ≡ Err Stranger) ↔ IsStranger b c.seat → (r ≡ Err Stranger) ↔ (client_at clients n ≡ None)
 not_strange r boxes clients n m c b S e same there strange = (
   λ f. absurd (no_stranger r b c.seat (known_at boxes clients n c b S e (there ∙ ap (λ (i : ℕ). get_or boxes i b) same)) strange f),
@@ -74,14 +74,14 @@ not_strange r boxes clients n m c b S e same there strange = (
     nobody : Some c ≡ None → r ≡ Err Stranger
     nobody h = cc
 
-pub read_follows : (k : Config) (w : World) (old : Held) (n m : ℕ) (c : Client) (b b2 : Mail) (uid : ℕ) (mark_seen : Bool) (r : Result (Option read.Row) MailFault)
+pub read_follows : (k : Config) (w : World) (old : DeliveryCore) (n m : ℕ) (c : Client) (b b2 : Mailbox) (uid : ℕ) (mark_seen : Bool) (r : Result (Option read.Row) MailFault)
     → StandsFor k old w → client_at old.clients n ≡ Some c → m ≡ c.mailbox → b ≡ get_or old.boxes m b
     → (r ≡ Err Stranger) ↔ IsStranger b c.seat → (r ≡ Err Lapped) ↔ IsLapped b c.seat → (r ≡ Err Spent) ↔ (IsCurrent b c.seat × IsTooMany b (seen_logged mark_seen (rows b) uid))
     → OnErr r (b2 ≡ b) → OnOk r (MailLogs b b2 (seen_logged mark_seen (rows b) uid)) → OnOk r (Moves b.cursors b.window b2.window (seen_logged mark_seen (rows b) uid)) → OnOk r (b2.messages ≡ seen_after mark_seen uid b.messages)
     → b2 ≡ record b { messages = b2.messages; window = b2.window } → IfOk r (λ row. row ≡ option_map (row_read mark_seen uid (rows b)) (message_with uid b2.messages))
     → (v : World) × Step k w (Read n uid mark_seen) v × StandsFor k (record old { boxes = set old.boxes m b2 }) v × Selected w n (λ s. Reads mark_seen uid r (w.box s.mailbox) s)
 read_follows k w old n m c b b2 uid mark_seen r S e same there strange lapses spends err logs moves messages rest row =
-    still_follow k w old n m c b b2 true (λ x. seen_logged mark_seen (rows_of x.log) uid) (λ x s. Reads mark_seen uid r x s) (λ v. Step k w (Read n uid mark_seen) v) (λ v. reached_step k w (Read n uid mark_seen) v S.reached) (λ v h. h) S e same there (ap (λ (z : Mail). z.cursors) rest)
+    still_follow k w old n m c b b2 true (λ x. seen_logged mark_seen (rows_of x.log) uid) (λ x s. Reads mark_seen uid r x s) (λ v. Step k w (Read n uid mark_seen) v) (λ v. reached_step k w (Read n uid mark_seen) v S.reached) (λ v h. h) S e same there (ap (λ (z : Mailbox). z.cursors) rest)
     (λ x s box at ok shown. (
       box_still k b b2 x s c.seat true (λ rs. seen_logged mark_seen rs uid) r box at tests (λ f. refl) err logs moves (ok_map _ _ r (seen_part mark_seen uid b.messages b2.messages) messages) rest,
       tells r x s box at ok tests logs messages row,
@@ -100,21 +100,21 @@ read_follows k w old n m c b b2 uid mark_seen r S e same there strange lapses sp
 
 -- ---- Store
 
-alter_tells : (k : Config) (b b2 : Mail) (x : Box) (uid : ℕ) (op : FlagOp) → StandsForBox k b x → MailLogs b b2 (flags_logged (rows b) uid op) → option_map (λ (m : Message). m.flags) (message_with uid b2.messages) ≡ flags_of uid op x
+alter_tells : (k : Config) (b b2 : Mailbox) (x : Box) (uid : ℕ) (op : FlagOp) → StandsForBox k b x → MailLogs b b2 (flags_logged (rows b) uid op) → option_map (λ (m : Message). m.flags) (message_with uid b2.messages) ≡ flags_of uid op x
 alter_tells k b b2 x uid op S logs = go (message_with uid b2.messages) ∙ ap (option_map (λ (row : Row). row.flags)) (sym (row_after k b b2 x uid (λ rs. flags_logged rs uid op) S logs))
   where
     go : (o : Option Message) → option_map (λ (m : Message). m.flags) o ≡ option_map (λ (row : Row). row.flags) (option_map row_of o)
     go None = refl
     go (Some m) = refl
 
-pub store_follows : (k : Config) (w : World) (old : Held) (n m : ℕ) (c : Client) (b b2 : Mail) (uid : ℕ) (op : FlagOp) (r : Result (Option Flags) MailFault)
+pub store_follows : (k : Config) (w : World) (old : DeliveryCore) (n m : ℕ) (c : Client) (b b2 : Mailbox) (uid : ℕ) (op : FlagOp) (r : Result (Option Flags) MailFault)
     → StandsFor k old w → client_at old.clients n ≡ Some c → m ≡ c.mailbox → b ≡ get_or old.boxes m b
     → (r ≡ Err Stranger) ↔ IsStranger b c.seat → (r ≡ Err Lapped) ↔ IsLapped b c.seat → (r ≡ Err Spent) ↔ (IsCurrent b c.seat × IsTooMany b (flags_logged (rows b) uid op)) → (r ≡ Err NoMemory → ⊥)
     → OnErr r (b2 ≡ b) → OnOk r (MailLogs b b2 (flags_logged (rows b) uid op)) → OnOk r (Moves b.cursors b.window b2.window (flags_logged (rows b) uid op)) → OnOk r (b2.messages ≡ flagged uid op b.messages)
     → b2 ≡ record b { messages = b2.messages; window = b2.window } → IfOk r (λ flags. flags ≡ option_map (λ (x : Message). x.flags) (message_with uid b2.messages))
     → (v : World) × Step k w (Store n uid op) v × StandsFor k (record old { boxes = set old.boxes m b2 }) v × Selected w n (λ s. Alters uid op r (w.box s.mailbox) s)
 store_follows k w old n m c b b2 uid op r S e same there strange lapses spends memory err logs moves messages rest flags =
-    still_follow k w old n m c b b2 false (λ x. flags_logged (rows_of x.log) uid op) (λ x s. Alters uid op r x s) (λ v. Step k w (Store n uid op) v) (λ v. reached_step k w (Store n uid op) v S.reached) (λ v h. h) S e same there (ap (λ (z : Mail). z.cursors) rest)
+    still_follow k w old n m c b b2 false (λ x. flags_logged (rows_of x.log) uid op) (λ x s. Alters uid op r x s) (λ v. Step k w (Store n uid op) v) (λ v. reached_step k w (Store n uid op) v S.reached) (λ v h. h) S e same there (ap (λ (z : Mailbox). z.cursors) rest)
     (λ x s box at ok shown. (
       box_still k b b2 x s c.seat false (λ rs. flags_logged rs uid op) r box at tests (λ f. absurd (memory f)) err logs moves (ok_map _ _ r (flagged_part uid op b.messages b2.messages) messages) rest,
       tells r x s box at tests logs flags,
@@ -133,14 +133,14 @@ store_follows k w old n m c b b2 uid op r S e same there strange lapses spends m
 
 -- ---- calls that were not refused
 
-logs_done : {T : Type 0} (old : Held) (n m : ℕ) (c : Client) (b b2 : Mail) (logged : List Row → List Change) (event : Event) (r : Result T MailFault)
+logs_done : {T : Type 0} (old : DeliveryCore) (n m : ℕ) (c : Client) (b b2 : Mailbox) (logged : List Row → List Change) (event : Event) (r : Result T MailFault)
     → ((k : Config) (w v : World) → Selected w n (λ s. MailStep k w n s false [] (logged (rows_of (w.box s.mailbox).log)) v) → Step k w event v)
     → AreSeated (cursors_of old.boxes) old.clients → client_at old.clients n ≡ Some c → m ≡ c.mailbox → b ≡ get_or old.boxes m b
     → (r ≡ Err Stranger) ↔ IsStranger b c.seat → (r ≡ Err Lapped) ↔ IsLapped b c.seat → (r ≡ Err Spent) ↔ (IsCurrent b c.seat × IsTooMany b (logged (rows b)))
     → OnErr r (b2 ≡ b) → OnOk r (MailLogs b b2 (logged (rows b))) → OnOk r (Moves b.cursors b.window b2.window (logged (rows b))) → OnOk r (IsPart (map text_of b2.messages) (map text_of b.messages))
     → b2 ≡ record b { messages = b2.messages; window = b2.window } → OnOk r ((k : Config) → Makes k old n (λ x s. []) (λ x. logged (rows_of x.log)) (record old { boxes = set old.boxes m b2 }))
 logs_done old n m c b b2 logged event (Ok t) as_step S e same there strange lapses spends err logs moves texts rest = λ k.
-    still_done k old n m c b b2 (λ x. logged (rows_of x.log)) event (as_step k) e same there (ap (λ (z : Mail). z.cursors) rest)
+    still_done k old n m c b b2 (λ x. logged (rows_of x.log)) event (as_step k) e same there (ap (λ (z : Mailbox). z.cursors) rest)
     (λ x s box at ok shown. (
       box_still k b b2 x s c.seat false logged (Ok t) box at tests (λ f. cc) err logs moves texts rest,
       subst (λ (rs : List Row). (x.base ≤ s.cursor) × (length x.log + length (logged rs) ≤ most_changes)) (same_rows k b x box) (taken k b x s c.seat (logged (rows b)) (Ok t) t box at tests refl),
@@ -150,7 +150,7 @@ logs_done old n m c b b2 logged event (Ok t) as_step S e same there strange laps
     tests = told (Ok t) old n m c b (logged (rows b)) S e same there strange lapses spends
 logs_done old n m c b b2 logged event (Err f) as_step S e same there strange lapses spends err logs moves texts rest = tt
 
-pub read_done : (old : Held) (n m : ℕ) (c : Client) (b b2 : Mail) (uid : ℕ) (mark_seen : Bool) (r : Result (Option read.Row) MailFault)
+pub read_done : (old : DeliveryCore) (n m : ℕ) (c : Client) (b b2 : Mailbox) (uid : ℕ) (mark_seen : Bool) (r : Result (Option read.Row) MailFault)
     → AreSeated (cursors_of old.boxes) old.clients → client_at old.clients n ≡ Some c → m ≡ c.mailbox → b ≡ get_or old.boxes m b
     → (r ≡ Err Stranger) ↔ IsStranger b c.seat → (r ≡ Err Lapped) ↔ IsLapped b c.seat → (r ≡ Err Spent) ↔ (IsCurrent b c.seat × IsTooMany b (seen_logged mark_seen (rows b) uid))
     → OnErr r (b2 ≡ b) → OnOk r (MailLogs b b2 (seen_logged mark_seen (rows b) uid)) → OnOk r (Moves b.cursors b.window b2.window (seen_logged mark_seen (rows b) uid)) → OnOk r (b2.messages ≡ seen_after mark_seen uid b.messages)
@@ -159,7 +159,7 @@ read_done old n m c b b2 uid mark_seen r S e same there strange lapses spends er
     logs_done old n m c b b2 (λ rs. seen_logged mark_seen rs uid) (Read n uid mark_seen) r (λ k w v h. (h.0, h.1, with_memory k w n h.0 [] (seen_logged mark_seen (rows_of (w.box h.0.mailbox).log) uid) v h.2)) S e same there
     strange lapses spends err logs moves (ok_map _ _ r (seen_part mark_seen uid b.messages b2.messages) messages) rest
 
-pub store_done : (old : Held) (n m : ℕ) (c : Client) (b b2 : Mail) (uid : ℕ) (op : FlagOp) (r : Result (Option Flags) MailFault)
+pub store_done : (old : DeliveryCore) (n m : ℕ) (c : Client) (b b2 : Mailbox) (uid : ℕ) (op : FlagOp) (r : Result (Option Flags) MailFault)
     → AreSeated (cursors_of old.boxes) old.clients → client_at old.clients n ≡ Some c → m ≡ c.mailbox → b ≡ get_or old.boxes m b
     → (r ≡ Err Stranger) ↔ IsStranger b c.seat → (r ≡ Err Lapped) ↔ IsLapped b c.seat → (r ≡ Err Spent) ↔ (IsCurrent b c.seat × IsTooMany b (flags_logged (rows b) uid op))
     → OnErr r (b2 ≡ b) → OnOk r (MailLogs b b2 (flags_logged (rows b) uid op)) → OnOk r (Moves b.cursors b.window b2.window (flags_logged (rows b) uid op)) → OnOk r (b2.messages ≡ flagged uid op b.messages)

@@ -4,11 +4,11 @@ use Rattle.delivery_token.specs.declared.Job.{Job}
 use Rattle.delivery_token.specs.declared.Verdict.{Verdict}
 use Rattle.delivery_token.specs.declared.Verdict.TheVariants.{Stored, Refused}
 use Rattle.delivery_token.specs.declared.Refusal.TheVariants.{MailboxFull, NoMemory, UidSpent}
-use Rattle.mailbox.specs.Mail.{Mail}
+use Rattle.mailbox.specs.Mailbox.{Mailbox}
 use Rattle.world.specs.World.{Config, World, Box, Steps, Deliver, DeliverStep, delivers, deliver_spent, deliver_full, deliver_no_memory, delivered, refused, reply_to, next_uid}
 use Rattle.world.specs.declared.hand.Hand.TheVariants.{Taken, Done}
 use Rattle.world.proofs.Known.{HandKnown, known_always}
-use Rattle.delivery_core.specs.Held.{Held}
+use Rattle.delivery_core.specs.DeliveryCore.{DeliveryCore}
 use Rattle.delivery_core.specs.Stands.{EachAt, StandsFor, StandsForBox}
 use Rattle.delivery_core.specs.inner.Boxes.{BoxDelivers, stores, has_no_uid, has_no_place, has_no_memory}
 use Rattle.delivery_core.specs.Seated.{cursors_of}
@@ -16,14 +16,14 @@ use Rattle.delivery_core.proofs.Follow.{each_here, each_set, next_same, reached_
 use Rattle.delivery_core.proofs.SeatedLaws.{cursors_same}
 
 -- the copy in a hand is for a mailbox that is there
-pub job_place : (k : Config) (w : World) (old : Held) (s : ℕ) (c : Job) → StandsFor k old w → s < length old.hands → Taken c ≡ get_or old.hands s (Taken c) → c.mailbox < length old.boxes
+pub job_place : (k : Config) (w : World) (old : DeliveryCore) (s : ℕ) (c : Job) → StandsFor k old w → s < length old.hands → Taken c ≡ get_or old.hands s (Taken c) → c.mailbox < length old.boxes
 job_place k w old s c S ins is =
     let known : HandKnown k w (w.hand s) = (known_always k S.reached.0 w S.reached.1).hands s in
     let here : HandKnown k w (Taken c) = subst (HandKnown k w) (sym (is ∙ S.hands s (Taken c) ins)) known in
     omega (arith, here.mailbox, S.mailboxes)
 
 -- only the hand and that mailbox changed
-stands : (k : Config) (w v : World) (old new : Held) (s : ℕ) (c : Job) (verdict : Verdict) (b : Mail) → StandsFor k old w
+stands : (k : Config) (w v : World) (old new : DeliveryCore) (s : ℕ) (c : Job) (verdict : Verdict) (b : Mailbox) → StandsFor k old w
     → new.hands ≡ set old.hands s (Done (reply_to c verdict)) → new.boxes ≡ set old.boxes c.mailbox b
     → new.lanes ≡ old.lanes → new.replies ≡ old.replies → new.heard ≡ old.heard → new.next ≡ old.next
     → new.clients ≡ old.clients → cursors_of (set old.boxes c.mailbox b) ≡ cursors_of old.boxes
@@ -50,7 +50,7 @@ stands k w v old new s c verdict b S hands boxes lanes replies heard next client
   next = rw next (next_same w v old.next (λ t p. ap (λ f. (f t).sent p) vl) (λ p. ap (λ f. f p) vh) S.next);
 }
 
-pub deliver_follows : (k : Config) (w : World) (old new : Held) (s : ℕ) (c : Job) (verdict : Verdict) (before b : Mail) → StandsFor k old w
+pub deliver_follows : (k : Config) (w : World) (old new : DeliveryCore) (s : ℕ) (c : Job) (verdict : Verdict) (before b : Mailbox) → StandsFor k old w
     → s < length old.hands → Taken c ≡ get_or old.hands s (Taken c) → before ≡ get_or old.boxes c.mailbox before
     → ((x : Box) → StandsForBox k before x → BoxDelivers k x c verdict b)
     → new.hands ≡ set old.hands s (Done (reply_to c verdict)) → new.boxes ≡ set old.boxes c.mailbox b

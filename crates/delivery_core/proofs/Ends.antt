@@ -4,18 +4,18 @@ use Rattle.std.proofs.lemmas.List.Elements.{All-push}
 use Rattle.shard_queue.specs.Lane.{put}
 use Rattle.shard_queue.proofs.AtLaws.{at_cases}
 use Rattle.delivery_token.specs.declared.Job.{Job}
-use Rattle.shard_queue.specs.Waits.{Waits}
+use Rattle.shard_queue.specs.PlainLane.{PlainLane}
 use Rattle.shard_queue.specs.declared.lane.Entry.TheVariants.{End}
 use Rattle.world.specs.World.{Config, World, Steps, PutEnd, EndStep, end_joins, puts, EntryBelow}
 use Rattle.std.specs.Prelude.{◌↔◌}
 use Rattle.delivery_core.specs.Changes.{Ends, CannotEnd}
-use Rattle.delivery_core.specs.Held.{Held, is_ended, lane_of}
+use Rattle.delivery_core.specs.DeliveryCore.{DeliveryCore, is_ended, lane_of}
 use Rattle.delivery_core.specs.Stands.{StandsFor, IsNext}
 use Rattle.shard_queue.specs.Plain.{StandsForLane}
 use Rattle.shard_queue.proofs.PlainLaws.{lane_end}
 use Rattle.delivery_core.proofs.Follow.{each_set, get_or-any, reached_step}
 
-pub end_follows : (k : Config) (w : World) (old new : Held) (p s : ℕ) (l l2 : Waits Job) → StandsFor k old w
+pub end_follows : (k : Config) (w : World) (old new : DeliveryCore) (p s : ℕ) (l l2 : PlainLane Job) → StandsFor k old w
     → s < length old.lanes → p < length old.replies → l ≡ get_or old.lanes s l → get_or l.live p false ≡ true
     → length l.waiting < l.capacity → l2 ≡ record { capacity = l.capacity; live = set l.live p false; waiting = l.waiting ++ End p ∷ [] }
     → new.lanes ≡ set old.lanes s l2 → new.hands ≡ old.hands → new.replies ≡ old.replies → new.heard ≡ old.heard → new.boxes ≡ old.boxes → new.next ≡ old.next → new.clients ≡ old.clients
@@ -57,13 +57,13 @@ end_follows k w old new p s l l2 S ins inp there live room ends lanes hands repl
     )
 
 -- the end went into the lane, where there was room and none had been put
-pub ends_in : (h : Held) (seat s : ℕ) (l l2 : Waits Job) → s < length h.lanes → l ≡ get_or h.lanes s l → get_or l.live seat false ≡ true → length l.waiting < l.capacity
+pub ends_in : (h : DeliveryCore) (seat s : ℕ) (l l2 : PlainLane Job) → s < length h.lanes → l ≡ get_or h.lanes s l → get_or l.live seat false ≡ true → length l.waiting < l.capacity
     → l2 ≡ record { capacity = l.capacity; live = set l.live seat false; waiting = l.waiting ++ End seat ∷ [] } → Ends h (record h { lanes = set h.lanes s l2 }) seat s
 ends_in h seat s l l2 within there live room is = record {
   live = ap (is_ended seat) was ∙ ap not live;
-  room = subst (λ (x : Waits Job). length x.waiting < x.capacity) (sym was) room;
+  room = subst (λ (x : PlainLane Job). length x.waiting < x.capacity) (sym was) room;
   ended = ap (is_ended seat) (now ∙ is) ∙ ap not (end_set l.live seat);
-  last = ap (λ (x : Waits Job). x.waiting) (now ∙ is) ∙ ap (λ (x : Waits Job). x.waiting ++ End seat ∷ []) (sym was);
+  last = ap (λ (x : PlainLane Job). x.waiting) (now ∙ is) ∙ ap (λ (x : PlainLane Job). x.waiting ++ End seat ∷ []) (sym was);
 }
   where
     was : lane_of h s ≡ l
@@ -78,7 +78,7 @@ ends_in h seat s l l2 within there live room is = record {
     end_set (x ∷ xs) (suc p) = end_set xs p
 
 -- why it cannot go in
-pub cannot_end_live : (h : Held) (seat s : ℕ) (l : Waits Job) (live : Bool) → s < length h.lanes → l ≡ get_or h.lanes s l → (live ≡ true) ↔ (get_or l.live seat false ≡ true) → live ≡ false → CannotEnd h seat s
+pub cannot_end_live : (h : DeliveryCore) (seat s : ℕ) (l : PlainLane Job) (live : Bool) → s < length h.lanes → l ≡ get_or h.lanes s l → (live ≡ true) ↔ (get_or l.live seat false ≡ true) → live ≡ false → CannotEnd h seat s
 cannot_end_live h seat s l live within there tells is = inl (ap (is_ended seat) (get_or-any h.lanes s _ l within ∙ sym there) ∙ ap not (dead (get_or l.live seat false) (λ e. both live (tells.1 e) is)))
   where
     dead : (b : Bool) → (b ≡ true → ⊥) → b ≡ false
@@ -89,5 +89,5 @@ cannot_end_live h seat s l live within there tells is = inl (ap (is_ended seat) 
     both true e f = cc
     both false e f = cc
 
-pub cannot_end_full : (h : Held) (seat s : ℕ) (l : Waits Job) → s < length h.lanes → l ≡ get_or h.lanes s l → length l.waiting ≡ l.capacity → CannotEnd h seat s
-cannot_end_full h seat s l within there full = inr (subst (λ (x : Waits Job). x.capacity ≤ length x.waiting) (there ∙ get_or-any h.lanes s l _ within) (omega (arith, full)))
+pub cannot_end_full : (h : DeliveryCore) (seat s : ℕ) (l : PlainLane Job) → s < length h.lanes → l ≡ get_or h.lanes s l → length l.waiting ≡ l.capacity → CannotEnd h seat s
+cannot_end_full h seat s l within there full = inr (subst (λ (x : PlainLane Job). x.capacity ≤ length x.waiting) (there ∙ get_or-any h.lanes s l _ within) (omega (arith, full)))

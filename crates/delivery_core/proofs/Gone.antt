@@ -6,18 +6,18 @@ use Rattle.change_ring.specs.declared.change.Change.{Change}
 use Rattle.change_ring.specs.Log.{Row, rows_of}
 use Rattle.change_ring.specs.Logged.{removals_if}
 use Rattle.change_ring.specs.Window.{total}
-use Rattle.cursor_set.specs.Cursors.{Cursors, Open, Seat, Updates, held, in_slot}
+use Rattle.cursor_set.specs.Cursors.{CursorSet, Open, CursorSeat, Updates, held, in_slot}
 use Rattle.mailbox.specs.declared.clients.MailFault.{MailFault}
 use Rattle.mailbox.specs.declared.clients.MailFault.TheVariants.{Stranger, Lapped, Spent, NoMemory}
 use Rattle.mailbox.specs.declared.clients.Opening.{Opening}
 use Rattle.mailbox.specs.Events.{KeepsLog, Logs as MailLogs, Moves, IsStranger, IsTooMany}
-use Rattle.mailbox.specs.Mail.{Mail, Message, next_uid as mail_uid, remaining, rows}
+use Rattle.mailbox.specs.Mailbox.{Mailbox, Message, next_uid as mail_uid, remaining, rows}
 use Rattle.shard_queue.specs.At.{set_at}
 use Rattle.world.specs.World.{Config, World, Session, Enter, EnterStep, enters, enter_spent, enter_no_memory, Leave, leaves, leave_spent, Selected, Step, most_changes, most_entries}
 use Rattle.world.specs.Law.{IsPart}
 use Rattle.world.proofs.Base.{part_self}
 use Rattle.delivery_core.specs.declared.client.Client.{Client}
-use Rattle.delivery_core.specs.Held.{Held}
+use Rattle.delivery_core.specs.DeliveryCore.{DeliveryCore}
 use Rattle.delivery_core.specs.Seated.{AreSeated, client_at, cursors_at, cursors_of}
 use Rattle.delivery_core.specs.Stands.{EachAt, StandsFor, StandsForBox, StandsForClient, StandsForPlace, text_of}
 use Rattle.delivery_core.specs.Clients.{Leaves, Opens}
@@ -29,17 +29,17 @@ use Rattle.delivery_core.proofs.Mailed.{known_at, mailbox_within, opened_at, ope
 
 -- ---- Leave
 
-cursors_there : (boxes : List Mail) (m : ℕ) (b : Mail) → m < length boxes → b ≡ get_or boxes m b → cursors_at (cursors_of boxes) m ≡ b.cursors
-cursors_there boxes m b l there = cursors_get boxes m b l ∙ ap (λ (z : Mail). z.cursors) (sym there)
+cursors_there : (boxes : List Mailbox) (m : ℕ) (b : Mailbox) → m < length boxes → b ≡ get_or boxes m b → cursors_at (cursors_of boxes) m ≡ b.cursors
+cursors_there boxes m b l there = cursors_get boxes m b l ∙ ap (λ (z : Mailbox). z.cursors) (sym there)
 
 -- a client is gone from its place, and its cursor from its slot
-pub leave_seated : (boxes : List Mail) (clients : List (Option Client)) (n p m : ℕ) (c : Client) (b b2 : Mail) (vacant : Option Client) → AreSeated (cursors_of boxes) clients → client_at clients n ≡ Some c → p ≡ n → m ≡ c.mailbox → b ≡ get_or boxes m b → vacant ≡ None
+pub leave_seated : (boxes : List Mailbox) (clients : List (Option Client)) (n p m : ℕ) (c : Client) (b b2 : Mailbox) (vacant : Option Client) → AreSeated (cursors_of boxes) clients → client_at clients n ≡ Some c → p ≡ n → m ≡ c.mailbox → b ≡ get_or boxes m b → vacant ≡ None
     → Updates b.cursors b2.cursors c.seat.slot None → AreSeated (cursors_of (set boxes m b2)) (set clients p vacant)
 leave_seated boxes clients n p m c b b2 vacant S e place same there empty closed =
     subst (λ (i : ℕ). AreSeated (cursors_of (set boxes m b2)) (set clients i vacant)) (sym place)
-    (subst (λ (all : List Cursors). AreSeated all (set clients n vacant)) (sym (cursors_set boxes m b2))
+    (subst (λ (all : List CursorSet). AreSeated all (set clients n vacant)) (sym (cursors_set boxes m b2))
     (seated_after (cursors_of boxes) clients n m c.seat.slot b2.cursors vacant S (omega (arith, within, length_cursors boxes))
-    (subst (λ (s : Cursors). SameElsewhere s b2.cursors c.seat.slot) (sym (cursors_there boxes m b within there)) (record { number = closed.number; others = closed.others }))
+    (subst (λ (s : CursorSet). SameElsewhere s b2.cursors c.seat.slot) (sym (cursors_there boxes m b within there)) (record { number = closed.number; others = closed.others }))
     (λ j d other f one. own_slot (cursors_of boxes) clients n c S e j d other f (one ∙ same))
     (λ d f. absurd (nobody d (sym empty ∙ f)))))
   where
@@ -53,18 +53,18 @@ leaving_part : (removing : Bool) (old new : List Message) → new ≡ (if removi
 leaving_part true old new e = remaining_part (λ uid. true) old new e
 leaving_part false old new e = subst (λ (ms : List Message). IsPart (map text_of ms) (map text_of old)) (sym e) (part_self (map text_of old))
 
-leave_room : (b : Mail) (seat : Seat) (count : ℕ) (cs : List Change) → IsSome (held b.cursors seat) → (let r : Result ℕ (Seat × MailFault) = Ok count in r ≡ Err (seat, Spent)) ↔ (IsSome (held b.cursors seat) × IsTooMany b cs) → total b.window + length cs ≤ most_changes
+leave_room : (b : Mailbox) (seat : CursorSeat) (count : ℕ) (cs : List Change) → IsSome (held b.cursors seat) → (let r : Result ℕ (CursorSeat × MailFault) = Ok count in r ≡ Err (seat, Spent)) ↔ (IsSome (held b.cursors seat) × IsTooMany b cs) → total b.window + length cs ≤ most_changes
 leave_room b seat count cs some spends = elim (cases_lt most_changes (total b.window + length cs)) [
   | inl many ↦ absurd (no_err (spends.1 (some, many)))
   | inr few ↦ few
 ]
   where
-    no_err : (let r : Result ℕ (Seat × MailFault) = Ok count in r ≡ Err (seat, Spent)) → ⊥
+    no_err : (let r : Result ℕ (CursorSeat × MailFault) = Ok count in r ≡ Err (seat, Spent)) → ⊥
     no_err h = cc
 
-pub leave_follows : (k : Config) (w : World) (old : Held) (n p m : ℕ) (c : Client) (b b2 : Mail) (vacant : Option Client) (removing : Bool) (count : ℕ)
+pub leave_follows : (k : Config) (w : World) (old : DeliveryCore) (n p m : ℕ) (c : Client) (b b2 : Mailbox) (vacant : Option Client) (removing : Bool) (count : ℕ)
     → StandsFor k old w → client_at old.clients n ≡ Some c → p ≡ n → m ≡ c.mailbox → b ≡ get_or old.boxes m b → vacant ≡ None
-    → (let r : Result ℕ (Seat × MailFault) = Ok count in r ≡ Err (c.seat, Spent)) ↔ (IsSome (held b.cursors c.seat) × IsTooMany b (removals_if removing (rows b)))
+    → (let r : Result ℕ (CursorSeat × MailFault) = Ok count in r ≡ Err (c.seat, Spent)) ↔ (IsSome (held b.cursors c.seat) × IsTooMany b (removals_if removing (rows b)))
     → MailLogs b b2 (removals_if removing (rows b)) → Moves b2.cursors b.window b2.window (removals_if removing (rows b)) → b2.messages ≡ (if removing then remaining (λ uid. true) b.messages else b.messages)
     → Updates b.cursors b2.cursors c.seat.slot None → b2.cursors.next ≡ b.cursors.next → b2 ≡ record b { messages = b2.messages; window = b2.window; cursors = b2.cursors } → count ≡ length (removals_if removing (rows b))
     → (v : World) × Step k w (Leave n removing) v × StandsFor k (record old { boxes = set old.boxes m b2; clients = set old.clients p vacant }) v × Selected w n (λ s. Leaves removing (Ok count) (w.box s.mailbox) s)
@@ -84,11 +84,11 @@ leave_follows k w old n p m c b b2 vacant removing count S e place same there em
         at = same ∙ one.mailbox
 
         here : StandsForBox k b (w.box s.mailbox)
-        here = subst (λ (i : ℕ). StandsForBox k b (w.box i)) at (subst (λ (x : Mail). StandsForBox k x (w.box m)) (sym there) (S.boxes m b within))
+        here = subst (λ (i : ℕ). StandsForBox k b (w.box i)) at (subst (λ (x : Mailbox). StandsForBox k x (w.box m)) (sym there) (S.boxes m b within))
 
         became : Becomes k (w.box s.mailbox) (removals_if removing (rows b)) b2
         became = box_logs k b b2 (w.box s.mailbox) (removals_if removing (rows b)) b2.cursors here (omega (arith, leave_room b c.seat count (removals_if removing (rows b)) some spends, here.log.window.long)) logs moves
-            (leaving_part removing b.messages b2.messages messages) (ap (λ (z : Mail). z.accepted) rest) (ap (λ (z : Mail). z.first_uid) rest) (ap (λ (z : Mail). z.limit) rest) (ap (λ (z : Mail). z.uidvalidity) rest)
+            (leaving_part removing b.messages b2.messages messages) (ap (λ (z : Mailbox). z.accepted) rest) (ap (λ (z : Mailbox). z.first_uid) rest) (ap (λ (z : Mailbox). z.limit) rest) (ap (λ (z : Mailbox). z.uidvalidity) rest)
 
         done : Becomes k (w.box s.mailbox) (removals_if removing (rows_of (w.box s.mailbox).log)) b2
             → (v : World) × Step k w (Leave n removing) v × StandsFor k (record old { boxes = set old.boxes m b2; clients = set old.clients p vacant }) v × Selected w n (λ s. Leaves removing (Ok count) (w.box s.mailbox) s)
@@ -109,7 +109,7 @@ leave_follows k w old n p m c b b2 vacant removing count S e place same there em
             )
 
 -- a client that is known is refused for want of room alone
-pub leave_fault : (b : Mail) (seat : Seat) (e : Seat × MailFault) → IsSome (held b.cursors seat) → (let r : Result ℕ (Seat × MailFault) = Err e in r ≡ Err (seat, Stranger)) ↔ IsStranger b seat
+pub leave_fault : (b : Mailbox) (seat : CursorSeat) (e : CursorSeat × MailFault) → IsSome (held b.cursors seat) → (let r : Result ℕ (CursorSeat × MailFault) = Err e in r ≡ Err (seat, Stranger)) ↔ IsStranger b seat
     → e.0 ≡ seat → (e.1 ≡ Stranger) ⊎ (e.1 ≡ Spent) → e.1 ≡ Spent
 leave_fault b seat e some strange back (inl is) = absurd (nobody (held b.cursors seat) some (strange.0 (pair e back is)))
   where
@@ -117,25 +117,25 @@ leave_fault b seat e some strange back (inl is) = absurd (nobody (held b.cursors
     nobody None h f = cc
     nobody (Some o) h f = cc
 
-    pair : (d : Seat × MailFault) → d.0 ≡ seat → d.1 ≡ Stranger → (let r : Result ℕ (Seat × MailFault) = Err d in r ≡ Err (seat, Stranger))
-    pair d a f = ap₂ (λ (z : Seat) (g : MailFault). let r : Result ℕ (Seat × MailFault) = Err (z, g) in r) a f
+    pair : (d : CursorSeat × MailFault) → d.0 ≡ seat → d.1 ≡ Stranger → (let r : Result ℕ (CursorSeat × MailFault) = Err d in r ≡ Err (seat, Stranger))
+    pair d a f = ap₂ (λ (z : CursorSeat) (g : MailFault). let r : Result ℕ (CursorSeat × MailFault) = Err (z, g) in r) a f
 leave_fault b seat e some strange back (inr is) = is
 
-pub leave_refused : (k : Config) (w : World) (old : Held) (n m : ℕ) (c : Client) (b : Mail) (e : Seat × MailFault) (removing : Bool)
+pub leave_refused : (k : Config) (w : World) (old : DeliveryCore) (n m : ℕ) (c : Client) (b : Mailbox) (e : CursorSeat × MailFault) (removing : Bool)
     → StandsFor k old w → client_at old.clients n ≡ Some c → m ≡ c.mailbox → b ≡ get_or old.boxes m b → e.0 ≡ c.seat → e.1 ≡ Spent
-    → (let r : Result ℕ (Seat × MailFault) = Err e in r ≡ Err (c.seat, Spent)) ↔ (IsSome (held b.cursors c.seat) × IsTooMany b (removals_if removing (rows b)))
+    → (let r : Result ℕ (CursorSeat × MailFault) = Err e in r ≡ Err (c.seat, Spent)) ↔ (IsSome (held b.cursors c.seat) × IsTooMany b (removals_if removing (rows b)))
     → (v : World) × Step k w (Leave n removing) v × StandsFor k old v × Selected w n (λ s. Leaves removing (Err e.1) (w.box s.mailbox) s)
 leave_refused k w old n m c b e removing S client same there back is spends = go (session_at k w old n c S client)
   where
     within : m < length old.boxes
     within = mailbox_within old.boxes old.clients n m c S.seated client same
 
-    pair : (d : Seat × MailFault) → d.0 ≡ c.seat → d.1 ≡ Spent → (let r : Result ℕ (Seat × MailFault) = Err d in r ≡ Err (c.seat, Spent))
-    pair d a f = ap₂ (λ (z : Seat) (g : MailFault). let r : Result ℕ (Seat × MailFault) = Err (z, g) in r) a f
+    pair : (d : CursorSeat × MailFault) → d.0 ≡ c.seat → d.1 ≡ Spent → (let r : Result ℕ (CursorSeat × MailFault) = Err d in r ≡ Err (c.seat, Spent))
+    pair d a f = ap₂ (λ (z : CursorSeat) (g : MailFault). let r : Result ℕ (CursorSeat × MailFault) = Err (z, g) in r) a f
 
     go : (s : Session) × (w.session n ≡ Some s) × StandsForClient c s → (v : World) × Step k w (Leave n removing) v × StandsFor k old v × Selected w n (λ s. Leaves removing (Err e.1) (w.box s.mailbox) s)
     go (s, has, one) =
-        let here : StandsForBox k b (w.box s.mailbox) = subst (λ (i : ℕ). StandsForBox k b (w.box i)) (same ∙ one.mailbox) (subst (λ (x : Mail). StandsForBox k x (w.box m)) (sym there) (S.boxes m b within)) in
+        let here : StandsForBox k b (w.box s.mailbox) = subst (λ (i : ℕ). StandsForBox k b (w.box i)) (same ∙ one.mailbox) (subst (λ (x : Mailbox). StandsForBox k x (w.box m)) (sym there) (S.boxes m b within)) in
         let both : IsSome (held b.cursors c.seat) × IsTooMany b (removals_if removing (rows b)) = spends.0 (pair e back is) in
         let many : most_changes < length (w.box s.mailbox).log + length (removals_if removing (rows b)) = omega (arith, both.1, here.log.window.long) in
         let full : most_changes < length (w.box s.mailbox).log + length (removals_if removing (rows_of (w.box s.mailbox).log)) = subst (λ (rs : List Row). most_changes < length (w.box s.mailbox).log + length (removals_if removing rs)) (same_rows k b (w.box s.mailbox) here) many in
@@ -150,10 +150,10 @@ left_only clients n c fault e is = (λ f. absurd (differ fault is f), λ none. a
     differ : (f : MailFault) → f ≡ Spent → (let r : Result ℕ MailFault = Err f in r ≡ Err Stranger) → ⊥
     differ f a h = cc
 
-pub leave_stays : (k : Config) (w : World) (old new : Held) (n : ℕ) (removing : Bool) (fault : MailFault) → new ≡ old
+pub leave_stays : (k : Config) (w : World) (old new : DeliveryCore) (n : ℕ) (removing : Bool) (fault : MailFault) → new ≡ old
     → (v : World) × Step k w (Leave n removing) v × StandsFor k old v × Selected w n (λ s. Leaves removing (Err fault) (w.box s.mailbox) s)
     → (v : World) × Step k w (Leave n removing) v × StandsFor k new v × Selected w n (λ s. Leaves removing (Err fault) (w.box s.mailbox) s)
-leave_stays k w old new n removing fault same (v, step, stands, told) = (v, step, subst (λ (h : Held). StandsFor k h v) (sym same) stands, told)
+leave_stays k w old new n removing fault same (v, step, stands, told) = (v, step, subst (λ (h : DeliveryCore). StandsFor k h v) (sym same) stands, told)
 
 -- ---- Enter
 
@@ -169,17 +169,17 @@ no_session : (x : Option Session) → StandsForPlace None x → x ≡ None
 no_session None h = refl
 no_session (Some s) h = absurd h
 
-session_none : (k : Config) (w : World) (old : Held) (n : ℕ) → StandsFor k old w → n < length old.clients → client_at old.clients n ≡ None → w.session n ≡ None
+session_none : (k : Config) (w : World) (old : DeliveryCore) (n : ℕ) → StandsFor k old w → n < length old.clients → client_at old.clients n ≡ None → w.session n ≡ None
 session_none k w old n S l none = no_session (w.session n) (subst (λ (o : Option Client). StandsForPlace o (w.session n)) none (S.clients n None l))
 
-pub enter_seated : (boxes : List Mail) (clients : List (Option Client)) (n p m i : ℕ) (b b2 : Mail) (seat : Seat) (o : Open) → AreSeated (cursors_of boxes) clients → p ≡ n → i ≡ m → i < length boxes → b ≡ get_or boxes i b
+pub enter_seated : (boxes : List Mailbox) (clients : List (Option Client)) (n p m i : ℕ) (b b2 : Mailbox) (seat : CursorSeat) (o : Open) → AreSeated (cursors_of boxes) clients → p ≡ n → i ≡ m → i < length boxes → b ≡ get_or boxes i b
     → Updates b.cursors b2.cursors seat.slot (Some o) → in_slot b.cursors seat.slot ≡ None → IsSome (held b2.cursors seat) → AreSeated (cursors_of (set boxes i b2)) (set clients p (Some (record { mailbox = m; seat = seat })))
 enter_seated boxes clients n p m i b b2 seat o S place same within there opened vacant known =
     subst (λ (j : ℕ). AreSeated (cursors_of (set boxes i b2)) (set clients j (Some (record { mailbox = m; seat = seat })))) (sym place)
-    (subst (λ (all : List Cursors). AreSeated all (set clients n (Some (record { mailbox = m; seat = seat })))) (sym (cursors_set boxes i b2))
+    (subst (λ (all : List CursorSet). AreSeated all (set clients n (Some (record { mailbox = m; seat = seat })))) (sym (cursors_set boxes i b2))
     (seated_after (cursors_of boxes) clients n i seat.slot b2.cursors (Some (record { mailbox = m; seat = seat })) S (omega (arith, within, length_cursors boxes))
-    (subst (λ (s : Cursors). SameElsewhere s b2.cursors seat.slot) (sym was) (record { number = opened.number; others = opened.others }))
-    (λ j d other f one. vacant_slot (cursors_of boxes) clients i seat.slot S (ap (λ (s : Cursors). in_slot s seat.slot) was ∙ vacant) j d f one)
+    (subst (λ (s : CursorSet). SameElsewhere s b2.cursors seat.slot) (sym was) (record { number = opened.number; others = opened.others }))
+    (λ j d other f one. vacant_slot (cursors_of boxes) clients i seat.slot S (ap (λ (s : CursorSet). in_slot s seat.slot) was ∙ vacant) j d f one)
     (λ d f. subst (HasSlot i seat.slot b2.cursors) (same_client _ d f) (record { mailbox_is = sym same; slot_is = refl; known = known }))))
   where
     was : cursors_at (cursors_of boxes) i ≡ b.cursors
@@ -188,7 +188,7 @@ enter_seated boxes clients n p m i b b2 seat o S place same within there opened 
     same_client : (a d : Client) → Some a ≡ Some d → a ≡ d
     same_client a d h = cc
 
-pub enter_follows : (k : Config) (w : World) (old : Held) (n p m i : ℕ) (b b2 : Mail) (seat : Seat) (o : Open) (opening : Opening)
+pub enter_follows : (k : Config) (w : World) (old : DeliveryCore) (n p m i : ℕ) (b b2 : Mailbox) (seat : CursorSeat) (o : Open) (opening : Opening)
     → StandsFor k old w → n < length old.clients → client_at old.clients n ≡ None → p ≡ n → i ≡ m → i < length old.boxes → b ≡ get_or old.boxes i b
     → Updates b.cursors b2.cursors seat.slot (Some o) → in_slot b.cursors seat.slot ≡ None → IsSome (held b2.cursors seat) → seat.at ≡ total b.window → KeepsLog b b2 → b2 ≡ record b { cursors = b2.cursors }
     → opening.count ≡ length b.messages → opening.uidnext ≡ mail_uid b → b2.cursors.next ≡ b.cursors.next + 1 → b.cursors.next < most_entries
@@ -213,7 +213,7 @@ enter_follows k w old n p m i b b2 seat o opening S l none place same within the
     was = opened_at old.boxes w.opened i b S.opened within there ∙ ap w.opened same
 
     before : StandsForBox k b (w.box i)
-    before = subst (λ (x : Mail). StandsForBox k x (w.box i)) (sym there) (S.boxes i b within)
+    before = subst (λ (x : Mailbox). StandsForBox k x (w.box i)) (sym there) (S.boxes i b within)
 
     here : StandsForBox k b (w.box m)
     here = subst (λ (j : ℕ). StandsForBox k b (w.box j)) same before
@@ -247,8 +247,8 @@ none_left can next tells is = elim (cases_lt next most_entries) [
     both true h f = cc
     both false h f = cc
 
-pub enter_refused : (k : Config) (w : World) (old new : Held) (n m i : ℕ) (fault : MailFault) → WaitsFor w m fault → StandsFor k old w → n < length old.clients → client_at old.clients n ≡ None → i ≡ m → i < length old.boxes → new ≡ old
+pub enter_refused : (k : Config) (w : World) (old new : DeliveryCore) (n m i : ℕ) (fault : MailFault) → WaitsFor w m fault → StandsFor k old w → n < length old.clients → client_at old.clients n ≡ None → i ≡ m → i < length old.boxes → new ≡ old
     → (v : World) × Step k w (Enter n m) v × StandsFor k new v × Opens k w m (Err fault)
 enter_refused k w old new n m i fault why S l none same within unchanged =
     let t = turned k w n m fault (omega (arith, l, S.sessions)) (omega (arith, within, same, S.mailboxes)) (session_none k w old n S l none) why in
-    (w, t.0, subst (λ (h : Held). StandsFor k h w) (sym unchanged) S, t.1)
+    (w, t.0, subst (λ (h : DeliveryCore). StandsFor k h w) (sym unchanged) S, t.1)

@@ -9,10 +9,10 @@ use Rattle.change_ring.specs.declared.change.Change.{Change}
 use Rattle.change_ring.specs.Log.{Row, replay, view_at}
 use Rattle.change_ring.specs.Window.{changes_from}
 use Rattle.change_ring.proofs.WindowLaws.{changes_from-log}
-use Rattle.cursor_set.specs.Cursors.{Cursors, Open, Seat, Updates, after_showing, held}
+use Rattle.cursor_set.specs.Cursors.{CursorSet, Open, CursorSeat, Updates, after_showing, held}
 use Rattle.cursor_set.specs.Lines.{lines}
 use Rattle.mailbox.specs.Counts.{bytes_in_all, deleted_count, unseen_count}
-use Rattle.mailbox.specs.Mail.{Mail, Message, row_of, next_uid as mail_uid}
+use Rattle.mailbox.specs.Mailbox.{Mailbox, Message, row_of, next_uid as mail_uid}
 use Rattle.mailbox.specs.declared.mailbox.Status.{Status}
 use Rattle.world.specs.World.{Config, World, Box, Session, Selected, pending}
 use Rattle.world.specs.Law.{IsPart, none, keeps, skips}
@@ -21,7 +21,7 @@ use Rattle.world.proofs.Kept.{BoxOk}
 use Rattle.world.proofs.Always.{kept_always}
 use Rattle.world.proofs.Mails.{range_rising}
 use Rattle.delivery_core.specs.declared.client.Client.{Client}
-use Rattle.delivery_core.specs.Held.{Held, pending_for, pending_in, shown_to, view_in, view_of, window_at}
+use Rattle.delivery_core.specs.DeliveryCore.{DeliveryCore, pending_for, pending_in, shown_to, view_in, view_of, window_at}
 use Rattle.delivery_core.specs.Seated.{AreSeated, client_at, cursors_at, cursors_of}
 use Rattle.delivery_core.specs.Stands.{StandsFor, StandsForBox, StandsForClient, text_of, accepted_text}
 use Rattle.delivery_core.specs.Clients.{IsStatus, Sees, text_with}
@@ -36,18 +36,18 @@ view_is : (x : Option Open) (view : List ℕ) → option_map (λ (o : Open). o.v
 view_is None view e = cc
 view_is (Some o) view e = cc
 
-pub view_shown : (old : Held) (n m : ℕ) (c : Client) (b : Mail) (view : List ℕ) → AreSeated (cursors_of old.boxes) old.clients → client_at old.clients n ≡ Some c → m ≡ c.mailbox → b ≡ get_or old.boxes m b
+pub view_shown : (old : DeliveryCore) (n m : ℕ) (c : Client) (b : Mailbox) (view : List ℕ) → AreSeated (cursors_of old.boxes) old.clients → client_at old.clients n ≡ Some c → m ≡ c.mailbox → b ≡ get_or old.boxes m b
     → option_map (λ (o : Open). o.view) (held b.cursors c.seat) ≡ Some view → view ≡ view_of old n
 view_shown old n m c b view S e same there e2 =
     view_is (held b.cursors c.seat) view e2
-    ∙ ap (λ (s : Cursors). view_in (held s c.seat)) (sym (ap (cursors_at (cursors_of old.boxes)) (sym same) ∙ cursors_get old.boxes m b (mailbox_within old.boxes old.clients n m c S e same) ∙ ap (λ (z : Mail). z.cursors) (sym there)))
+    ∙ ap (λ (s : CursorSet). view_in (held s c.seat)) (sym (ap (cursors_at (cursors_of old.boxes)) (sym same) ∙ cursors_get old.boxes m b (mailbox_within old.boxes old.clients n m c S e same) ∙ ap (λ (z : Mailbox). z.cursors) (sym there)))
     ∙ ap (shown_to old) (sym e)
 
 found : (x : Option Open) (view : List ℕ) → option_map (λ (o : Open). o.view) x ≡ Some view → (o : Open) × (x ≡ Some o) × (o.view ≡ view)
 found None view e = cc
 found (Some o) view e = (o, refl, cc)
 
-pub view_log : (k : Config) (w : World) (old : Held) (n m : ℕ) (c : Client) (b : Mail) (view : List ℕ) → StandsFor k old w → client_at old.clients n ≡ Some c → m ≡ c.mailbox → b ≡ get_or old.boxes m b
+pub view_log : (k : Config) (w : World) (old : DeliveryCore) (n m : ℕ) (c : Client) (b : Mailbox) (view : List ℕ) → StandsFor k old w → client_at old.clients n ≡ Some c → m ≡ c.mailbox → b ≡ get_or old.boxes m b
     → option_map (λ (o : Open). o.view) (held b.cursors c.seat) ≡ Some view
     → Selected w n (λ s. view ≡ view_at (w.box s.mailbox).log s.cursor)
 view_log k w old n m c b view S e same there has = go (session_at k w old n c S e) (found (held b.cursors c.seat) view has)
@@ -59,37 +59,37 @@ view_log k w old n m c b view S e same there has = go (session_at k w old n c S 
     go (s, is, one) (o, open_is, shown) = (
       s,
       is,
-      let here : StandsForBox k b (w.box s.mailbox) = subst (λ (i : ℕ). StandsForBox k b (w.box i)) (same ∙ one.mailbox) (subst (λ (x : Mail). StandsForBox k x (w.box m)) (sym there) (S.boxes m b within)) in
+      let here : StandsForBox k b (w.box s.mailbox) = subst (λ (i : ℕ). StandsForBox k b (w.box i)) (same ∙ one.mailbox) (subst (λ (x : Mailbox). StandsForBox k x (w.box m)) (sym there) (S.boxes m b within)) in
           let fits : Matches b.cursors c.seat o = matches b.cursors c.seat o open_is in
           let at : o.at ≡ s.cursor = fits.at ∙ one.cursor in
           sym shown ∙ (here.log.cursors c.seat.slot o fits.slot).view ∙ ap (view_at (w.box s.mailbox).log) at,
     )
 
-pub no_stranger_here : (b : Mail) (seat : Seat) → IsSome (held b.cursors seat) → held b.cursors seat ≡ None → ⊥
+pub no_stranger_here : (b : Mailbox) (seat : CursorSeat) → IsSome (held b.cursors seat) → held b.cursors seat ≡ None → ⊥
 no_stranger_here b seat some gone = nobody (held b.cursors seat) some gone
   where
     nobody : (o : Option Open) → IsSome o → o ≡ None → ⊥
     nobody None h e = cc
     nobody (Some o) h e = cc
 
-pub window_get : (boxes : List Mail) (i : ℕ) (d : Mail) → i < length boxes → window_at boxes i ≡ (get_or boxes i d).window
+pub window_get : (boxes : List Mailbox) (i : ℕ) (d : Mailbox) → i < length boxes → window_at boxes i ≡ (get_or boxes i d).window
 window_get [] i d l = absurd (omega arith)
 window_get (x ∷ xs) zero d l = refl
 window_get (x ∷ xs) (suc i) d l = window_get xs i d (omega arith)
 
 -- what is pending for a client, as its mailbox has it
-pub pending_here : (old : Held) (n m : ℕ) (c : Client) (b : Mail) → AreSeated (cursors_of old.boxes) old.clients → client_at old.clients n ≡ Some c → m ≡ c.mailbox → b ≡ get_or old.boxes m b → pending_for old n ≡ changes_from c.seat.at b.window
+pub pending_here : (old : DeliveryCore) (n m : ℕ) (c : Client) (b : Mailbox) → AreSeated (cursors_of old.boxes) old.clients → client_at old.clients n ≡ Some c → m ≡ c.mailbox → b ≡ get_or old.boxes m b → pending_for old n ≡ changes_from c.seat.at b.window
 pending_here old n m c b S e same there =
     ap (pending_in old) e ∙ ap (λ (j : ℕ). changes_from c.seat.at (window_at old.boxes j)) (sym same)
-    ∙ ap (changes_from c.seat.at) (window_get old.boxes m b (mailbox_within old.boxes old.clients n m c S e same) ∙ ap (λ (z : Mail). z.window) (sym there))
+    ∙ ap (changes_from c.seat.at) (window_get old.boxes m b (mailbox_within old.boxes old.clients n m c S e same) ∙ ap (λ (z : Mailbox). z.window) (sym there))
 
 -- the view of a client that has its cursor
-view_here : (boxes : List Mail) (clients : List (Option Client)) (old : Held) (n m : ℕ) (c : Client) (b : Mail) (o : Open) → m < length old.boxes → client_at old.clients n ≡ Some c → m ≡ c.mailbox → b ≡ get_or old.boxes m b → held b.cursors c.seat ≡ Some o → view_of old n ≡ o.view
+view_here : (boxes : List Mailbox) (clients : List (Option Client)) (old : DeliveryCore) (n m : ℕ) (c : Client) (b : Mailbox) (o : Open) → m < length old.boxes → client_at old.clients n ≡ Some c → m ≡ c.mailbox → b ≡ get_or old.boxes m b → held b.cursors c.seat ≡ Some o → view_of old n ≡ o.view
 view_here boxes clients old n m c b o within e same there has =
-    ap (shown_to old) e ∙ ap (λ (s : Cursors). view_in (held s c.seat)) (ap (cursors_at (cursors_of old.boxes)) (sym same) ∙ cursors_get old.boxes m b within ∙ ap (λ (z : Mail). z.cursors) (sym there)) ∙ ap view_in has
+    ap (shown_to old) e ∙ ap (λ (s : CursorSet). view_in (held s c.seat)) (ap (cursors_at (cursors_of old.boxes)) (sym same) ∙ cursors_get old.boxes m b within ∙ ap (λ (z : Mailbox). z.cursors) (sym there)) ∙ ap view_in has
 
 -- a session was shown these changes, and its client put back
-pub saw : (old : Held) (n p m : ℕ) (c : Client) (b b2 : Mail) (seat2 : Seat) (vacant : Option Client) (cs : List Change) (before after : List ℕ) → AreSeated (cursors_of old.boxes) old.clients → client_at old.clients n ≡ Some c → p ≡ n → m ≡ c.mailbox → b ≡ get_or old.boxes m b
+pub saw : (old : DeliveryCore) (n p m : ℕ) (c : Client) (b b2 : Mailbox) (seat2 : CursorSeat) (vacant : Option Client) (cs : List Change) (before after : List ℕ) → AreSeated (cursors_of old.boxes) old.clients → client_at old.clients n ≡ Some c → p ≡ n → m ≡ c.mailbox → b ≡ get_or old.boxes m b
     → Updates b.cursors b2.cursors c.seat.slot (option_map (after_showing cs) (held b.cursors c.seat)) → seat2 ≡ record c.seat { at = c.seat.at + length cs } → IfSome (held b.cursors c.seat) (λ (o : Open). after ≡ before ++ lines o.view cs)
     → Sees old (record old { boxes = set old.boxes m b2; clients = set (set old.clients p vacant) p (Some (record { mailbox = c.mailbox; seat = seat2 })) }) n cs before after
 saw old n p m c b b2 seat2 vacant cs before after S e place same there moved is written = go (some_of (held b.cursors c.seat) (known_at old.boxes old.clients n c b S e (there ∙ ap (λ (i : ℕ). get_or old.boxes i b) same)))
@@ -97,7 +97,7 @@ saw old n p m c b b2 seat2 vacant cs before after S e place same there moved is 
     next : Client
     next = record { mailbox = c.mailbox; seat = seat2 }
 
-    new : Held
+    new : DeliveryCore
     new = record old { boxes = set old.boxes m b2; clients = set (set old.clients p vacant) p (Some (record { mailbox = c.mailbox; seat = seat2 })) }
 
     within : m < length old.boxes
@@ -121,17 +121,17 @@ saw old n p m c b b2 seat2 vacant cs before after S e place same there moved is 
         }
 
 -- nothing of the clients' cursors changed, and so no view
-pub same_view : (old : Held) (boxes : List Mail) (n : ℕ) → cursors_of boxes ≡ cursors_of old.boxes → view_of (record old { boxes = boxes }) n ≡ view_of old n
+pub same_view : (old : DeliveryCore) (boxes : List Mailbox) (n : ℕ) → cursors_of boxes ≡ cursors_of old.boxes → view_of (record old { boxes = boxes }) n ≡ view_of old n
 same_view old boxes n same = go (client_at old.clients n)
   where
     go : (x : Option Client) → shown_to (record old { boxes = boxes }) x ≡ shown_to old x
     go None = refl
-    go (Some c) = ap (λ (all : List Cursors). view_in (held (cursors_at all c.mailbox) c.seat)) same
+    go (Some c) = ap (λ (all : List CursorSet). view_in (held (cursors_at all c.mailbox) c.seat)) same
 
 -- ---- in a world
 
 -- a client's view is what its session was shown of the log
-pub view_seen : (k : Config) (w : World) (old : Held) (n : ℕ) (c : Client) (b : Mail) → StandsFor k old w → client_at old.clients n ≡ Some c → b ≡ get_or old.boxes c.mailbox b
+pub view_seen : (k : Config) (w : World) (old : DeliveryCore) (n : ℕ) (c : Client) (b : Mailbox) → StandsFor k old w → client_at old.clients n ≡ Some c → b ≡ get_or old.boxes c.mailbox b
     → Selected w n (λ s. view_of old n ≡ view_at (w.box s.mailbox).log s.cursor)
 view_seen k w old n c b S e there = go (some_of (held b.cursors c.seat) (known_at old.boxes old.clients n c b S.seated e there))
   where
@@ -140,7 +140,7 @@ view_seen k w old n c b S e there = go (some_of (held b.cursors c.seat) (known_a
         (ap (option_map (λ (x : Open). x.view)) has ∙ ap (λ (v : List ℕ). Some v) (sym (view_here old.boxes old.clients old n c.mailbox c b o (mailbox_within old.boxes old.clients n c.mailbox c S.seated e refl) e refl there has)))
 
 -- and what is pending for it is what its session has before it
-pub pending_seen : (k : Config) (w : World) (old : Held) (n : ℕ) (c : Client) (b : Mail) → StandsFor k old w → client_at old.clients n ≡ Some c → b ≡ get_or old.boxes c.mailbox b
+pub pending_seen : (k : Config) (w : World) (old : DeliveryCore) (n : ℕ) (c : Client) (b : Mailbox) → StandsFor k old w → client_at old.clients n ≡ Some c → b ≡ get_or old.boxes c.mailbox b
     → Selected w n (λ s. (w.box s.mailbox).base ≤ s.cursor → pending_for old n ≡ pending (w.box s.mailbox) s)
 pending_seen k w old n c b S e there = go (session_at k w old n c S e)
   where
@@ -152,7 +152,7 @@ pending_seen k w old n c b S e there = go (session_at k w old n c S e)
       s,
       is,
       λ low.
-          let here : StandsForBox k b (w.box s.mailbox) = subst (λ (i : ℕ). StandsForBox k b (w.box i)) one.mailbox (subst (λ (x : Mail). StandsForBox k x (w.box c.mailbox)) (sym there) (S.boxes c.mailbox b within)) in
+          let here : StandsForBox k b (w.box s.mailbox) = subst (λ (i : ℕ). StandsForBox k b (w.box i)) one.mailbox (subst (λ (x : Mailbox). StandsForBox k x (w.box c.mailbox)) (sym there) (S.boxes c.mailbox b within)) in
           pending_here old n c.mailbox c b S.seated e refl there ∙ changes_from-log b.window (w.box s.mailbox).log c.seat.at here.log.window (omega (arith, low, here.base, one.cursor))
           ∙ ap (λ (i : ℕ). drop i (w.box s.mailbox).log) one.cursor,
     )
@@ -191,7 +191,7 @@ sum_rows : (f : Row → ℕ) (ms : List Message) → sum_by (λ (m : Message). f
 sum_rows f [] = refl
 sum_rows f (m ∷ ms) = sum_by-cons (λ (x : Message). f (row_of x)) m ms ∙ ap (λ (s : ℕ). f (row_of m) + s) (sum_rows f ms) ∙ sym (sum_by-cons f (row_of m) (map row_of ms))
 
-pub status_told : (k : Config) (w : World) (old : Held) (m i : ℕ) (b : Mail) (status : Status) → StandsFor k old w → i ≡ m → i < length old.boxes → b ≡ get_or old.boxes i b
+pub status_told : (k : Config) (w : World) (old : DeliveryCore) (m i : ℕ) (b : Mailbox) (status : Status) → StandsFor k old w → i ≡ m → i < length old.boxes → b ≡ get_or old.boxes i b
     → status ≡ record { messages = length b.messages; uidnext = mail_uid b; uidvalidity = b.uidvalidity; unseen = unseen_count b.messages; deleted = deleted_count b.messages; size = bytes_in_all b.messages }
     → IsStatus k (w.box m) status
 status_told k w old m i b status S same within there is = record {
@@ -206,7 +206,7 @@ status_told k w old m i b status S same within there is = record {
     x = w.box m
 
     here : StandsForBox k b (w.box m)
-    here = subst (λ (j : ℕ). StandsForBox k b (w.box j)) same (subst (λ (y : Mail). StandsForBox k y (w.box i)) (sym there) (S.boxes i b within))
+    here = subst (λ (j : ℕ). StandsForBox k b (w.box j)) same (subst (λ (y : Mailbox). StandsForBox k y (w.box i)) (sym there) (S.boxes i b within))
 
     ok : BoxOk k (w.box m)
     ok = (kept_always k S.reached.0 w S.reached.1).boxes m

@@ -10,11 +10,11 @@ use Rattle.change_ring.specs.Log.{Row, rows_of}
 use Rattle.change_ring.specs.Logged.{flags_after}
 use Rattle.change_ring.specs.Window.{Window, total, BaseAfter}
 use Rattle.change_ring.proofs.WindowLaws.{BaseAfter-less}
-use Rattle.cursor_set.specs.Cursors.{Cursors, Open, Seat, held}
+use Rattle.cursor_set.specs.Cursors.{CursorSet, Open, CursorSeat, held}
 use Rattle.mailbox.specs.declared.clients.MailFault.{MailFault}
 use Rattle.mailbox.specs.declared.clients.MailFault.TheVariants.{Stranger, Lapped, Spent, NoMemory}
 use Rattle.mailbox.specs.Events.{KeepsLog, Logs as MailLogs, Moves, IsTooMany, IsStranger, IsLapped, IsCurrent, mark, seen_after}
-use Rattle.mailbox.specs.Mail.{Mail, Message, row_of, rows, flagged, remaining, message_with}
+use Rattle.mailbox.specs.Mailbox.{Mailbox, Message, row_of, rows, flagged, remaining, message_with}
 use Rattle.mailbox.proofs.WindowMoves.{moves_base, moves_grows, moves_held, moves_max, moves_most}
 use Rattle.world.specs.World.{Config, Box, Session, Logs, most_changes}
 use Rattle.world.specs.Law.{IsPart, none, keeps, skips, pairs}
@@ -28,10 +28,10 @@ use Rattle.delivery_core.proofs.Mailed.{BoxMails, box_mails, box_lapsed, box_spe
 -- ---- what a mailbox logged for a client
 
 -- the mailbox stands for what this box becomes by these changes
-abbrev pub Becomes : Config → Box → List Change → Mail → Type 0
+abbrev pub Becomes : Config → Box → List Change → Mailbox → Type 0
 Becomes k x changes b = (y : Box) × Logs k x changes [] y × StandsForBox k b y
 
-pub box_logs : (k : Config) (b new : Mail) (x : Box) (cs : List Change) (cursors : Cursors) → StandsForBox k b x → length x.log + length cs ≤ most_changes
+pub box_logs : (k : Config) (b new : Mailbox) (x : Box) (cs : List Change) (cursors : CursorSet) → StandsForBox k b x → length x.log + length cs ≤ most_changes
     → MailLogs b new cs → Moves cursors b.window new.window cs → IsPart (map text_of new.messages) (map text_of b.messages)
     → new.accepted ≡ b.accepted → new.first_uid ≡ b.first_uid → new.limit ≡ b.limit → new.uidvalidity ≡ b.uidvalidity → Becomes k x cs new
 box_logs k b new x cs cursors S room logs moves texts accepted first limit valid = (
@@ -57,19 +57,19 @@ box_logs k b new x cs cursors S room logs moves texts accepted first limit valid
         (subst (λ (n : ℕ). BaseAfter k.ring (total b.window) n cs new.window.base) S.base (BaseAfter-less b.window.capacity k.ring (total b.window) b.window.base cs new.window.base S.ring (moves_base cursors b.window new.window cs moves)))
 
 -- it logged nothing
-pub box_keeps : (k : Config) (b new : Mail) (x : Box) (s : Cursors) → StandsForBox k b x → KeepsLog b new → new ≡ record b { cursors = s } → StandsForBox k new x
+pub box_keeps : (k : Config) (b new : Mailbox) (x : Box) (s : CursorSet) → StandsForBox k b x → KeepsLog b new → new ≡ record b { cursors = s } → StandsForBox k new x
 box_keeps k b new x s S same rest = record {
   log = same x.log S.log;
-  base = ap (λ (m : Mail). m.window.base) rest ∙ S.base;
-  accepted = ap (λ (m : Mail). m.accepted) rest ∙ S.accepted;
-  texts = subst (λ (ms : List Message). IsPart (map text_of ms) (map accepted_text x.accepted)) (sym (ap (λ (m : Mail). m.messages) rest)) S.texts;
-  first_uid = ap (λ (m : Mail). m.first_uid) rest ∙ S.first_uid;
-  uidvalidity = ap (λ (m : Mail). m.uidvalidity) rest ∙ S.uidvalidity;
-  messages = ap (λ (m : Mail). m.limit) rest ∙ S.messages;
-  ring = omega (arith, S.ring, ap (λ (m : Mail). m.window.capacity) rest);
-  held = subst (λ (z : Window). length z.changes ≤ z.capacity) (sym (ap (λ (m : Mail). m.window) rest)) S.held;
-  most = subst (λ (z : Window). z.capacity ≤ z.max) (sym (ap (λ (m : Mail). m.window) rest)) S.most;
-  ring_max = ap (λ (m : Mail). m.window.max) rest ∙ S.ring_max;
+  base = ap (λ (m : Mailbox). m.window.base) rest ∙ S.base;
+  accepted = ap (λ (m : Mailbox). m.accepted) rest ∙ S.accepted;
+  texts = subst (λ (ms : List Message). IsPart (map text_of ms) (map accepted_text x.accepted)) (sym (ap (λ (m : Mailbox). m.messages) rest)) S.texts;
+  first_uid = ap (λ (m : Mailbox). m.first_uid) rest ∙ S.first_uid;
+  uidvalidity = ap (λ (m : Mailbox). m.uidvalidity) rest ∙ S.uidvalidity;
+  messages = ap (λ (m : Mailbox). m.limit) rest ∙ S.messages;
+  ring = omega (arith, S.ring, ap (λ (m : Mailbox). m.window.capacity) rest);
+  held = subst (λ (z : Window). length z.changes ≤ z.capacity) (sym (ap (λ (m : Mailbox). m.window) rest)) S.held;
+  most = subst (λ (z : Window). z.capacity ≤ z.max) (sym (ap (λ (m : Mailbox). m.window) rest)) S.most;
+  ring_max = ap (λ (m : Mailbox). m.window.max) rest ∙ S.ring_max;
 }
 
 -- ---- no text changes
@@ -97,23 +97,23 @@ remaining_part test old new e = subst (λ (ms : List Message). IsPart (map text_
 
 -- ---- why a client is refused
 
-pub same_rows : (k : Config) (b : Mail) (x : Box) → StandsForBox k b x → rows b ≡ rows_of x.log
+pub same_rows : (k : Config) (b : Mailbox) (x : Box) → StandsForBox k b x → rows b ≡ rows_of x.log
 same_rows k b x S = S.log.messages
 
 -- a mailbox's cursor that is not lapsed is where its window is
-admitted : {T : Type 0} (r : Result T MailFault) (b : Mail) (seat : Seat) → IsSome (held b.cursors seat) → (r ≡ Err Lapped) ↔ IsLapped b seat → (r ≡ Err Lapped → ⊥) → b.window.base ≤ seat.at
+admitted : {T : Type 0} (r : Result T MailFault) (b : Mailbox) (seat : CursorSeat) → IsSome (held b.cursors seat) → (r ≡ Err Lapped) ↔ IsLapped b seat → (r ≡ Err Lapped → ⊥) → b.window.base ≤ seat.at
 admitted r b seat some lapses not = elim (cases_lt seat.at b.window.base) [
   | inl low ↦ absurd (not (lapses.1 (some, low)))
   | inr high ↦ high
 ]
 
-roomy : {T : Type 0} (r : Result T MailFault) (b : Mail) (seat : Seat) (cs : List Change) → IsCurrent b seat → (r ≡ Err Spent) ↔ (IsCurrent b seat × IsTooMany b cs) → (r ≡ Err Spent → ⊥) → total b.window + length cs ≤ most_changes
+roomy : {T : Type 0} (r : Result T MailFault) (b : Mailbox) (seat : CursorSeat) (cs : List Change) → IsCurrent b seat → (r ≡ Err Spent) ↔ (IsCurrent b seat × IsTooMany b cs) → (r ≡ Err Spent → ⊥) → total b.window + length cs ≤ most_changes
 roomy r b seat cs current spends not = elim (cases_lt most_changes (total b.window + length cs)) [
   | inl many ↦ absurd (not (spends.1 (current, many)))
   | inr few ↦ few
 ]
 
-pub no_stranger : {T : Type 0} (r : Result T MailFault) (b : Mail) (seat : Seat) → IsSome (held b.cursors seat) → (r ≡ Err Stranger) ↔ IsStranger b seat → r ≡ Err Stranger → ⊥
+pub no_stranger : {T : Type 0} (r : Result T MailFault) (b : Mailbox) (seat : CursorSeat) → IsSome (held b.cursors seat) → (r ≡ Err Stranger) ↔ IsStranger b seat → r ≡ Err Stranger → ⊥
 no_stranger r b seat some strange e = nobody (held b.cursors seat) some (strange.0 e)
   where
     nobody : (o : Option Open) → IsSome o → o ≡ None → ⊥
@@ -121,14 +121,14 @@ no_stranger r b seat some strange e = nobody (held b.cursors seat) some (strange
     nobody (Some o) h same = cc
 
 -- the facts of a client's call that are the same for each kind
-pub record Told {T : Type 0} (r : Result T MailFault) (b : Mail) (seat : Seat) (cs : List Change) : Type 0 where
+pub record Told {T : Type 0} (r : Result T MailFault) (b : Mailbox) (seat : CursorSeat) (cs : List Change) : Type 0 where
   pub known : IsSome (held b.cursors seat)
   pub stranger : (r ≡ Err Stranger) ↔ IsStranger b seat
   pub lapsed : (r ≡ Err Lapped) ↔ IsLapped b seat
   pub spent : (r ≡ Err Spent) ↔ (IsCurrent b seat × IsTooMany b cs)
 
 -- a call that was not refused: the window has all that is pending, and the log has room
-pub taken : {T : Type 0} (k : Config) (b : Mail) (x : Box) (s : Session) (seat : Seat) (cs : List Change) (r : Result T MailFault) (t : T) → StandsForBox k b x → seat.at ≡ s.cursor → Told r b seat cs → r ≡ Ok t
+pub taken : {T : Type 0} (k : Config) (b : Mailbox) (x : Box) (s : Session) (seat : CursorSeat) (cs : List Change) (r : Result T MailFault) (t : T) → StandsForBox k b x → seat.at ≡ s.cursor → Told r b seat cs → r ≡ Ok t
     → (x.base ≤ s.cursor) × (length x.log + length cs ≤ most_changes)
 taken k b x s seat cs r t S at told ok =
     let here : b.window.base ≤ seat.at = admitted r b seat told.known told.lapsed (λ e. ok_err (sym ok ∙ e)) in
@@ -139,7 +139,7 @@ taken k b x s seat cs r t S at told ok =
     ok_err e = cc
 
 -- a call that was refused
-pub turned_away : {T : Type 0} (k : Config) (b : Mail) (x : Box) (s : Session) (seat : Seat) (cs : List Change) (r : Result T MailFault) (f : MailFault) → StandsForBox k b x → seat.at ≡ s.cursor → Told r b seat cs → r ≡ Err f → Refuses f cs x s
+pub turned_away : {T : Type 0} (k : Config) (b : Mailbox) (x : Box) (s : Session) (seat : CursorSeat) (cs : List Change) (r : Result T MailFault) (f : MailFault) → StandsForBox k b x → seat.at ≡ s.cursor → Told r b seat cs → r ≡ Err f → Refuses f cs x s
 turned_away k b x s seat cs r Stranger S at told e = absurd (no_stranger r b seat told.known told.stranger e)
 turned_away k b x s seat cs r Lapped S at told e = let low : IsLapped b seat = told.lapsed.0 e in omega (arith, low.1, at, S.base)
 turned_away k b x s seat cs r Spent S at told e = let both : IsCurrent b seat × IsTooMany b cs = told.spent.0 e in (omega (arith, both.0.1, at, S.base), omega (arith, both.1, S.log.window.long))
@@ -156,7 +156,7 @@ turned_away {T} k b x s seat cs r NoMemory S at told e =
 
 -- ---- a call of a client
 
-pub box_call : {T : Type 0} (k : Config) (b b2 : Mail) (x : Box) (s : Session) (seat seat2 : Seat) (allocates : Bool) (shown cs : List Change) (r : Result T MailFault) → StandsForBox k b x → seat.at ≡ s.cursor → Told r b seat cs
+pub box_call : {T : Type 0} (k : Config) (b b2 : Mailbox) (x : Box) (s : Session) (seat seat2 : CursorSeat) (allocates : Bool) (shown cs : List Change) (r : Result T MailFault) → StandsForBox k b x → seat.at ≡ s.cursor → Told r b seat cs
     → (r ≡ Err NoMemory → allocates ≡ true) → OnErr r ((b2 ≡ b) × (seat2 ≡ seat)) → OnOk r (length x.log + length cs ≤ most_changes → Becomes k x cs b2) → OnOk r (seat2.at ≡ s.cursor + length shown)
     → BoxMails k x s allocates shown cs b2 seat2
 box_call k b b2 x s seat seat2 allocates shown cs (Ok t) S at told may err becomes moved =
@@ -166,10 +166,10 @@ box_call k b b2 x s seat seat2 allocates shown cs (Ok t) S at told may err becom
 box_call {T} k b b2 x s seat seat2 allocates shown cs (Err f) S at told may err becomes moved = go f (turned_away k b x s seat cs (Err f) f S at told refl) may
   where
     box : StandsForBox k b2 x
-    box = subst (λ (m : Mail). StandsForBox k m x) (sym err.0) S
+    box = subst (λ (m : Mailbox). StandsForBox k m x) (sym err.0) S
 
     still : seat2.at ≡ s.cursor
-    still = ap (λ (z : Seat). z.at) err.1 ∙ at
+    still = ap (λ (z : CursorSeat). z.at) err.1 ∙ at
 
     go : (g : MailFault) → Refuses g cs x s → ((let r : Result T MailFault = Err g in r) ≡ Err NoMemory → allocates ≡ true) → BoxMails k x s allocates shown cs b2 seat2
     go Stranger why m = absurd why
@@ -253,7 +253,7 @@ text_told k x ms uid m ok texts e = sym (text_accepted uid x.accepted m.text (te
 
 -- ---- reading and storing
 
-pub box_still : {T : Type 0} (k : Config) (b b2 : Mail) (x : Box) (s : Session) (seat : Seat) (allocates : Bool) (logged : List Row → List Change) (r : Result T MailFault) → StandsForBox k b x → seat.at ≡ s.cursor → Told r b seat (logged (rows b))
+pub box_still : {T : Type 0} (k : Config) (b b2 : Mailbox) (x : Box) (s : Session) (seat : CursorSeat) (allocates : Bool) (logged : List Row → List Change) (r : Result T MailFault) → StandsForBox k b x → seat.at ≡ s.cursor → Told r b seat (logged (rows b))
     → (r ≡ Err NoMemory → allocates ≡ true) → OnErr r (b2 ≡ b) → OnOk r (MailLogs b b2 (logged (rows b))) → OnOk r (Moves b.cursors b.window b2.window (logged (rows b))) → OnOk r (IsPart (map text_of b2.messages) (map text_of b.messages))
     → b2 ≡ record b { messages = b2.messages; window = b2.window } → BoxMails k x s allocates [] (logged (rows_of x.log)) b2 seat
 box_still {T} k b b2 x s seat allocates logged r S at told may err logs moves texts rest =
@@ -270,10 +270,10 @@ box_still {T} k b b2 x s seat allocates logged r S at told may err logs moves te
 
     becomes : (q : Result T MailFault) → OnOk q (MailLogs b b2 (logged (rows b))) → OnOk q (Moves b.cursors b.window b2.window (logged (rows b))) → OnOk q (IsPart (map text_of b2.messages) (map text_of b.messages))
         → OnOk q (length x.log + length (logged (rows b)) ≤ most_changes → Becomes k x (logged (rows b)) b2)
-    becomes (Ok t) l m p = λ room. box_logs k b b2 x (logged (rows b)) b.cursors S room l m p (ap (λ (z : Mail). z.accepted) rest) (ap (λ (z : Mail). z.first_uid) rest) (ap (λ (z : Mail). z.limit) rest) (ap (λ (z : Mail). z.uidvalidity) rest)
+    becomes (Ok t) l m p = λ room. box_logs k b b2 x (logged (rows b)) b.cursors S room l m p (ap (λ (z : Mailbox). z.accepted) rest) (ap (λ (z : Mailbox). z.first_uid) rest) (ap (λ (z : Mailbox). z.limit) rest) (ap (λ (z : Mailbox). z.uidvalidity) rest)
     becomes (Err f) l m p = tt
 
 -- the row of a UID after a call is that of the mailbox's message
-pub row_after : (k : Config) (b b2 : Mail) (x : Box) (uid : ℕ) (logged : List Row → List Change) → StandsForBox k b x → MailLogs b b2 (logged (rows b)) → row_with uid (rows_then x (logged (rows_of x.log))) ≡ option_map row_of (message_with uid b2.messages)
+pub row_after : (k : Config) (b b2 : Mailbox) (x : Box) (uid : ℕ) (logged : List Row → List Change) → StandsForBox k b x → MailLogs b b2 (logged (rows b)) → row_with uid (rows_then x (logged (rows_of x.log))) ≡ option_map row_of (message_with uid b2.messages)
 row_after k b b2 x uid logged S logs =
     ap (row_with uid) (ap (λ (rs : List Row). rows_of (x.log ++ logged rs)) (sym (same_rows k b x S)) ∙ sym (logs x.log S.log).messages) ∙ row_message uid b2.messages

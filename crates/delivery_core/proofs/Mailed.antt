@@ -2,8 +2,8 @@
 use Rattle.std.proofs.Common.{◌≡◌, ℕ, zero, suc, ◌+◌, ◌<◌, ◌≤◌, Bool, true, false, List, [], ◌∷◌, length, set, get_or, refl, sym, ap, ◌∙◌, arith, subst, length-set, Option, Some, None, IsSome, is_some}
 use Rattle.std.specs.Prelude.{option_map}
 use Rattle.change_ring.specs.declared.change.Change.{Change}
-use Rattle.cursor_set.specs.Cursors.{Cursors, Open, Seat, Updates, after_showing, held, in_slot}
-use Rattle.mailbox.specs.Mail.{Mail}
+use Rattle.cursor_set.specs.Cursors.{CursorSet, Open, CursorSeat, Updates, after_showing, held, in_slot}
+use Rattle.mailbox.specs.Mailbox.{Mailbox}
 use Rattle.shard_queue.specs.At.{set_at}
 use Rattle.world.specs.World.{Config, World, Box, Session, Event, Step, Logs, MailStep, mails, mail_lapped, mail_spent, mail_no_memory, Selected, shows, most_changes}
 use Rattle.world.specs.Law.{IsShown}
@@ -11,7 +11,7 @@ use Rattle.world.proofs.Kept.{BoxOk, Kept, SessionOk}
 use Rattle.world.proofs.Always.{kept_always}
 use Rattle.delivery_core.specs.declared.client.Client.{Client}
 use Rattle.delivery_core.specs.Clients.{Done, Makes}
-use Rattle.delivery_core.specs.Held.{Held}
+use Rattle.delivery_core.specs.DeliveryCore.{DeliveryCore}
 use Rattle.delivery_core.specs.Seated.{AreSeated, client_at, cursors_at, cursors_of}
 use Rattle.delivery_core.specs.Stands.{EachAt, Reached, StandsFor, StandsForBox, StandsForClient, StandsForPlace}
 use Rattle.delivery_core.proofs.Follow.{each_here, each_set, next_same, reached_step, get_or-any, set_back}
@@ -23,15 +23,15 @@ pub session_of : (c : Client) (x : Option Session) → StandsForPlace (Some c) x
 session_of c None h = absurd h
 session_of c (Some s) h = (s, refl, h)
 
-pub session_at : (k : Config) (w : World) (old : Held) (n : ℕ) (c : Client) → StandsFor k old w → client_at old.clients n ≡ Some c → (s : Session) × (w.session n ≡ Some s) × StandsForClient c s
+pub session_at : (k : Config) (w : World) (old : DeliveryCore) (n : ℕ) (c : Client) → StandsFor k old w → client_at old.clients n ≡ Some c → (s : Session) × (w.session n ≡ Some s) × StandsForClient c s
 session_at k w old n c S e = session_of c (w.session n) (subst (λ (o : Option Client). StandsForPlace o (w.session n)) e (S.clients n None (place_within old.clients n c e)))
 
-pub there_at : (k : Config) (w : World) (old : Held) (n : ℕ) (c : Client) → StandsFor k old w → client_at old.clients n ≡ Some c → c.mailbox < length old.boxes
+pub there_at : (k : Config) (w : World) (old : DeliveryCore) (n : ℕ) (c : Client) → StandsFor k old w → client_at old.clients n ≡ Some c → c.mailbox < length old.boxes
 there_at k w old n c S e = omega (arith, S.seated.there n c e, length_cursors old.boxes)
 
 -- ---- what stands after mailboxes and clients changed
 
-pub stands_after : (k : Config) (w v : World) (old : Held) (boxes : List Mail) (clients : List (Option Client)) → StandsFor k old w → Reached k v
+pub stands_after : (k : Config) (w v : World) (old : DeliveryCore) (boxes : List Mailbox) (clients : List (Option Client)) → StandsFor k old w → Reached k v
     → length boxes ≡ length old.boxes → length clients ≡ length old.clients
     → v.lane ≡ w.lane → v.hand ≡ w.hand → v.replies ≡ w.replies → v.heard ≡ w.heard
     → EachAt (λ m b. StandsForBox k b (v.box m)) boxes → EachAt (λ n c. StandsForPlace c (v.session n)) clients → EachAt (λ m s. s.next ≡ v.opened m) (cursors_of boxes) → AreSeated (cursors_of boxes) clients
@@ -57,48 +57,48 @@ stands_after k w v old boxes clients S reached many places lane hand replies hea
 }
 
 -- one mailbox gives its next cursor this serial
-pub opened_set : (boxes : List Mail) (f : ℕ → ℕ) (i n : ℕ) (b : Mail) → EachAt (λ m s. s.next ≡ f m) (cursors_of boxes) → b.cursors.next ≡ n → EachAt (λ m s. s.next ≡ set_at f i n m) (cursors_of (set boxes i b))
-opened_set boxes f i n b each is = subst (EachAt (λ m s. s.next ≡ set_at f i n m)) (sym (cursors_set boxes i b)) (each_set (λ (s : Cursors) (x : ℕ). s.next ≡ x) (cursors_of boxes) f i b.cursors n each is)
+pub opened_set : (boxes : List Mailbox) (f : ℕ → ℕ) (i n : ℕ) (b : Mailbox) → EachAt (λ m s. s.next ≡ f m) (cursors_of boxes) → b.cursors.next ≡ n → EachAt (λ m s. s.next ≡ set_at f i n m) (cursors_of (set boxes i b))
+opened_set boxes f i n b each is = subst (EachAt (λ m s. s.next ≡ set_at f i n m)) (sym (cursors_set boxes i b)) (each_set (λ (s : CursorSet) (x : ℕ). s.next ≡ x) (cursors_of boxes) f i b.cursors n each is)
 
 -- the serial that a mailbox gives its next cursor
-pub opened_at : (boxes : List Mail) (f : ℕ → ℕ) (i : ℕ) (b : Mail) → EachAt (λ m s. s.next ≡ f m) (cursors_of boxes) → i < length boxes → b ≡ get_or boxes i b → b.cursors.next ≡ f i
-opened_at boxes f i b each l there = ap (λ (s : Cursors). s.next) (ap (λ (z : Mail). z.cursors) there ∙ sym (cursors_get boxes i b l)) ∙ each i _ (omega (arith, l, length_cursors boxes))
+pub opened_at : (boxes : List Mailbox) (f : ℕ → ℕ) (i : ℕ) (b : Mailbox) → EachAt (λ m s. s.next ≡ f m) (cursors_of boxes) → i < length boxes → b ≡ get_or boxes i b → b.cursors.next ≡ f i
+opened_at boxes f i b each l there = ap (λ (s : CursorSet). s.next) (ap (λ (z : Mailbox). z.cursors) there ∙ sym (cursors_get boxes i b l)) ∙ each i _ (omega (arith, l, length_cursors boxes))
 
 -- one mailbox was changed, and gives its next cursor the serial that it gave before
-pub opened_same : (boxes : List Mail) (f : ℕ → ℕ) (i : ℕ) (b b2 : Mail) → EachAt (λ m s. s.next ≡ f m) (cursors_of boxes) → i < length boxes → b ≡ get_or boxes i b → b2.cursors.next ≡ b.cursors.next
+pub opened_same : (boxes : List Mailbox) (f : ℕ → ℕ) (i : ℕ) (b b2 : Mailbox) → EachAt (λ m s. s.next ≡ f m) (cursors_of boxes) → i < length boxes → b ≡ get_or boxes i b → b2.cursors.next ≡ b.cursors.next
     → EachAt (λ m s. s.next ≡ f m) (cursors_of (set boxes i b2))
 opened_same boxes f i b b2 each l there same = subst (EachAt (λ m s. s.next ≡ f m)) (sym (cursors_set boxes i b2))
-    (each_here (λ (m : ℕ) (s : Cursors). s.next ≡ f m) (cursors_of boxes) i b2.cursors each (same ∙ opened_at boxes f i b each l there))
+    (each_here (λ (m : ℕ) (s : CursorSet). s.next ≡ f m) (cursors_of boxes) i b2.cursors each (same ∙ opened_at boxes f i b each l there))
 
 -- ---- a call of a client
 
 -- what a mailbox leaves of its cursors, where the client of a seat did something
-pub record SeatMoves (old new : Cursors) (seat moved : Seat) : Type 0 where
+pub record SeatMoves (old new : CursorSet) (seat moved : CursorSeat) : Type 0 where
   pub elsewhere : SameElsewhere old new seat.slot
   pub slot : moved.slot ≡ seat.slot
   pub known : IsSome (held new moved)
   pub next : new.next ≡ old.next
 
 -- what a mailbox does for a client, as the event of the world that it is
-pub data BoxMails (k : Config) (x : Box) (s : Session) (allocates : Bool) (shown changes : List Change) (new : Mail) (seat : Seat) : Type 0 where
+pub data BoxMails (k : Config) (x : Box) (s : Session) (allocates : Bool) (shown changes : List Change) (new : Mailbox) (seat : CursorSeat) : Type 0 where
   box_mails : (y : Box) → x.base ≤ s.cursor → Logs k x changes [] y → StandsForBox k new y → seat.at ≡ s.cursor + length shown → BoxMails k x s allocates shown changes new seat
   box_lapsed : s.cursor < x.base → StandsForBox k new x → seat.at ≡ s.cursor → BoxMails k x s allocates shown changes new seat
   box_spent : x.base ≤ s.cursor → most_changes < length x.log + length changes → StandsForBox k new x → seat.at ≡ s.cursor → BoxMails k x s allocates shown changes new seat
   box_no_memory : allocates ≡ true → x.base ≤ s.cursor → length x.log + length changes ≤ most_changes → StandsForBox k new x → seat.at ≡ s.cursor → BoxMails k x s allocates shown changes new seat
 
 -- the clients' cursors after it
-pub seated_mailed : (boxes : List Mail) (clients : List (Option Client)) (n : ℕ) (c : Client) (b b2 : Mail) (seat2 : Seat) → AreSeated (cursors_of boxes) clients → client_at clients n ≡ Some c → b ≡ get_or boxes c.mailbox b
+pub seated_mailed : (boxes : List Mailbox) (clients : List (Option Client)) (n : ℕ) (c : Client) (b b2 : Mailbox) (seat2 : CursorSeat) → AreSeated (cursors_of boxes) clients → client_at clients n ≡ Some c → b ≡ get_or boxes c.mailbox b
     → SeatMoves b.cursors b2.cursors c.seat seat2
     → AreSeated (cursors_of (set boxes c.mailbox b2)) (set clients n (Some (record { mailbox = c.mailbox; seat = seat2 })))
 seated_mailed boxes clients n c b b2 seat2 S e there moves =
-    subst (λ (all : List Cursors). AreSeated all (set clients n (Some (record { mailbox = c.mailbox; seat = seat2 })))) (sym (cursors_set boxes c.mailbox b2))
+    subst (λ (all : List CursorSet). AreSeated all (set clients n (Some (record { mailbox = c.mailbox; seat = seat2 })))) (sym (cursors_set boxes c.mailbox b2))
     (seated_after (cursors_of boxes) clients n c.mailbox c.seat.slot b2.cursors (Some (record { mailbox = c.mailbox; seat = seat2 })) S (S.there n c e)
-    (subst (λ (s : Cursors). SameElsewhere s b2.cursors c.seat.slot) (sym was) moves.elsewhere)
+    (subst (λ (s : CursorSet). SameElsewhere s b2.cursors c.seat.slot) (sym was) moves.elsewhere)
     (own_slot (cursors_of boxes) clients n c S e)
     (λ d same. has d same))
   where
     was : cursors_at (cursors_of boxes) c.mailbox ≡ b.cursors
-    was = cursors_get boxes c.mailbox b (omega (arith, S.there n c e, length_cursors boxes)) ∙ ap (λ (m : Mail). m.cursors) (sym there)
+    was = cursors_get boxes c.mailbox b (omega (arith, S.there n c e, length_cursors boxes)) ∙ ap (λ (m : Mailbox). m.cursors) (sym there)
 
     same_client : (a d : Client) → Some a ≡ Some d → a ≡ d
     same_client a d same = cc
@@ -106,7 +106,7 @@ seated_mailed boxes clients n c b b2 seat2 S e there moves =
     has : (d : Client) → Some (record { mailbox = c.mailbox; seat = seat2 }) ≡ Some d → HasSlot c.mailbox c.seat.slot b2.cursors d
     has d same = subst (HasSlot c.mailbox c.seat.slot b2.cursors) (same_client _ d same) (record { mailbox_is = refl; slot_is = moves.slot; known = moves.known })
 
-pub mails_follow : (k : Config) (w : World) (old : Held) (n : ℕ) (c : Client) (b b2 : Mail) (seat2 : Seat) (allocates : Bool) (shown : Box → Session → List Change) (changes : Box → List Change)
+pub mails_follow : (k : Config) (w : World) (old : DeliveryCore) (n : ℕ) (c : Client) (b b2 : Mailbox) (seat2 : CursorSeat) (allocates : Bool) (shown : Box → Session → List Change) (changes : Box → List Change)
     (P : Box → Session → Type 0) (R : World → Type 0) → ((v : World) → R v → Reached k v) → ((v : World) → Selected w n (λ s. MailStep k w n s allocates (shown (w.box s.mailbox) s) (changes (w.box s.mailbox)) v) → R v)
     → StandsFor k old w → client_at old.clients n ≡ Some c → b ≡ get_or old.boxes c.mailbox b → SeatMoves b.cursors b2.cursors c.seat seat2
     → ((x : Box) (s : Session) → StandsForBox k b x → c.seat.at ≡ s.cursor → BoxOk k x → IsShown x.log s → BoxMails k x s allocates (shown x s) (changes x) b2 seat2 × P x s)
@@ -114,7 +114,7 @@ pub mails_follow : (k : Config) (w : World) (old : Held) (n : ℕ) (c : Client) 
     × Selected w n (λ s. P (w.box s.mailbox) s)
 mails_follow k w old n c b b2 seat2 allocates shown changes P R reach as_step S e there moves does = go (session_at k w old n c S e)
   where
-    boxes2 : List Mail
+    boxes2 : List Mailbox
     boxes2 = set old.boxes c.mailbox b2
 
     next : Client
@@ -138,7 +138,7 @@ mails_follow k w old n c b b2 seat2 allocates shown changes P R reach as_step S 
     go (s, is, same) = done (does (w.box s.mailbox) s here same.cursor (kept.boxes s.mailbox) (subst (SessionOk w.box) is (kept.sessions n)))
       where
         here : StandsForBox k b (w.box s.mailbox)
-        here = subst (λ (m : ℕ). StandsForBox k b (w.box m)) same.mailbox (subst (λ (x : Mail). StandsForBox k x (w.box c.mailbox)) (sym there) (S.boxes c.mailbox b within))
+        here = subst (λ (m : ℕ). StandsForBox k b (w.box m)) same.mailbox (subst (λ (x : Mailbox). StandsForBox k x (w.box c.mailbox)) (sym there) (S.boxes c.mailbox b within))
 
         -- it was refused, and nothing changed
         still : P (w.box s.mailbox) s → StandsForBox k b2 (w.box s.mailbox) → seat2.at ≡ s.cursor → MailStep k w n s allocates (shown (w.box s.mailbox) s) (changes (w.box s.mailbox)) w
@@ -197,23 +197,23 @@ set_again (x ∷ xs) zero a b = refl
 set_again (x ∷ xs) (suc i) a b = ap (λ ys. x ∷ ys) (set_again xs i a b)
 
 -- a client's mailbox knows it
-pub known_at : (boxes : List Mail) (clients : List (Option Client)) (n : ℕ) (c : Client) (b : Mail) → AreSeated (cursors_of boxes) clients → client_at clients n ≡ Some c → b ≡ get_or boxes c.mailbox b → IsSome (held b.cursors c.seat)
-known_at boxes clients n c b S e there = subst (λ (s : Cursors). IsSome (held s c.seat))
-    (cursors_get boxes c.mailbox b (omega (arith, S.there n c e, length_cursors boxes)) ∙ ap (λ (m : Mail). m.cursors) (sym there)) (S.known n c e)
+pub known_at : (boxes : List Mailbox) (clients : List (Option Client)) (n : ℕ) (c : Client) (b : Mailbox) → AreSeated (cursors_of boxes) clients → client_at clients n ≡ Some c → b ≡ get_or boxes c.mailbox b → IsSome (held b.cursors c.seat)
+known_at boxes clients n c b S e there = subst (λ (s : CursorSet). IsSome (held s c.seat))
+    (cursors_get boxes c.mailbox b (omega (arith, S.there n c e, length_cursors boxes)) ∙ ap (λ (m : Mailbox). m.cursors) (sym there)) (S.known n c e)
 
-pub mailbox_within : (boxes : List Mail) (clients : List (Option Client)) (n m : ℕ) (c : Client) → AreSeated (cursors_of boxes) clients → client_at clients n ≡ Some c → m ≡ c.mailbox → m < length boxes
+pub mailbox_within : (boxes : List Mailbox) (clients : List (Option Client)) (n m : ℕ) (c : Client) → AreSeated (cursors_of boxes) clients → client_at clients n ≡ Some c → m ≡ c.mailbox → m < length boxes
 mailbox_within boxes clients n m c S e same = omega (arith, S.there n c e, length_cursors boxes)
 
-seat_stays : (old new : Cursors) (seat : Seat) → new ≡ old → IsSome (held old seat) → SeatMoves old new seat seat
+seat_stays : (old new : CursorSet) (seat : CursorSeat) → new ≡ old → IsSome (held old seat) → SeatMoves old new seat seat
 seat_stays old new seat same some = record {
-  elsewhere = record { number = ap (λ (s : Cursors). s.number) same; others = λ slot other. ap (λ (s : Cursors). in_slot s slot) same };
+  elsewhere = record { number = ap (λ (s : CursorSet). s.number) same; others = λ slot other. ap (λ (s : CursorSet). in_slot s slot) same };
   slot = refl;
-  known = subst (λ (s : Cursors). IsSome (held s seat)) (sym same) some;
-  next = ap (λ (s : Cursors). s.next) same;
+  known = subst (λ (s : CursorSet). IsSome (held s seat)) (sym same) some;
+  next = ap (λ (s : CursorSet). s.next) same;
 }
 
 -- a call that moves no cursor
-pub still_follow : (k : Config) (w : World) (old : Held) (n m : ℕ) (c : Client) (b b2 : Mail) (allocates : Bool) (changes : Box → List Change) (P : Box → Session → Type 0) (R : World → Type 0) → ((v : World) → R v → Reached k v)
+pub still_follow : (k : Config) (w : World) (old : DeliveryCore) (n m : ℕ) (c : Client) (b b2 : Mailbox) (allocates : Bool) (changes : Box → List Change) (P : Box → Session → Type 0) (R : World → Type 0) → ((v : World) → R v → Reached k v)
     → ((v : World) → Selected w n (λ s. MailStep k w n s allocates [] (changes (w.box s.mailbox)) v) → R v)
     → StandsFor k old w → client_at old.clients n ≡ Some c → m ≡ c.mailbox → b ≡ get_or old.boxes m b → b2.cursors ≡ b.cursors
     → ((x : Box) (s : Session) → StandsForBox k b x → c.seat.at ≡ s.cursor → BoxOk k x → IsShown x.log s → BoxMails k x s allocates [] (changes x) b2 c.seat × P x s)
@@ -227,7 +227,7 @@ still_follow k w old n m c b b2 allocates changes P R reach as_step S e same the
     here = there ∙ ap (λ (i : ℕ). get_or old.boxes i b) same
 
 -- a call that moves the client's cursor, whose client was taken from its place and put back
-pub moved_follow : (k : Config) (w : World) (old : Held) (n p m : ℕ) (c : Client) (b b2 : Mail) (seat2 : Seat) (vacant : Option Client) (allocates : Bool) (shown : Box → Session → List Change) (changes : Box → List Change)
+pub moved_follow : (k : Config) (w : World) (old : DeliveryCore) (n p m : ℕ) (c : Client) (b b2 : Mailbox) (seat2 : CursorSeat) (vacant : Option Client) (allocates : Bool) (shown : Box → Session → List Change) (changes : Box → List Change)
     (P : Box → Session → Type 0) (R : World → Type 0) → ((v : World) → R v → Reached k v)
     → ((v : World) → Selected w n (λ s. MailStep k w n s allocates (shown (w.box s.mailbox) s) (changes (w.box s.mailbox)) v) → R v)
     → StandsFor k old w → client_at old.clients n ≡ Some c → p ≡ n → m ≡ c.mailbox → b ≡ get_or old.boxes m b → SeatMoves b.cursors b2.cursors c.seat seat2
@@ -277,7 +277,7 @@ done_in k w n event shown changes v (step, (t, e, m)) (s, is, room) = (
     same : t ≡ s
     same = cc
 
-pub still_done : (k : Config) (old : Held) (n m : ℕ) (c : Client) (b b2 : Mail) (changes : Box → List Change) (event : Event)
+pub still_done : (k : Config) (old : DeliveryCore) (n m : ℕ) (c : Client) (b b2 : Mailbox) (changes : Box → List Change) (event : Event)
     → ((w v : World) → Selected w n (λ s. MailStep k w n s false [] (changes (w.box s.mailbox)) v) → Step k w event v)
     → client_at old.clients n ≡ Some c → m ≡ c.mailbox → b ≡ get_or old.boxes m b → b2.cursors ≡ b.cursors
     → ((x : Box) (s : Session) → StandsForBox k b x → c.seat.at ≡ s.cursor → BoxOk k x → IsShown x.log s → BoxMails k x s false [] (changes x) b2 c.seat × HasRoom changes x s)
@@ -286,7 +286,7 @@ still_done k old n m c b b2 changes event as_step e same there kept does w S =
     let r = still_follow k w old n m c b b2 false changes (λ x s. HasRoom changes x s) (λ v. Passes k w n event (λ x s. []) changes v) (λ v made. reached_step k w event v S.reached made.0) (λ v h. (as_step w v h, h)) S e same there kept does in
     (r.0, r.2, done_in k w n event (λ x s. []) changes r.0 r.1 r.3)
 
-pub moved_done : (k : Config) (old : Held) (n p m : ℕ) (c : Client) (b b2 : Mail) (seat2 : Seat) (vacant : Option Client) (shown : Box → Session → List Change) (changes : Box → List Change) (event : Event)
+pub moved_done : (k : Config) (old : DeliveryCore) (n p m : ℕ) (c : Client) (b b2 : Mailbox) (seat2 : CursorSeat) (vacant : Option Client) (shown : Box → Session → List Change) (changes : Box → List Change) (event : Event)
     → ((w v : World) → Selected w n (λ s. MailStep k w n s false (shown (w.box s.mailbox) s) (changes (w.box s.mailbox)) v) → Step k w event v)
     → client_at old.clients n ≡ Some c → p ≡ n → m ≡ c.mailbox → b ≡ get_or old.boxes m b → SeatMoves b.cursors b2.cursors c.seat seat2
     → ((x : Box) (s : Session) → StandsForBox k b x → c.seat.at ≡ s.cursor → BoxOk k x → IsShown x.log s → BoxMails k x s false (shown x s) (changes x) b2 seat2 × HasRoom changes x s)
@@ -296,29 +296,29 @@ moved_done k old n p m c b b2 seat2 vacant shown changes event as_step e place s
     (r.0, r.2, done_in k w n event shown changes r.0 r.1 r.3)
 
 -- the clients' cursors after these
-pub still_seated : (boxes : List Mail) (clients : List (Option Client)) (n m : ℕ) (c : Client) (b b2 : Mail) → AreSeated (cursors_of boxes) clients → client_at clients n ≡ Some c → m ≡ c.mailbox → b ≡ get_or boxes m b → b2.cursors ≡ b.cursors
+pub still_seated : (boxes : List Mailbox) (clients : List (Option Client)) (n m : ℕ) (c : Client) (b b2 : Mailbox) → AreSeated (cursors_of boxes) clients → client_at clients n ≡ Some c → m ≡ c.mailbox → b ≡ get_or boxes m b → b2.cursors ≡ b.cursors
     → AreSeated (cursors_of (set boxes m b2)) clients
 still_seated boxes clients n m c b b2 S e same there kept =
-    subst (λ (all : List Cursors). AreSeated all clients) (sym (cursors_same boxes m b b2 (mailbox_within boxes clients n m c S e same) there kept)) S
+    subst (λ (all : List CursorSet). AreSeated all clients) (sym (cursors_same boxes m b b2 (mailbox_within boxes clients n m c S e same) there kept)) S
 
 -- a seat whose client was shown these changes
-pub seat_moves : (old new : Cursors) (seat moved : Seat) (cs : List Change) → IsSome (held old seat) → Updates old new seat.slot (option_map (after_showing cs) (held old seat)) → moved ≡ record seat { at = seat.at + length cs } → new.next ≡ old.next → SeatMoves old new seat moved
+pub seat_moves : (old new : CursorSet) (seat moved : CursorSeat) (cs : List Change) → IsSome (held old seat) → Updates old new seat.slot (option_map (after_showing cs) (held old seat)) → moved ≡ record seat { at = seat.at + length cs } → new.next ≡ old.next → SeatMoves old new seat moved
 seat_moves old new seat moved cs some u is next =
     let o : (x : Open) × (held old seat ≡ Some x) = some_of (held old seat) some in
     let v : Updates old new seat.slot (Some (after_showing cs o.0)) = subst (λ (x : Option Open). Updates old new seat.slot (option_map (after_showing cs) x)) o.1 u in
     record {
       elsewhere = record { number = u.number; others = u.others };
-      slot = ap (λ (z : Seat). z.slot) is;
-      known = subst (λ (z : Seat). IsSome (held new z)) (sym is) (ap is_some (held_shown old new seat o.0 cs o.1 v));
+      slot = ap (λ (z : CursorSeat). z.slot) is;
+      known = subst (λ (z : CursorSeat). IsSome (held new z)) (sym is) (ap is_some (held_shown old new seat o.0 cs o.1 v));
       next = next;
     }
 
 -- or was refused
-pub seat_same : (old new : Cursors) (seat moved : Seat) → IsSome (held old seat) → new ≡ old → moved ≡ seat → SeatMoves old new seat moved
+pub seat_same : (old new : CursorSet) (seat moved : CursorSeat) → IsSome (held old seat) → new ≡ old → moved ≡ seat → SeatMoves old new seat moved
 seat_same old new seat moved some same is = subst (SeatMoves old new seat) (sym is) (seat_stays old new seat same some)
 
 -- a call that moves the client's cursor leaves it seated
-pub moved_seated : (boxes : List Mail) (clients : List (Option Client)) (n p m : ℕ) (c : Client) (b b2 : Mail) (seat2 : Seat) (vacant : Option Client) → AreSeated (cursors_of boxes) clients → client_at clients n ≡ Some c → p ≡ n → m ≡ c.mailbox → b ≡ get_or boxes m b
+pub moved_seated : (boxes : List Mailbox) (clients : List (Option Client)) (n p m : ℕ) (c : Client) (b b2 : Mailbox) (seat2 : CursorSeat) (vacant : Option Client) → AreSeated (cursors_of boxes) clients → client_at clients n ≡ Some c → p ≡ n → m ≡ c.mailbox → b ≡ get_or boxes m b
     → SeatMoves b.cursors b2.cursors c.seat seat2 → AreSeated (cursors_of (set boxes m b2)) (set (set clients p vacant) p (Some (record { mailbox = c.mailbox; seat = seat2 })))
 moved_seated boxes clients n p m c b b2 seat2 vacant S e place same there moves =
     subst (λ (i : ℕ). AreSeated (cursors_of (set boxes i b2)) (set (set clients p vacant) p (Some next))) (sym same)
@@ -330,15 +330,15 @@ moved_seated boxes clients n p m c b b2 seat2 vacant S e place same there moves 
     next = record { mailbox = c.mailbox; seat = seat2 }
 
 -- a client that was taken from its place and put back as it was
-pub put_back : (clients : List (Option Client)) (n p : ℕ) (c : Client) (vacant : Option Client) (seat2 : Seat) → client_at clients n ≡ Some c → p ≡ n → seat2 ≡ c.seat → set (set clients p vacant) p (Some (record { mailbox = c.mailbox; seat = seat2 })) ≡ clients
+pub put_back : (clients : List (Option Client)) (n p : ℕ) (c : Client) (vacant : Option Client) (seat2 : CursorSeat) → client_at clients n ≡ Some c → p ≡ n → seat2 ≡ c.seat → set (set clients p vacant) p (Some (record { mailbox = c.mailbox; seat = seat2 })) ≡ clients
 put_back clients n p c vacant seat2 e place same =
     set_again clients p vacant _ ∙ ap (λ (i : ℕ). set clients i (Some (record { mailbox = c.mailbox; seat = seat2 }))) place
-    ∙ ap (λ (z : Seat). set clients n (Some (record { mailbox = c.mailbox; seat = z }))) same ∙ client_back clients n c e
+    ∙ ap (λ (z : CursorSeat). set clients n (Some (record { mailbox = c.mailbox; seat = z }))) same ∙ client_back clients n c e
 
 -- where neither the mailbox nor the seat changed, nothing did
-pub nothing_moved : (old : Held) (n p m : ℕ) (c : Client) (b b2 : Mail) (seat2 : Seat) (vacant : Option Client) → AreSeated (cursors_of old.boxes) old.clients → client_at old.clients n ≡ Some c → p ≡ n → m ≡ c.mailbox → b ≡ get_or old.boxes m b → b2 ≡ b → seat2 ≡ c.seat
+pub nothing_moved : (old : DeliveryCore) (n p m : ℕ) (c : Client) (b b2 : Mailbox) (seat2 : CursorSeat) (vacant : Option Client) → AreSeated (cursors_of old.boxes) old.clients → client_at old.clients n ≡ Some c → p ≡ n → m ≡ c.mailbox → b ≡ get_or old.boxes m b → b2 ≡ b → seat2 ≡ c.seat
     → record old { boxes = set old.boxes m b2; clients = set (set old.clients p vacant) p (Some (record { mailbox = c.mailbox; seat = seat2 })) } ≡ old
 nothing_moved old n p m c b b2 seat2 vacant S e place same there still kept =
-    ap (λ (bs : List Mail). let h : Held = record old { boxes = bs; clients = set (set old.clients p vacant) p (Some (record { mailbox = c.mailbox; seat = seat2 })) } in h)
+    ap (λ (bs : List Mailbox). let h : DeliveryCore = record old { boxes = bs; clients = set (set old.clients p vacant) p (Some (record { mailbox = c.mailbox; seat = seat2 })) } in h)
     (ap (set old.boxes m) still ∙ set_back old.boxes m b (mailbox_within old.boxes old.clients n m c S e same) there)
-    ∙ ap (λ (cs : List (Option Client)). let h : Held = record old { clients = cs } in h) (put_back old.clients n p c vacant seat2 e place kept)
+    ∙ ap (λ (cs : List (Option Client)). let h : DeliveryCore = record old { clients = cs } in h) (put_back old.clients n p c vacant seat2 e place kept)

@@ -1,7 +1,7 @@
 -- A new delivery side stands for the empty world.
 use Rattle.std.proofs.Common.{◌≡◌, ℕ, zero, suc, ◌<◌, ◌≤◌, get_or, List, [], ◌∷◌, length, map, refl, sym, ap, ◌∙◌, arith, subst, Option, Some, None}
 use Rattle.std.specs.Prelude.{replicate}
-use Rattle.cursor_set.specs.Cursors.{Cursors}
+use Rattle.cursor_set.specs.Cursors.{CursorSet}
 use Rattle.delivery_core.specs.declared.client.Client.{Client}
 use Rattle.delivery_core.specs.Seated.{AreSeated, client_at, cursors_of}
 use Rattle.std.proofs.lemmas.List.Elements.{All-replicate}
@@ -9,11 +9,11 @@ use Rattle.std.proofs.lemmas.List.{length-replicate}
 use Rattle.shard_queue.specs.Lane.{empty_lane}
 use Rattle.shard_queue.specs.Plain.{StandsForLane}
 use Rattle.shard_queue.proofs.PlainLaws.{lane_new}
-use Rattle.mailbox.specs.Mail.{Mail}
-use Rattle.shard_queue.specs.Waits.{Waits}
+use Rattle.mailbox.specs.Mailbox.{Mailbox}
+use Rattle.shard_queue.specs.PlainLane.{PlainLane}
 use Rattle.world.specs.declared.hand.Hand.TheVariants.{Empty}
 use Rattle.world.specs.World.{Config, empty_world, reply_room}
-use Rattle.delivery_core.specs.Held.{Held}
+use Rattle.delivery_core.specs.DeliveryCore.{DeliveryCore}
 use Rattle.delivery_core.specs.New.{new_lane, first_key, IsNewBox}
 use Rattle.delivery_core.specs.Stands.{EachAt, StandsFor, StandsForPlace, text_of}
 use Rattle.world.specs.Law.{IsPart, none}
@@ -27,23 +27,23 @@ no_client : (sessions n : ℕ) (c : Client) → client_at (replicate sessions No
 no_client sessions n c e = let none : Some c ≡ None = sym e ∙ client_none sessions n in cc
 
 -- where there is no client, each has its cursor
-pub seated_none : (all : List Cursors) (sessions : ℕ) → AreSeated all (replicate sessions None)
+pub seated_none : (all : List CursorSet) (sessions : ℕ) → AreSeated all (replicate sessions None)
 seated_none all sessions = record {
   there = λ n c e. absurd (no_client sessions n c e);
   known = λ n c e. absurd (no_client sessions n c e);
   apart = λ m n c d e f other same. absurd (no_client sessions m c e);
 }
 
-new_stands_for : {T : Type 0} (l : Waits T) (count room producers : ℕ) → producers ≡ count → l ≡ new_lane room producers → StandsForLane count room l empty_lane
+new_stands_for : {T : Type 0} (l : PlainLane T) (count room producers : ℕ) → producers ≡ count → l ≡ new_lane room producers → StandsForLane count room l empty_lane
 new_stands_for l count room producers e is = subst (λ (n : ℕ). StandsForLane n room l empty_lane) e (lane_new room producers l is)
 
 -- no cursor was opened yet
-next_none : (boxes : List Mail) (m : ℕ) (d : Cursors) → m < length (cursors_of boxes) → ((i : ℕ) (b : Mail) → i < length boxes → (get_or boxes i b).cursors.next ≡ 0) → (get_or (cursors_of boxes) m d).next ≡ 0
+next_none : (boxes : List Mailbox) (m : ℕ) (d : CursorSet) → m < length (cursors_of boxes) → ((i : ℕ) (b : Mailbox) → i < length boxes → (get_or boxes i b).cursors.next ≡ 0) → (get_or (cursors_of boxes) m d).next ≡ 0
 next_none [] m d l all = absurd (omega (arith, l))
 next_none (b ∷ bs) zero d l all = all zero b (omega arith)
 next_none (b ∷ bs) (suc m) d l all = next_none bs m d (omega (arith, l)) (λ i c h. all (suc i) c (omega (arith, h)))
 
-pub new_stands : (k : Config) (h : Held) (seats shards mailboxes depth most sessions : ℕ) → k.seats ≡ seats → k.shards ≡ shards → k.mailboxes ≡ mailboxes → k.depth ≡ depth
+pub new_stands : (k : Config) (h : DeliveryCore) (seats shards mailboxes depth most sessions : ℕ) → k.seats ≡ seats → k.shards ≡ shards → k.mailboxes ≡ mailboxes → k.depth ≡ depth
     → length h.lanes ≡ shards → EachAt (λ i l. l ≡ new_lane depth seats) h.lanes → length h.hands ≡ shards → EachAt (λ i x. x ≡ Empty) h.hands
     → length h.replies ≡ seats → EachAt (λ i l. l ≡ new_lane 128 shards) h.replies → length h.heard ≡ seats → EachAt (λ i b. b.notes ≡ []) h.heard
     → length h.boxes ≡ mailboxes → EachAt (λ i b. IsNewBox i k.uidvalidity k.first_uid k.messages k.ring most b) h.boxes → length h.next ≡ seats → EachAt (λ p y. y ≡ first_key p) h.next

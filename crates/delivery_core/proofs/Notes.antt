@@ -5,43 +5,43 @@ use Rattle.std.proofs.lemmas.List.Sums.{sum_by-set, sum_by-append}
 use Rattle.std.proofs.lemmas.List.{get_or-set_other, get_or-set_same, length-map}
 use Rattle.delivery_token.specs.declared.Job.{Job}
 use Rattle.delivery_token.specs.declared.log.Noted.{Noted}
-use Rattle.delivery_token.specs.Book.{Book}
-use Rattle.shard_queue.specs.Waits.{Waits}
+use Rattle.delivery_token.specs.WorkerLog.{WorkerLog}
+use Rattle.shard_queue.specs.PlainLane.{PlainLane}
 use Rattle.shard_queue.specs.declared.lane.Entry.TheVariants.{Item}
-use Rattle.delivery_core.specs.Held.{Held}
+use Rattle.delivery_core.specs.DeliveryCore.{DeliveryCore}
 use Rattle.delivery_core.specs.Changes.{Hears}
 use Rattle.delivery_core.specs.Load.{entry_load, lane_load}
 use Rattle.delivery_core.specs.inner.Puts.{LanePuts, joins, has_no_room, has_no_memory, is_over}
 
-abbrev notes : List Book → List (List Noted)
-notes books = map (λ (b : Book). b.notes) books
+abbrev notes : List WorkerLog → List (List Noted)
+notes books = map (λ (b : WorkerLog). b.notes) books
 
-notes_set : (books : List Book) (i : ℕ) (b : Book) → notes (set books i b) ≡ set (notes books) i b.notes
+notes_set : (books : List WorkerLog) (i : ℕ) (b : WorkerLog) → notes (set books i b) ≡ set (notes books) i b.notes
 notes_set [] i b = refl
 notes_set (x ∷ xs) zero b = refl
 notes_set (x ∷ xs) (suc i) b = ap (λ (ns : List (List Noted)). x.notes ∷ ns) (notes_set xs i b)
 
-notes_get : (books : List Book) (i : ℕ) (d : Book) → i < length books → get_or (notes books) i [] ≡ (get_or books i d).notes
+notes_get : (books : List WorkerLog) (i : ℕ) (d : WorkerLog) → i < length books → get_or (notes books) i [] ≡ (get_or books i d).notes
 notes_get [] i d l = absurd (omega arith)
 notes_get (x ∷ xs) zero d l = refl
 notes_get (x ∷ xs) (suc i) d l = notes_get xs i d (omega arith)
 
 -- a book was replaced by one with the same notes
-pub hears_none : (old new : Held) (p : ℕ) (book0 book1 : Book) → p < length old.heard → book0 ≡ get_or old.heard p book0 → book1.notes ≡ book0.notes
+pub hears_none : (old new : DeliveryCore) (p : ℕ) (book0 book1 : WorkerLog) → p < length old.heard → book0 ≡ get_or old.heard p book0 → book1.notes ≡ book0.notes
     → new.heard ≡ set old.heard p book1 → Hears old new p []
 hears_none old new p book0 book1 l first kept changed = record {
-  here = after p ∙ (get_or-set_same (notes old.heard) p book1.notes [] within ∙ (kept ∙ (ap (λ (b : Book). b.notes) first ∙ (sym (notes_get old.heard p book0 l) ∙ sym (append-nil _)))));
+  here = after p ∙ (get_or-set_same (notes old.heard) p book1.notes [] within ∙ (kept ∙ (ap (λ (b : WorkerLog). b.notes) first ∙ (sym (notes_get old.heard p book0 l) ∙ sym (append-nil _)))));
   others = λ q other. after q ∙ get_or-set_other (notes old.heard) p q book1.notes [] other;
 }
   where
     after : (q : ℕ) → get_or (notes new.heard) q [] ≡ get_or (set (notes old.heard) p book1.notes) q []
-    after q = ap (λ (bs : List Book). get_or (notes bs) q []) changed ∙ ap (λ (ns : List (List Noted)). get_or ns q []) (notes_set old.heard p book1)
+    after q = ap (λ (bs : List WorkerLog). get_or (notes bs) q []) changed ∙ ap (λ (ns : List (List Noted)). get_or ns q []) (notes_set old.heard p book1)
 
     within : p < length (notes old.heard)
-    within = omega (arith, l, length-map old.heard (λ (b : Book). b.notes))
+    within = omega (arith, l, length-map old.heard (λ (b : WorkerLog). b.notes))
 
 -- room was made in a book, and then more was noted
-pub hears_more : (old new : Held) (p : ℕ) (book0 book1 book2 book3 : Book) (more : List Noted) → p < length old.heard → book0 ≡ get_or old.heard p book0 → book1.notes ≡ book0.notes
+pub hears_more : (old new : DeliveryCore) (p : ℕ) (book0 book1 book2 book3 : WorkerLog) (more : List Noted) → p < length old.heard → book0 ≡ get_or old.heard p book0 → book1.notes ≡ book0.notes
     → book2 ≡ get_or (set old.heard p book1) p book2 → book3.notes ≡ book2.notes ++ more → new.heard ≡ set (set old.heard p book1) p book3 → Hears old new p more
 hears_more old new p book0 book1 book2 book3 more l first kept second noted changed = record {
   here = after p ∙ (get_or-set_same (set (notes old.heard) p book1.notes) p book3.notes [] within ∙ (noted ∙ ap (λ (ns : List Noted). ns ++ more) before));
@@ -49,18 +49,18 @@ hears_more old new p book0 book1 book2 book3 more l first kept second noted chan
 }
   where
     after : (q : ℕ) → get_or (notes new.heard) q [] ≡ get_or (set (set (notes old.heard) p book1.notes) p book3.notes) q []
-    after q = ap (λ (bs : List Book). get_or (notes bs) q []) changed
+    after q = ap (λ (bs : List WorkerLog). get_or (notes bs) q []) changed
         ∙ (ap (λ (ns : List (List Noted)). get_or ns q []) (notes_set (set old.heard p book1) p book3)
         ∙ ap (λ (ns : List (List Noted)). get_or (set ns p book3.notes) q []) (notes_set old.heard p book1))
 
     within : p < length (set (notes old.heard) p book1.notes)
-    within = omega (arith, l, length-map old.heard (λ (b : Book). b.notes), length-set (notes old.heard) p book1.notes)
+    within = omega (arith, l, length-map old.heard (λ (b : WorkerLog). b.notes), length-set (notes old.heard) p book1.notes)
 
     before : book2.notes ≡ get_or (notes old.heard) p []
-    before = ap (λ (b : Book). b.notes) (second ∙ get_or-set_same old.heard p book1 book2 l) ∙ (kept ∙ (ap (λ (b : Book). b.notes) first ∙ sym (notes_get old.heard p book0 l)))
+    before = ap (λ (b : WorkerLog). b.notes) (second ∙ get_or-set_same old.heard p book1 book2 l) ∙ (kept ∙ (ap (λ (b : WorkerLog). b.notes) first ∙ sym (notes_get old.heard p book0 l)))
 
 -- a copy that joined a lane is the work of four steps
-pub put_load : (lanes : List (Waits Job)) (s p : ℕ) (c : Job) (l l2 : Waits Job) → s < length lanes → l ≡ get_or lanes s l → LanePuts l p c l2 None
+pub put_load : (lanes : List (PlainLane Job)) (s p : ℕ) (c : Job) (l l2 : PlainLane Job) → s < length lanes → l ≡ get_or lanes s l → LanePuts l p c l2 None
     → sum_by lane_load (set lanes s l2) ≤ sum_by lane_load lanes + 4
 put_load lanes s p c l l2 ins there (has_no_room live full e same) = absurd (cc)
 put_load lanes s p c l l2 ins there (has_no_memory live room e same) = absurd (cc)

@@ -11,12 +11,12 @@ use Rattle.delivery_token.specs.declared.Refusal.{Refusal}
 use Rattle.delivery_token.specs.declared.Refusal.TheVariants.{Full, NoMemory, Shut}
 use Rattle.delivery_token.specs.declared.Verdict.TheVariants.{Refused}
 use Rattle.delivery_token.specs.declared.log.Noted.{Noted}
-use Rattle.delivery_token.specs.Book.{Book}
-use Rattle.shard_queue.specs.Waits.{Waits}
+use Rattle.delivery_token.specs.WorkerLog.{WorkerLog}
+use Rattle.shard_queue.specs.PlainLane.{PlainLane}
 use Rattle.shard_queue.specs.declared.lane.Entry.{Entry}
 use Rattle.shard_queue.specs.declared.lane.Entry.TheVariants.{Item, End}
 use Rattle.world.specs.World.{Config, World, Steps, Put, PutStep, MayPut, put_joins, put_full, put_no_memory, put_shut, puts, hears, reply_to, EntryBelow}
-use Rattle.delivery_core.specs.Held.{Held, is_ended, lane_of}
+use Rattle.delivery_core.specs.DeliveryCore.{DeliveryCore, is_ended, lane_of}
 use Rattle.delivery_core.specs.Stands.{EachAt, StandsFor, IsNext}
 use Rattle.shard_queue.specs.Plain.{StandsForLane}
 use Rattle.delivery_core.specs.inner.Puts.{LanePuts, joins, has_no_room, has_no_memory, is_over}
@@ -48,10 +48,10 @@ least_past y key (inl e) = inr (subst (λ x. Below x (past key)) (sym e) (past_a
 least_past y key (inr b) = inr (below_trans y key (past key) b (past_above key))
 
 -- where it is not over for the seat on a lane, neither is it in the world
-live_there : (k : Config) (w : World) (s p : ℕ) (l : Waits Job) → StandsForLane k.seats k.depth l (w.lane s) → p < k.seats → get_or l.live p false ≡ true → IsLive (w.lane s) p
+live_there : (k : Config) (w : World) (s p : ℕ) (l : PlainLane Job) → StandsForLane k.seats k.depth l (w.lane s) → p < k.seats → get_or l.live p false ≡ true → IsLive (w.lane s) p
 live_there k w s p l was inp live = was.live p false (omega (arith, was.producers)) ∙ ap not live
 
-pub may_put : (k : Config) (w : World) (old : Held) (s : ℕ) (c : Job) → StandsFor k old w
+pub may_put : (k : Config) (w : World) (old : DeliveryCore) (s : ℕ) (c : Job) → StandsFor k old w
     → s < length old.lanes → c.key.seat < length old.replies
     → AtLeast (get_or old.next c.key.seat c.key) c.key → c.mailbox < length old.boxes → s ≡ c.mailbox % length old.lanes → MayPut k w c.key.seat s c
 may_put k w old s c S ins inp least box shard =
@@ -128,7 +128,7 @@ next_hears w c r ys own all inp least = each_but (λ p y. IsNext w p y) (λ p y.
     up = least_past (get_or ys c.key.seat c.key) c.key least
 
 -- The copy joined.
-pub put_follows : (k : Config) (w : World) (old new : Held) (s : ℕ) (c : Job) (l l2 : Waits Job) (book0 book1 : Book) → StandsFor k old w
+pub put_follows : (k : Config) (w : World) (old new : DeliveryCore) (s : ℕ) (c : Job) (l l2 : PlainLane Job) (book0 book1 : WorkerLog) → StandsFor k old w
     → s < length old.lanes → l ≡ get_or old.lanes s l → c.key.seat < length old.replies
     → AtLeast (get_or old.next c.key.seat c.key) c.key → c.mailbox < length old.boxes → s ≡ c.mailbox % length old.lanes
     → book0 ≡ get_or old.heard c.key.seat book0 → book1.notes ≡ book0.notes → LanePuts l c.key.seat c l2 None
@@ -167,7 +167,7 @@ put_follows k w old new s c l l2 book0 book1 S ins there inp least box shard fir
     )
 
 -- It was refused, and the seat heard so.
-pub refused_follows : (k : Config) (w : World) (old new : Held) (s : ℕ) (c : Job) (why : Refusal) (l l2 : Waits Job) (book0 book1 book2 book3 : Book) → StandsFor k old w
+pub refused_follows : (k : Config) (w : World) (old new : DeliveryCore) (s : ℕ) (c : Job) (why : Refusal) (l l2 : PlainLane Job) (book0 book1 book2 book3 : WorkerLog) → StandsFor k old w
     → s < length old.lanes → l ≡ get_or old.lanes s l → c.key.seat < length old.replies
     → AtLeast (get_or old.next c.key.seat c.key) c.key → c.mailbox < length old.boxes → s ≡ c.mailbox % length old.lanes
     → book0 ≡ get_or old.heard c.key.seat book0 → book1.notes ≡ book0.notes → book2 ≡ get_or (set old.heard c.key.seat book1) c.key.seat book2 → book3.notes ≡ book2.notes ++ reply_to c (Refused why) ∷ []
@@ -230,9 +230,9 @@ refused_follows k w old new s c why l l2 book0 book1 book2 book3 S ins there inp
     go (is_over over e same) = done same (subst (λ x. PutStep k w c.key.seat s c (hears w c.key.seat (reply_to c (Refused x)))) (sym (some_same why Shut e)) (put_shut may (was.live c.key.seat false (omega (arith, was.producers, may.seat)) ∙ ap not over) refl))
 
 -- It is told as shut exactly where the seat has ended.
-pub shut_tells : (h : Held) (seat s : ℕ) (c : Job) (l l2 : Waits Job) (why : Option Refusal) → s < length h.lanes → l ≡ get_or h.lanes s l → LanePuts l seat c l2 why
+pub shut_tells : (h : DeliveryCore) (seat s : ℕ) (c : Job) (l l2 : PlainLane Job) (why : Option Refusal) → s < length h.lanes → l ≡ get_or h.lanes s l → LanePuts l seat c l2 why
     → (why ≡ Some Shut) ↔ (is_ended seat (lane_of h s) ≡ true)
-shut_tells h seat s c l l2 why ins there does = subst (λ (x : Waits Job). (why ≡ Some Shut) ↔ (is_ended seat x ≡ true)) (there ∙ get_or-any h.lanes s _ _ ins) (go does)
+shut_tells h seat s c l l2 why ins there does = subst (λ (x : PlainLane Job). (why ≡ Some Shut) ↔ (is_ended seat x ≡ true)) (there ∙ get_or-any h.lanes s _ _ ins) (go does)
   where
     not_both : (b : Bool) → b ≡ true → not b ≡ true → ⊥
     not_both true live over = cc

@@ -4,31 +4,31 @@ use Rattle.std.specs.Prelude.{if◌then◌else◌}
 use Rattle.std.proofs.lemmas.Bool.{cases_eq, eq-eqb, eqb-true}
 use Rattle.change_ring.specs.declared.change.Change.{Change}
 use Rattle.std.proofs.lemmas.List.{length-map}
-use Rattle.cursor_set.specs.Cursors.{Cursors, Open, Seat, Updates, after_showing, held, if_of, in_slot}
-use Rattle.mailbox.specs.Mail.{Mail}
+use Rattle.cursor_set.specs.Cursors.{CursorSet, Open, CursorSeat, Updates, after_showing, held, if_of, in_slot}
+use Rattle.mailbox.specs.Mailbox.{Mailbox}
 use Rattle.delivery_core.specs.declared.client.Client.{Client}
 use Rattle.delivery_core.specs.Seated.{cursors_of, cursors_at, client_at, cursor_of, AreSeated}
 use Rattle.delivery_core.proofs.Follow.{get_or-any, set_back}
 
-pub cursors_set : (boxes : List Mail) (i : ℕ) (b : Mail) → cursors_of (set boxes i b) ≡ set (cursors_of boxes) i b.cursors
+pub cursors_set : (boxes : List Mailbox) (i : ℕ) (b : Mailbox) → cursors_of (set boxes i b) ≡ set (cursors_of boxes) i b.cursors
 cursors_set [] i b = refl
 cursors_set (x ∷ xs) zero b = refl
-cursors_set (x ∷ xs) (suc i) b = ap (λ (cs : List Cursors). x.cursors ∷ cs) (cursors_set xs i b)
+cursors_set (x ∷ xs) (suc i) b = ap (λ (cs : List CursorSet). x.cursors ∷ cs) (cursors_set xs i b)
 
-pub cursors_get : (boxes : List Mail) (i : ℕ) (d : Mail) → i < length boxes → cursors_at (cursors_of boxes) i ≡ (get_or boxes i d).cursors
+pub cursors_get : (boxes : List Mailbox) (i : ℕ) (d : Mailbox) → i < length boxes → cursors_at (cursors_of boxes) i ≡ (get_or boxes i d).cursors
 cursors_get [] i d l = absurd (omega arith)
 cursors_get (x ∷ xs) zero d l = refl
 cursors_get (x ∷ xs) (suc i) d l = cursors_get xs i d (omega arith)
 
 -- a mailbox was changed, and its cursors were not
-pub cursors_same : (boxes : List Mail) (i : ℕ) (old new : Mail) → i < length boxes → old ≡ get_or boxes i old → new.cursors ≡ old.cursors → cursors_of (set boxes i new) ≡ cursors_of boxes
+pub cursors_same : (boxes : List Mailbox) (i : ℕ) (old new : Mailbox) → i < length boxes → old ≡ get_or boxes i old → new.cursors ≡ old.cursors → cursors_of (set boxes i new) ≡ cursors_of boxes
 cursors_same boxes i old new l there same =
-    cursors_set boxes i new ∙ ap (λ (c : Cursors). set (cursors_of boxes) i c) same
-    ∙ set_back (cursors_of boxes) i old.cursors (omega (arith, l, length-map boxes (λ (b : Mail). b.cursors)))
-    (ap (λ (b : Mail). b.cursors) there ∙ sym (cursors_get boxes i old l) ∙ get_or-any (cursors_of boxes) i _ old.cursors (omega (arith, l, length-map boxes (λ (b : Mail). b.cursors))))
+    cursors_set boxes i new ∙ ap (λ (c : CursorSet). set (cursors_of boxes) i c) same
+    ∙ set_back (cursors_of boxes) i old.cursors (omega (arith, l, length-map boxes (λ (b : Mailbox). b.cursors)))
+    (ap (λ (b : Mailbox). b.cursors) there ∙ sym (cursors_get boxes i old l) ∙ get_or-any (cursors_of boxes) i _ old.cursors (omega (arith, l, length-map boxes (λ (b : Mailbox). b.cursors))))
 
-pub length_cursors : (boxes : List Mail) → length (cursors_of boxes) ≡ length boxes
-length_cursors boxes = length-map boxes (λ (b : Mail). b.cursors)
+pub length_cursors : (boxes : List Mailbox) → length (cursors_of boxes) ≡ length boxes
+length_cursors boxes = length-map boxes (λ (b : Mailbox). b.cursors)
 
 pub place_within : (clients : List (Option Client)) (n : ℕ) (c : Client) → client_at clients n ≡ Some c → n < length clients
 place_within [] zero c e = cc
@@ -37,22 +37,22 @@ place_within (x ∷ xs) zero c e = omega arith
 place_within (x ∷ xs) (suc n) c e = let h : n < length xs = place_within xs n c e in omega arith
 
 -- a seat's cursor depends on its own slot alone
-held_same : (old new : Cursors) (seat : Seat) → new.number ≡ old.number → in_slot new seat.slot ≡ in_slot old seat.slot → held new seat ≡ held old seat
+held_same : (old new : CursorSet) (seat : CursorSeat) → new.number ≡ old.number → in_slot new seat.slot ≡ in_slot old seat.slot → held new seat ≡ held old seat
 held_same old new seat number slot = ap₂ (λ (m : ℕ) (o : Option Open). if m == seat.number then if_of seat o else None) number slot
 
 -- these cursors are those, but for one slot
-pub record SameElsewhere (old new : Cursors) (slot : ℕ) : Type 0 where
+pub record SameElsewhere (old new : CursorSet) (slot : ℕ) : Type 0 where
   pub number : new.number ≡ old.number
   pub others : (other : ℕ) → other ≢ slot → in_slot new other ≡ in_slot old other
 
 -- a client that comes to a place has its cursor in this slot of this mailbox
-pub record HasSlot (mailbox slot : ℕ) (cursors : Cursors) (c : Client) : Type 0 where
+pub record HasSlot (mailbox slot : ℕ) (cursors : CursorSet) (c : Client) : Type 0 where
   pub mailbox_is : c.mailbox ≡ mailbox
   pub slot_is : c.seat.slot ≡ slot
   pub known : IsSome (held cursors c.seat)
 
 -- A mailbox's cursors changed in one slot that no client at another place has, and the client at this place is now this one.
-pub seated_after : (all : List Cursors) (clients : List (Option Client)) (n m slot : ℕ) (new : Cursors) (next : Option Client) → AreSeated all clients → m < length all
+pub seated_after : (all : List CursorSet) (clients : List (Option Client)) (n m slot : ℕ) (new : CursorSet) (next : Option Client) → AreSeated all clients → m < length all
     → SameElsewhere (cursors_at all m) new slot
     → ((j : ℕ) (d : Client) → j ≢ n → client_at clients j ≡ Some d → d.mailbox ≡ m → d.seat.slot ≢ slot)
     → ((c : Client) → next ≡ Some c → HasSlot m slot new c)
@@ -83,21 +83,21 @@ seated_after all clients n m slot new next S l same free has = record {
     changed = get_or-set_same all m new _ l
 
     known_here : (c : Client) → HasSlot m slot new c → IsSome (cursor_of (set all m new) c)
-    known_here c h = subst (λ (s : Cursors). IsSome (held s c.seat)) (sym (ap (cursors_at (set all m new)) h.mailbox_is ∙ changed)) h.known
+    known_here c h = subst (λ (s : CursorSet). IsSome (held s c.seat)) (sym (ap (cursors_at (set all m new)) h.mailbox_is ∙ changed)) h.known
 
     known_away : (j : ℕ) (c : Client) → j ≢ n → client_at clients j ≡ Some c → (c.mailbox ≡ m) ⊎ (c.mailbox ≢ m) → IsSome (cursor_of (set all m new) c)
     known_away j c other e (inl one) = subst IsSome
-        (sym (ap (λ (s : Cursors). held s c.seat) (ap (cursors_at (set all m new)) one ∙ changed)
+        (sym (ap (λ (s : CursorSet). held s c.seat) (ap (cursors_at (set all m new)) one ∙ changed)
         ∙ held_same (cursors_at all m) new c.seat same.number (same.others c.seat.slot (free j c other e one)) ∙ ap (λ (i : ℕ). held (cursors_at all i) c.seat) (sym one))) (S.known j c e)
-    known_away j c other e (inr elsewhere) = subst (λ (s : Cursors). IsSome (held s c.seat)) (sym (get_or-set_other all m c.mailbox new _ elsewhere)) (S.known j c e)
+    known_away j c other e (inr elsewhere) = subst (λ (s : CursorSet). IsSome (held s c.seat)) (sym (get_or-set_other all m c.mailbox new _ elsewhere)) (S.known j c e)
 
 -- the slot of the client at a place is no other client's
-pub own_slot : (all : List Cursors) (clients : List (Option Client)) (n : ℕ) (c : Client) → AreSeated all clients → client_at clients n ≡ Some c
+pub own_slot : (all : List CursorSet) (clients : List (Option Client)) (n : ℕ) (c : Client) → AreSeated all clients → client_at clients n ≡ Some c
     → (j : ℕ) (d : Client) → j ≢ n → client_at clients j ≡ Some d → d.mailbox ≡ c.mailbox → d.seat.slot ≢ c.seat.slot
 own_slot all clients n c S e j d other f one = S.apart j n d c f e other one
 
 -- a slot without a cursor is no client's
-pub vacant_slot : (all : List Cursors) (clients : List (Option Client)) (m slot : ℕ) → AreSeated all clients → in_slot (cursors_at all m) slot ≡ None
+pub vacant_slot : (all : List CursorSet) (clients : List (Option Client)) (m slot : ℕ) → AreSeated all clients → in_slot (cursors_at all m) slot ≡ None
     → (j : ℕ) (d : Client) → client_at clients j ≡ Some d → d.mailbox ≡ m → d.seat.slot ≢ slot
 vacant_slot all clients m slot S vacant j d e one same = none_held (cursors_at all m).number (subst IsSome
     (ap (λ (i : ℕ). held (cursors_at all i) d.seat) one ∙ ap (λ (o : Option Open). if (cursors_at all m).number == d.seat.number then if_of d.seat o else None) (ap (in_slot (cursors_at all m)) same ∙ vacant)) (S.known j d e))
@@ -112,7 +112,7 @@ vacant_slot all clients m slot S vacant j d e one same = none_held (cursors_at a
 -- ---- a seat that has its cursor
 
 -- what a seat has in common with its cursor
-pub record Matches (s : Cursors) (seat : Seat) (o : Open) : Type 0 where
+pub record Matches (s : CursorSet) (seat : CursorSeat) (o : Open) : Type 0 where
   pub number : s.number ≡ seat.number
   pub slot : in_slot s seat.slot ≡ Some o
   pub serial : o.serial ≡ seat.serial
@@ -126,7 +126,7 @@ and_true : (a b : Bool) → (a && b) ≡ true → (a ≡ true) × (b ≡ true)
 and_true true b e = (refl, e)
 and_true false b e = cc
 
-of_slot : (seat : Seat) (x : Option Open) (o : Open) → if_of seat x ≡ Some o → (x ≡ Some o) × (o.serial ≡ seat.serial) × (o.at ≡ seat.at)
+of_slot : (seat : CursorSeat) (x : Option Open) (o : Open) → if_of seat x ≡ Some o → (x ≡ Some o) × (o.serial ≡ seat.serial) × (o.at ≡ seat.at)
 of_slot seat None o e = cc
 of_slot seat (Some y) o e =
     let h : (((y.serial == seat.serial) && (y.at == seat.at)) ≡ true) × (Some y ≡ Some o) = if_some ((y.serial == seat.serial) && (y.at == seat.at)) (Some y) o e in
@@ -137,13 +137,13 @@ of_slot seat (Some y) o e =
     same_open : (a b : Open) → Some a ≡ Some b → a ≡ b
     same_open a b e = cc
 
-pub matches : (s : Cursors) (seat : Seat) (o : Open) → held s seat ≡ Some o → Matches s seat o
+pub matches : (s : CursorSet) (seat : CursorSeat) (o : Open) → held s seat ≡ Some o → Matches s seat o
 matches s seat o e =
     let h : ((s.number == seat.number) ≡ true) × (if_of seat (in_slot s seat.slot) ≡ Some o) = if_some (s.number == seat.number) (if_of seat (in_slot s seat.slot)) o e in
     let p : (in_slot s seat.slot ≡ Some o) × (o.serial ≡ seat.serial) × (o.at ≡ seat.at) = of_slot seat (in_slot s seat.slot) o h.1 in
     record { number = eqb-true s.number seat.number h.0; slot = p.0; serial = p.1; at = p.2 }
 
-pub held_of : (s : Cursors) (seat : Seat) (o : Open) → Matches s seat o → held s seat ≡ Some o
+pub held_of : (s : CursorSet) (seat : CursorSeat) (o : Open) → Matches s seat o → held s seat ≡ Some o
 held_of s seat o m =
     ap (λ (b : Bool). if b then if_of seat (in_slot s seat.slot) else None) (eq-eqb s.number seat.number m.number)
     ∙ ap (if_of seat) m.slot
@@ -154,7 +154,7 @@ some_of None h = cc
 some_of (Some o) h = (o, refl)
 
 -- the cursor after its client was shown these changes is the seat's that went on by as many
-pub held_shown : (old new : Cursors) (seat : Seat) (o : Open) (cs : List Change) → held old seat ≡ Some o → Updates old new seat.slot (Some (after_showing cs o))
+pub held_shown : (old new : CursorSet) (seat : CursorSeat) (o : Open) (cs : List Change) → held old seat ≡ Some o → Updates old new seat.slot (Some (after_showing cs o))
     → held new (record seat { at = seat.at + length cs }) ≡ Some (after_showing cs o)
 held_shown old new seat o cs e u =
     let m : Matches old seat o = matches old seat o e in

@@ -6,21 +6,21 @@ use Rattle.change_ring.specs.declared.change.Change.{Change}
 use Rattle.change_ring.specs.Log.{Row, rows_of, view_at}
 use Rattle.change_ring.specs.Logged.{removals}
 use Rattle.change_ring.specs.Window.{Window, changes_from, total}
-use Rattle.cursor_set.specs.Cursors.{Cursors, Open, Seat, Updates, after_showing, held, next_changes}
+use Rattle.cursor_set.specs.Cursors.{CursorSet, Open, CursorSeat, Updates, after_showing, held, next_changes}
 use Rattle.cursor_set.specs.Lines.{lines}
 use Rattle.cursor_set.specs.declared.set.FeedFault.{FeedFault}
 use Rattle.cursor_set.specs.declared.set.FeedFault.TheVariants as lapse
 use Rattle.mailbox.specs.declared.clients.MailFault.{MailFault}
 use Rattle.mailbox.specs.declared.clients.MailFault.TheVariants.{Stranger, Lapped, Spent, NoMemory}
 use Rattle.mailbox.specs.Events.{KeepsLog, Logs as MailLogs, Moves, IsTooMany, IsStranger, IsLapped, IsCurrent}
-use Rattle.mailbox.specs.Mail.{Mail, rows, remaining}
+use Rattle.mailbox.specs.Mailbox.{Mailbox, rows, remaining}
 use Rattle.mailbox.specs.Stands.{Stands, next_of}
 use Rattle.world.specs.World.{Config, World, Box, Session, Expunge, Feed, Selected, Step, most_changes, pending}
 use Rattle.world.specs.Law.{IsPart, IsShown}
 use Rattle.world.proofs.Base.{part_self}
 use Rattle.world.proofs.Kept.{BoxOk}
 use Rattle.delivery_core.specs.declared.client.Client.{Client}
-use Rattle.delivery_core.specs.Held.{Held, pending_for}
+use Rattle.delivery_core.specs.DeliveryCore.{DeliveryCore, pending_for}
 use Rattle.delivery_core.specs.Seated.{AreSeated, client_at, cursors_of}
 use Rattle.delivery_core.specs.Stands.{StandsFor, StandsForBox, text_of}
 use Rattle.delivery_core.specs.Clients.{Expunges, Feeds, Makes, Refuses, Sees}
@@ -56,10 +56,10 @@ never_spent (Err lapse.Stranger) e = cc
 never_spent (Err lapse.Lapped) e = cc
 never_spent (Err lapse.NoMemory) e = cc
 
-pub feed_strange : (r : Result ℕ FeedFault) (b : Mail) (seat : Seat) → (r ≡ Err lapse.Stranger) ↔ IsStranger b seat → (answer_of r ≡ Err Stranger) ↔ IsStranger b seat
+pub feed_strange : (r : Result ℕ FeedFault) (b : Mailbox) (seat : CursorSeat) → (r ≡ Err lapse.Stranger) ↔ IsStranger b seat → (answer_of r ≡ Err Stranger) ↔ IsStranger b seat
 feed_strange r b seat strange = (λ e. strange.0 (back_stranger r e), λ h. ap answer_of (strange.1 h))
 
-feed_told : (k : Config) (b : Mail) (x : Box) (seat : Seat) (r : Result ℕ FeedFault) → StandsForBox k b x → BoxOk k x → IsSome (held b.cursors seat) → (r ≡ Err lapse.Stranger) ↔ IsStranger b seat → (r ≡ Err lapse.Lapped) ↔ IsLapped b seat → Told (answer_of r) b seat []
+feed_told : (k : Config) (b : Mailbox) (x : Box) (seat : CursorSeat) (r : Result ℕ FeedFault) → StandsForBox k b x → BoxOk k x → IsSome (held b.cursors seat) → (r ≡ Err lapse.Stranger) ↔ IsStranger b seat → (r ≡ Err lapse.Lapped) ↔ IsLapped b seat → Told (answer_of r) b seat []
 feed_told k b x seat r S ok some strange lapses = record {
   known = some;
   stranger = feed_strange r b seat strange;
@@ -70,34 +70,34 @@ feed_told k b x seat r S ok some strange lapses = record {
 fed_length : (w : Window) (at n limit : ℕ) → w.base ≤ at → n ≡ min limit (total w - at) → length (next_changes w at n) ≡ n
 fed_length w at n limit low count = omega (arith, length-take n (changes_from at w), length-drop (at - w.base) w.changes, count, low)
 
-pub feed_moves : (b b2 : Mail) (seat seat2 : Seat) (limit : ℕ) (before after : List ℕ) (r : Result ℕ FeedFault) → IsSome (held b.cursors seat) → (r ≡ Err lapse.Lapped) ↔ IsLapped b seat
+pub feed_moves : (b b2 : Mailbox) (seat seat2 : CursorSeat) (limit : ℕ) (before after : List ℕ) (r : Result ℕ FeedFault) → IsSome (held b.cursors seat) → (r ≡ Err lapse.Lapped) ↔ IsLapped b seat
     → OnErr r ((b2 ≡ b) × (seat2 ≡ seat) × (after ≡ before)) → IfOk r (λ n. n ≡ min limit (total b.window - seat.at)) → IfOk r (λ n. seat2 ≡ record seat { at = seat.at + n })
     → IfOk r (λ n. Updates b.cursors b2.cursors seat.slot (option_map (after_showing (next_changes b.window seat.at n)) (held b.cursors seat))) → b2.cursors.next ≡ b.cursors.next → SeatMoves b.cursors b2.cursors seat seat2
 feed_moves b b2 seat seat2 limit before after (Ok n) some lapses err count is moved next =
-    seat_moves b.cursors b2.cursors seat seat2 (next_changes b.window seat.at n) some moved (is ∙ ap (λ (j : ℕ). let z : Seat = record { number = seat.number; slot = seat.slot; serial = seat.serial; at = seat.at + j } in z) (sym (fed_length b.window seat.at n limit low count))) next
+    seat_moves b.cursors b2.cursors seat seat2 (next_changes b.window seat.at n) some moved (is ∙ ap (λ (j : ℕ). let z : CursorSeat = record { number = seat.number; slot = seat.slot; serial = seat.serial; at = seat.at + j } in z) (sym (fed_length b.window seat.at n limit low count))) next
   where
     no_err : Ok n ≡ Err lapse.Lapped → ⊥
     no_err e = cc
 
     low : b.window.base ≤ seat.at
     low = elim (cases_lt seat.at b.window.base) [ inl under ↦ absurd (no_err (lapses.1 (some, under))) | inr over ↦ over ]
-feed_moves b b2 seat seat2 limit before after (Err f) some lapses err count is moved next = seat_same b.cursors b2.cursors seat seat2 some (ap (λ (z : Mail). z.cursors) err.0) err.1
+feed_moves b b2 seat seat2 limit before after (Err f) some lapses err count is moved next = seat_same b.cursors b2.cursors seat seat2 some (ap (λ (z : Mailbox). z.cursors) err.0) err.1
 
 -- a mailbox that logged nothing
-becomes_same : (k : Config) (b b2 : Mail) (x : Box) → StandsForBox k b x → BoxOk k x → KeepsLog b b2 → b2 ≡ record b { cursors = b2.cursors } → Becomes k x [] b2
+becomes_same : (k : Config) (b b2 : Mailbox) (x : Box) → StandsForBox k b x → BoxOk k x → KeepsLog b b2 → b2 ≡ record b { cursors = b2.cursors } → Becomes k x [] b2
 becomes_same k b b2 x S ok keeps_log rest = box_logs k b b2 x [] b.cursors S (omega (arith, ok.room))
     (λ log s. subst (Stands b2) (sym (append-nil log)) (keeps_log log s))
-    (ap (λ (z : Mail). z.window) rest)
-    (subst (λ (z : Mail). IsPart (map text_of z.messages) (map text_of b.messages)) (sym rest) (part_self (map text_of b.messages)))
-    (ap (λ (z : Mail). z.accepted) rest) (ap (λ (z : Mail). z.first_uid) rest) (ap (λ (z : Mail). z.limit) rest) (ap (λ (z : Mail). z.uidvalidity) rest)
+    (ap (λ (z : Mailbox). z.window) rest)
+    (subst (λ (z : Mailbox). IsPart (map text_of z.messages) (map text_of b.messages)) (sym rest) (part_self (map text_of b.messages)))
+    (ap (λ (z : Mailbox). z.accepted) rest) (ap (λ (z : Mailbox). z.first_uid) rest) (ap (λ (z : Mailbox). z.limit) rest) (ap (λ (z : Mailbox). z.uidvalidity) rest)
 
-feed_box : (k : Config) (b b2 : Mail) (x : Box) (s : Session) (seat seat2 : Seat) (limit : ℕ) (before after : List ℕ) (allocates : Bool) (r : Result ℕ FeedFault) → (answer_of r ≡ Err NoMemory → allocates ≡ true) → StandsForBox k b x → seat.at ≡ s.cursor → BoxOk k x → Told (answer_of r) b seat []
+feed_box : (k : Config) (b b2 : Mailbox) (x : Box) (s : Session) (seat seat2 : CursorSeat) (limit : ℕ) (before after : List ℕ) (allocates : Bool) (r : Result ℕ FeedFault) → (answer_of r ≡ Err NoMemory → allocates ≡ true) → StandsForBox k b x → seat.at ≡ s.cursor → BoxOk k x → Told (answer_of r) b seat []
     → OnErr r ((b2 ≡ b) × (seat2 ≡ seat) × (after ≡ before)) → IfOk r (λ n. n ≡ min limit (total b.window - seat.at))
     → IfOk r (λ n. (log : List Change) → Stands b log → after ≡ before ++ lines (view_at log seat.at) (next_of log seat.at n))
     → IfOk r (λ n. seat2 ≡ record seat { at = seat.at + n }) → KeepsLog b b2 → b2 ≡ record b { cursors = b2.cursors }
     → BoxMails k x s allocates (take limit (pending x s)) [] b2 seat2 × Feeds limit before after (answer_of r) x s
 feed_box k b b2 x s seat seat2 limit before after allocates (Ok n) may S at ok told err count shown is keeps_log rest = (
-  box_call k b b2 x s seat seat2 allocates (take limit (pending x s)) [] (Ok n) S at told may tt (λ room. becomes_same k b b2 x S ok keeps_log rest) (omega (arith, ap (λ (z : Seat). z.at) is, at, long)),
+  box_call k b b2 x s seat seat2 allocates (take limit (pending x s)) [] (Ok n) S at told may tt (λ room. becomes_same k b b2 x S ok keeps_log rest) (omega (arith, ap (λ (z : CursorSeat). z.at) is, at, long)),
   (record { kept = (taken k b x s seat [] (Ok n) n S at told refl).0; text = shown x.log S.log ∙ ap (λ (cs : List Change). before ++ lines (view_at x.log seat.at) cs) what ∙ ap (λ (i : ℕ). before ++ lines (view_at x.log i) (take limit (pending x s))) at }, sym long),
 )
   where
@@ -113,7 +113,7 @@ feed_box k b b2 x s seat seat2 limit before after allocates (Err lapse.Lapped) m
 feed_box k b b2 x s seat seat2 limit before after allocates (Err lapse.NoMemory) may S at ok told err count shown is keeps_log rest =
     (box_call k b b2 x s seat seat2 allocates (take limit (pending x s)) [] (Err NoMemory) S at told may (err.0, err.1) tt tt, turned_away k b x s seat [] (Err NoMemory) NoMemory S at told refl)
 
-pub feed_follows : (k : Config) (w : World) (old : Held) (n p m : ℕ) (c : Client) (b b2 : Mail) (seat2 : Seat) (vacant : Option Client) (limit : ℕ) (before after : List ℕ) (r : Result ℕ FeedFault) (q : Result ℕ MailFault)
+pub feed_follows : (k : Config) (w : World) (old : DeliveryCore) (n p m : ℕ) (c : Client) (b b2 : Mailbox) (seat2 : CursorSeat) (vacant : Option Client) (limit : ℕ) (before after : List ℕ) (r : Result ℕ FeedFault) (q : Result ℕ MailFault)
     → StandsFor k old w → client_at old.clients n ≡ Some c → p ≡ n → m ≡ c.mailbox → b ≡ get_or old.boxes m b → q ≡ answer_of r
     → (r ≡ Err lapse.Stranger) ↔ IsStranger b c.seat → (r ≡ Err lapse.Lapped) ↔ IsLapped b c.seat → OnErr r ((b2 ≡ b) × (seat2 ≡ c.seat) × (after ≡ before)) → IfOk r (λ j. j ≡ min limit (total b.window - c.seat.at))
     → IfOk r (λ j. (log : List Change) → Stands b log → after ≡ before ++ lines (view_at log c.seat.at) (next_of log c.seat.at j))
@@ -133,11 +133,11 @@ feed_follows k w old n p m c b b2 seat2 vacant limit before after r q S e place 
 
 -- ---- Expunge
 
-pub expunge_moves : (b b2 : Mail) (seat seat2 : Seat) (before after : List ℕ) (r : Result ℕ MailFault) → IsSome (held b.cursors seat) → (r ≡ Err Lapped) ↔ IsLapped b seat
+pub expunge_moves : (b b2 : Mailbox) (seat seat2 : CursorSeat) (before after : List ℕ) (r : Result ℕ MailFault) → IsSome (held b.cursors seat) → (r ≡ Err Lapped) ↔ IsLapped b seat
     → OnErr r ((b2 ≡ b) × (seat2 ≡ seat) × (after ≡ before)) → OnOk r (seat2 ≡ record seat { at = total b.window }) → OnOk r (seat.at ≤ total b.window)
     → OnOk r (Updates b.cursors b2.cursors seat.slot (option_map (after_showing (changes_from seat.at b.window)) (held b.cursors seat))) → b2.cursors.next ≡ b.cursors.next → SeatMoves b.cursors b2.cursors seat seat2
 expunge_moves b b2 seat seat2 before after (Ok n) some lapses err is within moved next =
-    seat_moves b.cursors b2.cursors seat seat2 (changes_from seat.at b.window) some moved (is ∙ ap (λ (j : ℕ). let z : Seat = record { number = seat.number; slot = seat.slot; serial = seat.serial; at = j } in z) whole) next
+    seat_moves b.cursors b2.cursors seat seat2 (changes_from seat.at b.window) some moved (is ∙ ap (λ (j : ℕ). let z : CursorSeat = record { number = seat.number; slot = seat.slot; serial = seat.serial; at = j } in z) whole) next
   where
     no_err : Ok n ≡ Err Lapped → ⊥
     no_err e = cc
@@ -147,9 +147,9 @@ expunge_moves b b2 seat seat2 before after (Ok n) some lapses err is within move
 
     whole : total b.window ≡ seat.at + length (changes_from seat.at b.window)
     whole = omega (arith, length-drop (seat.at - b.window.base) b.window.changes, low, within)
-expunge_moves b b2 seat seat2 before after (Err f) some lapses err is within moved next = seat_same b.cursors b2.cursors seat seat2 some (ap (λ (z : Mail). z.cursors) err.0) err.1
+expunge_moves b b2 seat seat2 before after (Err f) some lapses err is within moved next = seat_same b.cursors b2.cursors seat seat2 some (ap (λ (z : Mailbox). z.cursors) err.0) err.1
 
-expunge_box : (k : Config) (b b2 : Mail) (x : Box) (s : Session) (seat seat2 : Seat) (test : ℕ → Bool) (before after : List ℕ) (cursors : Cursors) (allocates : Bool) (r : Result ℕ MailFault) → (r ≡ Err NoMemory → allocates ≡ true) → StandsForBox k b x → seat.at ≡ s.cursor → IsShown x.log s → Told r b seat (removals test (rows b))
+expunge_box : (k : Config) (b b2 : Mailbox) (x : Box) (s : Session) (seat seat2 : CursorSeat) (test : ℕ → Bool) (before after : List ℕ) (cursors : CursorSet) (allocates : Bool) (r : Result ℕ MailFault) → (r ≡ Err NoMemory → allocates ≡ true) → StandsForBox k b x → seat.at ≡ s.cursor → IsShown x.log s → Told r b seat (removals test (rows b))
     → OnErr r ((b2 ≡ b) × (seat2 ≡ seat) × (after ≡ before)) → OnOk r ((log : List Change) → Stands b log → after ≡ before ++ lines (view_at log seat.at) (drop seat.at log))
     → OnOk r (seat2 ≡ record seat { at = total b.window }) → OnOk r (MailLogs b b2 (removals test (rows b))) → OnOk r (Moves cursors b.window b2.window (removals test (rows b)))
     → OnOk r (b2.messages ≡ remaining test b.messages) → OnOk r (b2 ≡ record b { messages = b2.messages; window = b2.window; cursors = b2.cursors }) → IfOk r (λ n. n ≡ length (removals test (rows b)))
@@ -157,8 +157,8 @@ expunge_box : (k : Config) (b b2 : Mail) (x : Box) (s : Session) (seat seat2 : S
 expunge_box k b b2 x s seat seat2 test before after cursors allocates (Ok n) may S at past told err shown is logs moves messages rest count = (
   subst (λ (rs : List Row). BoxMails k x s allocates (pending x s) (removals test rs) b2 seat2) (same_rows k b x S)
       (box_call k b b2 x s seat seat2 allocates (pending x s) (removals test (rows b)) (Ok n) S at told may tt
-      (λ room. box_logs k b b2 x (removals test (rows b)) cursors S room logs moves (remaining_part test b.messages b2.messages messages) (ap (λ (z : Mail). z.accepted) rest) (ap (λ (z : Mail). z.first_uid) rest) (ap (λ (z : Mail). z.limit) rest) (ap (λ (z : Mail). z.uidvalidity) rest))
-      (omega (arith, ap (λ (z : Seat). z.at) is, S.log.window.long, length-drop s.cursor x.log, past.within))),
+      (λ room. box_logs k b b2 x (removals test (rows b)) cursors S room logs moves (remaining_part test b.messages b2.messages messages) (ap (λ (z : Mailbox). z.accepted) rest) (ap (λ (z : Mailbox). z.first_uid) rest) (ap (λ (z : Mailbox). z.limit) rest) (ap (λ (z : Mailbox). z.uidvalidity) rest))
+      (omega (arith, ap (λ (z : CursorSeat). z.at) is, S.log.window.long, length-drop s.cursor x.log, past.within))),
   (
     record { kept = (taken k b x s seat (removals test (rows b)) (Ok n) n S at told refl).0; text = shown x.log S.log ∙ ap (λ (i : ℕ). before ++ lines (view_at x.log i) (drop i x.log)) at },
     count ∙ ap (λ (rs : List Row). length (removals test rs)) (same_rows k b x S),
@@ -170,7 +170,7 @@ expunge_box k b b2 x s seat seat2 test before after cursors allocates (Err f) ma
   subst (λ (rs : List Row). Refuses f (removals test rs) x s) (same_rows k b x S) (turned_away k b x s seat (removals test (rows b)) (Err f) f S at told refl),
 )
 
-pub expunge_follows : (k : Config) (w : World) (old : Held) (n p m : ℕ) (c : Client) (b b2 : Mail) (seat2 : Seat) (vacant : Option Client) (test : ℕ → Bool) (before after : List ℕ) (cursors : Cursors) (r : Result ℕ MailFault)
+pub expunge_follows : (k : Config) (w : World) (old : DeliveryCore) (n p m : ℕ) (c : Client) (b b2 : Mailbox) (seat2 : CursorSeat) (vacant : Option Client) (test : ℕ → Bool) (before after : List ℕ) (cursors : CursorSet) (r : Result ℕ MailFault)
     → StandsFor k old w → client_at old.clients n ≡ Some c → p ≡ n → m ≡ c.mailbox → b ≡ get_or old.boxes m b
     → (r ≡ Err Stranger) ↔ IsStranger b c.seat → (r ≡ Err Lapped) ↔ IsLapped b c.seat → (r ≡ Err Spent) ↔ (IsCurrent b c.seat × IsTooMany b (removals test (rows b)))
     → OnErr r ((b2 ≡ b) × (seat2 ≡ c.seat) × (after ≡ before)) → OnOk r ((log : List Change) → Stands b log → after ≡ before ++ lines (view_at log c.seat.at) (drop c.seat.at log))
@@ -190,11 +190,11 @@ expunge_follows k w old n p m c b b2 seat2 vacant test before after cursors r S 
 
 -- ---- refusals
 
-pub expunge_refused : (r : Result ℕ MailFault) (old new : Held) (b b2 : Mail) (seat seat2 : Seat) (before after : List ℕ) → OnErr r ((b2 ≡ b) × (seat2 ≡ seat) × (after ≡ before)) → (b2 ≡ b → seat2 ≡ seat → new ≡ old) → OnErr r ((new ≡ old) × (after ≡ before))
+pub expunge_refused : (r : Result ℕ MailFault) (old new : DeliveryCore) (b b2 : Mailbox) (seat seat2 : CursorSeat) (before after : List ℕ) → OnErr r ((b2 ≡ b) × (seat2 ≡ seat) × (after ≡ before)) → (b2 ≡ b → seat2 ≡ seat → new ≡ old) → OnErr r ((new ≡ old) × (after ≡ before))
 expunge_refused (Ok n) old new b b2 seat seat2 before after err same = tt
 expunge_refused (Err f) old new b b2 seat seat2 before after err same = (same err.0 err.1, err.2)
 
-pub feed_refused : (r : Result ℕ FeedFault) (q : Result ℕ MailFault) (old new : Held) (b b2 : Mail) (seat seat2 : Seat) (before after : List ℕ) → q ≡ answer_of r → OnErr r ((b2 ≡ b) × (seat2 ≡ seat) × (after ≡ before)) → (b2 ≡ b → seat2 ≡ seat → new ≡ old) → OnErr q ((new ≡ old) × (after ≡ before))
+pub feed_refused : (r : Result ℕ FeedFault) (q : Result ℕ MailFault) (old new : DeliveryCore) (b b2 : Mailbox) (seat seat2 : CursorSeat) (before after : List ℕ) → q ≡ answer_of r → OnErr r ((b2 ≡ b) × (seat2 ≡ seat) × (after ≡ before)) → (b2 ≡ b → seat2 ≡ seat → new ≡ old) → OnErr q ((new ≡ old) × (after ≡ before))
 feed_refused r q old new b b2 seat seat2 before after tells err same = subst (λ (z : Result ℕ MailFault). OnErr z ((new ≡ old) × (after ≡ before))) (sym tells) (go r err)
   where
     go : (z : Result ℕ FeedFault) → OnErr z ((b2 ≡ b) × (seat2 ≡ seat) × (after ≡ before)) → OnErr (answer_of z) ((new ≡ old) × (after ≡ before))
@@ -205,13 +205,13 @@ feed_refused r q old new b b2 seat seat2 before after tells err same = subst (λ
 
 -- ---- what the session counts then
 
-fed_low : (b : Mail) (seat : Seat) (j : ℕ) → IsSome (held b.cursors seat) → (let r : Result ℕ FeedFault = Ok j in r ≡ Err lapse.Lapped) ↔ IsLapped b seat → b.window.base ≤ seat.at
+fed_low : (b : Mailbox) (seat : CursorSeat) (j : ℕ) → IsSome (held b.cursors seat) → (let r : Result ℕ FeedFault = Ok j in r ≡ Err lapse.Lapped) ↔ IsLapped b seat → b.window.base ≤ seat.at
 fed_low b seat j some lapses = elim (cases_lt seat.at b.window.base) [ inl under ↦ absurd (no_err (lapses.1 (some, under))) | inr over ↦ over ]
   where
     no_err : (let r : Result ℕ FeedFault = Ok j in r ≡ Err lapse.Lapped) → ⊥
     no_err h = cc
 
-pub feed_saw : (old : Held) (n p m : ℕ) (c : Client) (b b2 : Mail) (seat2 : Seat) (vacant : Option Client) (limit : ℕ) (before after : List ℕ) (r : Result ℕ FeedFault) (q : Result ℕ MailFault)
+pub feed_saw : (old : DeliveryCore) (n p m : ℕ) (c : Client) (b b2 : Mailbox) (seat2 : CursorSeat) (vacant : Option Client) (limit : ℕ) (before after : List ℕ) (r : Result ℕ FeedFault) (q : Result ℕ MailFault)
     → AreSeated (cursors_of old.boxes) old.clients → client_at old.clients n ≡ Some c → p ≡ n → m ≡ c.mailbox → b ≡ get_or old.boxes m b → q ≡ answer_of r → (r ≡ Err lapse.Lapped) ↔ IsLapped b c.seat
     → IfOk r (λ j. j ≡ min limit (total b.window - c.seat.at)) → IfOk r (λ j. seat2 ≡ record c.seat { at = c.seat.at + j })
     → IfOk r (λ j. Updates b.cursors b2.cursors c.seat.slot (option_map (after_showing (next_changes b.window c.seat.at j)) (held b.cursors c.seat)))
@@ -231,12 +231,12 @@ feed_saw old n p m c b b2 seat2 vacant limit before after r q S e place same the
         let all : next_changes b.window c.seat.at j ≡ take j (pending_for old n) = ap (take j) (sym (pending_here old n m c b S e same there)) in
         subst (λ (cs : List Change). Sees old (record old { boxes = set old.boxes m b2; clients = set (set old.clients p vacant) p (Some (record { mailbox = c.mailbox; seat = seat2 })) }) n cs before after) all
         (saw old n p m c b b2 seat2 vacant (next_changes b.window c.seat.at j) before after S e place same there moved
-        (is ∙ ap (λ (i : ℕ). let y : Seat = record { number = c.seat.number; slot = c.seat.slot; serial = c.seat.serial; at = c.seat.at + i } in y) (sym long)) written)
+        (is ∙ ap (λ (i : ℕ). let y : CursorSeat = record { number = c.seat.number; slot = c.seat.slot; serial = c.seat.serial; at = c.seat.at + i } in y) (sym long)) written)
     go (Err lapse.Stranger) lapses count is moved written = tt
     go (Err lapse.Lapped) lapses count is moved written = tt
     go (Err lapse.NoMemory) lapses count is moved written = tt
 
-pub feed_count : (old : Held) (n m : ℕ) (c : Client) (b : Mail) (limit : ℕ) (r : Result ℕ FeedFault) (q : Result ℕ MailFault)
+pub feed_count : (old : DeliveryCore) (n m : ℕ) (c : Client) (b : Mailbox) (limit : ℕ) (r : Result ℕ FeedFault) (q : Result ℕ MailFault)
     → AreSeated (cursors_of old.boxes) old.clients → client_at old.clients n ≡ Some c → m ≡ c.mailbox → b ≡ get_or old.boxes m b → q ≡ answer_of r → (r ≡ Err lapse.Lapped) ↔ IsLapped b c.seat
     → IfOk r (λ j. j ≡ min limit (total b.window - c.seat.at)) → IfOk q (λ j. (j ≤ limit) × (length (take j (pending_for old n)) ≡ j))
 feed_count old n m c b limit r q S e same there tells lapses count = subst (λ (z : Result ℕ MailFault). IfOk z (λ (j : ℕ). (j ≤ limit) × (length (take j (pending_for old n)) ≡ j))) (sym tells) (go r lapses count)
@@ -250,7 +250,7 @@ feed_count old n m c b limit r q S e same there tells lapses count = subst (λ (
     go (Err lapse.Lapped) lapses count = tt
     go (Err lapse.NoMemory) lapses count = tt
 
-pub expunge_saw : (old : Held) (n p m : ℕ) (c : Client) (b b2 : Mail) (seat2 : Seat) (vacant : Option Client) (before after : List ℕ) (r : Result ℕ MailFault)
+pub expunge_saw : (old : DeliveryCore) (n p m : ℕ) (c : Client) (b b2 : Mailbox) (seat2 : CursorSeat) (vacant : Option Client) (before after : List ℕ) (r : Result ℕ MailFault)
     → AreSeated (cursors_of old.boxes) old.clients → client_at old.clients n ≡ Some c → p ≡ n → m ≡ c.mailbox → b ≡ get_or old.boxes m b → (r ≡ Err Lapped) ↔ IsLapped b c.seat
     → OnOk r (seat2 ≡ record c.seat { at = total b.window }) → OnOk r (c.seat.at ≤ total b.window)
     → OnOk r (Updates b.cursors b2.cursors c.seat.slot (option_map (after_showing (changes_from c.seat.at b.window)) (held b.cursors c.seat)))
@@ -259,7 +259,7 @@ pub expunge_saw : (old : Held) (n p m : ℕ) (c : Client) (b b2 : Mail) (seat2 :
 expunge_saw old n p m c b b2 seat2 vacant before after (Ok j) S e place same there lapses is within moved written =
     subst (λ (cs : List Change). Sees old (record old { boxes = set old.boxes m b2; clients = set (set old.clients p vacant) p (Some (record { mailbox = c.mailbox; seat = seat2 })) }) n cs before after) (sym (pending_here old n m c b S e same there))
     (saw old n p m c b b2 seat2 vacant (changes_from c.seat.at b.window) before after S e place same there moved
-    (is ∙ ap (λ (i : ℕ). let y : Seat = record { number = c.seat.number; slot = c.seat.slot; serial = c.seat.serial; at = i } in y) whole) written)
+    (is ∙ ap (λ (i : ℕ). let y : CursorSeat = record { number = c.seat.number; slot = c.seat.slot; serial = c.seat.serial; at = i } in y) whole) written)
   where
     no_err : Ok j ≡ Err Lapped → ⊥
     no_err h = cc
@@ -282,7 +282,7 @@ back_memory (Err lapse.Stranger) e = cc
 back_memory (Err lapse.Lapped) e = cc
 back_memory (Err lapse.NoMemory) e = refl
 
-pub feed_memory : (old : Held) (n m : ℕ) (c : Client) (b : Mail) (limit : ℕ) (r : Result ℕ FeedFault) (q : Result ℕ MailFault)
+pub feed_memory : (old : DeliveryCore) (n m : ℕ) (c : Client) (b : Mailbox) (limit : ℕ) (r : Result ℕ FeedFault) (q : Result ℕ MailFault)
     → AreSeated (cursors_of old.boxes) old.clients → client_at old.clients n ≡ Some c → m ≡ c.mailbox → b ≡ get_or old.boxes m b → q ≡ answer_of r → (r ≡ Err lapse.Lapped) ↔ IsLapped b c.seat
     → (r ≡ Err lapse.NoMemory → 0 < min limit (total b.window - c.seat.at)) → q ≡ Err NoMemory → 0 < length (take limit (pending_for old n))
 feed_memory old n m c b limit r q S e same there tells lapses memory refused = go (cases_lt c.seat.at b.window.base)
@@ -299,7 +299,7 @@ feed_memory old n m c b limit r q S e same there tells lapses memory refused = g
         let all : length (take limit (pending_for old n)) ≡ length (take limit (changes_from c.seat.at b.window)) = ap (λ (cs : List Change). length (take limit cs)) (pending_here old n m c b S e same there) in
         omega (arith, all, length-take limit (changes_from c.seat.at b.window), length-drop (c.seat.at - b.window.base) b.window.changes, memory is, over)
 
-pub expunge_memory : (old : Held) (n m : ℕ) (c : Client) (b : Mail) (r : Result ℕ MailFault)
+pub expunge_memory : (old : DeliveryCore) (n m : ℕ) (c : Client) (b : Mailbox) (r : Result ℕ MailFault)
     → AreSeated (cursors_of old.boxes) old.clients → client_at old.clients n ≡ Some c → m ≡ c.mailbox → b ≡ get_or old.boxes m b → (r ≡ Err Lapped) ↔ IsLapped b c.seat
     → (r ≡ Err NoMemory → c.seat.at < total b.window) → r ≡ Err NoMemory → 0 < length (pending_for old n)
 expunge_memory old n m c b r S e same there lapses memory refused = go (cases_lt c.seat.at b.window.base)
@@ -319,7 +319,7 @@ by_answer P (Err lapse.Stranger) q tells h = subst (λ (z : Result ℕ MailFault
 by_answer P (Err lapse.Lapped) q tells h = subst (λ (z : Result ℕ MailFault). OnOk z P) (sym tells) tt
 by_answer P (Err lapse.NoMemory) q tells h = subst (λ (z : Result ℕ MailFault). OnOk z P) (sym tells) tt
 
-pub feed_done : (old : Held) (n p m : ℕ) (c : Client) (b b2 : Mail) (seat2 : Seat) (vacant : Option Client) (limit : ℕ) (before after : List ℕ) (r : Result ℕ FeedFault)
+pub feed_done : (old : DeliveryCore) (n p m : ℕ) (c : Client) (b b2 : Mailbox) (seat2 : CursorSeat) (vacant : Option Client) (limit : ℕ) (before after : List ℕ) (r : Result ℕ FeedFault)
     → AreSeated (cursors_of old.boxes) old.clients → client_at old.clients n ≡ Some c → p ≡ n → m ≡ c.mailbox → b ≡ get_or old.boxes m b
     → (r ≡ Err lapse.Stranger) ↔ IsStranger b c.seat → (r ≡ Err lapse.Lapped) ↔ IsLapped b c.seat → OnErr r ((b2 ≡ b) × (seat2 ≡ c.seat) × (after ≡ before)) → IfOk r (λ j. j ≡ min limit (total b.window - c.seat.at))
     → IfOk r (λ j. (log : List Change) → Stands b log → after ≡ before ++ lines (view_at log c.seat.at) (next_of log c.seat.at j))
@@ -338,7 +338,7 @@ feed_done old n p m c b b2 seat2 vacant limit before after (Ok j) S e place same
     some = known_at old.boxes old.clients n c b S e (there ∙ ap (λ (i : ℕ). get_or old.boxes i b) same)
 feed_done old n p m c b b2 seat2 vacant limit before after (Err f) S e place same there strange lapses err count shown is keeps_log rest moved next = tt
 
-pub expunge_done : (old : Held) (n p m : ℕ) (c : Client) (b b2 : Mail) (seat2 : Seat) (vacant : Option Client) (test : ℕ → Bool) (before after : List ℕ) (cursors : Cursors) (r : Result ℕ MailFault)
+pub expunge_done : (old : DeliveryCore) (n p m : ℕ) (c : Client) (b b2 : Mailbox) (seat2 : CursorSeat) (vacant : Option Client) (test : ℕ → Bool) (before after : List ℕ) (cursors : CursorSet) (r : Result ℕ MailFault)
     → AreSeated (cursors_of old.boxes) old.clients → client_at old.clients n ≡ Some c → p ≡ n → m ≡ c.mailbox → b ≡ get_or old.boxes m b
     → (r ≡ Err Stranger) ↔ IsStranger b c.seat → (r ≡ Err Lapped) ↔ IsLapped b c.seat → (r ≡ Err Spent) ↔ (IsCurrent b c.seat × IsTooMany b (removals test (rows b)))
     → OnErr r ((b2 ≡ b) × (seat2 ≡ c.seat) × (after ≡ before)) → OnOk r ((log : List Change) → Stands b log → after ≡ before ++ lines (view_at log c.seat.at) (drop c.seat.at log))

@@ -9,8 +9,8 @@ use Rattle.shard_queue.proofs.AtLaws.{at_cases}
 use Rattle.delivery_token.specs.declared.CopyKey.{CopyKey}
 use Rattle.delivery_token.specs.declared.Job.{Job}
 use Rattle.delivery_token.specs.declared.log.Noted.{Noted}
-use Rattle.delivery_token.specs.Book.{Book}
-use Rattle.shard_queue.specs.Waits.{Waits}
+use Rattle.delivery_token.specs.WorkerLog.{WorkerLog}
+use Rattle.shard_queue.specs.PlainLane.{PlainLane}
 use Rattle.shard_queue.specs.Plain.{before_taking, taken_entry}
 use Rattle.shard_queue.specs.declared.lane.Taken.{Taken}
 use Rattle.shard_queue.specs.declared.lane.Taken.TheVariants as took_one
@@ -23,7 +23,7 @@ use Rattle.world.proofs.Mails.{IsIn}
 use Rattle.world.specs.Known.{key_in}
 use Rattle.world.proofs.Known.{HandKnown, ReplyKnown, known_always}
 use Rattle.world.proofs.Always.{kept_always}
-use Rattle.delivery_core.specs.Held.{Held}
+use Rattle.delivery_core.specs.DeliveryCore.{DeliveryCore}
 use Rattle.delivery_core.specs.Stands.{EachAt, StandsFor, IsNext}
 use Rattle.shard_queue.specs.Plain.{StandsForLane}
 use Rattle.shard_queue.proofs.PlainLaws.{lane_put}
@@ -36,7 +36,7 @@ from_taken (took_one.Item p x) hand ws h = (Item p x, refl, cc)
 from_taken (took_one.End p) hand ws h = (End p, refl, cc)
 from_taken took_one.Empty hand ws h = absurd (cc)
 
-pub take_none : (t : Taken Job) (l l2 : Waits Job) → None ≡ option_map in_hand (taken_entry t) → l ≡ record { capacity = l2.capacity; live = l2.live; waiting = before_taking t l2.waiting } → l ≡ l2
+pub take_none : (t : Taken Job) (l l2 : PlainLane Job) → None ≡ option_map in_hand (taken_entry t) → l ≡ record { capacity = l2.capacity; live = l2.live; waiting = before_taking t l2.waiting } → l ≡ l2
 take_none (took_one.Item p x) l l2 h e = absurd (cc)
 take_none (took_one.End p) l l2 h e = absurd (cc)
 take_none took_one.Empty l l2 h e = e
@@ -44,7 +44,7 @@ take_none took_one.Empty l l2 h e = e
 took_sent : (w : World) (s : ℕ) (e : Entry Job) (others : List (Entry Job)) (t p : ℕ) → (set_at w.lane s (took (w.lane s) e others) t).sent p ≡ (w.lane t).sent p
 took_sent w s e others t p = at_cases (λ l. l.sent p ≡ (w.lane t).sent p) w.lane s (took (w.lane s) e others) t (λ same. ap (λ i. (w.lane i).sent p) (sym same)) (λ _. refl)
 
-pub take_follows : (k : Config) (w : World) (old new : Held) (s : ℕ) (l l2 : Waits Job) (t : Taken Job) (hand : Hand) → StandsFor k old w
+pub take_follows : (k : Config) (w : World) (old new : DeliveryCore) (s : ℕ) (l l2 : PlainLane Job) (t : Taken Job) (hand : Hand) → StandsFor k old w
     → s < length old.lanes → s < length old.hands → Empty ≡ get_or old.hands s Empty → l ≡ get_or old.lanes s l
     → l ≡ record { capacity = l2.capacity; live = l2.live; waiting = before_taking t l2.waiting } → Some hand ≡ option_map in_hand (taken_entry t)
     → new.lanes ≡ set old.lanes s l2 → new.hands ≡ set old.hands s hand
@@ -84,7 +84,7 @@ take_follows k w old new s l l2 t hand S ins inh is there front held lanes hands
 -- Answer
 
 -- the verdict in a hand is for a seat that is there, and its reply lane is live
-pub reply_place : (k : Config) (w : World) (old : Held) (s : ℕ) (r : Noted) → StandsFor k old w → s < length old.hands → Done r ≡ get_or old.hands s (Done r) → r.key.seat < length old.replies
+pub reply_place : (k : Config) (w : World) (old : DeliveryCore) (s : ℕ) (r : Noted) → StandsFor k old w → s < length old.hands → Done r ≡ get_or old.hands s (Done r) → r.key.seat < length old.replies
 reply_place k w old s r S inh is =
     let known : HandKnown k w (w.hand s) = (known_always k S.reached.0 w S.reached.1).hands s in
     let here : HandKnown k w (Done r) = subst (HandKnown k w) (sym (is ∙ S.hands s (Done r) inh)) known in
@@ -94,12 +94,12 @@ not_true : (b : Bool) → false ≡ not b → b ≡ true
 not_true true e = refl
 not_true false e = cc
 
-pub reply_live : (k : Config) (w : World) (old : Held) (s p : ℕ) (l : Waits Noted) → StandsFor k old w → s < length old.lanes → p < length old.replies → l ≡ get_or old.replies p l → get_or l.live s false ≡ true
+pub reply_live : (k : Config) (w : World) (old : DeliveryCore) (s p : ℕ) (l : PlainLane Noted) → StandsFor k old w → s < length old.lanes → p < length old.replies → l ≡ get_or old.replies p l → get_or l.live s false ≡ true
 reply_live k w old s p l S ins inp there =
     let was : StandsForLane k.shards reply_room l (w.replies p) = rw there (S.replies p l inp) in
     not_true (get_or l.live s false) (sym ((kept_always k S.reached.0 w S.reached.1).live p s) ∙ was.live s false (omega (arith, was.producers, S.shards)))
 
-pub answer_follows : (k : Config) (w : World) (old new : Held) (s : ℕ) (r : Noted) (l l2 : Waits Noted) → StandsFor k old w
+pub answer_follows : (k : Config) (w : World) (old new : DeliveryCore) (s : ℕ) (r : Noted) (l l2 : PlainLane Noted) → StandsFor k old w
     → s < length old.hands → Done r ≡ get_or old.hands s (Done r) → r.key.seat < length old.replies → l ≡ get_or old.replies r.key.seat l
     → length l.waiting < l.capacity → l2 ≡ record { capacity = l.capacity; live = l.live; waiting = l.waiting ++ Item s r ∷ [] }
     → new.hands ≡ set old.hands s Empty → new.replies ≡ set old.replies r.key.seat l2
@@ -142,12 +142,12 @@ below_sent y key (Item p c ∷ es) h (inr i) = below_sent y key es (All-tail (En
 below_sent y key (End p ∷ es) h i = below_sent y key es (All-tail (EntryBelow y) (End p) es h) i
 
 -- a reply lane has no ends
-pub no_reply_end : (k : Config) (w : World) (old : Held) (p s : ℕ) (l : Waits Noted) (others : List (Entry Noted)) → StandsFor k old w → p < length old.replies → l ≡ get_or old.replies p l → l.waiting ≡ End s ∷ others → ⊥
+pub no_reply_end : (k : Config) (w : World) (old : DeliveryCore) (p s : ℕ) (l : PlainLane Noted) (others : List (Entry Noted)) → StandsFor k old w → p < length old.replies → l ≡ get_or old.replies p l → l.waiting ≡ End s ∷ others → ⊥
 no_reply_end k w old p s l others S inp there front =
     let was : StandsForLane k.shards reply_room l (w.replies p) = rw there (S.replies p l inp) in
     (rw (sym was.waiting ∙ front) at ((known_always k S.reached.0 w S.reached.1).replies p)).0
 
-pub hear_follows : (k : Config) (w : World) (old new : Held) (p s : ℕ) (r : Noted) (l l2 : Waits Noted) (book0 book1 book2 book3 : Book) → StandsFor k old w
+pub hear_follows : (k : Config) (w : World) (old new : DeliveryCore) (p s : ℕ) (r : Noted) (l l2 : PlainLane Noted) (book0 book1 book2 book3 : WorkerLog) → StandsFor k old w
     → p < length old.replies → p < length old.heard → l ≡ get_or old.replies p l → l ≡ record { capacity = l2.capacity; live = l2.live; waiting = Item s r ∷ l2.waiting }
     → book0 ≡ get_or old.heard p book0 → book1.notes ≡ book0.notes → book2 ≡ get_or (set old.heard p book1) p book2 → book3.notes ≡ book2.notes ++ r ∷ []
     → new.replies ≡ set old.replies p l2 → new.heard ≡ set (set old.heard p book1) p book3

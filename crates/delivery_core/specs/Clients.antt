@@ -15,12 +15,12 @@ use Rattle.mailbox.specs.declared.clients.Row as read
 use Rattle.mailbox.specs.declared.mailbox.Status.{Status}
 use Rattle.shard_queue.specs.At.{set_at}
 use Rattle.world.specs.World.{Config, World, Box, Session, Event, Enter, Logs, Step, Selected, most_changes, most_entries, next_uid, pending, shows}
-use Rattle.delivery_core.specs.Held.{Held, view_of}
+use Rattle.delivery_core.specs.DeliveryCore.{DeliveryCore, view_of}
 use Rattle.delivery_core.specs.Stands.{StandsFor}
 
 -- From each world for which the old one stood, the event leads to one for which the new one stands, and this holds of the mailbox that session
 -- n had selected and of the session, as they were.
-abbrev pub Does : Config → Held → Event → ℕ → (Box → Session → Type 0) → Held → Type 0
+abbrev pub Does : Config → DeliveryCore → Event → ℕ → (Box → Session → Type 0) → DeliveryCore → Type 0
 Does k old event n P new = (w : World) → StandsFor k old w → (v : World) × Step k w event v × StandsFor k new v × Selected w n (λ s. P (w.box s.mailbox) s)
 
 -- Session n was shown the first of these changes, and its mailbox logged the second; nothing else changed.
@@ -32,7 +32,7 @@ pub record Done (k : Config) (w : World) (n : ℕ) (s : Session) (shown changes 
 
 -- From each world for which the old one stood there is one for which the new one stands, in which session n was shown these changes and its
 -- mailbox logged those.
-abbrev pub Makes : Config → Held → ℕ → (Box → Session → List Change) → (Box → List Change) → Held → Type 0
+abbrev pub Makes : Config → DeliveryCore → ℕ → (Box → Session → List Change) → (Box → List Change) → DeliveryCore → Type 0
 Makes k old n shown changes new = (w : World) → StandsFor k old w → (v : World) × StandsFor k new v × Selected w n (λ s. Done k w n s (shown (w.box s.mailbox) s) (changes (w.box s.mailbox)) v)
 
 -- why a session was refused that would log these changes
@@ -62,7 +62,7 @@ pub record IsTold (shown : List Change) (before after : List ℕ) (b : Box) (s :
   pub text : after ≡ before ++ lines (view_at b.log s.cursor) shown
 
 -- the session was shown these changes: their lines stand behind what stood there, and it counts the UIDs that they leave
-pub record Sees (old new : Held) (session : ℕ) (shown : List Change) (before after : List ℕ) : Type 0 where
+pub record Sees (old new : DeliveryCore) (session : ℕ) (shown : List Change) (before after : List ℕ) : Type 0 where
   pub text : after ≡ before ++ lines (view_of old session) shown
   pub view : view_of new session ≡ replay (view_of old session) shown
 
@@ -111,7 +111,7 @@ Opens k w m (Err NoMemory) = w.opened m < most_entries
 Opens k w m (Err fault) = ⊥
 
 -- From each world for which the old one stood, session n enters mailbox m or is refused, and the new one stands for what comes of it.
-abbrev pub Enters : Config → Held → ℕ → ℕ → Result Opening MailFault → Held → Type 0
+abbrev pub Enters : Config → DeliveryCore → ℕ → ℕ → Result Opening MailFault → DeliveryCore → Type 0
 Enters k old n m result new = (w : World) → StandsFor k old w → (v : World) × Step k w (Enter n m) v × StandsFor k new v × Opens k w m result
 
 -- what STATUS tells: of the rows, and of the texts that were accepted under their UIDs

@@ -1,5 +1,5 @@
 pub mod Seated
-pub mod Held
+pub mod DeliveryCore
 pub mod Stands
 pub mod Changes
 pub mod Load

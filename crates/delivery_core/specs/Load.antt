@@ -2,12 +2,12 @@
 use Rattle.std.specs.Prelude.{ℕ, ◌+◌, Bool, true, false, length, sum_by}
 use Rattle.delivery_token.specs.declared.Job.{Job}
 use Rattle.delivery_token.specs.declared.log.Noted.{Noted}
-use Rattle.shard_queue.specs.Waits.{Waits}
+use Rattle.shard_queue.specs.PlainLane.{PlainLane}
 use Rattle.shard_queue.specs.declared.lane.Entry.{Entry}
 use Rattle.shard_queue.specs.declared.lane.Entry.TheVariants.{Item, End}
 use Rattle.world.specs.declared.hand.Hand.{Hand}
 use Rattle.world.specs.declared.hand.Hand.TheVariants.{Empty, Taken, Done}
-use Rattle.delivery_core.specs.Held.{Held}
+use Rattle.delivery_core.specs.DeliveryCore.{DeliveryCore}
 
 -- a copy that waits is to be taken, delivered, answered and heard; an end is to be taken
 abbrev pub entry_load : Entry Job → ℕ
@@ -25,12 +25,12 @@ abbrev pub end_load : Bool → ℕ
 end_load true = 2
 end_load false = 0
 
-abbrev pub lane_load : Waits Job → ℕ
+abbrev pub lane_load : PlainLane Job → ℕ
 lane_load l = sum_by entry_load l.waiting + sum_by end_load l.live
 
 -- a verdict that waits is to be heard
-abbrev pub reply_load : Waits Noted → ℕ
+abbrev pub reply_load : PlainLane Noted → ℕ
 reply_load l = length l.waiting
 
-abbrev pub load : Held → ℕ
+abbrev pub load : DeliveryCore → ℕ
 load h = sum_by lane_load h.lanes + (sum_by hand_load h.hands + sum_by reply_load h.replies)

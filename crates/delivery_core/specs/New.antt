@@ -1,13 +1,13 @@
 -- What a new delivery side is made of.
 use Rattle.std.specs.Prelude.{◌≡◌, ℕ, true, [], replicate}
 use Rattle.delivery_token.specs.declared.CopyKey.{CopyKey}
-use Rattle.shard_queue.specs.Waits.{Waits}
+use Rattle.shard_queue.specs.PlainLane.{PlainLane}
 use Rattle.mailbox.specs.declared.history.History.TheVariants.{Kept}
-use Rattle.mailbox.specs.Mail.{Mail}
+use Rattle.mailbox.specs.Mailbox.{Mailbox}
 use Rattle.mailbox.specs.Stands.{Stands}
 
 -- nothing waits, and each producer may put
-abbrev pub new_lane : {T : Type 0} → ℕ → ℕ → Waits T
+abbrev pub new_lane : {T : Type 0} → ℕ → ℕ → PlainLane T
 new_lane capacity producers = record { capacity = capacity; live = replicate producers true; waiting = [] }
 
 -- the least key of a seat
@@ -15,7 +15,7 @@ abbrev pub first_key : ℕ → CopyKey
 first_key p = record { seat = p; serial = 0; message = 0; recipient = 0 }
 
 -- a mailbox with nothing in it and no client, of this number and these settings, which keeps the copies that it takes; its window may grow up to `most`
-pub record IsNewBox (number uidvalidity first_uid messages ring most : ℕ) (b : Mail) : Type 0 where
+pub record IsNewBox (number uidvalidity first_uid messages ring most : ℕ) (b : Mailbox) : Type 0 where
   pub at : b.number ≡ number
   pub validity : b.uidvalidity ≡ uidvalidity
   pub log : Stands b []

@@ -5,13 +5,13 @@ use Rattle.delivery_token.specs.Keys.{Below}
 use Rattle.delivery_token.specs.declared.CopyKey.{CopyKey}
 use Rattle.delivery_token.specs.declared.Job.{Job}
 use Rattle.shard_queue.specs.Plain.{StandsForLane}
-use Rattle.mailbox.specs.Mail.{Mail, Message}
+use Rattle.mailbox.specs.Mailbox.{Mailbox, Message}
 use Rattle.mailbox.specs.Stands.{Stands}
 use Rattle.world.specs.World.{Config, World, Box, Session, Event, Step, Steps, IsWorld, EntryBelow, reply_room}
 use Rattle.world.specs.Law.{IsPart, pairs}
 use Rattle.delivery_core.specs.declared.client.Client.{Client}
 use Rattle.delivery_core.specs.Seated.{AreSeated, cursors_of}
-use Rattle.delivery_core.specs.Held.{Held}
+use Rattle.delivery_core.specs.DeliveryCore.{DeliveryCore}
 
 -- P holds of each place and the element there
 abbrev pub EachAt : {A : Type 0} → (ℕ → A → Type 0) → List A → Type 0
@@ -26,7 +26,7 @@ abbrev pub accepted_text : Job × ℕ → ℕ × List ℕ
 accepted_text a = (a.1, a.0.text)
 
 -- the mailbox is as the log leaves it, with its window's base and its history
-pub record StandsForBox (k : Config) (b : Mail) (w : Box) : Type 0 where
+pub record StandsForBox (k : Config) (b : Mailbox) (w : Box) : Type 0 where
   pub log : Stands b w.log
   pub base : b.window.base ≡ w.base
   pub accepted : b.accepted ≡ pairs w.accepted
@@ -63,7 +63,7 @@ pub record IsNext (w : World) (p : ℕ) (y : CopyKey) : Type 0 where
 abbrev pub Reached : Config → World → Type 0
 Reached k w = (events : List Event) × IsWorld k events w
 
-pub record StandsFor (k : Config) (h : Held) (w : World) : Type 0 where
+pub record StandsFor (k : Config) (h : DeliveryCore) (w : World) : Type 0 where
   pub reached : Reached k w
   -- as many of each as there are
   pub shards : length h.lanes ≡ k.shards
@@ -87,9 +87,9 @@ pub record StandsFor (k : Config) (h : Held) (w : World) : Type 0 where
   pub seated : AreSeated (cursors_of h.boxes) h.clients
 
 -- From each world that the old one stood for, these events lead to one that the new one stands for.
-abbrev pub Follows : Config → Held → List Event → Held → Type 0
+abbrev pub Follows : Config → DeliveryCore → List Event → DeliveryCore → Type 0
 Follows k old events new = (w : World) → StandsFor k old w → (v : World) × Steps k w events v × StandsFor k new v
 
 -- In no world that it stood for does this event change anything.
-abbrev pub ChangesNothing : Config → Held → Event → Type 0
+abbrev pub ChangesNothing : Config → DeliveryCore → Event → Type 0
 ChangesNothing k old event = (w v : World) → StandsFor k old w → Step k w event v → v ≡ w

@@ -1,5 +1,5 @@
 pub mod Boxes
 pub mod Clients
-pub mod Held
+pub mod DeliveryCore
 pub mod Puts
 pub mod Stands

@@ -7,12 +7,12 @@ ghost use Rattle.change_ring.specs.Log.{rows_of, view_at};
 ghost use Rattle.change_ring.specs.Window.{total};
 ghost use Rattle.change_ring.specs.Logged.{flags_logged, removals, seen_logged};
 ghost use Rattle.mailbox.specs.Events.{in_set};
-ghost use Rattle.mailbox.specs.Mail.{Mail, SameMailbox};
+ghost use Rattle.mailbox.specs.Mailbox.{Mailbox, SameMailbox};
 ghost use Rattle.world.specs.World.{Box, Config, World, Expunge, Feed, Leave, Read, Selected, Store, pending};
 ghost use Rattle.delivery_core.specs.Changes.{SameCounts, SameDelivery};
 ghost use Rattle.delivery_core.specs.Clients.{Alters, Does, Enters, Expunges, Feeds, IsStatus, Leaves, Makes, Reads, Sees};
 ghost use Rattle.delivery_core.specs.inner.Clients.{answer_of};
-ghost use Rattle.delivery_core.specs.Held.{behind, client_of, pending_for, view_of};
+ghost use Rattle.delivery_core.specs.DeliveryCore.{behind, client_of, pending_for, view_of};
 ghost use Rattle.delivery_core.specs.Stands.{StandsFor};
 
 use crate::client::Client;
@@ -55,7 +55,7 @@ impl DeliveryCore {
         ensures count { IfOk result (λ n. (n ≤ limit) × (length (take n (pending_for self.old session)) ≡ n)) }
         ensures less { IfOk result (λ n. (n ≡ min limit (behind self.old session)) × (behind self.new session + n ≡ behind self.old session)) }
         ensures rest { SameDelivery self.old self.new }
-        ensures same { OnOk result ((m : ℕ) (d : Mail) → SameMailbox (slice_index_or self.old.boxes m d) (slice_index_or self.new.boxes m d)) }
+        ensures same { OnOk result ((m : ℕ) (d : Mailbox) → SameMailbox (slice_index_or self.old.boxes m d) (slice_index_or self.new.boxes m d)) }
         ensures counts { SameCounts self.old self.new }
         ensures room { vec_capacity out.old ≤ vec_capacity out.new }
         ensures refused { OnErr result ((self.new ≡ self.old) × (out.new.items ≡ out.old.items)) }
@@ -84,7 +84,7 @@ impl DeliveryCore {
         ensures event { IsSome (client_of self.old session) → (k : Config) → Does k self.old (Read session uid mark_seen) session (Reads mark_seen uid result) self.new }
         ensures done { OnOk result ((k : Config) → Makes k self.old session (λ b s. []) (λ b. seen_logged mark_seen (rows_of b.log) uid) self.new) }
         ensures rest { SameDelivery self.old self.new }
-        ensures same { OnOk result ((m : ℕ) (d : Mail) → SameMailbox (slice_index_or self.old.boxes m d) (slice_index_or self.new.boxes m d)) }
+        ensures same { OnOk result ((m : ℕ) (d : Mailbox) → SameMailbox (slice_index_or self.old.boxes m d) (slice_index_or self.new.boxes m d)) }
         ensures counts { SameCounts self.old self.new }
         ensures refused { OnErr result (self.new ≡ self.old) }
     {
@@ -110,7 +110,7 @@ impl DeliveryCore {
         ensures clients { self.new.clients ≡ self.old.clients }
         ensures view { view_of self.new session ≡ view_of self.old session }
         ensures rest { SameDelivery self.old self.new }
-        ensures same { OnOk result ((m : ℕ) (d : Mail) → SameMailbox (slice_index_or self.old.boxes m d) (slice_index_or self.new.boxes m d)) }
+        ensures same { OnOk result ((m : ℕ) (d : Mailbox) → SameMailbox (slice_index_or self.old.boxes m d) (slice_index_or self.new.boxes m d)) }
         ensures counts { SameCounts self.old self.new }
         ensures refused { OnErr result (self.new ≡ self.old) }
     {
@@ -142,7 +142,7 @@ impl DeliveryCore {
         ensures done { OnOk result ((k : Config) → Makes k self.old session (λ b s. pending b s) (λ b. removals (in_set (option_map (λ uids. uids.now) uids.entry)) (rows_of b.log)) self.new) }
         ensures shown { OnOk result (Sees self.old self.new session (pending_for self.old session) out.old.items out.new.items) }
         ensures rest { SameDelivery self.old self.new }
-        ensures same { OnOk result ((m : ℕ) (d : Mail) → SameMailbox (slice_index_or self.old.boxes m d) (slice_index_or self.new.boxes m d)) }
+        ensures same { OnOk result ((m : ℕ) (d : Mailbox) → SameMailbox (slice_index_or self.old.boxes m d) (slice_index_or self.new.boxes m d)) }
         ensures counts { SameCounts self.old self.new }
         ensures room { vec_capacity out.old ≤ vec_capacity out.new }
         ensures refused { OnErr result ((self.new ≡ self.old) × (out.new.items ≡ out.old.items)) }
@@ -167,12 +167,12 @@ impl DeliveryCore {
     pub fn enter(&mut self, session: u8, mailbox: u8) -> Result<Opening, MailFault>
         ensures stranger { (result ≡ Err MailFault.Stranger) ↔ ((length self.old.clients ≤ session) ⊎ (IsSome (client_of self.old session) ⊎ (length self.old.boxes ≤ mailbox))) }
         ensures lapsed { result ≢ Err MailFault.Lapped }
-        ensures spent { result ≡ Err MailFault.Spent → (d : Mail) → 2 ^ 64 - 1 ≤ (slice_index_or self.old.boxes mailbox d).cursors.next }
+        ensures spent { result ≡ Err MailFault.Spent → (d : Mailbox) → 2 ^ 64 - 1 ≤ (slice_index_or self.old.boxes mailbox d).cursors.next }
         ensures event { result ≢ Err MailFault.Stranger → (k : Config) → Enters k self.old session mailbox result self.new }
         ensures entered { OnOk result (option_map (λ client. client.mailbox) (client_of self.new session) ≡ Some mailbox) }
-        ensures validity { IfOk result (λ opening. (d : Mail) → opening.uidvalidity ≡ (slice_index_or self.old.boxes mailbox d).uidvalidity) }
+        ensures validity { IfOk result (λ opening. (d : Mailbox) → opening.uidvalidity ≡ (slice_index_or self.old.boxes mailbox d).uidvalidity) }
         ensures rest { SameDelivery self.old self.new }
-        ensures same { OnOk result ((m : ℕ) (d : Mail) → SameMailbox (slice_index_or self.old.boxes m d) (slice_index_or self.new.boxes m d)) }
+        ensures same { OnOk result ((m : ℕ) (d : Mailbox) → SameMailbox (slice_index_or self.old.boxes m d) (slice_index_or self.new.boxes m d)) }
         ensures counts { SameCounts self.old self.new }
         ensures refused { OnErr result (self.new ≡ self.old) }
     {
@@ -206,7 +206,7 @@ impl DeliveryCore {
         ensures event { IsSome (client_of self.old session) → (k : Config) → Does k self.old (Leave session remove) session (Leaves remove result) self.new }
         ensures gone { OnOk result (client_of self.new session ≡ None) }
         ensures rest { SameDelivery self.old self.new }
-        ensures same { OnOk result ((m : ℕ) (d : Mail) → SameMailbox (slice_index_or self.old.boxes m d) (slice_index_or self.new.boxes m d)) }
+        ensures same { OnOk result ((m : ℕ) (d : Mailbox) → SameMailbox (slice_index_or self.old.boxes m d) (slice_index_or self.new.boxes m d)) }
         ensures counts { SameCounts self.old self.new }
         ensures refused { OnErr result (self.new ≡ self.old) }
     {
@@ -275,7 +275,7 @@ impl DeliveryCore {
     pub fn status(&self, mailbox: u8) -> Option<Status>
         ensures there { IsSome result ↔ (mailbox < length self.now.boxes) }
         ensures status { IfSome result (λ status. (k : Config) (w : World) → StandsFor k self.now w → IsStatus k (w.box mailbox) status) }
-        ensures validity { IfSome result (λ status. (d : Mail) → status.uidvalidity ≡ (slice_index_or self.now.boxes mailbox d).uidvalidity) }
+        ensures validity { IfSome result (λ status. (d : Mailbox) → status.uidvalidity ≡ (slice_index_or self.now.boxes mailbox d).uidvalidity) }
     {
         let number = usize::from(mailbox);
         if number >= self.boxes.len() {

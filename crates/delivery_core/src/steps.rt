@@ -6,7 +6,7 @@ ghost use Rattle.world.specs.World.{Answer, Box, Config, Deliver, Hear, Put, Put
 ghost use Rattle.shard_queue.specs.Plain.{taken_entry};
 ghost use Rattle.delivery_core.specs.Changes.{CannotEnd, Ends, Hears, SameCounts};
 ghost use Rattle.delivery_token.specs.Log.{heard_at_once};
-ghost use Rattle.delivery_core.specs.Held.{has_ended, is_ended, lane_of};
+ghost use Rattle.delivery_core.specs.DeliveryCore.{has_ended, is_ended, lane_of};
 ghost use Rattle.delivery_core.specs.Load.{load};
 ghost use Rattle.delivery_core.specs.Seated.{cursors_of};
 ghost use Rattle.delivery_core.specs.Puts.{IsNextKey};
@@ -17,9 +17,9 @@ ghost use Rattle.delivery_core.specs.inner.Stands.{Lives};
 ghost use Rattle.delivery_core.specs.inner.Boxes.{verdict_of, BoxDelivers};
 ghost use Rattle.delivery_core.specs.Settled.{IsFor};
 ghost use Rattle.delivery_core.specs.New.{IsNewBox, first_key};
-ghost use Rattle.delivery_token.specs.Book.{Book};
+ghost use Rattle.delivery_token.specs.WorkerLog.{WorkerLog};
 ghost use Rattle.delivery_token.specs.declared.CopyKey.{CopyKey};
-ghost use Rattle.mailbox.specs.Mail.{Mail, SameMailbox};
+ghost use Rattle.mailbox.specs.Mailbox.{Mailbox, SameMailbox};
 
 use crate::client::Client;
 use crate::make::{empty_hands, first_keys, new_boxes, new_lanes, new_logs, no_clients};
@@ -69,11 +69,11 @@ pub struct DeliveryCore {
 
 impl Model for DeliveryCore {
     ghost use Rattle.std.specs.Prelude.{◌≡◌, length};
-    ghost use Rattle.delivery_core.specs.Held.{Held};
-    ghost use Rattle.delivery_core.specs.inner.Held.{AreKept};
+    ghost use Rattle.delivery_core.specs.DeliveryCore.{DeliveryCore};
+    ghost use Rattle.delivery_core.specs.inner.DeliveryCore.{AreKept};
     ghost use Rattle.delivery_core.specs.Seated.{AreSeated, cursors_of};
 
-    ghost Value = { Held };
+    ghost Value = { DeliveryCore };
 
     ghost view = { λ p. record { lanes = p.lanes.items; hands = p.hands.items; replies = p.replies.items; heard = p.heard.items; boxes = p.boxes.items; next = p.next.items; clients = p.clients.items } };
 
@@ -237,7 +237,7 @@ impl DeliveryCore {
         requires shards { 0 < length self.old.lanes }
         ensures follows { OnOk result ((k : Config) → Follows k self.old (Put key.seat (mailbox % length self.old.lanes) (record { key = key; mailbox = mailbox; text = text.now; flags = flags }) ∷ []) self.new) }
         ensures next { OnOk result (self.new.next ≡ slice_set self.old.next key.seat (past key)) }
-        ensures memory { OnErr result ((d : Book) → (slice_index_or self.old.heard key.seat d).spare ≡ 0) }
+        ensures memory { OnErr result ((d : WorkerLog) → (slice_index_or self.old.heard key.seat d).spare ≡ 0) }
         ensures shut { IfOk result (λ why. (why ≡ Some Refusal.Shut) ↔ (is_ended key.seat (lane_of self.old (mailbox % length self.old.lanes)) ≡ true)) }
         ensures heard { IfOk result (λ why. Hears self.old self.new key.seat (heard_at_once key mailbox why)) }
         ensures boxes { self.new.boxes ≡ self.old.boxes }
@@ -350,7 +350,7 @@ impl DeliveryCore {
         ensures heard { self.new.heard ≡ self.old.heard }
         ensures next { self.new.next ≡ self.old.next }
         ensures cursors { cursors_of self.new.boxes ≡ cursors_of self.old.boxes }
-        ensures same { OnOk result ((m : ℕ) (d : Mail) → SameMailbox (slice_index_or self.old.boxes m d) (slice_index_or self.new.boxes m d)) }
+        ensures same { OnOk result ((m : ℕ) (d : Mailbox) → SameMailbox (slice_index_or self.old.boxes m d) (slice_index_or self.new.boxes m d)) }
         ensures clients { self.new.clients ≡ self.old.clients }
         ensures counts { SameCounts self.old self.new }
         ensures load { OnOk result (load self.new < load self.old) }
@@ -419,7 +419,7 @@ impl DeliveryCore {
     pub fn hear(&mut self, seat: u8) -> Result<Noted, HearFault>
         ensures follows { OnOk result ((k : Config) → Follows k self.old (Hear seat ∷ []) self.new) }
         ensures nobody { (result ≡ Err HearFault.Nobody) ↔ (length self.old.replies ≤ seat) }
-        ensures memory { result ≡ Err HearFault.NoMemory → (d : Book) → (slice_index_or self.old.heard seat d).spare ≡ 0 }
+        ensures memory { result ≡ Err HearFault.NoMemory → (d : WorkerLog) → (slice_index_or self.old.heard seat d).spare ≡ 0 }
         ensures changes_nothing { result ≡ Err HearFault.Nothing → (k : Config) → ChangesNothing k self.old (Hear seat) }
         ensures heard { IfOk result (λ noted. Hears self.old self.new seat (noted ∷ [])) }
         ensures next { self.new.next ≡ self.old.next }
@@ -451,8 +451,8 @@ impl DeliveryCore {
     /// The last changes of a mailbox, as the mailbox tells them. None where it is not there.
     pub fn tail(&self, mailbox: u8) -> Option<(u64, &[Change], &[Change])>
         ensures there { IsSome result ↔ (mailbox < length self.now.boxes) }
-        ensures base { IfSome result (λ t. (d : Mail) → t.0 ≡ (slice_index_or self.now.boxes mailbox d).window.base) }
-        ensures changes { IfSome result (λ t. (d : Mail) → t.1.now ++ t.2.now ≡ (slice_index_or self.now.boxes mailbox d).window.changes) }
+        ensures base { IfSome result (λ t. (d : Mailbox) → t.0 ≡ (slice_index_or self.now.boxes mailbox d).window.base) }
+        ensures changes { IfSome result (λ t. (d : Mailbox) → t.1.now ++ t.2.now ≡ (slice_index_or self.now.boxes mailbox d).window.changes) }
     {
         let at = usize::from(mailbox);
         if at >= self.boxes.len() {
@@ -465,7 +465,7 @@ impl DeliveryCore {
     /// where it is not there.
     pub fn accepted(&self, mailbox: u8) -> Option<&[(CopyKey, u32)]>
         ensures there { IsSome result ↔ (mailbox < length self.now.boxes) }
-        ensures accepted { IfSome result (λ a. (d : Mail) → a.now ≡ (slice_index_or self.now.boxes mailbox d).accepted) }
+        ensures accepted { IfSome result (λ a. (d : Mailbox) → a.now ≡ (slice_index_or self.now.boxes mailbox d).accepted) }
     {
         let at = usize::from(mailbox);
         if at >= self.boxes.len() {

@@ -25,9 +25,9 @@ pub struct WorkerLog {
 
 impl Model for WorkerLog {
     ghost use Rattle.std.specs.Prelude.{◌-◌, vec_len, vec_capacity};
-    ghost use Rattle.delivery_token.specs.Book.{Book};
+    ghost use Rattle.delivery_token.specs.WorkerLog.{WorkerLog};
 
-    ghost Value = { Book };
+    ghost Value = { WorkerLog };
 
     ghost view = { λ l. record {
       seat = l.seat;

@@ -7,7 +7,7 @@ use Rattle.std.proofs.lemmas.List.{take_more, length-take-le, get_or-take}
 use Rattle.memchr.specs.Find.{OccursAt}
 use Rattle.line_io.proofs.Appended.{take_two_of}
 use Rattle.dot_stuffing.specs.Data.{Plain}
-use Rattle.dot_stuffing.specs.Unstuffing.{text_so_far, Collects, IsOpenAt, StandsFor, Tells, Unstuffing}
+use Rattle.dot_stuffing.specs.Unstuffing.{text_so_far, Collects, IsOpenAt, StandsFor, Tells, Unstuffer}
 use Rattle.dot_stuffing.specs.inner.Unstuffing.{after, after_two}
 use Rattle.dot_stuffing.specs.declared.place.Place.{Place}
 use Rattle.dot_stuffing.specs.declared.place.Place.TheVariants.{Start, Cr, Inside}
@@ -86,7 +86,7 @@ place_at_end run place none one more = cases (length run) refl
     cases (suc (suc n)) e = let two : length run ≡ n + 2 = omega (arith, e) in more n two ∙ ap (λ k. after_two (get_or run n 0) (get_or run k 0)) (add-one n)
 
 -- what the unstuffer knows after such bytes
-pub stands_run : (old new : Unstuffing) (wire piece : List ℕ) (n : ℕ) → StandsFor old wire → old.place ≡ Inside → new.place ≡ place_at (take n piece) (length (take n piece)) →
+pub stands_run : (old new : Unstuffer) (wire piece : List ℕ) (n : ℕ) → StandsFor old wire → old.place ≡ Inside → new.place ≡ place_at (take n piece) (length (take n piece)) →
     n ≤ length piece → ((k : ℕ) → k + 2 < n → get_or piece k 0 ≡ 13 → get_or piece (k + 1) 0 ≡ 10 → get_or piece (k + 2) 0 ≡ 46 → ⊥) →
     ((text : List ℕ) → Collects old.collected text → Collects new.collected (text ++ take n piece)) →
     StandsFor new (wire ++ take n piece)
@@ -125,13 +125,13 @@ in_parts wire piece i n h =
     ∙ ap (λ t. t ++ get_or piece (i + n) 0 ∷ []) (ap (λ t. wire ++ t) (sym (take_two_of i n piece)) ∙ sym (append_assoc wire (take i piece) more))
 
 -- the first bytes of a piece, and so many of the rest
-pub run_in_parts : (u : Unstuffing) (wire piece : List ℕ) (i n : ℕ) → StandsFor u ((wire ++ take i piece) ++ take n (take (length piece - i) (drop i piece))) → StandsFor u (wire ++ take (i + n) piece)
+pub run_in_parts : (u : Unstuffer) (wire piece : List ℕ) (i n : ℕ) → StandsFor u ((wire ++ take i piece) ++ take n (take (length piece - i) (drop i piece))) → StandsFor u (wire ++ take (i + n) piece)
 run_in_parts u wire piece i n s =
     let more : List ℕ = take n (take (length piece - i) (drop i piece)) in
     subst (λ (w : List ℕ). StandsFor u w) (append_assoc wire (take i piece) more ∙ ap (λ t. wire ++ t) (take_two_of i n piece)) s
 
 -- an answer about that byte, where none before it told anything, is one about all of them
-pub tells_in_parts : (what : Progress) (u : Unstuffing) (wire piece : List ℕ) (i n : ℕ) → i + n < length piece →
+pub tells_in_parts : (what : Progress) (u : Unstuffer) (wire piece : List ℕ) (i n : ℕ) → i + n < length piece →
     Tells what u ((wire ++ take i piece) ++ take n (take (length piece - i) (drop i piece))) (get_or piece (i + n) 0 ∷ []) →
     Tells what u wire (take (i + n + 1) piece)
 tells_in_parts More u wire piece i n h t = subst (λ (w : List ℕ). StandsFor u w) (sym (in_parts wire piece i n h)) t

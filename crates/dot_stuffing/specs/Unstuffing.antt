@@ -32,12 +32,12 @@ pub record IsOpenAt (place : Place) (wire : List ℕ) : Type 0 where
   pub at : IsAt place (wire_rest wire)
 
 -- what a `Buffer` holds: the text so far, and what stands before it
-pub record Buffered : Type 0 where
+pub record Buffer : Type 0 where
   pub front : List ℕ
   pub bytes : List ℕ
 
 -- what a `Collector` knows
-pub record Collected : Type 0 where
+pub record Collector : Type 0 where
   -- the most bytes that a text may have
   pub max : ℕ
   -- what stands before the text, and the text so far
@@ -51,11 +51,11 @@ pub record Collected : Type 0 where
   pub no_memory : Bool
 
 -- the text is to stand behind this, unless memory was refused
-abbrev pub IsBehind : Collected → List ℕ → Type 0
+abbrev pub IsBehind : Collector → List ℕ → Type 0
 IsBehind c front = c.no_memory ≡ false → c.front ≡ front
 
 -- this text came
-pub record Collects (c : Collected) (text : List ℕ) : Type 0 where
+pub record Collects (c : Collector) (text : List ℕ) : Type 0 where
   pub nul : c.has_nul ≡ true → Contains text 0
   pub no_nul : c.has_nul ≡ false → Contains text 0 → ⊥
   pub big : c.is_big ≡ true → c.max < length text
@@ -70,14 +70,14 @@ IsOutcome NoMemory max text = (Contains text 0 → ⊥) × (length text ≤ max)
 IsOutcome Ok max text = (Contains text 0 → ⊥) × (length text ≤ max)
 
 -- what an `Unstuffer` knows
-pub record Unstuffing : Type 0 where
+pub record Unstuffer : Type 0 where
   pub place : Place
-  pub collected : Collected
+  pub collected : Collector
   -- what came of the data, once it has ended
   pub outcome : Option Outcome
 
 -- the unstuffer has taken this wire, and the data has not ended
-pub record StandsFor (u : Unstuffing) (wire : List ℕ) : Type 0 where
+pub record StandsFor (u : Unstuffer) (wire : List ℕ) : Type 0 where
   pub wire_at : IsOpenAt u.place wire
   pub collects : Collects u.collected (text_so_far u.place wire)
 
@@ -87,7 +87,7 @@ outcome_of (Done outcome) = Some outcome
 
 -- What an answer says of the wire and the bytes that the call used after it; u is the unstuffer as the call left it.
 -- More: the data has not ended. Done: it ended, with the last byte used.
-abbrev pub Tells : Progress → Unstuffing → (wire used : List ℕ) → Type 0
+abbrev pub Tells : Progress → Unstuffer → (wire used : List ℕ) → Type 0
 Tells More u wire used = StandsFor u (wire ++ used)
 Tells (Done outcome) u wire used =
     (text : List ℕ) × Plain (wire ++ used) text × IsOutcome outcome u.collected.max text × (outcome ≡ Ok → u.collected.bytes ≡ text)

@@ -23,9 +23,9 @@ pub(crate) struct Buffer {
 
 impl Model for Buffer {
     ghost use Rattle.std.specs.Prelude.{◌≤◌, length, take, drop};
-    ghost use Rattle.dot_stuffing.specs.Unstuffing.{Buffered};
+    ghost use Rattle.dot_stuffing.specs.Unstuffing.{Buffer};
 
-    ghost Value = { Buffered };
+    ghost Value = { Buffer };
 
     ghost view = { λ b. record { front = take b.start b.bytes.items; bytes = drop b.start b.bytes.items } };
 

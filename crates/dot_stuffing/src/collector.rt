@@ -32,9 +32,9 @@ pub(crate) struct Collector {
 
 impl Model for Collector {
     ghost use Rattle.std.specs.Prelude.{◌≡◌, ◌≤◌, false};
-    ghost use Rattle.dot_stuffing.specs.Unstuffing.{Collected};
+    ghost use Rattle.dot_stuffing.specs.Unstuffing.{Collector};
 
-    ghost Value = { Collected };
+    ghost Value = { Collector };
 
     ghost view = { λ a. record {
       max = a.max;

@@ -33,10 +33,10 @@ pub struct Unstuffer {
 
 impl Model for Unstuffer {
     ghost use Rattle.std.specs.Prelude.{◌≡◌, Some, false};
-    ghost use Rattle.dot_stuffing.specs.Unstuffing.{Unstuffing};
+    ghost use Rattle.dot_stuffing.specs.Unstuffing.{Unstuffer};
     ghost use Rattle.dot_stuffing.specs.declared.Outcome.TheVariants as outcomes;
 
-    ghost Value = { Unstuffing };
+    ghost Value = { Unstuffer };
 
     ghost view = { λ a. record { place = a.place; collected = a.collector; outcome = a.outcome } };
 

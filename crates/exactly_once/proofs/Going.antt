@@ -17,13 +17,13 @@ use Rattle.world.specs.World.{Config, World, Steps}
 use Rattle.world.specs.Law.{Headline}
 use Rattle.world.proofs.Always.{always}
 use Rattle.world.proofs.Base.{all_of_every, every_weaker, rising_pair}
-use Rattle.house_connection.specs.HouseConnection.{HouseConnection, more_waits, greeted}
+use Rattle.house_connection.specs.Caller.{Caller, more_waits, greeted}
 use Rattle.house.specs.Setup.{Setup, session_seat, terms_of}
-use Rattle.house_session.specs.HouseSession.{HouseSession}
+use Rattle.house_session.specs.Visitor.{Visitor}
 use Rattle.house.specs.Printing.{Speaks, Prints, prints_all, prints_none}
 use Rattle.house.specs.Printing.{marked_session, of_session, still_unsaid, with_session}
-use Rattle.house_session.specs.HouseSession.{more_waits as visitor_more_waits}
-use Rattle.house_session.specs.Seated.{SeatedSession, seated_greeted}
+use Rattle.house_session.specs.Visitor.{more_waits as visitor_more_waits}
+use Rattle.house_session.specs.SeatedVisitor.{SeatedVisitor, seated_greeted}
 use Rattle.house_session.specs.Folders.{folders_of}
 use Rattle.house.proofs.Carried.{speaks_carried}
 use Rattle.imap_session.specs.Exchange as calls
@@ -42,7 +42,7 @@ use Rattle.exactly_once.proofs.Whole.{IsWhole, cut_of, goes_whole, greeting_whol
 use Rattle.exactly_once.proofs.Saying.{ConnectionOk, Spoke, caller_grows, greeted_talking, proceeds_spoke, unread_silent, verdicts}
 
 -- what a session has still to print is whole lines
-abbrev pub SessionOk : Option SeatedSession → Type 0
+abbrev pub SessionOk : Option SeatedVisitor → Type 0
 SessionOk None = Unit {0}
 SessionOk (Some v) = IsWhole v.session.unsaid
 
@@ -87,7 +87,7 @@ seat_stays k told s v seat next ok r l =
     (caller_grows k seat (s.world.heard seat) (v.heard seat) (s.next seat) next (told seat) (s.caller seat) (λ n c. heard_stays_heard k.config s.world r.0 v seat n r.1 c) l (ok.callers seat))
 
 -- the connection at a seat went on in a world that may have moved
-caller_did : (k : Setup) (told : ℕ → List Noted) (s : Scene) (e : Event) (v : World) (seat : ℕ) (o : Option HouseConnection) (next : ℕ → ℕ) (printed : List ℕ) → SceneOk k told s → Reached k.config s.world v
+caller_did : (k : Setup) (told : ℕ → List Noted) (s : Scene) (e : Event) (v : World) (seat : ℕ) (o : Option Caller) (next : ℕ → ℕ) (printed : List ℕ) → SceneOk k told s → Reached k.config s.world v
     → ((t : Scene) (said : List Said) → HearsItsOwn s seat said → IsOwn k s e t (Replies seat said)) → ((j : ℕ) → s.next j ≤ next j) → (serial : ℕ) → serial ≡ serial_of (s.next seat) (s.caller seat) → Spoke k seat serial (v.heard seat) (next seat) (told seat) o printed
     → Did k told s e (record { world = v; caller = set_at s.caller seat o; next = next; visitor = s.visitor; entered = s.entered; shut = s.shut }) printed
 caller_did k told s e v seat o next printed ok r own l serial here spoke = record {
@@ -103,7 +103,7 @@ caller_did k told s e v seat o next printed ok r own l serial here spoke = recor
     at j (inr (f, other)) = rw f (seat_stays k told s v j (next j) ok r (l j))
 
 -- the same of who stands at a seat, where it prints nothing
-seat_did : (k : Setup) (told : ℕ → List Noted) (s : Scene) (e : Event) (seat : ℕ) (o : Option HouseConnection) (printed : List ℕ) → SceneOk k told s
+seat_did : (k : Setup) (told : ℕ → List Noted) (s : Scene) (e : Event) (seat : ℕ) (o : Option Caller) (printed : List ℕ) → SceneOk k told s
     → ConnectionOk k seat (s.world.heard seat) (s.next seat) (told seat) o → printed ≡ []
     → Did k told s e (record { world = s.world; caller = set_at s.caller seat o; next = s.next; visitor = s.visitor; entered = s.entered; shut = s.shut }) printed
 seat_did k told s e seat o printed ok here is = record {
@@ -119,7 +119,7 @@ seat_did k told s e seat o printed ok here is = record {
     at j (inr (f, other)) = rw f (seat_stays k told s s.world j (s.next j) ok (stays k.config s.world s.world refl) (omega arith))
 
 -- who stands at a seat, in a world that may have moved
-at_seat : (k : Setup) (told : ℕ → List Noted) (s : Scene) (v : World) (seat : ℕ) (b : HouseConnection) → SceneOk k told s → Reached k.config s.world v → s.caller seat ≡ Some b
+at_seat : (k : Setup) (told : ℕ → List Noted) (s : Scene) (v : World) (seat : ℕ) (b : Caller) → SceneOk k told s → Reached k.config s.world v → s.caller seat ≡ Some b
     → ConnectionOk k seat (v.heard seat) (s.next seat) (told seat) (Some b)
 at_seat k told s v seat b ok r there =
     caller_grows k seat (s.world.heard seat) (v.heard seat) (s.next seat) (s.next seat) (told seat) (Some b) (λ n c. heard_stays_heard k.config s.world r.0 v seat n r.1 c) (omega arith)
@@ -167,7 +167,7 @@ vanish_did k told s e seat t printed ok p =
 -- ---- what no connection says
 
 -- what is left of the callers where none of them did anything, and of the visitors
-nobody_spoke : (k : Setup) (told : ℕ → List Noted) (s : Scene) (v : World) (visitor : ℕ → Option SeatedSession) (entered : ℕ → ℕ) → SceneOk k told s → Reached k.config s.world v → ((place : ℕ) → SessionOk (visitor place))
+nobody_spoke : (k : Setup) (told : ℕ → List Noted) (s : Scene) (v : World) (visitor : ℕ → Option SeatedVisitor) (entered : ℕ → ℕ) → SceneOk k told s → Reached k.config s.world v → ((place : ℕ) → SessionOk (visitor place))
     → SceneOk k (λ p. told p ++ []) (record { world = v; caller = s.caller; next = s.next; visitor = visitor; entered = entered; shut = s.shut })
 nobody_spoke k told s v visitor entered ok r visitors = record { callers = λ j. seat_stays k told s v j (s.next j) ok r (omega arith); visitors = visitors }
 
@@ -186,7 +186,7 @@ close_did k told s shard t printed ok p =
 -- ---- sessions
 
 -- a session's calls, one after the other, come to events of the world
-speaks_reached : (k : Config) (place : ℕ) (whole : Bool) (seat n : ℕ) (heard : List Noted) (w mid : World) (before after : SeatedSession) (printed : List ℕ) → Speaks (Meets k place) whole seat n heard before w mid after printed → Reached k w mid
+speaks_reached : (k : Config) (place : ℕ) (whole : Bool) (seat n : ℕ) (heard : List Noted) (w mid : World) (before after : SeatedVisitor) (printed : List ℕ) → Speaks (Meets k place) whole seat n heard before w mid after printed → Reached k w mid
 speaks_reached k place whole seat n heard w mid before after printed s =
     (speaks_carried {S = World} {T = Unit {0}} (Meets k place) (λ a call answer b. Unit {0}) (λ v x. Reached k w v)
     (λ old new call answer x step r. (tt, tt, reached_then k w old new r (meets_reached k place old call answer new step)))
@@ -200,7 +200,7 @@ met_reached k place w (e ∷ es) v (mid, one, more) = reached_then k w mid v (me
 leaves_reached : (k : Setup) (place : ℕ) (w v : World) → LeavesMailbox k place w v → Reached k.config w v
 leaves_reached k place w v l = meets_reached k.config place w (calls.Leave false) l.0 v l.1
 
-parts_reached : (k : Setup) (whole : Bool) (place : ℕ) (after : SeatedSession) (w v : World) (o : Option SeatedSession) → Parts k whole place after w v o → Reached k.config w v
+parts_reached : (k : Setup) (whole : Bool) (place : ℕ) (after : SeatedVisitor) (w v : World) (o : Option SeatedVisitor) → Parts k whole place after w v o → Reached k.config w v
 parts_reached k whole place after w v o (parts ended said l e) = leaves_reached k place w v l
 parts_reached k whole place after w v o (remains not e f) = stays k.config w v e
 
@@ -220,20 +220,20 @@ unsaid_whole : (n : ℕ) (bytes still printed : List ℕ) → IsWhole bytes → 
 unsaid_whole n bytes still printed w (prints_all l p) = inl l
 unsaid_whole n bytes still printed w (prints_none l p) = subst IsWhole (sym l) w
 
-left_whole : (k : Setup) (place : ℕ) (after : SeatedSession) (w v : World) (o : Option SeatedSession) → IsWhole after.session.unsaid → Parts k false place after w v o → SessionOk o
+left_whole : (k : Setup) (place : ℕ) (after : SeatedVisitor) (w v : World) (o : Option SeatedVisitor) → IsWhole after.session.unsaid → Parts k false place after w v o → SessionOk o
 left_whole k place after w v o whole (parts ended said l e) = rw e tt
 left_whole k place after w v o whole (remains not e f) = rw f whole
 
-lingers_whole : (seat : ℕ) (heard : List Noted) (v : SeatedSession) (o : Option SeatedSession) → IsWhole v.session.unsaid → Lingers seat heard v o → SessionOk o
+lingers_whole : (seat : ℕ) (heard : List Noted) (v : SeatedVisitor) (o : Option SeatedVisitor) → IsWhole v.session.unsaid → Lingers seat heard v o → SessionOk o
 lingers_whole seat heard v o whole (waits a e) = rw e whole
 lingers_whole seat heard v o whole (fades a e) = rw e tt
 
 -- who is at a place, and its session's bytes
-at_place : (k : Setup) (told : ℕ → List Noted) (s : Scene) (place : ℕ) (b : SeatedSession) → SceneOk k told s → s.visitor place ≡ Some b → IsWhole b.session.unsaid
+at_place : (k : Setup) (told : ℕ → List Noted) (s : Scene) (place : ℕ) (b : SeatedVisitor) → SceneOk k told s → s.visitor place ≡ Some b → IsWhole b.session.unsaid
 at_place k told s place b ok there = subst SessionOk there (ok.visitors place)
 
 -- a session went on, and may have left
-visited : (k : Setup) (told : ℕ → List Noted) (s : Scene) (v : World) (place : ℕ) (o : Option SeatedSession) (entered : ℕ → ℕ) → SceneOk k told s → Reached k.config s.world v → SessionOk o
+visited : (k : Setup) (told : ℕ → List Noted) (s : Scene) (v : World) (place : ℕ) (o : Option SeatedVisitor) (entered : ℕ → ℕ) → SceneOk k told s → Reached k.config s.world v → SessionOk o
     → SceneOk k (λ p. told p ++ []) (record { world = v; caller = s.caller; next = s.next; visitor = set_at s.visitor place o; entered = entered; shut = s.shut })
 visited k told s v place o entered ok r here = nobody_spoke k told s v (set_at s.visitor place o) entered ok r (at_each (λ j x. SessionOk x) s.visitor place o ok.visitors here)
 
@@ -244,14 +244,14 @@ record Visited (k : Setup) (told : ℕ → List Noted) (s t : Scene) (n : ℕ) (
   pub reached : Reached k.config s.world t.world
 
 -- from a world that the scene's has come to
-goes_visited : (k : Setup) (told : ℕ → List Noted) (s : Scene) (w : World) (place : ℕ) (heard : List Noted) (b : SeatedSession) (v : World) (o : Option SeatedSession) (printed : List ℕ) (entered : ℕ → ℕ) → SceneOk k told s → Reached k.config s.world w
+goes_visited : (k : Setup) (told : ℕ → List Noted) (s : Scene) (w : World) (place : ℕ) (heard : List Noted) (b : SeatedVisitor) (v : World) (o : Option SeatedVisitor) (printed : List ℕ) (entered : ℕ → ℕ) → SceneOk k told s → Reached k.config s.world w
     → IsWhole b.session.unsaid → (g : SessionTalks k false place heard w b v o printed)
     → Visited k told s (record { world = v; caller = s.caller; next = s.next; visitor = set_at s.visitor place o; entered = entered; shut = s.shut }) (place + 1) (b.session.unsaid ++ g.speaks.said) printed
 goes_visited k told s w place heard b v o printed entered ok came whole g =
     let bytes = b.session.unsaid ++ g.speaks.said in
     let all = whole_append b.session.unsaid g.speaks.said whole (goes_whole (Meets k.config place) false (session_seat k place) heard b w g.mid g.speaks.spoken g.speaks.said g.speaks.goes) in
     let r = reached_then k.config s.world w v came (reached_then k.config w g.mid v (speaks_reached k.config place false (session_seat k place) (place + 1) heard w g.mid b g.after printed g.speaks) (parts_reached k false place g.after g.mid v o g.left)) in
-    let still : IsWhole g.after.session.unsaid = subst (λ (x : SeatedSession). IsWhole x.session.unsaid) (sym g.speaks.is) (unsaid_whole (place + 1) bytes g.speaks.still printed all g.speaks.prints) in
+    let still : IsWhole g.after.session.unsaid = subst (λ (x : SeatedVisitor). IsWhole x.session.unsaid) (sym g.speaks.is) (unsaid_whole (place + 1) bytes g.speaks.still printed all g.speaks.prints) in
     record {
       words = wrote_of k (place + 1) bytes g.speaks.still printed all g.speaks.prints;
       ok = visited k told s v place o entered ok r (left_whole k place g.after g.mid v o still g.left);
@@ -338,7 +338,7 @@ leave_did k told s e place t printed ok p =
 -- ---- sessions that put and hear
 
 -- one whose client is gone says nothing
-gone_did : (k : Setup) (told : ℕ → List Noted) (s : Scene) (e : Event) (w : World) (place : ℕ) (b : SeatedSession) (o : Option SeatedSession) (t : Scene) (printed : List ℕ) → SceneOk k told s → Reached k.config s.world w → IsWhole b.session.unsaid
+gone_did : (k : Setup) (told : ℕ → List Noted) (s : Scene) (e : Event) (w : World) (place : ℕ) (b : SeatedVisitor) (o : Option SeatedVisitor) (t : Scene) (printed : List ℕ) → SceneOk k told s → Reached k.config s.world w → IsWhole b.session.unsaid
     → (heard : List Noted) → Lingers (session_seat k place) heard b o → printed ≡ [] → t ≡ record { world = w; caller = s.caller; next = s.next; visitor = set_at s.visitor place o; entered = s.entered; shut = s.shut } → Did k told s e t printed
 gone_did k told s e w place b o t printed ok came whole heard l silent after =
     rw after (record { piece = Silence; is = silent; own = tt; ok = visited k told s w place o s.entered ok came (lingers_whole (session_seat k place) heard b o whole l); reached = came })
@@ -355,7 +355,7 @@ talked_did k told s e n bytes t printed v own = by v.words
 session_put_did : (k : Setup) (told : ℕ → List Noted) (s : Scene) (number place : ℕ) (t : Scene) (printed : List ℕ) → seat_of number ≡ session_seat k place → SceneOk k told s → SessionPuts k false s place t printed → Did k told s (Put number) t printed
 session_put_did k told s number place t printed at ok p = by p.goes
   where
-    rest : SeatedSession
+    rest : SeatedVisitor
     rest = record { session = p.visitor.session; serial = p.visitor.serial; gone = p.visitor.gone; to_put = p.others }
 
     came : Reached k.config s.world p.moved
@@ -488,7 +488,7 @@ nobody_ok k = record { callers = λ seat. none_told seat [] 0 0; visitors = λ p
 -- ---- what follows of it
 
 -- what was told at a seat, whoever stands there
-told_there : (k : Setup) (seat : ℕ) (heard : List Noted) (next : ℕ) (told : List Noted) (o : Option HouseConnection) → ConnectionOk k seat heard next told o → (serial : ℕ) × (message : ℕ) × AreTold seat heard serial message told
+told_there : (k : Setup) (seat : ℕ) (heard : List Noted) (next : ℕ) (told : List Noted) (o : Option Caller) → ConnectionOk k seat heard next told o → (serial : ℕ) × (message : ℕ) × AreTold seat heard serial message told
 told_there k seat heard next told None c = (next, 0, c)
 told_there k seat heard next told (Some b) c = (b.serial, c.message, told_front seat heard b.serial c.message told (verdicts c.said) c.in_order)
 

@@ -14,7 +14,7 @@ use Rattle.lmtp_machine.specs.Conversation.{Conversation, Leads}
 use Rattle.lmtp_machine.specs.Kept.{AreMessages, Kept}
 use Rattle.lmtp_machine.proofs.Kept.{event_keeps, fresh_kept, leads_keeps}
 use Rattle.envelope.specs.Directory.{marked}
-use Rattle.house_connection.specs.HouseConnection.{HouseConnection, Terms, GoesOn, Proceeds, IsAnswered, Works, with_unsaid, works, waits, answers, stalls, talks, lingers, fades, greeted, keys_of, meets, setting_of, unread}
+use Rattle.house_connection.specs.Caller.{Caller, Terms, GoesOn, Proceeds, IsAnswered, Works, with_unsaid, works, waits, answers, stalls, talks, lingers, fades, greeted, keys_of, meets, setting_of, unread}
 use Rattle.house.specs.Printing.{ConnectionGoes, Leaves, Prints, goes, marked_connection, of_connection as mark_of_connection, prints_all, prints_none, stays}
 use Rattle.house.proofs.Places.{does_serial}
 use Rattle.house.specs.Setup.{Setup, terms_of}
@@ -81,7 +81,7 @@ pub record IsTalking (k : Setup) (seat serial : ℕ) (heard : List Noted) (next 
   pub own : AreOf serial said
 
 -- who stands at a seat whose next connection has this serial
-abbrev pub ConnectionOk : Setup → ℕ → List Noted → ℕ → List Noted → Option HouseConnection → Type 0
+abbrev pub ConnectionOk : Setup → ℕ → List Noted → ℕ → List Noted → Option Caller → Type 0
 ConnectionOk k seat heard next told None = AreTold seat heard next 0 told
 ConnectionOk k seat heard next told (Some b) = IsTalking k seat b.serial heard next told b.talk.at.standing b.talk.unsaid b.talk.pending
 
@@ -102,7 +102,7 @@ talking_grows k seat serial heard more next later told standing unsaid pending g
 }
 
 -- more was heard, and more connections were opened
-pub caller_grows : (k : Setup) (seat : ℕ) (heard more : List Noted) (next later : ℕ) (told : List Noted) (o : Option HouseConnection) → ((n : Noted) → Contains heard n → Contains more n) → next ≤ later
+pub caller_grows : (k : Setup) (seat : ℕ) (heard more : List Noted) (next later : ℕ) (told : List Noted) (o : Option Caller) → ((n : Noted) → Contains heard n → Contains more n) → next ≤ later
     → ConnectionOk k seat heard next told o → ConnectionOk k seat more later told o
 caller_grows k seat heard more next later told None grows l c = told_grows seat heard more next 0 later 0 told grows (before_later next later l) c
 caller_grows k seat heard more next later told (Some b) grows l c = talking_grows k seat b.serial heard more next later told b.talk.at.standing b.talk.unsaid b.talk.pending grows l c
@@ -144,13 +144,13 @@ says_all k seat serial heard next told standing unsaid pending t = record {
 -- ---- what is printed
 
 -- what the connection at a seat printed, and who stands there then
-pub record Spoke (k : Setup) (seat serial : ℕ) (heard : List Noted) (next : ℕ) (told : List Noted) (o : Option HouseConnection) (printed : List ℕ) : Type 0 where
+pub record Spoke (k : Setup) (seat serial : ℕ) (heard : List Noted) (next : ℕ) (told : List Noted) (o : Option Caller) (printed : List ℕ) : Type 0 where
   pub said : List Said
   pub is : printed ≡ marked_connection (seat + 1) (bytes_of k said)
   pub own : AreOf serial said
   pub left : ConnectionOk k seat heard next (told ++ verdicts said) o
 
-silent : (k : Setup) (seat serial : ℕ) (heard : List Noted) (next : ℕ) (told : List Noted) (o : Option HouseConnection) (printed : List ℕ) → ConnectionOk k seat heard next told o → printed ≡ [] → Spoke k seat serial heard next told o printed
+silent : (k : Setup) (seat serial : ℕ) (heard : List Noted) (next : ℕ) (told : List Noted) (o : Option Caller) (printed : List ℕ) → ConnectionOk k seat heard next told o → printed ≡ [] → Spoke k seat serial heard next told o printed
 silent k seat serial heard next told o printed c e = record { said = []; is = e; own = tt; left = subst (λ (x : List Noted). ConnectionOk k seat heard next x o) (sym (append-nil told)) c }
 
 -- The dialogue went on from where nothing is awaited.
@@ -176,13 +176,13 @@ went_on k shut seat serial heard next told at after unsaid taken turn t l =
     }
 
 -- who stands there, by who has gone on
-left_ok : (k : Setup) (whole : Bool) (seat : ℕ) (heard : List Noted) (next : ℕ) (told : List Noted) (what : What) (after : HouseConnection) (o : Option HouseConnection)
+left_ok : (k : Setup) (whole : Bool) (seat : ℕ) (heard : List Noted) (next : ℕ) (told : List Noted) (what : What) (after : Caller) (o : Option Caller)
     → ConnectionOk k seat heard next told (Some after) → Leaves whole what after o → ConnectionOk k seat heard next told o
 left_ok k whole seat heard next told what after o t (goes q n e) = rw e (drops k seat after.serial heard next told after.talk.at.standing after.talk.unsaid after.talk.pending t)
 left_ok k whole seat heard next told what after o t (stays f g e) = rw e t
 
 -- what it had to say is printed, or is still to be
-prints_spoke : (k : Setup) (whole : Bool) (seat : ℕ) (heard : List Noted) (next : ℕ) (told : List Noted) (what : What) (after : HouseConnection) (still : List ℕ) (o : Option HouseConnection) (printed : List ℕ)
+prints_spoke : (k : Setup) (whole : Bool) (seat : ℕ) (heard : List Noted) (next : ℕ) (told : List Noted) (what : What) (after : Caller) (still : List ℕ) (o : Option Caller) (printed : List ℕ)
     → ConnectionOk k seat heard next told (Some after) → Prints mark_of_connection (seat + 1) after.talk.unsaid still printed → Leaves whole what (with_unsaid still after) o → Spoke k seat after.serial heard next told o printed
 prints_spoke k whole seat heard next told what after still o printed t (prints_all e p) l = record {
   said = t.said;
@@ -197,7 +197,7 @@ prints_spoke k whole seat heard next told what after still o printed t (prints_n
     (subst (λ (x : List ℕ). IsTalking k seat after.serial heard next told after.talk.at.standing x after.talk.pending) (sym e) t) l) p
 
 -- it took what waited
-works_ok : (k : Setup) (shut : List Bool) (whole : Bool) (seat : ℕ) (heard : List Noted) (next : ℕ) (told : List Noted) (b : HouseConnection) (what : What) (after : HouseConnection)
+works_ok : (k : Setup) (shut : List Bool) (whole : Bool) (seat : ℕ) (heard : List Noted) (next : ℕ) (told : List Noted) (b : Caller) (what : What) (after : Caller)
     → IsTalking k seat b.serial heard next told b.talk.at.standing b.talk.unsaid [] → Works (terms_of k shut) whole seat b what after → ConnectionOk k seat heard next told (Some after)
 works_ok k shut whole seat heard next told b what after s w =
     let t = went_on k shut seat b.serial heard next told b.talk.at w.talk.at b.talk.unsaid w.works.taken w.turn s w.works.leads in
@@ -246,7 +246,7 @@ same_number (Transaction sender recipients) n vs = refl
 same_number (Data sender recipients lines) n vs = refl
 same_number Ended n vs = refl
 
-answers_talking : (k : Setup) (shut : List Bool) (seat : ℕ) (heard : List Noted) (next : ℕ) (told : List Noted) (b : HouseConnection) (vs : List Verdict)
+answers_talking : (k : Setup) (shut : List Bool) (seat : ℕ) (heard : List Noted) (next : ℕ) (told : List Noted) (b : Caller) (vs : List Verdict)
     → IsTalking k seat b.serial heard next told b.talk.at.standing b.talk.unsaid b.talk.pending → IsAnswered heard b vs
     → IsTalking k seat b.serial heard next told (meets (terms_of k shut) seat b (Answered vs)).talk.at.standing (meets (terms_of k shut) seat b (Answered vs)).talk.unsaid []
 answers_talking k shut seat heard next told b vs t is =
@@ -269,7 +269,7 @@ answers_talking k shut seat heard next told b vs t is =
 
 -- ---- going on
 
-goes_ok : (k : Setup) (shut : List Bool) (whole : Bool) (seat : ℕ) (heard : List Noted) (next : ℕ) (told : List Noted) (b : HouseConnection) (what : What) (after : HouseConnection)
+goes_ok : (k : Setup) (shut : List Bool) (whole : Bool) (seat : ℕ) (heard : List Noted) (next : ℕ) (told : List Noted) (b : Caller) (what : What) (after : Caller)
     → ConnectionOk k seat heard next told (Some b) → GoesOn (terms_of k shut) whole seat heard b what after → ConnectionOk k seat heard next told (Some after)
 goes_ok k shut whole seat heard next told b what after s (works none w) =
     works_ok k shut whole seat heard next told b what after (subst (IsTalking k seat b.serial heard next told b.talk.at.standing b.talk.unsaid) none s) w
@@ -277,20 +277,20 @@ goes_ok k shut whole seat heard next told b what after s (waits some not q e) = 
 goes_ok k shut whole seat heard next told b what after s (answers vs some is w) = works_ok k shut whole seat heard next told (meets (terms_of k shut) seat b (Answered vs)) what after (answers_talking k shut seat heard next told b vs s is) w
 goes_ok k shut whole seat heard next told b what after s (stalls f q e) = rw e s
 
-does_ok : (k : Setup) (shut : List Bool) (whole : Bool) (seat : ℕ) (heard : List Noted) (next : ℕ) (told : List Noted) (b : HouseConnection) (what : What) (after : HouseConnection)
+does_ok : (k : Setup) (shut : List Bool) (whole : Bool) (seat : ℕ) (heard : List Noted) (next : ℕ) (told : List Noted) (b : Caller) (what : What) (after : Caller)
     → ConnectionOk k seat heard next told (Some b) → Proceeds (terms_of k shut) whole seat heard b what after → ConnectionOk k seat heard next told (Some after)
 does_ok k shut whole seat heard next told b what after s (talks there g) = goes_ok k shut whole seat heard next told b what after s g
 does_ok k shut whole seat heard next told b what after s (lingers gone none not q e) = rw e s
 does_ok k shut whole seat heard next told b what after s (fades vs gone none is q e) = rw e s
 
-pub proceeds_spoke : (k : Setup) (shut : List Bool) (whole : Bool) (seat : ℕ) (heard : List Noted) (next : ℕ) (told : List Noted) (b : HouseConnection) (o : Option HouseConnection) (printed : List ℕ)
+pub proceeds_spoke : (k : Setup) (shut : List Bool) (whole : Bool) (seat : ℕ) (heard : List Noted) (next : ℕ) (told : List Noted) (b : Caller) (o : Option Caller) (printed : List ℕ)
     → ConnectionOk k seat heard next told (Some b) → ConnectionGoes (terms_of k shut) whole seat heard b o printed → Spoke k seat b.serial heard next told o printed
 proceeds_spoke k shut whole seat heard next told b o printed s g =
     subst (λ (n : ℕ). Spoke k seat n heard next told o printed) (does_serial (terms_of k shut) whole seat heard b g.what g.after g.proceeds)
     (prints_spoke k whole seat heard next told g.what g.after g.still o printed (does_ok k shut whole seat heard next told b g.what g.after s g.proceeds) g.prints g.leaves)
 
 -- one whose peer is gone has nothing to say, and is as it was
-unread_same : (k : Terms) (whole : Bool) (seat : ℕ) (heard : List Noted) (b : HouseConnection) (what : What) (after : HouseConnection) → Proceeds k whole seat heard (unread b) what after → after ≡ unread b
+unread_same : (k : Terms) (whole : Bool) (seat : ℕ) (heard : List Noted) (b : Caller) (what : What) (after : Caller) → Proceeds k whole seat heard (unread b) what after → after ≡ unread b
 unread_same k whole seat heard b what after (talks there g) = absurd (let x : true ≡ false = there in cc)
 unread_same k whole seat heard b what after (lingers gone none not q e) = e
 unread_same k whole seat heard b what after (fades vs gone none is q e) = e
@@ -299,14 +299,14 @@ prints_nothing : (n : ℕ) (unsaid still printed : List ℕ) → unsaid ≡ [] �
 prints_nothing n unsaid still printed none (prints_all e p) = (e, p ∙ ap (λ (x : List ℕ). marked_connection n x) none)
 prints_nothing n unsaid still printed none (prints_none e p) = (e ∙ none, p)
 
-pub unread_silent : (k : Setup) (shut : List Bool) (whole : Bool) (seat : ℕ) (heard : List Noted) (next : ℕ) (told : List Noted) (b : HouseConnection) (o : Option HouseConnection) (printed : List ℕ)
+pub unread_silent : (k : Setup) (shut : List Bool) (whole : Bool) (seat : ℕ) (heard : List Noted) (next : ℕ) (told : List Noted) (b : Caller) (o : Option Caller) (printed : List ℕ)
     → ConnectionOk k seat heard next told (Some b) → ConnectionGoes (terms_of k shut) whole seat heard (unread b) o printed → ConnectionOk k seat heard next told o × (printed ≡ [])
 unread_silent k shut whole seat heard next told b o printed s g =
     let same = unread_same (terms_of k shut) whole seat heard b g.what g.after g.proceeds in
-    let quiet = prints_nothing (seat + 1) g.after.talk.unsaid g.still printed (ap (λ (x : HouseConnection). x.talk.unsaid) same) g.prints in
+    let quiet = prints_nothing (seat + 1) g.after.talk.unsaid g.still printed (ap (λ (x : Caller). x.talk.unsaid) same) g.prints in
     let silent_b : ConnectionOk k seat heard next told (Some (unread b)) = falls_silent k seat b.serial heard next told b.talk.at.standing b.talk.unsaid b.talk.pending s in (
       left_ok k whole seat heard next told g.what (with_unsaid g.still g.after) o
-          (subst (λ (x : HouseConnection). ConnectionOk k seat heard next told (Some (with_unsaid g.still x))) (sym same) (subst (λ (u : List ℕ). ConnectionOk k seat heard next told (Some (with_unsaid u (unread b)))) (sym quiet.0) silent_b)) g.leaves,
+          (subst (λ (x : Caller). ConnectionOk k seat heard next told (Some (with_unsaid g.still x))) (sym same) (subst (λ (u : List ℕ). ConnectionOk k seat heard next told (Some (with_unsaid u (unread b)))) (sym quiet.0) silent_b)) g.leaves,
       quiet.1,
     )
 

@@ -7,7 +7,7 @@ use Rattle.delivery_token.specs.declared.log.Noted.{Noted}
 use Rattle.envelope.specs.Directory.{Directory}
 use Rattle.lmtp_machine.specs.Dialogue.{Setting, Submission, keys_from}
 use Rattle.lmtp_machine.specs.Kept.{AreMessages}
-use Rattle.house_connection.specs.HouseConnection.{keys_of}
+use Rattle.house_connection.specs.Caller.{keys_of}
 use Rattle.submission.specs.Heard.{HeardFor}
 use Rattle.world.proofs.Base.{Every, Rising, every_append, every_weaker}
 

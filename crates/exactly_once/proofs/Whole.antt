@@ -37,8 +37,8 @@ use Rattle.imap_session.specs.Store.{AnswersVerdict, IdleTurns}
 use Rattle.delivery_token.specs.declared.Verdict.{Verdict}
 use Rattle.delivery_token.specs.declared.Verdict.TheVariants as verdicts
 use Rattle.delivery_token.specs.declared.log.Noted.{Noted}
-use Rattle.house_session.specs.Seated as seated
-use Rattle.house_session.specs.Seated.{GoesOn, SeatedSession}
+use Rattle.house_session.specs.SeatedVisitor as seated
+use Rattle.house_session.specs.SeatedVisitor.{GoesOn, SeatedVisitor}
 use Rattle.imap_connection.specs.Dialogue as dialogue
 use Rattle.imap_connection.specs.Dialogue.{AnswersLine, AnswersOne, Converses, Sends, goes_on, parts, reads, silent, too_long}
 
@@ -458,7 +458,7 @@ verdict_answered step now verdict old new said how next a = subst IsWhole (sym a
 
 -- ---- what a session at its seat says
 
-pub goes_whole : {S : Type 0} (step : S → Call → Answer → S → Type 0) (whole : Bool) (seat : ℕ) (heard : List Noted) (v : SeatedSession) (old new : S) (after : SeatedSession) (said : List ℕ) → GoesOn step whole seat heard v old new after said → IsWhole said
+pub goes_whole : {S : Type 0} (step : S → Call → Answer → S → Type 0) (whole : Bool) (seat : ℕ) (heard : List Noted) (v : SeatedVisitor) (old new : S) (after : SeatedVisitor) (said : List ℕ) → GoesOn step whole seat heard v old new after said → IsWhole said
 goes_whole step whole seat heard v old new after said (seated.works n w) = converses_whole step w.answers.converses
 goes_whole step whole seat heard v old new after said (seated.answers verdict mid first second how next known a w e) =
     subst IsWhole (sym e) (whole_append first second (verdict_answered step v.session.standing verdict old mid first how next a) (converses_whole step w.answers.converses))

@@ -11,7 +11,7 @@ use Rattle.line_io.specs.Wire.{IsCut, joined}
 use Rattle.imap_session.specs.Commands.{greeting}
 use Rattle.world.specs.World.{World, Event, IsWorld}
 use Rattle.world.specs.Law.{Headline, StandsOnce, pairs}
-use Rattle.house_connection.specs.HouseConnection.{HouseConnection}
+use Rattle.house_connection.specs.Caller.{Caller}
 use Rattle.house.specs.Setup.{Setup, session_seat}
 use Rattle.house.specs.Printing.{marked_connection, marked_session}
 use Rattle.house.specs.Scene.{EnterPlay, HasNothing, IdlePlay, Plays, SayPlay, Scene, SessionHears, SessionPuts, SessionTalks, empty_scene, place_of, seat_of}
@@ -19,7 +19,7 @@ use Rattle.house.specs.Steps.{IsBusy, IsNobody}
 use Rattle.house.specs.declared.event.Event as house
 use Rattle.house.specs.declared.event.Event.TheVariants.{Bytes, Put, Hear, Enter, Say, Idle}
 use Rattle.house.specs.Stands.{StandsFor}
-use Rattle.house.specs.State.{State}
+use Rattle.house.specs.House.{House}
 
 -- ---- the record of a house
 
@@ -48,7 +48,7 @@ text_of k (Lines session lines) = marked_session session (joined lines)
 text_of k Silence = []
 
 -- the serial of the connection that stands at a seat, or of the one that is opened there next
-abbrev pub serial_of : (next : ℕ) → Option HouseConnection → ℕ
+abbrev pub serial_of : (next : ℕ) → Option Caller → ℕ
 serial_of next None = next
 serial_of next (Some caller) = caller.serial
 
@@ -149,18 +149,18 @@ pub record ExactlyOnce (k : Setup) (events : List house.Event) (after : Scene) (
 -- ---- events that are tried
 
 -- An event was tried: it happened, or nobody was there, or the place was taken, or there was nothing to do, and then nothing changed.
-pub data IsTried (k : Setup) (h : State) (s : Scene) (e : house.Event) (t : Scene) (printed : List ℕ) : Type 0 where
+pub data IsTried (k : Setup) (h : House) (s : Scene) (e : house.Event) (t : Scene) (printed : List ℕ) : Type 0 where
   happens : Plays k true s e t printed → IsTried k h s e t printed
   refused : IsNobody h e ⊎ (IsBusy h e ⊎ HasNothing k s e) → t ≡ s → printed ≡ [] → IsTried k h s e t printed
 
 -- These events were tried, one after another, in a house that stood for the first scene and stands for the last.
-abbrev pub EachTried : Setup → List house.Event → State → Scene → State → Scene → List ℕ → Type 0
+abbrev pub EachTried : Setup → List house.Event → House → Scene → House → Scene → List ℕ → Type 0
 EachTried k [] h s g t printed = (g ≡ h) × (t ≡ s) × (printed ≡ [])
-EachTried k (e ∷ es) h s g t printed = (i : State) × (m : Scene) × (one : List ℕ) × (two : List ℕ)
+EachTried k (e ∷ es) h s g t printed = (i : House) × (m : Scene) × (one : List ℕ) × (two : List ℕ)
     × IsTried k h s e m one × StandsFor k i m × EachTried k es i m g t two × (printed ≡ one ++ two)
 
 -- So it was from this scene, and this was appended on the way.
-pub record TriedFrom (k : Setup) (es : List house.Event) (h : State) (s : Scene) (g : State) (old new : List ℕ) : Type 0 where
+pub record TriedFrom (k : Setup) (es : List house.Event) (h : House) (s : Scene) (g : House) (old new : List ℕ) : Type 0 where
   pub after : Scene
   pub printed : List ℕ
   pub tried : EachTried k es h s g after printed
@@ -168,7 +168,7 @@ pub record TriedFrom (k : Setup) (es : List house.Event) (h : State) (s : Scene)
   pub out : new ≡ old ++ printed
 
 -- In a house that was new these events happened; it stands for what they led to, and this was appended on the way.
-pub record CameOnce (k : Setup) (h : State) (old new : List ℕ) : Type 0 where
+pub record CameOnce (k : Setup) (h : House) (old new : List ℕ) : Type 0 where
   pub events : List house.Event
   pub after : Scene
   pub printed : List ℕ

@@ -14,23 +14,23 @@ use Rattle.house.proofs.Settlement.{All-one, DidVisit, did_as, one_visit, shards
 use Rattle.delivery_token.specs.declared.CopyKey.{CopyKey}
 use Rattle.delivery_token.specs.declared.log.Noted.{Noted}
 use Rattle.envelope.specs.Directory.{Directory, is_shut, marked}
+use Rattle.house_connection.specs.Caller.{Caller}
 use Rattle.house_connection.specs.HouseConnection.{HouseConnection}
-use Rattle.house_connection.specs.Line.{Line}
 use Rattle.house_connection.proofs.Connections.{stands_marked}
 use Rattle.house.specs.Setup.{Setup, terms_of}
 use Rattle.house.specs.Scene.{ClosePlay, HasNothing, Scene, with_shut}
 use Rattle.house.specs.Stands.{StandsFor, StandsForOne}
-use Rattle.house.specs.State.{State}
+use Rattle.house.specs.House.{House}
 
 -- whoever stands at a seat does so whichever shards are shut
-one_marked : (k : Setup) (a b : List Bool) (seat : ℕ) (next : CopyKey) (heard : List Noted) (serials : ℕ) (l : Option Line) (o : Option HouseConnection)
+one_marked : (k : Setup) (a b : List Bool) (seat : ℕ) (next : CopyKey) (heard : List Noted) (serials : ℕ) (l : Option HouseConnection) (o : Option Caller)
     → StandsForOne (terms_of k a) seat next heard serials l o → StandsForOne (terms_of k b) seat next heard serials l o
 one_marked k a b seat next heard serials None None w = w
 one_marked k a b seat next heard serials None (Some c) w = w
 one_marked k a b seat next heard serials (Some h) None w = w
 one_marked k a b seat next heard serials (Some h) (Some c) w = (stands_marked (terms_of k a) b seat next heard h c w.0, w.1)
 
-pub close_led : (k : Setup) (h : State) (s : Scene) (shard : ℕ) (old : List ℕ) → StandsFor k h s → shard < h.directory.shards → is_shut h.directory shard ≡ false
+pub close_led : (k : Setup) (h : House) (s : Scene) (shard : ℕ) (old : List ℕ) → StandsFor k h s → shard < h.directory.shards → is_shut h.directory shard ≡ false
     → (t : Scene) × (printed : List ℕ) × ClosePlay k s shard t printed
     × StandsFor k (record { core = h.core; callers = h.callers; serials = h.serials; visitors = h.visitors; entered = h.entered; directory = marked (set h.directory.shut shard true) h.directory; host = h.host; max_message = h.max_message }) t
     × (old ≡ old ++ printed)
@@ -87,7 +87,7 @@ IsFor seats shard k = (k.config.seats ≡ seats) × (shard < k.config.shards)
 end_among : (k : Setup) (seats seat shard : ℕ) → seat < seats → IsFor seats shard k → All (IsAmong k) (End (seat + 1) shard ∷ [])
 end_among k seats seat shard l q = All-one (IsAmong k) (End (seat + 1) shard) (omega arith, let e = q.0 in omega (arith, l, e), q.1)
 
-pub ends_step : (seats seat shard : ℕ) (h : State) (o : List ℕ) (h1 : State) (o1 : List ℕ) (h2 : State) (o2 : List ℕ) (a b : Bool) → seat < seats
+pub ends_step : (seats seat shard : ℕ) (h : House) (o : List ℕ) (h1 : House) (o1 : List ℕ) (h2 : House) (o2 : List ℕ) (a b : Bool) → seat < seats
     → DidVisits (IsFor seats shard) (λ k. ends seat shard) h o h1 o1 a → DidVisit (End (seat + 1) shard ∷ []) h1 o1 h2 o2 b
     → DidVisits (IsFor seats shard) (λ k. ends (seat + 1) shard) h o h2 o2 (a || b)
 ends_step seats seat shard h o h1 o1 h2 o2 a b l c d =
@@ -95,14 +95,14 @@ ends_step seats seat shard h o h1 o1 h2 o2 a b l c d =
     (visits_then (IsFor seats shard) (λ k. ends seat shard) (λ k. (End (seat + 1) shard ∷ []) ∷ []) h o h1 o1 h2 o2 a b c
     (one_visit (IsFor seats shard) (End (seat + 1) shard ∷ []) h1 o1 h2 o2 b (λ k q. end_among k seats seat shard l q) d))
 
-pub ends_wants : (seats seat shard : ℕ) (h : State) (o : List ℕ) (h1 : State) (o1 : List ℕ) (h2 : State) (o2 : List ℕ) (a : Bool) → seat < seats → seats ≡ length h.callers + length h.visitors
+pub ends_wants : (seats seat shard : ℕ) (h : House) (o : List ℕ) (h1 : House) (o1 : List ℕ) (h2 : House) (o2 : List ℕ) (a : Bool) → seat < seats → seats ≡ length h.callers + length h.visitors
     → DidVisits (IsFor seats shard) (λ k. ends seat shard) h o h1 o1 a → Wants (λ k. All (IsAmong k) (End (seat + 1) shard ∷ [])) h1 o1 h2 o2 → Wants (λ k. shard < k.config.shards) h o h2 o2
 ends_wants seats seat shard h o h1 o1 h2 o2 a l e c d =
     wants_as (IsFor seats shard) (λ k. shard < k.config.shards) h o h2 o2 (λ k s q st. (sym (e ∙ st.seats), q))
     (visits_wants (IsFor seats shard) (λ k. ends seat shard) h o h1 o1 h2 o2 a c
     (wants_as (λ k. All (IsAmong k) (End (seat + 1) shard ∷ [])) (IsFor seats shard) h1 o1 h2 o2 (λ k s q st. end_among k seats seat shard l q) d))
 
-pub ends_done : (seats seat shard : ℕ) (h : State) (o : List ℕ) (h1 : State) (o1 : List ℕ) (b : Bool) → seat ≡ seats → seats ≡ length h.callers + length h.visitors
+pub ends_done : (seats seat shard : ℕ) (h : House) (o : List ℕ) (h1 : House) (o1 : List ℕ) (b : Bool) → seat ≡ seats → seats ≡ length h.callers + length h.visitors
     → DidVisits (IsFor seats shard) (λ k. ends seat shard) h o h1 o1 b → DidVisits (λ k. shard < k.config.shards) (λ k. ends k.config.seats shard) h o h1 o1 b
 ends_done seats seat shard h o h1 o1 b all e c =
     did_as (IsFor seats shard) (λ k. shard < k.config.shards) (λ k s t printed. Visits k (ends seat shard) s t printed) (λ k s t printed. Visits k (ends k.config.seats shard) s t printed)
@@ -112,16 +112,16 @@ ends_done seats seat shard h o h1 o1 b all e c =
     (λ k s q st x. subst (λ (n : ℕ). All (λ group. All (HasNothing k s) group) (ends n shard)) (all ∙ e ∙ st.seats) x) c
 
 -- of a shard that isn't shut nothing is tried
-pub ends_none : (shard : ℕ) (shut : Bool) (h : State) (o : List ℕ) → shut ≡ false → DidVisits (λ k. shard < k.config.shards) (λ k. ends_where k.config.seats shard shut) h o h o false
+pub ends_none : (shard : ℕ) (shut : Bool) (h : House) (o : List ℕ) → shut ≡ false → DidVisits (λ k. shard < k.config.shards) (λ k. ends_where k.config.seats shard shut) h o h o false
 ends_none shard true h o e = cc
 ends_none shard false h o e = record { same = refl; silent = refl; changes_nothing = λ k s q st. All-nil (λ group. All (HasNothing k s) group) }
 
-pub ends_here : {E : Type 0} (shard : ℕ) (shut : Bool) (h : State) (o : List ℕ) (h1 : State) (o1 : List ℕ) (r : Result Bool E) → shut ≡ true
+pub ends_here : {E : Type 0} (shard : ℕ) (shut : Bool) (h : House) (o : List ℕ) (h1 : House) (o1 : List ℕ) (r : Result Bool E) → shut ≡ true
     → CameVisits {E = E} (λ k. shard < k.config.shards) (λ k. ends k.config.seats shard) h o h1 o1 r → CameVisits {E = E} (λ k. shard < k.config.shards) (λ k. ends_where k.config.seats shard shut) h o h1 o1 r
 ends_here shard false h o h1 o1 r e c = cc
 ends_here shard true h o h1 o1 r e c = c
 
-pub closes_step : (shut : ℕ → Bool) (shards shard : ℕ) (is : Bool) (h : State) (o : List ℕ) (h1 : State) (o1 : List ℕ) (h2 : State) (o2 : List ℕ) (a b : Bool) → shard < shards → is ≡ shut shard
+pub closes_step : (shut : ℕ → Bool) (shards shard : ℕ) (is : Bool) (h : House) (o : List ℕ) (h1 : House) (o1 : List ℕ) (h2 : House) (o2 : List ℕ) (a b : Bool) → shard < shards → is ≡ shut shard
     → DidVisits (λ k. k.config.shards ≡ shards) (λ k. closes k.config.seats shut shard) h o h1 o1 a → DidVisits (λ k. shard < k.config.shards) (λ k. ends_where k.config.seats shard is) h1 o1 h2 o2 b
     → DidVisits (λ k. k.config.shards ≡ shards) (λ k. closes k.config.seats shut (shard + 1)) h o h2 o2 (a || b)
 closes_step shut shards shard is h o h1 o1 h2 o2 a b l e c d =
@@ -139,7 +139,7 @@ closes_step shut shards shard is h o h1 o1 h2 o2 a b l e c d =
     one_more : (k : Setup) → closes k.config.seats shut shard ++ ends_where k.config.seats shard is ≡ closes k.config.seats shut (shard + 1)
     one_more k = ap (λ (x : Bool). closes k.config.seats shut shard ++ ends_where k.config.seats shard x) e ∙ closed_more k.config.seats shut shard
 
-pub closes_wants : (shut : ℕ → Bool) (shard : ℕ) (h : State) (o : List ℕ) (h1 : State) (o1 : List ℕ) (h2 : State) (o2 : List ℕ) (a : Bool) → shard < h.directory.shards
+pub closes_wants : (shut : ℕ → Bool) (shard : ℕ) (h : House) (o : List ℕ) (h1 : House) (o1 : List ℕ) (h2 : House) (o2 : List ℕ) (a : Bool) → shard < h.directory.shards
     → DidVisits (λ k. k.config.shards ≡ h.directory.shards) (λ k. closes k.config.seats shut shard) h o h1 o1 a → Wants (λ k. shard < k.config.shards) h1 o1 h2 o2 → Wants (λ k. Unit {0}) h o h2 o2
 closes_wants shut shard h o h1 o1 h2 o2 a l c d =
     wants_as (λ k. k.config.shards ≡ h.directory.shards) (λ k. Unit {0}) h o h2 o2 (λ k s q st. shards_of k s h st)

@@ -5,17 +5,17 @@ use Rattle.std.specs.Option.{is_some}
 use Rattle.std.proofs.lemmas.Bool.{cases_lt}
 use Rattle.std.proofs.lemmas.Bool.Decides.{nat_tests}
 use Rattle.world.specs.World.{Config, World}
-use Rattle.delivery_core.specs.Held.{Held}
+use Rattle.delivery_core.specs.DeliveryCore.{DeliveryCore}
 use Rattle.delivery_core.specs.Stands as core
 use Rattle.std.proofs.lemmas.List.{append-nil}
 use Rattle.delivery_token.specs.declared.CopyKey.{CopyKey}
 use Rattle.world.specs.World as world
-use Rattle.house_connection.specs.Line.{Line}
-use Rattle.house.specs.State.{State}
 use Rattle.house_connection.specs.HouseConnection.{HouseConnection}
+use Rattle.house.specs.House.{House}
+use Rattle.house_connection.specs.Caller.{Caller}
 use Rattle.house.specs.Setup.{Setup, session_seat, terms_of}
-use Rattle.house_session.specs.Seated.{SeatedSession}
-use Rattle.house_session.specs.Seat.{Seat}
+use Rattle.house_session.specs.SeatedVisitor.{SeatedVisitor}
+use Rattle.house_session.specs.SeatedSession.{SeatedSession}
 use Rattle.house.specs.Scene.{Moves, Scene, with_world}
 use Rattle.house.specs.Stands.{StandsFor, StandsForOne, StandsForVisit}
 use Rattle.house_connection.specs.Taking.{due}
@@ -28,7 +28,7 @@ pub record IsFree (k : Setup) (s : Scene) (seat : ℕ) : Type 0 where
   pub session : (place : ℕ) → seat ≡ session_seat k place → s.visitor place ≡ None
 
 -- an end joins, whoever stands at the seat
-pub end_led : (k : Setup) (h : State) (s : Scene) (c : Held) (seat shard : ℕ) (old : List ℕ) → StandsFor k h s → ((x : Config) → core.Follows x h.core (world.PutEnd seat shard ∷ []) c) → c.heard ≡ h.core.heard → c.next ≡ h.core.next
+pub end_led : (k : Setup) (h : House) (s : Scene) (c : DeliveryCore) (seat shard : ℕ) (old : List ℕ) → StandsFor k h s → ((x : Config) → core.Follows x h.core (world.PutEnd seat shard ∷ []) c) → c.heard ≡ h.core.heard → c.next ≡ h.core.next
     → (t : Scene) × (printed : List ℕ) × Moves k s (world.PutEnd seat shard) t printed
     × StandsFor k (record { core = c; callers = h.callers; serials = h.serials; visitors = h.visitors; entered = h.entered; directory = h.directory; host = h.host; max_message = h.max_message }) t × (old ≡ old ++ printed)
 end_led k h s c seat shard old st follows eh en =
@@ -36,36 +36,36 @@ end_led k h s c seat shard old st follows eh en =
     (with_world s m.0, [], m.1, m.2, sym (append-nil old))
 
 -- nobody is in the scene where no line stands
-pub nobody_at : (k : Setup) (h : State) (s : Scene) (seat : ℕ) → StandsFor k h s → seat < length h.callers → get_or h.callers seat None ≡ None → s.caller seat ≡ None
-nobody_at k h s seat st lt none = go (s.caller seat) refl (subst (λ (x : Option Line). StandsForOne (terms_of k s.shut) seat (get_or h.core.next seat y) (s.world.heard seat) (s.next seat) x (s.caller seat)) none (st.each seat y 0 None lt).who)
+pub nobody_at : (k : Setup) (h : House) (s : Scene) (seat : ℕ) → StandsFor k h s → seat < length h.callers → get_or h.callers seat None ≡ None → s.caller seat ≡ None
+nobody_at k h s seat st lt none = go (s.caller seat) refl (subst (λ (x : Option HouseConnection). StandsForOne (terms_of k s.shut) seat (get_or h.core.next seat y) (s.world.heard seat) (s.next seat) x (s.caller seat)) none (st.each seat y 0 None lt).who)
   where
     y : CopyKey
     y = record { seat = 0; serial = 0; message = 0; recipient = 0 }
 
-    go : (o : Option HouseConnection) → s.caller seat ≡ o → StandsForOne (terms_of k s.shut) seat (get_or h.core.next seat y) (s.world.heard seat) (s.next seat) None o → s.caller seat ≡ None
+    go : (o : Option Caller) → s.caller seat ≡ o → StandsForOne (terms_of k s.shut) seat (get_or h.core.next seat y) (s.world.heard seat) (s.next seat) None o → s.caller seat ≡ None
     go None e w = e
     go (Some b) e w = absurd w
 
 -- nor is a session where no seat stands
-pub nobody_at_place : (k : Setup) (h : State) (s : Scene) (place : ℕ) → StandsFor k h s → place < length h.visitors → get_or h.visitors place None ≡ None → s.visitor place ≡ None
+pub nobody_at_place : (k : Setup) (h : House) (s : Scene) (place : ℕ) → StandsFor k h s → place < length h.visitors → get_or h.visitors place None ≡ None → s.visitor place ≡ None
 nobody_at_place k h s place st lt none =
-    go (s.visitor place) refl (subst (λ (x : Option Seat). StandsForVisit (session_seat k place) (get_or h.core.next (session_seat k place) y) (s.world.heard (session_seat k place)) (s.entered place) x (s.visitor place)) none (st.visitors place y 0 None lt).who)
+    go (s.visitor place) refl (subst (λ (x : Option SeatedSession). StandsForVisit (session_seat k place) (get_or h.core.next (session_seat k place) y) (s.world.heard (session_seat k place)) (s.entered place) x (s.visitor place)) none (st.visitors place y 0 None lt).who)
   where
     y : CopyKey
     y = record { seat = 0; serial = 0; message = 0; recipient = 0 }
 
-    go : (o : Option SeatedSession) → s.visitor place ≡ o → StandsForVisit (session_seat k place) (get_or h.core.next (session_seat k place) y) (s.world.heard (session_seat k place)) (s.entered place) None o → s.visitor place ≡ None
+    go : (o : Option SeatedVisitor) → s.visitor place ≡ o → StandsForVisit (session_seat k place) (get_or h.core.next (session_seat k place) y) (s.world.heard (session_seat k place)) (s.entered place) None o → s.visitor place ≡ None
     go None e w = e
     go (Some b) e w = absurd w
 
 -- ---- seats of both kinds
 
 -- a number is that of a connection, or of a session behind them
-pub data Whose (h : State) (seat : ℕ) : Type 0 where
+pub data Whose (h : House) (seat : ℕ) : Type 0 where
   of_connection : seat < length h.callers → Whose h seat
   of_session : (place : ℕ) → place < length h.visitors → seat ≡ length h.callers + place → Whose h seat
 
-pub whose : (h : State) (seat : ℕ) → seat < length h.callers + length h.visitors → Whose h seat
+pub whose : (h : House) (seat : ℕ) → seat < length h.callers + length h.visitors → Whose h seat
 whose h seat l = elim (cases_lt seat (length h.callers)) [
   | inl a ↦ of_connection a
   | inr a ↦ of_session (seat - length h.callers) (omega (arith, a, l)) (omega (arith, a))
@@ -75,10 +75,10 @@ not_some : {A : Type 0} (o : Option A) → is_some o ≡ false → o ≡ None
 not_some None e = refl
 not_some (Some x) e = absurd (let f : true ≡ false = e in cc)
 
-taken_first : (h : State) (seat : ℕ) → seat < length h.callers → is_taken h seat ≡ is_some (get_or h.callers seat None)
+taken_first : (h : House) (seat : ℕ) → seat < length h.callers → is_taken h seat ≡ is_some (get_or h.callers seat None)
 taken_first h seat l = ap (λ (b : Bool). if b then is_some (get_or h.callers seat None) else is_some (get_or h.visitors (seat - length h.callers) None)) (let e : nat_lt seat (length h.callers) ≡ true = grind (arith, nat_tests, l) in e)
 
-taken_behind : (h : State) (seat place : ℕ) → seat ≡ length h.callers + place → is_taken h seat ≡ is_some (get_or h.visitors place None)
+taken_behind : (h : House) (seat place : ℕ) → seat ≡ length h.callers + place → is_taken h seat ≡ is_some (get_or h.visitors place None)
 taken_behind h seat place e =
     ap (λ (b : Bool). if b then is_some (get_or h.callers seat None) else is_some (get_or h.visitors (seat - length h.callers) None)) (let f : nat_lt seat (length h.callers) ≡ false = grind (arith, nat_tests, e) in f)
     ∙ ap (λ (n : ℕ). is_some (get_or h.visitors n None)) (let x : seat - length h.callers ≡ place = omega (arith, e) in x)
@@ -87,12 +87,12 @@ none_is : {A : Type 0} (o : Option A) → o ≡ None → is_some o ≡ false
 none_is o e = ap is_some e
 
 -- a connection's seat is vacant where no line stands there, and a session's where no seat does
-pub vacant_first : (h : State) (n : ℕ) → 0 < n → n ≤ length h.callers → (get_or h.callers (n - 1) None ≡ None) ↔ IsVacant h n
+pub vacant_first : (h : House) (n : ℕ) → 0 < n → n ≤ length h.callers → (get_or h.callers (n - 1) None ≡ None) ↔ IsVacant h n
 vacant_first h n some l =
     let e = taken_first h (n - 1) (omega (arith, some, l)) in
     (λ none. e ∙ none_is (get_or h.callers (n - 1) None) none, λ vacant. not_some (get_or h.callers (n - 1) None) (sym e ∙ vacant))
 
-pub vacant_behind : (h : State) (n place : ℕ) → n - 1 ≡ length h.callers + place → (get_or h.visitors place None ≡ None) ↔ IsVacant h n
+pub vacant_behind : (h : House) (n place : ℕ) → n - 1 ≡ length h.callers + place → (get_or h.visitors place None ≡ None) ↔ IsVacant h n
 vacant_behind h n place at =
     let e = taken_behind h (n - 1) place at in
     (λ none. e ∙ none_is (get_or h.visitors place None) none, λ vacant. not_some (get_or h.visitors place None) (sym e ∙ vacant))
@@ -100,17 +100,17 @@ vacant_behind h n place at =
 pub same_as : {P Q R : Type 0} → P ↔ Q → Q ↔ R → P ↔ R
 same_as a b = (λ p. b.0 (a.0 p), λ r. a.1 (b.1 r))
 
-pub nobody_of : {P : Type 0} (h : State) (n : ℕ) → (IsNoNumber h n → ⊥) → P ↔ IsVacant h n → P ↔ (IsNoNumber h n ⊎ IsVacant h n)
+pub nobody_of : {P : Type 0} (h : House) (n : ℕ) → (IsNoNumber h n → ⊥) → P ↔ IsVacant h n → P ↔ (IsNoNumber h n ⊎ IsVacant h n)
 nobody_of {P} h n not iff = (λ p. inr (iff.0 p), λ q. by q)
   where
     by : IsNoNumber h n ⊎ IsVacant h n → P
     by (inl none) = absurd (not none)
     by (inr vacant) = iff.1 vacant
 
-pub is_number : (h : State) (n : ℕ) (b : Bool) → (IsTrue b) ↔ IsNoNumber h n → b ≡ false → IsNoNumber h n → ⊥
+pub is_number : (h : House) (n : ℕ) (b : Bool) → (IsTrue b) ↔ IsNoNumber h n → b ≡ false → IsNoNumber h n → ⊥
 is_number h n b iff e none = let t : b ≡ true = iff.1 none in let f : true ≡ false = sym t ∙ e in cc
 
-pub number_within : (h : State) (n : ℕ) → (IsNoNumber h n → ⊥) → (0 < n) × (n ≤ length h.callers + length h.visitors)
+pub number_within : (h : House) (n : ℕ) → (IsNoNumber h n → ⊥) → (0 < n) × (n ≤ length h.callers + length h.visitors)
 number_within h zero not = absurd (not (inl refl))
 number_within h (suc n) not = elim (cases_lt (length h.callers + length h.visitors) (suc n)) [
   | inl l ↦ absurd (not (inr l))
@@ -118,17 +118,17 @@ number_within h (suc n) not = elim (cases_lt (length h.callers + length h.visito
 ]
 
 -- what is due at a seat
-pub due_first : (h : State) (seat : ℕ) (g : Line) → seat < length h.callers → get_or h.callers seat None ≡ Some g → due_at h seat ≡ due g
+pub due_first : (h : House) (seat : ℕ) (g : HouseConnection) → seat < length h.callers → get_or h.callers seat None ≡ Some g → due_at h seat ≡ due g
 due_first h seat g l e =
     ap (λ (b : Bool). if b then due_by (get_or h.callers seat None) else due_of (get_or h.visitors (seat - length h.callers) None)) (let f : nat_lt seat (length h.callers) ≡ true = grind (arith, nat_tests, l) in f) ∙ ap due_by e
 
-pub due_behind : (h : State) (seat place : ℕ) (g : Seat) → seat ≡ length h.callers + place → get_or h.visitors place None ≡ Some g → due_at h seat ≡ due_of (Some g)
+pub due_behind : (h : House) (seat place : ℕ) (g : SeatedSession) → seat ≡ length h.callers + place → get_or h.visitors place None ≡ Some g → due_at h seat ≡ due_of (Some g)
 due_behind h seat place g at e =
     ap (λ (b : Bool). if b then due_by (get_or h.callers seat None) else due_of (get_or h.visitors (seat - length h.callers) None)) (let f : nat_lt seat (length h.callers) ≡ false = grind (arith, nat_tests, at) in f)
     ∙ ap (λ (n : ℕ). due_of (get_or h.visitors n None)) (let x : seat - length h.callers ≡ place = omega (arith, at) in x) ∙ ap due_of e
 
 -- where nobody is taken down for a seat, it is free
-pub vacant_free : (k : Setup) (h : State) (s : Scene) (seat : ℕ) → StandsFor k h s → seat < length h.callers + length h.visitors → is_taken h seat ≡ false → IsFree k s seat
+pub vacant_free : (k : Setup) (h : House) (s : Scene) (seat : ℕ) → StandsFor k h s → seat < length h.callers + length h.visitors → is_taken h seat ≡ false → IsFree k s seat
 vacant_free k h s seat st l none = record {
   connection = λ a. let b : seat < length h.callers = let e = st.connections in omega (arith, a, e) in nobody_at k h s seat st b (not_some (get_or h.callers seat None) (sym (taken_first h seat b) ∙ none));
   session = λ place e.

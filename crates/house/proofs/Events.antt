@@ -8,9 +8,9 @@ use Rattle.delivery_token.specs.declared.CopyKey.{CopyKey}
 use Rattle.delivery_token.specs.declared.log.Noted.{Noted}
 use Rattle.envelope.specs.Directory.{Directory}
 use Rattle.delivery_core.specs.New.{first_key}
-use Rattle.house_connection.specs.Line.{Line}
-use Rattle.house.specs.State.{State}
-use Rattle.house_connection.specs.HouseConnection.{HouseConnection, Terms, greeted, more_waits, unread}
+use Rattle.house_connection.specs.HouseConnection.{HouseConnection}
+use Rattle.house.specs.House.{House}
+use Rattle.house_connection.specs.Caller.{Caller, Terms, greeted, more_waits, unread}
 use Rattle.house.specs.Setup.{Setup, terms_of}
 use Rattle.house.specs.Scene.{BytesPlay, Scene, VanishPlay, goes_on, most_serials, opens, with_caller}
 use Rattle.house_connection.specs.Taking.{with_more, with_nobody_there}
@@ -24,34 +24,34 @@ use Rattle.house_connection.proofs.Connections.{unread_stands}
 use Rattle.house.proofs.Places.{after_going, at_there}
 
 -- where a line stands at a seat, so does a caller of the scene
-pub record IsAt (k : Setup) (s : Scene) (seat : ℕ) (next : CopyKey) (h : Line) : Type 0 where
-  pub caller : HouseConnection
+pub record IsAt (k : Setup) (s : Scene) (seat : ℕ) (next : CopyKey) (h : HouseConnection) : Type 0 where
+  pub caller : Caller
   pub here : s.caller seat ≡ Some caller
   pub stands : StandsForConnection (terms_of k s.shut) seat next (s.world.heard seat) h caller
   pub serial : caller.serial < s.next seat
 
-is_at : (k : Setup) (s : Scene) (seat : ℕ) (next : CopyKey) (h : Line) (o : Option HouseConnection) → s.caller seat ≡ o → StandsForOne (terms_of k s.shut) seat next (s.world.heard seat) (s.next seat) (Some h) o → IsAt k s seat next h
+is_at : (k : Setup) (s : Scene) (seat : ℕ) (next : CopyKey) (h : HouseConnection) (o : Option Caller) → s.caller seat ≡ o → StandsForOne (terms_of k s.shut) seat next (s.world.heard seat) (s.next seat) (Some h) o → IsAt k s seat next h
 is_at k s seat next h None e w = absurd w
 is_at k s seat next h (Some b) e w = record { caller = b; here = e; stands = w.0; serial = w.1 }
 
 -- the caller at a seat where a line stands
-pub at_seat : (k : Setup) (h : State) (s : Scene) (seat : ℕ) (y : CopyKey) (g : Line) → StandsFor k h s → seat < length h.callers → get_or h.callers seat None ≡ Some g → IsAt k s seat (get_or h.core.next seat y) g
+pub at_seat : (k : Setup) (h : House) (s : Scene) (seat : ℕ) (y : CopyKey) (g : HouseConnection) → StandsFor k h s → seat < length h.callers → get_or h.callers seat None ≡ Some g → IsAt k s seat (get_or h.core.next seat y) g
 at_seat k h s seat y g st lt e =
     let w = (st.each seat y 0 None lt).who in
-    is_at k s seat (get_or h.core.next seat y) g (s.caller seat) refl (subst (λ (x : Option Line). StandsForOne (terms_of k s.shut) seat (get_or h.core.next seat y) (s.world.heard seat) (s.next seat) x (s.caller seat)) e w)
+    is_at k s seat (get_or h.core.next seat y) g (s.caller seat) refl (subst (λ (x : Option HouseConnection). StandsForOne (terms_of k s.shut) seat (get_or h.core.next seat y) (s.world.heard seat) (s.next seat) x (s.caller seat)) e w)
 
 -- somebody is a line
-pub some_line : (o : Option Line) → IsSome o → (g : Line) × (o ≡ Some g)
+pub some_line : (o : Option HouseConnection) → IsSome o → (g : HouseConnection) × (o ≡ Some g)
 some_line None h = absurd (let e : false ≡ true = h in cc)
 some_line (Some g) h = (g, refl)
 
 -- a peer is there where the seat isn't waiting for the verdicts of one that is gone
-peer_there : (k : Terms) (seat : ℕ) (next : CopyKey) (heard : List Noted) (o : Option Line) (g : Line) (b : HouseConnection) → o ≡ Some g → is_unread o ≡ false → StandsForConnection k seat next heard g b → b.gone ≡ false
-peer_there k seat next heard o g b e u s = sym s.gone ∙ subst (λ (x : Option Line). is_unread x ≡ false) e u
+peer_there : (k : Terms) (seat : ℕ) (next : CopyKey) (heard : List Noted) (o : Option HouseConnection) (g : HouseConnection) (b : Caller) → o ≡ Some g → is_unread o ≡ false → StandsForConnection k seat next heard g b → b.gone ≡ false
+peer_there k seat next heard o g b e u s = sym s.gone ∙ subst (λ (x : Option HouseConnection). is_unread x ≡ false) e u
 
-pub received : (k : Setup) (h : State) (s : Scene) (number seat : ℕ) (piece : List ℕ) (directory : Directory) (l : Option Line) (place : Option Line) (whole : Bool) (old new : List ℕ)
+pub received : (k : Setup) (h : House) (s : Scene) (number seat : ℕ) (piece : List ℕ) (directory : Directory) (l : Option HouseConnection) (place : Option HouseConnection) (whole : Bool) (old new : List ℕ)
     → StandsFor k h s → number ≡ seat + 1 → directory ≡ h.directory → seat < length h.callers → IsSome (get_or h.callers seat None) → is_unread (get_or h.callers seat None) ≡ false → place ≡ option_map (with_more piece) (get_or h.callers seat None)
-    → ((x : Terms) (p : ℕ) (next : CopyKey) (heard : List Noted) (b : HouseConnection) → IsOf x number p directory → StandsForMaybe x p next heard place (Some b) → PlaceWentOn x whole p next heard b l old new)
+    → ((x : Terms) (p : ℕ) (next : CopyKey) (heard : List Noted) (b : Caller) → IsOf x number p directory → StandsForMaybe x p next heard place (Some b) → PlaceWentOn x whole p next heard b l old new)
     → (t : Scene) × (printed : List ℕ) × BytesPlay k whole s seat piece t printed
     × StandsFor k (record { core = h.core; callers = set h.callers seat l; serials = h.serials; visitors = h.visitors; entered = h.entered; directory = h.directory; host = h.host; max_message = h.max_message }) t
     × (new ≡ old ++ printed)
@@ -63,7 +63,7 @@ received k h s number seat piece directory l place whole old new st e dir lt som
     let m = more_stands (terms_of k s.shut) seat (get_or h.core.next seat y) (s.world.heard seat) g.0 a.caller piece a.stands in
     let at = is ∙ ap (option_map (with_more piece)) g.1 in
     let w = f (terms_of k s.shut) seat (get_or h.core.next seat y) (s.world.heard seat) b (record { numbered = e; looks_up = dir ∙ st.directory })
-    (subst (λ (x : Option Line). StandsForMaybe (terms_of k s.shut) seat (get_or h.core.next seat y) (s.world.heard seat) x (Some b)) (sym at) m) in (
+    (subst (λ (x : Option HouseConnection). StandsForMaybe (terms_of k s.shut) seat (get_or h.core.next seat y) (s.world.heard seat) x (Some b)) (sym at) m) in (
       with_caller s seat w.left,
       w.printed,
       goes_on a.caller a.here (peer_there (terms_of k s.shut) seat (get_or h.core.next seat y) (s.world.heard seat) (get_or h.callers seat None) g.0 a.caller g.1 read a.stands) w.left w.goes refl,
@@ -72,9 +72,9 @@ received k h s number seat piece directory l place whole old new st e dir lt som
       w.out,
     )
 
-pub vanished : (k : Setup) (h : State) (s : Scene) (number seat : ℕ) (directory : Directory) (l : Option Line) (place : Option Line) (whole : Bool) (old new : List ℕ)
+pub vanished : (k : Setup) (h : House) (s : Scene) (number seat : ℕ) (directory : Directory) (l : Option HouseConnection) (place : Option HouseConnection) (whole : Bool) (old new : List ℕ)
     → StandsFor k h s → number ≡ seat + 1 → directory ≡ h.directory → seat < length h.callers → IsSome (get_or h.callers seat None) → is_unread (get_or h.callers seat None) ≡ false → place ≡ option_map with_nobody_there (get_or h.callers seat None)
-    → ((x : Terms) (p : ℕ) (next : CopyKey) (heard : List Noted) (b : HouseConnection) → IsOf x number p directory → StandsForMaybe x p next heard place (Some b) → PlaceWentOn x whole p next heard b l old new)
+    → ((x : Terms) (p : ℕ) (next : CopyKey) (heard : List Noted) (b : Caller) → IsOf x number p directory → StandsForMaybe x p next heard place (Some b) → PlaceWentOn x whole p next heard b l old new)
     → (t : Scene) × (printed : List ℕ) × VanishPlay k whole s seat t printed
     × StandsFor k (record { core = h.core; callers = set h.callers seat l; serials = h.serials; visitors = h.visitors; entered = h.entered; directory = h.directory; host = h.host; max_message = h.max_message }) t
     × (new ≡ old ++ printed)
@@ -86,7 +86,7 @@ vanished k h s number seat directory l place whole old new st e dir lt some read
     let m = unread_stands (terms_of k s.shut) seat (get_or h.core.next seat y) (s.world.heard seat) g.0 a.caller a.stands in
     let at = is ∙ ap (option_map with_nobody_there) g.1 in
     let w = f (terms_of k s.shut) seat (get_or h.core.next seat y) (s.world.heard seat) b (record { numbered = e; looks_up = dir ∙ st.directory })
-    (subst (λ (x : Option Line). StandsForMaybe (terms_of k s.shut) seat (get_or h.core.next seat y) (s.world.heard seat) x (Some b)) (sym at) m) in (
+    (subst (λ (x : Option HouseConnection). StandsForMaybe (terms_of k s.shut) seat (get_or h.core.next seat y) (s.world.heard seat) x (Some b)) (sym at) m) in (
       with_caller s seat w.left,
       w.printed,
       record {
@@ -103,15 +103,15 @@ vanished k h s number seat directory l place whole old new st e dir lt some read
     )
 
 -- where nobody stands, the seat's next key is no later than that of its next connection
-vacant : (k : Setup) (s : Scene) (seat : ℕ) (next : CopyKey) (o : Option HouseConnection) → s.caller seat ≡ o → StandsForOne (terms_of k s.shut) seat next (s.world.heard seat) (s.next seat) None o
+vacant : (k : Setup) (s : Scene) (seat : ℕ) (next : CopyKey) (o : Option Caller) → s.caller seat ≡ o → StandsForOne (terms_of k s.shut) seat next (s.world.heard seat) (s.next seat) None o
     → (s.caller seat ≡ None) × AtLeast next (record { seat = seat; serial = s.next seat; message = 0; recipient = 0 })
 vacant k s seat next None e w = (e, w)
 vacant k s seat next (Some b) e w = absurd w
 
-pub welcomed : (k : Setup) (h : State) (s : Scene) (number seat : ℕ) (piece : List ℕ) (directory : Directory) (l : Option Line) (g : Line) (whole : Bool) (old new : List ℕ)
+pub welcomed : (k : Setup) (h : House) (s : Scene) (number seat : ℕ) (piece : List ℕ) (directory : Directory) (l : Option HouseConnection) (g : HouseConnection) (whole : Bool) (old new : List ℕ)
     → StandsFor k h s → number ≡ seat + 1 → directory ≡ h.directory → seat < length h.callers → get_or h.callers seat None ≡ None → get_or h.serials seat 0 < most_serials
     → ((x : Terms) (next : CopyKey) (heard : List Noted) → x.host ≡ h.host → x.max_message ≡ h.max_message → AtLeast next (record { seat = seat; serial = get_or h.serials seat 0; message = 0; recipient = 0 }) → StandsForConnection x seat next heard g (more_waits (greeted x seat (get_or h.serials seat 0)) piece))
-    → ((x : Terms) (p : ℕ) (next : CopyKey) (heard : List Noted) (b : HouseConnection) → IsOf x number p directory → StandsForMaybe x p next heard (Some g) (Some b) → PlaceWentOn x whole p next heard b l old new)
+    → ((x : Terms) (p : ℕ) (next : CopyKey) (heard : List Noted) (b : Caller) → IsOf x number p directory → StandsForMaybe x p next heard (Some g) (Some b) → PlaceWentOn x whole p next heard b l old new)
     → (t : Scene) × (printed : List ℕ) × BytesPlay k whole s seat piece t printed
     × StandsFor k (record { core = h.core; callers = set h.callers seat l; serials = set h.serials seat (get_or h.serials seat 0 + 1); visitors = h.visitors; entered = h.entered; directory = h.directory; host = h.host; max_message = h.max_message }) t
     × (new ≡ old ++ printed)
@@ -120,7 +120,7 @@ welcomed k h s number seat piece directory l g whole old new st e dir lt none le
     let n = get_or h.serials seat 0 in
     let each = st.each seat y 0 None lt in
     let same : n ≡ s.next seat = each.counted in
-    let o = vacant k s seat (get_or h.core.next seat y) (s.caller seat) refl (subst (λ (x : Option Line). StandsForOne (terms_of k s.shut) seat (get_or h.core.next seat y) (s.world.heard seat) (s.next seat) x (s.caller seat)) none each.who) in
+    let o = vacant k s seat (get_or h.core.next seat y) (s.caller seat) refl (subst (λ (x : Option HouseConnection). StandsForOne (terms_of k s.shut) seat (get_or h.core.next seat y) (s.world.heard seat) (s.next seat) x (s.caller seat)) none each.who) in
     let b = more_waits (greeted (terms_of k s.shut) seat (s.next seat)) piece in
     let m : StandsForConnection (terms_of k s.shut) seat (get_or h.core.next seat y) (s.world.heard seat) g b
     = subst (λ (z : ℕ). StandsForConnection (terms_of k s.shut) seat (get_or h.core.next seat y) (s.world.heard seat) g (more_waits (greeted (terms_of k s.shut) seat z) piece)) same

@@ -9,7 +9,7 @@ use Rattle.house.specs.Scene.{HasNothing, Scene}
 use Rattle.house.specs.Settled.{HappenedFrom, SettledFrom, is_held}
 use Rattle.house.specs.Settling.{GoesRounds, InTurn, Visit, Visits, happens, idle_turns}
 use Rattle.house.specs.Stands.{StandsFor}
-use Rattle.house.specs.State.{State}
+use Rattle.house.specs.House.{House}
 use Rattle.house.specs.Steps.{Follows, FollowsInPart}
 use Rattle.house.specs.inner.Trying.{Goes, IsAmong, Wants}
 use Rattle.house.proofs.Settlement.{All-one, Often, joined, led_or_not, often_happened, often_more, rounds_happened, visit_of, visits-append, visits_happened, wants_after}
@@ -17,13 +17,13 @@ use Rattle.house.proofs.Settlement.{All-one, Often, joined, led_or_not, often_ha
 -- ---- one session
 
 -- the turns so far
-abbrev pub Turns : ℕ → State → List ℕ → State → List ℕ → Type 0
+abbrev pub Turns : ℕ → House → List ℕ → House → List ℕ → Type 0
 Turns n h o h1 o1 = Goes (λ k. IsAmong k (Idle n)) (λ k s t printed. Often k (Idle n ∷ []) s t printed) h o h1 o1
 
-pub no_turn : (n : ℕ) (h : State) (o : List ℕ) → Turns n h o h o
+pub no_turn : (n : ℕ) (h : House) (o : List ℕ) → Turns n h o h o
 no_turn n h o k s q st = record { after = s; printed = []; goes = (0, (refl, refl)); stands = st; out = sym (append-nil o) }
 
-pub turn_again : (n : ℕ) (h : State) (o : List ℕ) (h1 : State) (o1 : List ℕ) (h2 : State) (o2 : List ℕ) → Turns n h o h1 o1 → Follows h1 (Idle n) h2 o1 o2 → Turns n h o h2 o2
+pub turn_again : (n : ℕ) (h : House) (o : List ℕ) (h1 : House) (o1 : List ℕ) (h2 : House) (o2 : List ℕ) → Turns n h o h1 o1 → Follows h1 (Idle n) h2 o1 o2 → Turns n h o h2 o2
 turn_again n h o h1 o1 h2 o2 f g k s q st =
     let w = f k s q st in
     let l = g k w.after w.stands in
@@ -32,7 +32,7 @@ turn_again n h o h1 o1 h2 o2 f g k s q st =
     (record { after = l.after; printed = l.printed; goes = (l.after, l.printed, [], happens l.plays, (refl, refl), sym (append-nil l.printed)); stands = l.stands; out = l.out })
 
 -- it has nothing to be shown any more
-pub turns_done : (n : ℕ) (h : State) (o : List ℕ) (h1 : State) (o1 : List ℕ) (h2 : State) (o2 : List ℕ) → Turns n h o h1 o1 → h2 ≡ h1 → o2 ≡ o1
+pub turns_done : (n : ℕ) (h : House) (o : List ℕ) (h1 : House) (o1 : List ℕ) (h2 : House) (o2 : List ℕ) → Turns n h o h1 o1 → h2 ≡ h1 → o2 ≡ o1
     → ((k : Setup) (s : Scene) → IsAmong k (Idle n) → StandsFor k h1 s → HasNothing k s (Idle n))
     → Goes (λ k. IsAmong k (Idle n)) (λ k s t printed. Visit k (Idle n ∷ []) s t printed) h o h2 o2
 turns_done n h o h1 o1 h2 o2 f same silent still k s q st =
@@ -41,11 +41,11 @@ turns_done n h o h1 o1 h2 o2 f same silent still k s q st =
       after = w.after;
       printed = w.printed;
       goes = visit_of k (Idle n ∷ []) s w.after w.printed w.goes (All-one (HasNothing k w.after) (Idle n) (still k w.after q w.stands));
-      stands = subst (λ (x : State). StandsFor k x w.after) (sym same) w.stands;
+      stands = subst (λ (x : House). StandsFor k x w.after) (sym same) w.stands;
       out = silent ∙ w.out;
     }
 
-pub turns_want : (n : ℕ) (h : State) (o : List ℕ) (h1 : State) (o1 : List ℕ) (h2 : State) (o2 : List ℕ) → Turns n h o h1 o1 → FollowsInPart h1 (Idle n) h2 o1 o2 → Wants (λ k. IsAmong k (Idle n)) h o h2 o2
+pub turns_want : (n : ℕ) (h : House) (o : List ℕ) (h1 : House) (o1 : List ℕ) (h2 : House) (o2 : List ℕ) → Turns n h o h1 o1 → FollowsInPart h1 (Idle n) h2 o1 o2 → Wants (λ k. IsAmong k (Idle n)) h o h2 o2
 turns_want n h o h1 o1 h2 o2 f g = record {
   happened = λ k s q st. let w = f k s q st in
       wants_after (λ k s t printed. Often k (Idle n ∷ []) s t printed) k s h1 h2 o o1 o2 (λ k s t printed x. often_happened k (Idle n ∷ []) s t printed x) w
@@ -55,10 +55,10 @@ turns_want n h o h1 o1 h2 o2 f g = record {
 -- ---- all sessions
 
 -- the turns of the first sessions, of so many
-abbrev pub FirstTurns : (count : ℕ) → (first : ℕ) → State → List ℕ → State → List ℕ → Type 0
+abbrev pub FirstTurns : (count : ℕ) → (first : ℕ) → House → List ℕ → House → List ℕ → Type 0
 FirstTurns count first h o h1 o1 = Goes (λ k. k.config.sessions ≡ count) (λ k s t printed. Visits k (idle_turns first) s t printed) h o h1 o1
 
-pub no_session : (count : ℕ) (h : State) (o : List ℕ) → FirstTurns count 0 h o h o
+pub no_session : (count : ℕ) (h : House) (o : List ℕ) → FirstTurns count 0 h o h o
 no_session count h o k s q st = record { after = s; printed = []; goes = (refl, refl); stands = st; out = sym (append-nil o) }
 
 among : (k : Setup) (count n : ℕ) → n < count → k.config.sessions ≡ count → IsAmong k (Idle (n + 1))
@@ -69,14 +69,14 @@ one_more k n s m t one two a b =
     subst (λ (gs : List (List Event)). Visits k gs s t (one ++ two)) (sym (map-range_with_len_more (λ i. Idle i ∷ []) 1 n (n + 1) (omega arith)))
     (visits-append k (idle_turns n) ((Idle (n + 1) ∷ []) ∷ []) s m t one two a (t, two, [], b, (refl, refl), sym (append-nil two)))
 
-pub session_more : (count n : ℕ) (h : State) (o : List ℕ) (h1 : State) (o1 : List ℕ) (h2 : State) (o2 : List ℕ) → n < count → FirstTurns count n h o h1 o1
+pub session_more : (count n : ℕ) (h : House) (o : List ℕ) (h1 : House) (o1 : List ℕ) (h2 : House) (o2 : List ℕ) → n < count → FirstTurns count n h o h1 o1
     → Goes (λ k. IsAmong k (Idle (n + 1))) (λ k s t printed. Visit k (Idle (n + 1) ∷ []) s t printed) h1 o1 h2 o2 → FirstTurns count (n + 1) h o h2 o2
 session_more count n h o h1 o1 h2 o2 l f g k s q st =
     let w = f k s q st in
     joined (λ k s t printed. Visits k (idle_turns n) s t printed) (λ k s t printed. Visit k (Idle (n + 1) ∷ []) s t printed) (λ k s t printed. Visits k (idle_turns (n + 1)) s t printed)
     (λ k s m t one two x y. one_more k n s m t one two x y) k s h1 h2 o o1 o2 w (g k w.after (among k count n l q) w.stands)
 
-pub session_wants : (count n : ℕ) (h : State) (o : List ℕ) (h1 : State) (o1 : List ℕ) (h2 : State) (o2 : List ℕ) → count ≡ length h.visitors → n < count → FirstTurns count n h o h1 o1
+pub session_wants : (count n : ℕ) (h : House) (o : List ℕ) (h1 : House) (o1 : List ℕ) (h2 : House) (o2 : List ℕ) → count ≡ length h.visitors → n < count → FirstTurns count n h o h1 o1
     → Wants (λ k. IsAmong k (Idle (n + 1))) h1 o1 h2 o2 → Wants (λ k. Unit {0}) h o h2 o2
 session_wants count n h o h1 o1 h2 o2 e l f d = record {
   happened = λ k s q st.
@@ -85,7 +85,7 @@ session_wants count n h o h1 o1 h2 o2 e l f d = record {
       wants_after (λ k s t printed. Visits k (idle_turns n) s t printed) k s h1 h2 o o1 o2 (λ k s t printed x. visits_happened k (idle_turns n) s t printed x) w (d.happened k w.after (among k count n l many) w.stands);
 }
 
-pub all_sessions : (count n : ℕ) (h : State) (o : List ℕ) (h1 : State) (o1 : List ℕ) → count ≡ length h.visitors → n ≡ count → FirstTurns count n h o h1 o1
+pub all_sessions : (count n : ℕ) (h : House) (o : List ℕ) (h1 : House) (o1 : List ℕ) → count ≡ length h.visitors → n ≡ count → FirstTurns count n h o h1 o1
     → Goes (λ k. Unit {0}) (λ k s t printed. Visits k (idle_turns k.config.sessions) s t printed) h o h1 o1
 all_sessions count n h o h1 o1 e f g k s q st =
     let many : k.config.sessions ≡ count = sym (e ∙ st.places) in
@@ -94,7 +94,7 @@ all_sessions count n h o h1 o1 e f g k s q st =
 
 -- ---- settling
 
-pub settled : (held : List Bool) (k : Setup) (s : Scene) (h : State) (o : List ℕ) (h1 : State) (o1 : List ℕ) (h2 : State) (o2 : List ℕ) → StandsFor k h s
+pub settled : (held : List Bool) (k : Setup) (s : Scene) (h : House) (o : List ℕ) (h1 : House) (o1 : List ℕ) (h2 : House) (o2 : List ℕ) → StandsFor k h s
     → Goes (λ k. Unit {0}) (λ k s t printed. GoesRounds k (is_held held) s t printed) h o h1 o1
     → Goes (λ k. Unit {0}) (λ k s t printed. Visits k (idle_turns k.config.sessions) s t printed) h1 o1 h2 o2 → SettledFrom k held s h2 o o2
 settled held k s h o h1 o1 h2 o2 st f g =
@@ -108,7 +108,7 @@ settled held k s h o h1 o1 h2 o2 st f g =
       out = v.out ∙ ap (λ (x : List ℕ). x ++ v.printed) w.out ∙ append_assoc o w.printed v.printed;
     }
 
-pub turns_wanted : (held : List Bool) (k : Setup) (s : Scene) (h : State) (o : List ℕ) (h1 : State) (o1 : List ℕ) (h2 : State) (o2 : List ℕ) → StandsFor k h s
+pub turns_wanted : (held : List Bool) (k : Setup) (s : Scene) (h : House) (o : List ℕ) (h1 : House) (o1 : List ℕ) (h2 : House) (o2 : List ℕ) → StandsFor k h s
     → Goes (λ k. Unit {0}) (λ k s t printed. GoesRounds k (is_held held) s t printed) h o h1 o1 → Wants (λ k. Unit {0}) h1 o1 h2 o2 → HappenedFrom k s h2 o o2
 turns_wanted held k s h o h1 o1 h2 o2 st f d =
     let w = f k s tt st in

@@ -6,7 +6,7 @@ use Rattle.change_ring.specs.declared.change.Change.{Change}
 use Rattle.cursor_set.specs.Lines.{lines}
 use Rattle.mailbox.specs.declared.clients.MailFault.TheVariants.{Stranger, Lapped, Spent, NoMemory}
 use Rattle.delivery_core.specs.Changes.{SameDelivery}
-use Rattle.delivery_core.specs.Held.{Held, behind, client_of}
+use Rattle.delivery_core.specs.DeliveryCore.{DeliveryCore, behind, client_of}
 use Rattle.delivery_core.specs.Stands as core
 use Rattle.house.specs.Setup.{Setup}
 use Rattle.imap_session.specs.declared.standing.After.TheVariants as afters
@@ -24,9 +24,9 @@ use Rattle.delivery_token.specs.declared.CopyKey.{CopyKey}
 use Rattle.delivery_token.specs.declared.log.Noted.{Noted}
 use Rattle.delivery_core.specs.New.{first_key}
 use Rattle.house.specs.inner.Printing.{Idled, IdledInPart, Missed}
-use Rattle.house_session.specs.HouseSession.{HouseSession}
-use Rattle.house_session.specs.Seated.{SeatedSession}
-use Rattle.house_session.specs.Seat.{Seat, StandsForSeated}
+use Rattle.house_session.specs.Visitor.{Visitor}
+use Rattle.house_session.specs.SeatedVisitor.{SeatedVisitor}
+use Rattle.house_session.specs.SeatedSession.{SeatedSession, StandsForSeated}
 use Rattle.house.specs.Setup.{session_seat}
 use Rattle.shard_queue.specs.At.{set_at}
 use Rattle.shard_queue.proofs.AtLaws.{at_cases}
@@ -34,7 +34,7 @@ use Rattle.house.proofs.Seats.{place_kept}
 use Rattle.house.specs.Printing.{Idles, with_session}
 use Rattle.house.proofs.Carried.{idles_carried}
 use Rattle.world.specs.World.{Config, Selected, Session, World, pending}
-use Rattle.house.specs.State.{State}
+use Rattle.house.specs.House.{House}
 use Rattle.house.specs.Effort.{turns_left}
 use Rattle.house.specs.Scene.{IdlePlay, Scene, SessionIdles, with_visitor, with_world}
 use Rattle.house.specs.Scene as scene
@@ -146,7 +146,7 @@ not_lapped k n w v m c =
 not_unknown : (k : Config) (n : ℕ) (w v : World) → Meets k n w (Feed most_changes) (Refused Stranger) v → IsCurrent w n → ⊥
 not_unknown k n w v m c = let f : Some c.0 ≡ None = sym c.1 ∙ m.1 in cc
 
-up_to_date : (k : Setup) (place : ℕ) (w v : World) (b : SeatedSession) (o : Option SeatedSession) (printed : List ℕ) → IsSome b.session.standing.selected → IsCurrent w place → SessionIdles k true place w b v o printed → ⊥
+up_to_date : (k : Setup) (place : ℕ) (w v : World) (b : SeatedVisitor) (o : Option SeatedVisitor) (printed : List ℕ) → IsSome b.session.standing.selected → IsCurrent w place → SessionIdles k true place w b v o printed → ⊥
 up_to_date k place w v b o printed some c i =
     go (case_of b.session.standing i.idles.turned.answers (record { events = i.idles.turned.events; bytes = i.idles.turned.bytes; after = i.idles.turned.how; standing = i.after.standing }) i.idles.turned.played i.idling some)
   where
@@ -166,17 +166,17 @@ up_to_date k place w v b o printed some c i =
         not_unknown k.config place w met.0 met.1 c
 
 -- where its client is there, its standing is what the seat says
-standing_is : (seat : ℕ) (next : CopyKey) (heard : List Noted) (p : Seat) (b : SeatedSession) → StandsForSeated seat next heard p b → b.gone ≡ false → p.place.link.session ≡ b.session.standing
+standing_is : (seat : ℕ) (next : CopyKey) (heard : List Noted) (p : SeatedSession) (b : SeatedVisitor) → StandsForSeated seat next heard p b → b.gone ≡ false → p.place.link.session ≡ b.session.standing
 standing_is seat next heard p b s live = (s.place (s.gone ∙ live)).connection.session
 
-pub none_gone : (p : Seat) (place : ℕ) (h : Held) → p.gone ≡ true → HasNoTurn place (Some p) h
+pub none_gone : (p : SeatedSession) (place : ℕ) (h : DeliveryCore) → p.gone ≡ true → HasNoTurn place (Some p) h
 none_gone p place h gone k next heard w v b o printed stands there i = let f : true ≡ false = sym gone ∙ there.gone ∙ i.is_read in cc
 
-pub none_awake : (p : Seat) (place : ℕ) (h : Held) → is_idling p.place.link.session ≡ false → HasNoTurn place (Some p) h
+pub none_awake : (p : SeatedSession) (place : ℕ) (h : DeliveryCore) → is_idling p.place.link.session ≡ false → HasNoTurn place (Some p) h
 none_awake p place h awake k next heard w v b o printed stands there i =
     let f : false ≡ true = sym awake ∙ ap is_idling (standing_is (session_seat k place) next heard p b there i.is_read) ∙ i.idling in cc
 
-pub none_unselected : (p : Seat) (place : ℕ) (h : Held) → p.place.link.session.selected ≡ None → HasNoTurn place (Some p) h
+pub none_unselected : (p : SeatedSession) (place : ℕ) (h : DeliveryCore) → p.place.link.session.selected ≡ None → HasNoTurn place (Some p) h
 none_unselected p place h unselected k next heard w v b o printed stands there i =
     let t = i.idles.turned in
     let e : b.session.standing.selected ≡ None = sym (ap (λ (x : Standing). x.selected) (standing_is (session_seat k place) next heard p b there i.is_read)) ∙ unselected in
@@ -184,14 +184,14 @@ none_unselected p place h unselected k next heard w v b o printed stands there i
     (sym (ap (λ (x : Option Chosen). idle_turn_in x (is_idling b.session.standing) b.session.standing t.answers) e) ∙ t.played) in
     quiet i.shown i.after.standing.ended i.something (t.shown ∙ ap count_shown c.0) (ap (λ (x : Turn). x.standing.ended) c.1 ∙ lives b.session.standing i.idling)
 
-pub none_new : (p : Seat) (place : ℕ) (h : Held) → IsSome p.place.link.session.selected → ((k : Config) (w : World) → core.StandsFor k h w → IsCurrent w place) → HasNoTurn place (Some p) h
+pub none_new : (p : SeatedSession) (place : ℕ) (h : DeliveryCore) → IsSome p.place.link.session.selected → ((k : Config) (w : World) → core.StandsFor k h w → IsCurrent w place) → HasNoTurn place (Some p) h
 none_new p place h some current k next heard w v b o printed stands there i =
     up_to_date k place w v b o printed (subst (λ (x : Standing). IsSome x.selected) (standing_is (session_seat k place) next heard p b there i.is_read) some) (current k.config w stands) i
 
 -- ---- one turn
 
 -- what it does over the desk is what it does in the world
-record Turned (k : Setup) (place number : ℕ) (b : SeatedSession) (after : HouseSession) (count : ℕ) (w : World) (old desk : Desk) (printed : List ℕ) : Type 0 where
+record Turned (k : Setup) (place number : ℕ) (b : SeatedVisitor) (after : Visitor) (count : ℕ) (w : World) (old desk : Desk) (printed : List ℕ) : Type 0 where
   pub mid : World
   pub idles : Idles (λ (x : World) call answer y. Meets k.config place x call answer y) number b.session w mid after count printed
   pub serving : IsServing k.config place desk mid
@@ -200,7 +200,7 @@ record Turned (k : Setup) (place number : ℕ) (b : SeatedSession) (after : Hous
   pub idling : is_idling b.session.standing ≡ true
   pub something : (0 < count) ⊎ (after.standing.ended ≡ true)
 
-turned : (k : Setup) (number count : ℕ) (next : CopyKey) (heard : List Noted) (b : SeatedSession) (after : HouseSession) (old new : Desk) (printed : List ℕ) (w : World) (p : Seat) → Idles Serves number b.session old new after count printed → old.session ≡ number - 1
+turned : (k : Setup) (number count : ℕ) (next : CopyKey) (heard : List Noted) (b : SeatedVisitor) (after : Visitor) (old new : Desk) (printed : List ℕ) (w : World) (p : SeatedSession) → Idles Serves number b.session old new after count printed → old.session ≡ number - 1
     → core.StandsFor k.config old.core w → StandsForSeated (session_seat k (number - 1)) next heard p b → MayIdle p (number - 1) old.core → Turned k (number - 1) number b after count w old new printed
 turned k number count next heard b after old new printed w p i at stands there may =
     let c = idles_carried Serves (λ x call answer v. Meets k.config (number - 1) x call answer v) (IsServing k.config (number - 1)) (carries k.config (number - 1)) number b.session old new after count printed w i (record { session = at; stands = stands }) in
@@ -222,7 +222,7 @@ turned k number count next heard b after old new printed w p i at stands there m
     }
 
 -- it remains at its place
-pub idled : (k : Setup) (whole : Bool) (number count : ℕ) (next : CopyKey) (heard : List Noted) (b : SeatedSession) (old new : Desk) (w : World) (p q : Seat) (before after : List ℕ) → 0 < number → old.session ≡ number - 1 → core.StandsFor k.config old.core w
+pub idled : (k : Setup) (whole : Bool) (number count : ℕ) (next : CopyKey) (heard : List Noted) (b : SeatedVisitor) (old new : Desk) (w : World) (p q : SeatedSession) (before after : List ℕ) → 0 < number → old.session ≡ number - 1 → core.StandsFor k.config old.core w
     → StandsForSeated (session_seat k (number - 1)) next heard p b → MayIdle p (number - 1) old.core → Idled Serves whole (session_seat k (number - 1)) number count next heard b old new before after q → q.gone ≡ false → (whole ≡ true → q.place.link.session.ended ≡ false)
     → PlaceIdled k whole (number - 1) next heard w b old.core (Some q) new.core before after
 idled k whole number count next heard b old new w p q before after some at stands there may o live going =
@@ -250,7 +250,7 @@ idled k whole number count next heard b old new w p q before after some at stand
     }
 
 -- it has parted, and left its mailbox
-pub idled_out : (k : Setup) (number count : ℕ) (next : CopyKey) (heard : List Noted) (b : SeatedSession) (old mid new : Desk) (answer : Answer) (w : World) (p q : Seat) (before after : List ℕ) → 0 < number → old.session ≡ number - 1 → core.StandsFor k.config old.core w
+pub idled_out : (k : Setup) (number count : ℕ) (next : CopyKey) (heard : List Noted) (b : SeatedVisitor) (old mid new : Desk) (answer : Answer) (w : World) (p q : SeatedSession) (before after : List ℕ) → 0 < number → old.session ≡ number - 1 → core.StandsFor k.config old.core w
     → StandsForSeated (session_seat k (number - 1)) next heard p b → MayIdle p (number - 1) old.core → Idled Serves true (session_seat k (number - 1)) number count next heard b old mid before after q → q.gone ≡ false → q.place.link.session.ended ≡ true
     → Serves mid (calls.Leave false) answer new → PlaceIdled k true (number - 1) next heard w b old.core None new.core before after
 idled_out k number count next heard b old mid new answer w p q before after some at stands there may o live over leaves =
@@ -279,7 +279,7 @@ idled_out k number count next heard b old mid new answer w p q before after some
     }
 
 -- memory was refused before anything was done
-missed : (k : Setup) (number : ℕ) (next : CopyKey) (heard : List Noted) (b : SeatedSession) (old new : Desk) (w : World) (q : Seat) (before after : List ℕ) → old.session ≡ number - 1 → core.StandsFor k.config old.core w
+missed : (k : Setup) (number : ℕ) (next : CopyKey) (heard : List Noted) (b : SeatedVisitor) (old new : Desk) (w : World) (q : SeatedSession) (before after : List ℕ) → old.session ≡ number - 1 → core.StandsFor k.config old.core w
     → Missed Serves (session_seat k (number - 1)) next heard b old new before after q → PlaceKept k (number - 1) next heard w b old.core (Some q) new.core before after
 missed k number next heard b old new w q before after at stands m = go m.starves
   where
@@ -299,7 +299,7 @@ missed k number next heard b old new w q before after at stands m = go m.starves
           out = m.out;
         }
 
-pub idled_in_part : (k : Setup) (number : ℕ) (next : CopyKey) (heard : List Noted) (b : SeatedSession) (old new : Desk) (w : World) (p q : Seat) (before after : List ℕ) → 0 < number → old.session ≡ number - 1 → core.StandsFor k.config old.core w
+pub idled_in_part : (k : Setup) (number : ℕ) (next : CopyKey) (heard : List Noted) (b : SeatedVisitor) (old new : Desk) (w : World) (p q : SeatedSession) (before after : List ℕ) → 0 < number → old.session ≡ number - 1 → core.StandsFor k.config old.core w
     → StandsForSeated (session_seat k (number - 1)) next heard p b → MayIdle p (number - 1) old.core → IdledInPart Serves (session_seat k (number - 1)) number next heard b old new before after q → q.gone ≡ false
     → PlaceIdledInPart k (number - 1) next heard w b old.core (Some q) new.core before after
 idled_in_part k number next heard b old new w p q before after some at stands there may (inl m) live = inr (missed k number next heard b old new w q before after at stands m)
@@ -307,7 +307,7 @@ idled_in_part k number next heard b old new w p q before after some at stands th
     inl (idled k false number count next heard b old new w p q before after some at stands there may o live (λ e. absurd (let f : false ≡ true = e in cc)))
 
 -- one that remains is less behind
-pub turns_fewer : (p q : Seat) (number count : ℕ) (said : List ℕ) (old new : Desk) → old.session ≡ number - 1 → MayIdle p (number - 1) old.core → IdleTurns Serves p.place.link.session old new [] said count q.place.link.session → q.place.link.session.ended ≡ false
+pub turns_fewer : (p q : SeatedSession) (number count : ℕ) (said : List ℕ) (old new : Desk) → old.session ≡ number - 1 → MayIdle p (number - 1) old.core → IdleTurns Serves p.place.link.session old new [] said count q.place.link.session → q.place.link.session.ended ≡ false
     → turns_left (Some q) (behind new.core (number - 1)) < turns_left (Some p) (behind old.core (number - 1))
 turns_fewer p q number count said old new at may t live =
     elim (gains p.place.link.session old new [] said count q.place.link.session t may.idling may.selected (subst (λ (n : ℕ). IsSome (client_of old.core n) → behind old.core n ≡ 0 → ⊥) (sym at) may.news)) [
@@ -317,14 +317,14 @@ turns_fewer p q number count said old new at may t live =
 
 -- ---- the house
 
-idle_serial : (k : Setup) (whole : Bool) (place : ℕ) (w : World) (a : SeatedSession) (v : World) (o : Option SeatedSession) (printed : List ℕ) (b : SeatedSession) → SessionIdles k whole place w a v o printed → o ≡ Some b → b.serial ≡ a.serial
+idle_serial : (k : Setup) (whole : Bool) (place : ℕ) (w : World) (a : SeatedVisitor) (v : World) (o : Option SeatedVisitor) (printed : List ℕ) (b : SeatedVisitor) → SessionIdles k whole place w a v o printed → o ≡ Some b → b.serial ≡ a.serial
 idle_serial k whole place w a v o printed b i e = parts_serial k whole place (with_session i.after a) i.mid v o b i.left e
 
 -- the serials stay
-counted_still : (k : Setup) (h : State) (s : Scene) (place : ℕ) → StandsFor k h s → place < length h.visitors → (n : ℕ) → get_or h.entered place n ≡ s.entered place
+counted_still : (k : Setup) (h : House) (s : Scene) (place : ℕ) → StandsFor k h s → place < length h.visitors → (n : ℕ) → get_or h.entered place n ≡ s.entered place
 counted_still k h s place st lt n = (st.visitors place (first_key 0) n None lt).counted
 
-idled_at : (k : Setup) (whole : Bool) (h : State) (s : Scene) (place : ℕ) (p : Seat) (q : Option Seat) (c : Held) (old new : List ℕ) → StandsFor k h s → place < length h.visitors → (a : IsAtPlace k s place (get_or h.core.next (session_seat k place) (first_key 0)) p)
+idled_at : (k : Setup) (whole : Bool) (h : House) (s : Scene) (place : ℕ) (p : SeatedSession) (q : Option SeatedSession) (c : DeliveryCore) (old new : List ℕ) → StandsFor k h s → place < length h.visitors → (a : IsAtPlace k s place (get_or h.core.next (session_seat k place) (first_key 0)) p)
     → PlaceIdled k whole place (get_or h.core.next (session_seat k place) (first_key 0)) (s.world.heard (session_seat k place)) s.world a.visitor h.core q c old new
     → (t : Scene) × (printed : List ℕ) × IdlePlay k whole s place t printed × StandsFor k (with_visits h c place q h.entered) t × (new ≡ old ++ printed)
 idled_at k whole h s place p q c old new st within a m = (
@@ -337,28 +337,28 @@ idled_at k whole h s place p q c old new st within a m = (
   m.out,
 )
 
-pub idle_led : (k : Setup) (whole : Bool) (h : State) (s : Scene) (place : ℕ) (p : Seat) (q : Option Seat) (c : Held) (old new : List ℕ) → StandsFor k h s → place < length h.visitors
+pub idle_led : (k : Setup) (whole : Bool) (h : House) (s : Scene) (place : ℕ) (p : SeatedSession) (q : Option SeatedSession) (c : DeliveryCore) (old new : List ℕ) → StandsFor k h s → place < length h.visitors
     → get_or h.visitors place None ≡ Some p
-    → ((next : CopyKey) (heard : List Noted) (w : World) (b : SeatedSession) → core.StandsFor k.config h.core w → StandsForSomebody (session_seat k place) next heard (Some p) (Some b) → PlaceIdled k whole place next heard w b h.core q c old new)
+    → ((next : CopyKey) (heard : List Noted) (w : World) (b : SeatedVisitor) → core.StandsFor k.config h.core w → StandsForSomebody (session_seat k place) next heard (Some p) (Some b) → PlaceIdled k whole place next heard w b h.core q c old new)
     → (t : Scene) × (printed : List ℕ) × IdlePlay k whole s place t printed × StandsFor k (with_visits h c place q h.entered) t × (new ≡ old ++ printed)
 idle_led k whole h s place p q c old new st within some goes =
     let a = at_place k h s place (first_key 0) p st within some in
     idled_at k whole h s place p q c old new st within a (goes (get_or h.core.next (session_seat k place) (first_key 0)) (s.world.heard (session_seat k place)) s.world a.visitor st.core a.stands)
 
 -- nothing was done there, and the house stands as it did
-kept_stands : (k : Setup) (h : State) (s : Scene) (c : Held) (place : ℕ) (p : Seat) (q : Option Seat) (old new : List ℕ) → StandsFor k h s → place < length h.visitors → (a : IsAtPlace k s place (get_or h.core.next (session_seat k place) (first_key 0)) p)
+kept_stands : (k : Setup) (h : House) (s : Scene) (c : DeliveryCore) (place : ℕ) (p : SeatedSession) (q : Option SeatedSession) (old new : List ℕ) → StandsFor k h s → place < length h.visitors → (a : IsAtPlace k s place (get_or h.core.next (session_seat k place) (first_key 0)) p)
     → PlaceKept k place (get_or h.core.next (session_seat k place) (first_key 0)) (s.world.heard (session_seat k place)) s.world a.visitor h.core q c old new
     → StandsFor k (with_visits h c place q h.entered) s
 kept_stands k h s c place p q old new st within a m =
     again (visit_stands k h c h.entered s s.world s.entered place (first_key 0) q (Some a.visitor) st m.core m.rest within refl (λ n. counted_still k h s place st within n) (λ i n ne. refl) (λ i ne. refl)
     (who_stays (session_seat k place) (get_or h.core.next (session_seat k place) (first_key 0)) (s.world.heard (session_seat k place)) (s.entered place) q (Some a.visitor) p a.visitor m.there a.stands a.serial (λ x e. same_there x e)))
   where
-    same_there : (x : SeatedSession) → Some a.visitor ≡ Some x → x.serial ≡ a.visitor.serial
-    same_there x e = let f : a.visitor ≡ x = cc in ap (λ (v : SeatedSession). v.serial) (sym f)
+    same_there : (x : SeatedVisitor) → Some a.visitor ≡ Some x → x.serial ≡ a.visitor.serial
+    same_there x e = let f : a.visitor ≡ x = cc in ap (λ (v : SeatedVisitor). v.serial) (sym f)
 
     -- at the place is who was there
     as_before : (i : ℕ) → set_at s.visitor place (Some a.visitor) i ≡ s.visitor i
-    as_before i = at_cases (λ (v : Option SeatedSession). v ≡ s.visitor i) s.visitor place (Some a.visitor) i (λ e. sym a.here ∙ ap s.visitor (sym e)) (λ e. refl)
+    as_before i = at_cases (λ (v : Option SeatedVisitor). v ≡ s.visitor i) s.visitor place (Some a.visitor) i (λ e. sym a.here ∙ ap s.visitor (sym e)) (λ e. refl)
 
     again : StandsFor k (with_visits h c place q h.entered) (with_visitor s place (Some a.visitor)) → StandsFor k (with_visits h c place q h.entered) s
     again g = record {
@@ -379,9 +379,9 @@ kept_stands k h s c place p q old new st within a m =
       visitors = λ i y n d l. let e = g.visitors i y n d l in place_kept k (with_visitor s place (Some a.visitor)) s i _ _ _ _ _ _ e refl refl refl refl (sym (as_before i)) refl;
     }
 
-pub idle_led_in_part : (k : Setup) (h : State) (s : Scene) (place : ℕ) (p : Seat) (q : Option Seat) (c : Held) (old new : List ℕ) → StandsFor k h s → place < length h.visitors
+pub idle_led_in_part : (k : Setup) (h : House) (s : Scene) (place : ℕ) (p : SeatedSession) (q : Option SeatedSession) (c : DeliveryCore) (old new : List ℕ) → StandsFor k h s → place < length h.visitors
     → get_or h.visitors place None ≡ Some p
-    → ((next : CopyKey) (heard : List Noted) (w : World) (b : SeatedSession) → core.StandsFor k.config h.core w → StandsForSomebody (session_seat k place) next heard (Some p) (Some b) → PlaceIdledInPart k place next heard w b h.core q c old new)
+    → ((next : CopyKey) (heard : List Noted) (w : World) (b : SeatedVisitor) → core.StandsFor k.config h.core w → StandsForSomebody (session_seat k place) next heard (Some p) (Some b) → PlaceIdledInPart k place next heard w b h.core q c old new)
     → ((t : Scene) × (printed : List ℕ) × IdlePlay k false s place t printed × StandsFor k (with_visits h c place q h.entered) t × (new ≡ old ++ printed)) ⊎ (StandsFor k (with_visits h c place q h.entered) s × (new ≡ old))
 idle_led_in_part k h s place p q c old new st within some goes =
     let a = at_place k h s place (first_key 0) p st within some in
@@ -393,10 +393,10 @@ idle_led_in_part k h s place p q c old new st within some goes =
     part a (inr m) = inr (kept_stands k h s c place p q old new st within a m, m.out)
 
 -- where the session there has no turn, nobody is shown anything
-pub idle_none : (k : Setup) (h : State) (s : Scene) (place : ℕ) (p : Seat) (t : Scene) (printed : List ℕ) → StandsFor k h s → place < length h.visitors → get_or h.visitors place None ≡ Some p → HasNoTurn place (Some p) h.core
+pub idle_none : (k : Setup) (h : House) (s : Scene) (place : ℕ) (p : SeatedSession) (t : Scene) (printed : List ℕ) → StandsFor k h s → place < length h.visitors → get_or h.visitors place None ≡ Some p → HasNoTurn place (Some p) h.core
     → IdlePlay k true s place t printed → ⊥
 idle_none k h s place p t printed st within some none play =
     let a = at_place k h s place (first_key 0) p st within some in
     let same : a.visitor ≡ play.visitor = some_is a.visitor play.visitor (sym a.here ∙ play.there) in
     none k (get_or h.core.next (session_seat k place) (first_key 0)) (s.world.heard (session_seat k place)) s.world play.moved play.visitor play.left printed st.core
-    (subst (λ (b : SeatedSession). StandsForSeated (session_seat k place) (get_or h.core.next (session_seat k place) (first_key 0)) (s.world.heard (session_seat k place)) p b) same a.stands) play.goes
+    (subst (λ (b : SeatedVisitor). StandsForSeated (session_seat k place) (get_or h.core.next (session_seat k place) (first_key 0)) (s.world.heard (session_seat k place)) p b) same a.stands) play.goes

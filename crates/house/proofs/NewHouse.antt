@@ -11,13 +11,13 @@ use Rattle.envelope.specs.Names.{is_name, home_of, words_read, first_fault, home
 use Rattle.envelope.specs.declared.directory.DirectoryFault.{DirectoryFault}
 use Rattle.envelope.specs.declared.directory.DirectoryFault.TheVariants.{TooMany, BadName}
 use Rattle.house.specs.declared.config.Config.{Config}
-use Rattle.house_connection.specs.Line.{Line}
-use Rattle.house.specs.State.{State}
+use Rattle.house_connection.specs.HouseConnection.{HouseConnection}
+use Rattle.house.specs.House.{House}
 use Rattle.house.specs.Scene.{empty_scene}
 use Rattle.house.specs.Settings.{connections, sessions, setup_of, words_of}
 use Rattle.house.specs.Setup.{session_seat, terms_of}
 use Rattle.house.specs.Stands.{StandsFor, StandsForOne, StandsForVisit}
-use Rattle.house_session.specs.Seat.{Seat}
+use Rattle.house_session.specs.SeatedSession.{SeatedSession}
 
 -- words that are read are the mailboxes that they name
 homes_are : (many right : Bool) (fault : Option DirectoryFault) (homes read : List Home)
@@ -30,7 +30,7 @@ homes_are false true (Some fault) homes read e = absurd (cc)
 pub read_homes : (domains words : List (List ℕ)) (read : List Home) → words_read domains words ≡ Ok read → read ≡ map home_of words
 read_homes domains words read e = homes_are (nat_lt 64 (length words)) (list_all is_name domains) (first_fault [] (map home_of words)) (map home_of words) read e
 
-pub new_house : (c : Config) (h : State) → core.StandsFor (setup_of c).config h.core (empty_scene (setup_of c)).world
+pub new_house : (c : Config) (h : House) → core.StandsFor (setup_of c).config h.core (empty_scene (setup_of c)).world
     → ((p : ℕ) (d : CopyKey) → p < connections + sessions → get_or h.core.next p d ≡ first_key p)
     → h.callers ≡ replicate connections None → h.serials ≡ replicate connections 0 → h.visitors ≡ replicate sessions None → h.entered ≡ replicate sessions 0 → h.directory ≡ (setup_of c).directory → h.host ≡ c.host.items → h.max_message ≡ c.max_message
     → 0 < c.shards
@@ -49,19 +49,19 @@ new_house c h stands keys callers serials places entered directory host most som
   numbers = ap length serials;
   each = λ seat y n d below.
       let lt : seat < connections = let e : length h.callers ≡ connections = ap length callers in omega (arith, below, e) in
-      let nobody : get_or h.callers seat d ≡ None = ap (λ (xs : List (Option Line)). get_or xs seat d) callers ∙ get_or-replicate connections seat None d lt in
+      let nobody : get_or h.callers seat d ≡ None = ap (λ (xs : List (Option HouseConnection)). get_or xs seat d) callers ∙ get_or-replicate connections seat None d lt in
       record {
         counted = ap (λ (xs : List ℕ). get_or xs seat n) serials ∙ get_or-replicate connections seat 0 n lt;
-        who = subst (λ (o : Option Line). StandsForOne (terms_of (setup_of c) (none_shut c.shards)) seat (get_or h.core.next seat y) [] 0 o None) (sym nobody) (inl (keys seat y (omega (arith, lt))));
+        who = subst (λ (o : Option HouseConnection). StandsForOne (terms_of (setup_of c) (none_shut c.shards)) seat (get_or h.core.next seat y) [] 0 o None) (sym nobody) (inl (keys seat y (omega (arith, lt))));
       };
   places = ap length places;
   entries = ap length entered;
   visitors = λ place y n d below.
       let lt : place < sessions = let e : length h.visitors ≡ sessions = ap length places in omega (arith, below, e) in
-      let free : get_or h.visitors place d ≡ None = ap (λ (xs : List (Option Seat)). get_or xs place d) places ∙ get_or-replicate sessions place None d lt in
+      let free : get_or h.visitors place d ≡ None = ap (λ (xs : List (Option SeatedSession)). get_or xs place d) places ∙ get_or-replicate sessions place None d lt in
       record {
         counted = ap (λ (xs : List ℕ). get_or xs place n) entered ∙ get_or-replicate sessions place 0 n lt;
-        who = subst (λ (o : Option Seat). StandsForVisit (session_seat (setup_of c) place) (get_or h.core.next (session_seat (setup_of c) place) y) [] 0 o None) (sym free) (inl (keys (session_seat (setup_of c) place) y (omega (arith, lt))));
+        who = subst (λ (o : Option SeatedSession). StandsForVisit (session_seat (setup_of c) place) (get_or h.core.next (session_seat (setup_of c) place) y) [] 0 o None) (sym free) (inl (keys (session_seat (setup_of c) place) y (omega (arith, lt))));
       };
 }
 

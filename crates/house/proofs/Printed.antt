@@ -7,31 +7,31 @@ use Rattle.line_io.specs.Marks.{marked}
 use Rattle.lmtp_machine.specs.declared.connection.What.{What}
 use Rattle.lmtp_machine.specs.declared.connection.What.TheVariants.{More, Submit, Quit}
 use Rattle.imap_session.specs.Exchange.{Call, Answer}
-use Rattle.house_connection.specs.Line.{Line}
-use Rattle.house_connection.specs.HouseConnection.{HouseConnection, GoesOn, Proceeds, Terms, Works, answers, fades, lingers, stalls, talks, waits, with_unsaid, works}
+use Rattle.house_connection.specs.HouseConnection.{HouseConnection}
+use Rattle.house_connection.specs.Caller.{Caller, GoesOn, Proceeds, Terms, Works, answers, fades, lingers, stalls, talks, waits, with_unsaid, works}
 use Rattle.house_connection.specs.ConnectionStands.{Proceeded}
 use Rattle.house_connection.specs.Taking.{with_all_said}
 use Rattle.house_connection.proofs.Connections.{printed_stands}
-use Rattle.house_session.specs.Place.{with_all_said as with_all_said_at}
-use Rattle.house_session.specs.Seat.{Proceeded as SessionProceeded, Seat, SeatedTurned, StandsForSeated, with_place}
-use Rattle.house_session.specs.Seated as seated
-use Rattle.house_session.specs.Seated.{SeatedSession}
+use Rattle.house_session.specs.HouseSession.{with_all_said as with_all_said_at}
+use Rattle.house_session.specs.SeatedSession.{Proceeded as SessionProceeded, SeatedSession, SeatedTurned, StandsForSeated, with_place}
+use Rattle.house_session.specs.SeatedVisitor as seated
+use Rattle.house_session.specs.SeatedVisitor.{SeatedVisitor}
 use Rattle.house.specs.Printing.{goes, of_connection, of_session, prints_all, prints_none, stays, still_unsaid, with_session}
 use Rattle.house.specs.inner.Printing.{Idled, WentOn}
 use Rattle.house.specs.inner.Steps.{ConnectionWent}
 
 -- ---- what a whole turn does, one that is cut short may do as well
 
-works_part : (k : Terms) (seat : ℕ) (b : HouseConnection) (what : What) (after : HouseConnection) → Works k true seat b what after → Works k false seat b what after
+works_part : (k : Terms) (seat : ℕ) (b : Caller) (what : What) (after : Caller) → Works k true seat b what after → Works k false seat b what after
 works_part k seat b what after w = record { turn = w.turn; talk = w.talk; works = w.works; said = w.said; all = λ x. absurd (let y : false ≡ true = x in cc); is = w.is }
 
-goes_part : (k : Terms) (seat : ℕ) (heard : List Noted) (b : HouseConnection) (what : What) (after : HouseConnection) → GoesOn k true seat heard b what after → GoesOn k false seat heard b what after
+goes_part : (k : Terms) (seat : ℕ) (heard : List Noted) (b : Caller) (what : What) (after : Caller) → GoesOn k true seat heard b what after → GoesOn k false seat heard b what after
 goes_part k seat heard b what after (works e w) = works e (works_part k seat b what after w)
 goes_part k seat heard b what after (waits l n e f) = waits l n e f
 goes_part k seat heard b what after (answers vs l a w) = answers vs l a (works_part k seat _ what after w)
 goes_part k seat heard b what after (stalls w e f) = cc
 
-pub proceeds_part : (k : Terms) (seat : ℕ) (heard : List Noted) (b : HouseConnection) (what : What) (after : HouseConnection) → Proceeds k true seat heard b what after → Proceeds k false seat heard b what after
+pub proceeds_part : (k : Terms) (seat : ℕ) (heard : List Noted) (b : Caller) (what : What) (after : Caller) → Proceeds k true seat heard b what after → Proceeds k false seat heard b what after
 proceeds_part k seat heard b what after (talks l g) = talks l (goes_part k seat heard b what after g)
 proceeds_part k seat heard b what after (lingers g u n e f) = lingers g u n e f
 proceeds_part k seat heard b what after (fades vs g u a e f) = fades vs g u a e f
@@ -39,11 +39,11 @@ proceeds_part k seat heard b what after (fades vs g u a e f) = fades vs g u a e 
 -- ---- connections
 
 module _ (k : Terms) (seat : ℕ) (next : CopyKey) (heard : List Noted) where
-  marks : (number : ℕ) (h : Line) (after : HouseConnection) → number ≡ seat + 1 → h.unsaid ≡ after.talk.unsaid → marked of_connection number h.unsaid ≡ marked of_connection (seat + 1) after.talk.unsaid
+  marks : (number : ℕ) (h : HouseConnection) (after : Caller) → number ≡ seat + 1 → h.unsaid ≡ after.talk.unsaid → marked of_connection number h.unsaid ≡ marked of_connection (seat + 1) after.talk.unsaid
   marks number h after e f = ap (λ (n : ℕ). marked of_connection n h.unsaid) e ∙ ap (marked of_connection (seat + 1)) f
 
   -- all was done, and all is printed
-  pub went : (number : ℕ) (b : HouseConnection) (what : What) (h : Line) (old new : List ℕ) → number ≡ seat + 1 → Proceeded k true seat next heard b what h → new ≡ old ++ marked of_connection number h.unsaid
+  pub went : (number : ℕ) (b : Caller) (what : What) (h : HouseConnection) (old new : List ℕ) → number ≡ seat + 1 → Proceeded k true seat next heard b what h → new ≡ old ++ marked of_connection number h.unsaid
       → ConnectionWent k true seat next heard b what (with_all_said h) old new
   went number b Quit h old new e p o = record {
     left = None;
@@ -84,7 +84,7 @@ module _ (k : Terms) (seat : ℕ) (next : CopyKey) (heard : List Noted) where
   }
 
   -- memory was wanting, and what was said is printed
-  pub went_in_part : (number : ℕ) (b : HouseConnection) (what : What) (h : Line) (old new : List ℕ) → number ≡ seat + 1 → Proceeded k false seat next heard b what h → (h.gone ≡ true → ⊥)
+  pub went_in_part : (number : ℕ) (b : Caller) (what : What) (h : HouseConnection) (old new : List ℕ) → number ≡ seat + 1 → Proceeded k false seat next heard b what h → (h.gone ≡ true → ⊥)
       → new ≡ old ++ marked of_connection number h.unsaid → ConnectionWent k false seat next heard b More (with_all_said h) old new
   went_in_part number b what h old new e p live o = record {
     left = Some (with_unsaid [] p.after);
@@ -103,7 +103,7 @@ module _ (k : Terms) (seat : ℕ) (next : CopyKey) (heard : List Noted) where
   }
 
   -- printing was refused
-  pub went_unprinted : (b : HouseConnection) (what : What) (h : Line) (old new : List ℕ) → Proceeded k false seat next heard b what h → (h.gone ≡ true → ⊥) → new ≡ old
+  pub went_unprinted : (b : Caller) (what : What) (h : HouseConnection) (old new : List ℕ) → Proceeded k false seat next heard b what h → (h.gone ≡ true → ⊥) → new ≡ old
       → ConnectionWent k false seat next heard b More h old new
   went_unprinted b what h old new p live o = record {
     left = Some p.after;
@@ -122,18 +122,18 @@ module _ (k : Terms) (seat : ℕ) (next : CopyKey) (heard : List Noted) where
   }
 
   -- the same, whatever came of printing
-  pub part_printed : (number : ℕ) (b : HouseConnection) (what : What) (h g : Line) (old new : List ℕ) → number ≡ seat + 1 → Proceeded k false seat next heard b what h → h.gone ≡ false
+  pub part_printed : (number : ℕ) (b : Caller) (what : What) (h g : HouseConnection) (old new : List ℕ) → number ≡ seat + 1 → Proceeded k false seat next heard b what h → h.gone ≡ false
       → (r : Result Unit AllocError) → OnOk r ((g ≡ with_all_said h) × (new ≡ old ++ marked of_connection number h.unsaid)) → OnErr r ((g ≡ h) × (new ≡ old)) → ConnectionWent k false seat next heard b More g old new
-  part_printed number b what h g old new e p live (Ok tt) ok err = subst (λ (x : Line). ConnectionWent k false seat next heard b More x old new) (sym ok.0) (went_in_part number b what h old new e p (λ x. let y : true ≡ false = sym x ∙ live in cc) ok.1)
-  part_printed number b what h g old new e p live (Err fault) ok err = subst (λ (x : Line). ConnectionWent k false seat next heard b More x old new) (sym err.0) (went_unprinted b what h old new p (λ x. let y : true ≡ false = sym x ∙ live in cc) err.1)
+  part_printed number b what h g old new e p live (Ok tt) ok err = subst (λ (x : HouseConnection). ConnectionWent k false seat next heard b More x old new) (sym ok.0) (went_in_part number b what h old new e p (λ x. let y : true ≡ false = sym x ∙ live in cc) ok.1)
+  part_printed number b what h g old new e p live (Err fault) ok err = subst (λ (x : HouseConnection). ConnectionWent k false seat next heard b More x old new) (sym err.0) (went_unprinted b what h old new p (λ x. let y : true ≡ false = sym x ∙ live in cc) err.1)
 
-  pub in_part : (b : HouseConnection) (what : What) (h : Line) → Proceeded k true seat next heard b what h → Proceeded k false seat next heard b what h
+  pub in_part : (b : Caller) (what : What) (h : HouseConnection) → Proceeded k true seat next heard b what h → Proceeded k false seat next heard b what h
   in_part b what h p = record { after = p.after; proceeds = proceeds_part k seat heard b what p.after p.proceeds; stands = p.stands }
 
 -- ---- sessions
 
 -- memory may have been wanting
-pub said_in_part : {S : Type 0} (step : S → Call → Answer → S → Type 0) (seat : ℕ) (heard : List Noted) (v : SeatedSession) (old new : S) (after : SeatedSession) (said : List ℕ) → seated.GoesOn step true seat heard v old new after said
+pub said_in_part : {S : Type 0} (step : S → Call → Answer → S → Type 0) (seat : ℕ) (heard : List Noted) (v : SeatedVisitor) (old new : S) (after : SeatedVisitor) (said : List ℕ) → seated.GoesOn step true seat heard v old new after said
     → seated.GoesOn step false seat heard v old new after said
 said_in_part step seat heard v old new after said (seated.works n w) = seated.works n w
 said_in_part step seat heard v old new after said (seated.answers verdict mid first second how next known a w e) = seated.answers verdict mid first second how next known a w e
@@ -141,19 +141,19 @@ said_in_part step seat heard v old new after said (seated.waits a n e f) = seate
 said_in_part step seat heard v old new after said (seated.rests a n e f) = seated.rests a n e f
 said_in_part step seat heard v old new after said (seated.stalls w n e f) = seated.stalls refl n e f
 
-in_part_too : {S : Type 0} (step : S → Call → Answer → S → Type 0) (whole : Bool) (seat : ℕ) (heard : List Noted) (v : SeatedSession) (old new : S) (after : SeatedSession) (said : List ℕ) → seated.GoesOn step whole seat heard v old new after said
+in_part_too : {S : Type 0} (step : S → Call → Answer → S → Type 0) (whole : Bool) (seat : ℕ) (heard : List Noted) (v : SeatedVisitor) (old new : S) (after : SeatedVisitor) (said : List ℕ) → seated.GoesOn step whole seat heard v old new after said
     → seated.GoesOn step false seat heard v old new after said
 in_part_too step true seat heard v old new after said g = said_in_part step seat heard v old new after said g
 in_part_too step false seat heard v old new after said g = g
 
 -- a client that is there is spoken to
-talking : {S : Type 0} (step : S → Call → Answer → S → Type 0) (whole : Bool) (seat : ℕ) (heard : List Noted) (v : SeatedSession) (old new : S) (after : SeatedSession) (said : List ℕ) → v.gone ≡ false → seated.Proceeds step whole seat heard v old new after said
+talking : {S : Type 0} (step : S → Call → Answer → S → Type 0) (whole : Bool) (seat : ℕ) (heard : List Noted) (v : SeatedVisitor) (old new : S) (after : SeatedVisitor) (said : List ℕ) → v.gone ≡ false → seated.Proceeds step whole seat heard v old new after said
     → seated.GoesOn step whole seat heard v old new after said
 talking step whole seat heard v old new after said there (seated.talks l g) = g
 talking step whole seat heard v old new after said there (seated.lingers l n e f) = absurd (let x : true ≡ false = sym l ∙ there in cc)
 
 -- it stands for the session with its words, whatever of them is still to be printed
-unsaid_stands : (seat : ℕ) (next : CopyKey) (heard : List Noted) (p : Seat) (v : SeatedSession) → StandsForSeated seat next heard p v → StandsForSeated seat next heard p (still_unsaid v.session.unsaid v)
+unsaid_stands : (seat : ℕ) (next : CopyKey) (heard : List Noted) (p : SeatedSession) (v : SeatedVisitor) → StandsForSeated seat next heard p v → StandsForSeated seat next heard p (still_unsaid v.session.unsaid v)
 unsaid_stands seat next heard p v s = record {
   place = λ live. let x = s.place live in record { begun = x.begun; connection = x.connection; waits = x.waits; unsaid = x.unsaid };
   submitted = s.submitted;
@@ -166,7 +166,7 @@ unsaid_stands seat next heard p v s = record {
   ahead = s.ahead;
 }
 
-all_said_stands : (seat : ℕ) (next : CopyKey) (heard : List Noted) (p : Seat) (v : SeatedSession) → StandsForSeated seat next heard p v → StandsForSeated seat next heard (with_place (with_all_said_at p.place) p) (still_unsaid [] v)
+all_said_stands : (seat : ℕ) (next : CopyKey) (heard : List Noted) (p : SeatedSession) (v : SeatedVisitor) → StandsForSeated seat next heard p v → StandsForSeated seat next heard (with_place (with_all_said_at p.place) p) (still_unsaid [] v)
 all_said_stands seat next heard p v s = record {
   place = λ live. let x = s.place live in record { begun = x.begun; connection = x.connection; waits = x.waits; unsaid = refl };
   submitted = s.submitted;
@@ -180,7 +180,7 @@ all_said_stands seat next heard p v s = record {
 }
 
 -- all that was said is printed
-pub went_on : {S : Type 0} (step : S → Call → Answer → S → Type 0) (whole : Bool) (seat n : ℕ) (next : CopyKey) (heard : List Noted) (v : SeatedSession) (old new : S) (text text_after : List ℕ) (p : Seat) → v.gone ≡ false → p.gone ≡ false
+pub went_on : {S : Type 0} (step : S → Call → Answer → S → Type 0) (whole : Bool) (seat n : ℕ) (next : CopyKey) (heard : List Noted) (v : SeatedVisitor) (old new : S) (text text_after : List ℕ) (p : SeatedSession) → v.gone ≡ false → p.gone ≡ false
     → SessionProceeded step whole seat next heard v old new p → text_after ≡ text ++ marked of_session n p.place.unsaid → WentOn step whole seat n next heard v old new text text_after (with_place (with_all_said_at p.place) p)
 went_on step whole seat n next heard v old new text text_after p there live a printed = record {
   after = still_unsaid [] a.after;
@@ -199,7 +199,7 @@ went_on step whole seat n next heard v old new text text_after p there live a pr
 }
 
 -- a growth was refused
-pub unprinted : {S : Type 0} (step : S → Call → Answer → S → Type 0) (whole : Bool) (seat n : ℕ) (next : CopyKey) (heard : List Noted) (v : SeatedSession) (old new : S) (text : List ℕ) (p : Seat) → v.gone ≡ false
+pub unprinted : {S : Type 0} (step : S → Call → Answer → S → Type 0) (whole : Bool) (seat n : ℕ) (next : CopyKey) (heard : List Noted) (v : SeatedVisitor) (old new : S) (text : List ℕ) (p : SeatedSession) → v.gone ≡ false
     → SessionProceeded step whole seat next heard v old new p → WentOn step false seat n next heard v old new text text p
 unprinted step whole seat n next heard v old new text p there a = record {
   after = still_unsaid a.after.session.unsaid a.after;
@@ -218,17 +218,17 @@ unprinted step whole seat n next heard v old new text p there a = record {
 }
 
 -- memory was refused before, whatever came of printing
-pub session_part : {S : Type 0} (step : S → Call → Answer → S → Type 0) (seat n : ℕ) (next : CopyKey) (heard : List Noted) (v : SeatedSession) (old new : S) (text text_after : List ℕ) (p q : Seat) → v.gone ≡ false → p.gone ≡ false
+pub session_part : {S : Type 0} (step : S → Call → Answer → S → Type 0) (seat n : ℕ) (next : CopyKey) (heard : List Noted) (v : SeatedVisitor) (old new : S) (text text_after : List ℕ) (p q : SeatedSession) → v.gone ≡ false → p.gone ≡ false
     → SessionProceeded step false seat next heard v old new p → (r : Result Unit AllocError) → OnOk r ((q ≡ with_place (with_all_said_at p.place) p) × (text_after ≡ text ++ marked of_session n p.place.unsaid)) → OnErr r ((q ≡ p) × (text_after ≡ text))
     → WentOn step false seat n next heard v old new text text_after q
 session_part step seat n next heard v old new text text_after p q there live a (Ok tt) ok err =
-    subst (λ (x : Seat). WentOn step false seat n next heard v old new text text_after x) (sym ok.0) (went_on step false seat n next heard v old new text text_after p there live a ok.1)
+    subst (λ (x : SeatedSession). WentOn step false seat n next heard v old new text text_after x) (sym ok.0) (went_on step false seat n next heard v old new text text_after p there live a ok.1)
 session_part step seat n next heard v old new text text_after p q there live a (Err fault) ok err =
-    subst (λ (x : Seat). WentOn step false seat n next heard v old new text text_after x) (sym err.0)
+    subst (λ (x : SeatedSession). WentOn step false seat n next heard v old new text text_after x) (sym err.0)
     (subst (λ (t : List ℕ). WentOn step false seat n next heard v old new text t p) (sym err.1) (unprinted step false seat n next heard v old new text p there a))
 
 -- all that was said in a turn is printed
-pub idled : {S : Type 0} (step : S → Call → Answer → S → Type 0) (seat n count : ℕ) (next : CopyKey) (heard : List Noted) (v : SeatedSession) (old new : S) (text text_after : List ℕ) (p : Seat) → p.gone ≡ false
+pub idled : {S : Type 0} (step : S → Call → Answer → S → Type 0) (seat n count : ℕ) (next : CopyKey) (heard : List Noted) (v : SeatedVisitor) (old new : S) (text text_after : List ℕ) (p : SeatedSession) → p.gone ≡ false
     → SeatedTurned step count seat next heard v old new p → text_after ≡ text ++ marked of_session n p.place.unsaid
     → Idled step true seat n count next heard v old new text text_after (with_place (with_all_said_at p.place) p)
 idled step seat n count next heard v old new text text_after p live t printed = record {
@@ -240,7 +240,7 @@ idled step seat n count next heard v old new text text_after p live t printed = 
   out = printed;
 }
 
-pub idled_unprinted : {S : Type 0} (step : S → Call → Answer → S → Type 0) (seat n count : ℕ) (next : CopyKey) (heard : List Noted) (v : SeatedSession) (old new : S) (text : List ℕ) (p : Seat) → SeatedTurned step count seat next heard v old new p
+pub idled_unprinted : {S : Type 0} (step : S → Call → Answer → S → Type 0) (seat n count : ℕ) (next : CopyKey) (heard : List Noted) (v : SeatedVisitor) (old new : S) (text : List ℕ) (p : SeatedSession) → SeatedTurned step count seat next heard v old new p
     → Idled step false seat n count next heard v old new text text p
 idled_unprinted step seat n count next heard v old new text p t = record {
   after = t.session;

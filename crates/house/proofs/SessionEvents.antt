@@ -14,7 +14,7 @@ use Rattle.submission.specs.inner.Verdicts.{heard_verdict}
 use Rattle.envelope.specs.Directory.{Directory}
 use Rattle.world.specs.World.{Config, PutStep, World, shard_of}
 use Rattle.world.specs.World as world
-use Rattle.delivery_core.specs.Held.{Held, notes_of}
+use Rattle.delivery_core.specs.DeliveryCore.{DeliveryCore, notes_of}
 use Rattle.delivery_core.specs.Changes.{Hears, SameDelivery}
 use Rattle.delivery_core.specs.New.{first_key}
 use Rattle.delivery_core.specs.Stands as core
@@ -24,13 +24,13 @@ use Rattle.session_store.specs.declared.desk.Desk.{Desk}
 use Rattle.session_store.specs.Desk.{Serves}
 use Rattle.session_store.proofs.Served.{carries}
 use Rattle.house_session.specs.Folders.{folders_of, has_user}
-use Rattle.house_session.specs.HouseSession.{more_waits}
-use Rattle.house_session.specs.Seated.{SeatedSession, copies_of, seated_greeted, sent_by, unread}
-use Rattle.house_session.specs.Seat.{HearsVerdict, Seat, StandsForSeated, due, noted_put, submitted_at, with_nobody_there}
+use Rattle.house_session.specs.Visitor.{more_waits}
+use Rattle.house_session.specs.SeatedVisitor.{SeatedVisitor, copies_of, seated_greeted, sent_by, unread}
+use Rattle.house_session.specs.SeatedSession.{HearsVerdict, SeatedSession, StandsForSeated, due, noted_put, submitted_at, with_nobody_there}
 use Rattle.house_session.proofs.Putting.{may_be_used, next_copy, put_stands}
 use Rattle.house_session.proofs.Seating.{heard_stands, vanished}
 use Rattle.house.specs.Setup.{Setup, session_seat}
-use Rattle.house.specs.State.{State}
+use Rattle.house.specs.House.{House}
 use Rattle.house.specs.Printing.{with_session}
 use Rattle.house.specs.Scene.{EnterPlay, HearPlay, LeavePlay, PutPlay, SayPlay, connection_hears, connection_puts, session_hears, session_puts, Scene, SessionHears, SessionPuts, most_serials, with_visitor, with_world}
 use Rattle.house.specs.Stands.{StandsFor, StandsForVisit, first_of}
@@ -42,13 +42,13 @@ use Rattle.house.proofs.Turns.{hear_moves, may_of, step_of}
 use Rattle.house.proofs.Visiting.{IsAtPlace, after_visiting, at_place, goes_serial, lingers_serial, talks_serial, visit_stands, visited_scene, who_stays, with_visits}
 
 -- where the serials stay
-kept_serials : (k : Setup) (h : State) (s : Scene) (place : ℕ) → StandsFor k h s → place < length h.visitors → (n : ℕ) → get_or h.entered place n ≡ s.entered place
+kept_serials : (k : Setup) (h : House) (s : Scene) (place : ℕ) → StandsFor k h s → place < length h.visitors → (n : ℕ) → get_or h.entered place n ≡ s.entered place
 kept_serials k h s place st lt n = (st.visitors place (first_key 0) n None lt).counted
 
 -- ---- what is said
 
 -- bytes more wait
-more_stands : (seat : ℕ) (next : CopyKey) (heard : List Noted) (p : Seat) (b : SeatedSession) (piece : List ℕ) → StandsForSeated seat next heard p b → StandsForSeated seat next heard (with_more_came piece p) (with_session (more_waits b.session piece) b)
+more_stands : (seat : ℕ) (next : CopyKey) (heard : List Noted) (p : SeatedSession) (b : SeatedVisitor) (piece : List ℕ) → StandsForSeated seat next heard p b → StandsForSeated seat next heard (with_more_came piece p) (with_session (more_waits b.session piece) b)
 more_stands seat next heard p b piece s = record {
   place = λ live. let x = s.place live in
       record { begun = x.begun; connection = x.connection; waits = ap (λ (t : List ℕ). t ++ piece) x.waits ∙ append_assoc x.begun p.place.came piece; unsaid = x.unsaid };
@@ -62,9 +62,9 @@ more_stands seat next heard p b piece s = record {
   ahead = s.ahead;
 }
 
-pub said : (k : Setup) (whole : Bool) (h : State) (s : Scene) (place : ℕ) (piece : List ℕ) (p : Seat) (q : Option Seat) (c : Held) (old new : List ℕ) → StandsFor k h s → place < length h.visitors
+pub said : (k : Setup) (whole : Bool) (h : House) (s : Scene) (place : ℕ) (piece : List ℕ) (p : SeatedSession) (q : Option SeatedSession) (c : DeliveryCore) (old new : List ℕ) → StandsFor k h s → place < length h.visitors
     → get_or h.visitors place None ≡ Some p → p.gone ≡ false → SameDelivery h.core c
-    → ((next : CopyKey) (heard : List Noted) (w : World) (b : SeatedSession) → core.StandsFor k.config h.core w → StandsForSomebody (session_seat k place) next heard (Some (with_more_came piece p)) (Some b) → PlaceTalked k whole place next heard w b q c old new)
+    → ((next : CopyKey) (heard : List Noted) (w : World) (b : SeatedVisitor) → core.StandsFor k.config h.core w → StandsForSomebody (session_seat k place) next heard (Some (with_more_came piece p)) (Some b) → PlaceTalked k whole place next heard w b q c old new)
     → (t : Scene) × (printed : List ℕ) × SayPlay k whole s place piece t printed × StandsFor k (with_visits h c place q h.entered) t × (new ≡ old ++ printed)
 said k whole h s place piece p q c old new st within some live rest goes =
     let y = first_key 0 in
@@ -85,15 +85,15 @@ said k whole h s place piece p q c old new st within some live rest goes =
 -- ---- who enters
 
 -- where nobody is, the seat's next key is no later than that of the next session there
-free_place : (k : Setup) (s : Scene) (place : ℕ) (next : CopyKey) (o : Option SeatedSession) → s.visitor place ≡ o → StandsForVisit (session_seat k place) next (s.world.heard (session_seat k place)) (s.entered place) None o
+free_place : (k : Setup) (s : Scene) (place : ℕ) (next : CopyKey) (o : Option SeatedVisitor) → s.visitor place ≡ o → StandsForVisit (session_seat k place) next (s.world.heard (session_seat k place)) (s.entered place) None o
     → (s.visitor place ≡ None) × AtLeast next (first_of (session_seat k place) (s.entered place))
 free_place k s place next None e w = (e, w)
 free_place k s place next (Some b) e w = absurd w
 
-pub entered : (k : Setup) (whole : Bool) (h : State) (s : Scene) (place seat serial most : ℕ) (user : List ℕ) (p : Seat) (q : Option Seat) (c : Held) (old new : List ℕ) → StandsFor k h s → place < length h.visitors → seat ≡ length h.callers + place
+pub entered : (k : Setup) (whole : Bool) (h : House) (s : Scene) (place seat serial most : ℕ) (user : List ℕ) (p : SeatedSession) (q : Option SeatedSession) (c : DeliveryCore) (old new : List ℕ) → StandsFor k h s → place < length h.visitors → seat ≡ length h.callers + place
     → get_or h.visitors place None ≡ None → has_user h.directory user ≡ true → serial ≡ get_or h.entered place 0 → serial < most_serials → most ≡ h.max_message → SameDelivery h.core c
     → ((next : CopyKey) (heard : List Noted) → AtLeast next (first_of seat serial) → StandsForSeated seat next heard p (seated_greeted serial (Some most) (folders_of h.directory user)))
-    → ((next : CopyKey) (heard : List Noted) (w : World) (b : SeatedSession) → core.StandsFor k.config h.core w → StandsForSomebody (session_seat k place) next heard (Some p) (Some b) → PlaceTalked k whole place next heard w b q c old new)
+    → ((next : CopyKey) (heard : List Noted) (w : World) (b : SeatedVisitor) → core.StandsFor k.config h.core w → StandsForSomebody (session_seat k place) next heard (Some p) (Some b) → PlaceTalked k whole place next heard w b q c old new)
     → (t : Scene) × (printed : List ℕ) × EnterPlay k whole s place user t printed × StandsFor k (with_visits h c place q (set h.entered place (serial + 1))) t × (new ≡ old ++ printed)
 entered k whole h s place seat serial most user p q c old new st within at free known of less size rest opened goes =
     let y = first_key 0 in
@@ -102,8 +102,8 @@ entered k whole h s place seat serial most user p q c old new st within at free 
     let same : serial ≡ s.entered place = of ∙ each.counted in
     let next = get_or h.core.next (session_seat k place) y in
     let heard = s.world.heard (session_seat k place) in
-    let o = free_place k s place next (s.visitor place) refl (subst (λ (x : Option Seat). StandsForVisit (session_seat k place) next heard (s.entered place) x (s.visitor place)) free each.who) in
-    let b : SeatedSession = seated_greeted (s.entered place) (Some k.max_message) (folders_of k.directory user) in
+    let o = free_place k s place next (s.visitor place) refl (subst (λ (x : Option SeatedSession). StandsForVisit (session_seat k place) next heard (s.entered place) x (s.visitor place)) free each.who) in
+    let b : SeatedVisitor = seated_greeted (s.entered place) (Some k.max_message) (folders_of k.directory user) in
     let one : (n : CopyKey) → AtLeast n (first_of (session_seat k place) (s.entered place)) → StandsForSeated (session_seat k place) n heard p b
     = λ n l. subst (λ (x : ℕ). StandsForSeated x n heard p b) mine (subst (λ (x : ℕ). StandsForSeated seat n heard p (seated_greeted x (Some k.max_message) (folders_of k.directory user))) same
     (subst (λ (x : ℕ). StandsForSeated seat n heard p (seated_greeted serial (Some x) (folders_of k.directory user))) (size ∙ st.max_message)
@@ -135,9 +135,9 @@ entered k whole h s place seat serial most user p q c old new st within at free 
 
 -- ---- who leaves
 
-pub left_place : (k : Setup) (h : State) (s : Scene) (place : ℕ) (p : Seat) (q : Option Seat) (new : Desk) (answer : Answer) → StandsFor k h s → place < length h.visitors → get_or h.visitors place None ≡ Some p → p.gone ≡ false
+pub left_place : (k : Setup) (h : House) (s : Scene) (place : ℕ) (p : SeatedSession) (q : Option SeatedSession) (new : Desk) (answer : Answer) → StandsFor k h s → place < length h.visitors → get_or h.visitors place None ≡ Some p → p.gone ≡ false
     → Serves (record { core = h.core; session = place }) (calls.Leave false) answer new
-    → ((seat : ℕ) (next : CopyKey) (heard : List Noted) (b : SeatedSession) → StandsForSomebody seat next heard (Some (with_nobody_there p)) (Some b) → HasLingered seat next heard b q)
+    → ((seat : ℕ) (next : CopyKey) (heard : List Noted) (b : SeatedVisitor) → StandsForSomebody seat next heard (Some (with_nobody_there p)) (Some b) → HasLingered seat next heard b q)
     → (t : Scene) × LeavePlay k s place t [] × StandsFor k (with_visits h new.core place q h.entered) t
 left_place k h s place p q new answer st within some live served stays =
     let y = first_key 0 in
@@ -157,13 +157,13 @@ left_place k h s place p q new answer st within some live served stays =
 -- ---- a put
 
 -- what is still to be put is what its seat says
-to_put_is : (seat : ℕ) (next : CopyKey) (heard : List Noted) (v : SeatedSession) (p : Seat) → StandsForSeated seat next heard p v → v.to_put ≡ due p
+to_put_is : (seat : ℕ) (next : CopyKey) (heard : List Noted) (v : SeatedVisitor) (p : SeatedSession) → StandsForSeated seat next heard p v → v.to_put ≡ due p
 to_put_is seat next heard v p s =
     let same : copies_of p.number p.serial (submitted_at p) ≡ copies_of seat v.serial (sent_by v) = ap (λ (n : ℕ). copies_of n p.serial (submitted_at p)) s.number ∙ ap (λ (n : ℕ). copies_of seat n (submitted_at p)) s.serial ∙ ap (copies_of seat v.serial) s.submitted in
     s.to_put ∙ sym (ap (λ (jobs : List Job). submission.due jobs p.slots) same)
 
 -- after the delivery side put or heard something at a session's seat, and it went on
-went_on : (k : Setup) (whole : Bool) (h : State) (s : Scene) (c d : Held) (v : World) (place : ℕ) (y : CopyKey) (q : Option Seat) (g : Seat) (b : SeatedSession) (old new : List ℕ) → StandsFor k h s → core.StandsFor k.config c v → place < length h.visitors → SameDelivery c d
+went_on : (k : Setup) (whole : Bool) (h : House) (s : Scene) (c d : DeliveryCore) (v : World) (place : ℕ) (y : CopyKey) (q : Option SeatedSession) (g : SeatedSession) (b : SeatedVisitor) (old new : List ℕ) → StandsFor k h s → core.StandsFor k.config c v → place < length h.visitors → SameDelivery c d
     → ((i : ℕ) → i ≢ session_seat k place → notes_of c i ≡ notes_of h.core i) → ((i : ℕ) (z : CopyKey) → i ≢ session_seat k place → get_or c.next i z ≡ get_or h.core.next i z)
     → StandsForSeated (session_seat k place) (get_or c.next (session_seat k place) y) (v.heard (session_seat k place)) g b → b.serial < s.entered place
     → (m : PlaceVisited k whole place (get_or c.next (session_seat k place) y) (v.heard (session_seat k place)) v b q d old new)
@@ -178,9 +178,9 @@ went_on k whole h s c d v place y q g b old new st cs lt rest notes nexts stands
     (subst (λ (x : List Noted). StandsForVisit seat (get_or c.next seat y) x (s.entered place) q m.left) (sym (sym (heard_is k.config d m.moved m.core seat lk) ∙ noted seat ∙ heard_is k.config c v cs seat lk))
     (who_stays seat (get_or c.next seat y) (v.heard seat) (s.entered place) q m.left g b m.there stands less (λ x e. goes_serial k whole place (v.heard seat) v b m.moved m.left m.printed x m.goes e))))
 
-pub put_led : (k : Setup) (whole : Bool) (h : State) (s : Scene) (place : ℕ) (g : Seat) (c d : Held) (why : Option Refusal) (here q : Option Seat) (old new : List ℕ) → StandsFor k h s → place < length h.visitors
+pub put_led : (k : Setup) (whole : Bool) (h : House) (s : Scene) (place : ℕ) (g : SeatedSession) (c d : DeliveryCore) (why : Option Refusal) (here q : Option SeatedSession) (old new : List ℕ) → StandsFor k h s → place < length h.visitors
     → get_or h.visitors place None ≡ Some g → PutsNext h.core (due g) c why → here ≡ Some (noted_put (heard_verdict why) g) → SameDelivery c d
-    → ((next : CopyKey) (heard : List Noted) (w : World) (b : SeatedSession) → core.StandsFor k.config c w → StandsForSomebody (session_seat k place) next heard here (Some b) → PlaceVisited k whole place next heard w b q d old new)
+    → ((next : CopyKey) (heard : List Noted) (w : World) (b : SeatedVisitor) → core.StandsFor k.config c w → StandsForSomebody (session_seat k place) next heard here (Some b) → PlaceVisited k whole place next heard w b q d old new)
     → (t : Scene) × (printed : List ℕ) × SessionPuts k whole s place t printed × StandsFor k (with_visits h d place q h.entered) t × (new ≡ old ++ printed)
 put_led k whole h s place g c d why here q old new st lt some puts is rest f =
     let y = first_key 0 in
@@ -199,9 +199,9 @@ put_led k whole h s place g c d why here q old new st lt some puts is rest f =
     = sym (heard_is k.config c v cs seat lk) ∙ subst (λ (i : ℕ). notes_of c i ≡ notes_of h.core i ++ heard_at_once puts.copy.key puts.copy.mailbox why) es p.heard.here
     ∙ ap (λ (ns : List Noted). ns ++ heard_at_once puts.copy.key puts.copy.mailbox why) (heard_is k.config h.core s.world st.core seat lk) in
     let next : get_or c.next seat y ≡ past puts.copy.key = ap (λ (ks : List CopyKey). get_or ks seat y) (p.next ∙ ap (λ (i : ℕ). set h.core.next i (past puts.copy.key)) es) ∙ get_or-set_same h.core.next seat (past puts.copy.key) y ln in
-    let b : SeatedSession = record { session = a.visitor.session; serial = a.visitor.serial; gone = a.visitor.gone; to_put = puts.others } in
+    let b : SeatedVisitor = record { session = a.visitor.session; serial = a.visitor.serial; gone = a.visitor.gone; to_put = puts.others } in
     let b1 = put_stands seat (get_or h.core.next seat y) (s.world.heard seat) (v.heard seat) a.visitor g puts.copy puts.others why (get_or c.next seat y) a.stands n next (may_of k.config s.world seat _ puts.copy v step).above_heard heard in
-    let r = f (get_or c.next seat y) (v.heard seat) v b cs (subst (λ (x : Option Seat). StandsForSomebody seat (get_or c.next seat y) (v.heard seat) x (Some b)) (sym is) b1) in (
+    let r = f (get_or c.next seat y) (v.heard seat) v b cs (subst (λ (x : Option SeatedSession). StandsForSomebody seat (get_or c.next seat y) (v.heard seat) x (Some b)) (sym is) b1) in (
       with_visitor (with_world s r.moved) place r.left,
       r.printed,
       record {
@@ -225,13 +225,13 @@ put_led k whole h s place g c d why here q old new st lt some puts is rest f =
     )
 
 -- where no copy may be put, none is
-pub put_idles : (k : Setup) (h : State) (s : Scene) (place : ℕ) (g : Seat) (t : Scene) (printed : List ℕ) → StandsFor k h s → place < length h.visitors → get_or h.visitors place None ≡ Some g → MayNotPut h.core (due g) → SessionPuts k true s place t printed → ⊥
+pub put_idles : (k : Setup) (h : House) (s : Scene) (place : ℕ) (g : SeatedSession) (t : Scene) (printed : List ℕ) → StandsFor k h s → place < length h.visitors → get_or h.visitors place None ≡ Some g → MayNotPut h.core (due g) → SessionPuts k true s place t printed → ⊥
 put_idles k h s place g t printed st lt some why p =
     let y = first_key 0 in
     let seat = session_seat k place in
     let a = at_place k h s place y g st lt some in
     let same : a.visitor ≡ p.visitor = let x : Some a.visitor ≡ Some p.visitor = sym a.here ∙ p.there in cc in
-    let front : due g ≡ p.copy ∷ p.others = sym (to_put_is seat (get_or h.core.next seat y) (s.world.heard seat) a.visitor g a.stands) ∙ ap (λ (x : SeatedSession). x.to_put) same ∙ p.front in
+    let front : due g ≡ p.copy ∷ p.others = sym (to_put_is seat (get_or h.core.next seat y) (s.world.heard seat) a.visitor g a.stands) ∙ ap (λ (x : SeatedVisitor). x.to_put) same ∙ p.front in
     by a front why
   where
     front_is : (a b : Job) (xs ys : List Job) → a ∷ xs ≡ b ∷ ys → a ≡ b
@@ -262,9 +262,9 @@ put_idles k h s place g t printed st lt some why p =
 
 -- ---- a hearing
 
-pub heard_led : (k : Setup) (whole : Bool) (h : State) (s : Scene) (place : ℕ) (g : Seat) (c d : Held) (r : Noted) (x : Seat) (q : Option Seat) (old new : List ℕ) → StandsFor k h s → place < length h.visitors → get_or h.visitors place None ≡ Some g
+pub heard_led : (k : Setup) (whole : Bool) (h : House) (s : Scene) (place : ℕ) (g : SeatedSession) (c d : DeliveryCore) (r : Noted) (x : SeatedSession) (q : Option SeatedSession) (old new : List ℕ) → StandsFor k h s → place < length h.visitors → get_or h.visitors place None ≡ Some g
     → ((i : Config) → core.Follows i h.core (world.Hear (session_seat k place) ∷ []) c) → Hears h.core c (session_seat k place) (r ∷ []) → c.next ≡ h.core.next → HearsVerdict g r x → SameDelivery c d
-    → ((next : CopyKey) (heard : List Noted) (w : World) (b : SeatedSession) → core.StandsFor k.config c w → StandsForSomebody (session_seat k place) next heard (Some x) (Some b) → PlaceVisited k whole place next heard w b q d old new)
+    → ((next : CopyKey) (heard : List Noted) (w : World) (b : SeatedVisitor) → core.StandsFor k.config c w → StandsForSomebody (session_seat k place) next heard (Some x) (Some b) → PlaceVisited k whole place next heard w b q d old new)
     → (t : Scene) × (printed : List ℕ) × SessionHears k whole s place t printed × StandsFor k (with_visits h d place q h.entered) t × (new ≡ old ++ printed)
 heard_led k whole h s place g c d r x q old new st lt some follows hears nexts slot rest f =
     let y = first_key 0 in
@@ -285,39 +285,39 @@ heard_led k whole h s place g c d r x q old new st lt some follows hears nexts s
       w.out,
     )
 
-pub hear_changes_nothing : (k : Setup) (h : State) (s : Scene) (place : ℕ) (t : Scene) (printed : List ℕ) → StandsFor k h s → ((x : Config) → core.ChangesNothing x h.core (world.Hear (session_seat k place))) → SessionHears k true s place t printed → ⊥
+pub hear_changes_nothing : (k : Setup) (h : House) (s : Scene) (place : ℕ) (t : Scene) (printed : List ℕ) → StandsFor k h s → ((x : Config) → core.ChangesNothing x h.core (world.Hear (session_seat k place))) → SessionHears k true s place t printed → ⊥
 hear_changes_nothing k h s place t printed st still p = hear_moves s.world (session_seat k place) p.moved p.step (still k.config s.world p.moved st.core p.step)
 
 -- the session at a place heard it
-pub heard_at : (o p : Option Seat) (r : Noted) (g : Seat) → o ≡ Some g → MatchOption o (p ≡ None) (λ x. IsSomeAnd p (HearsVerdict x r)) → (q : Seat) × (p ≡ Some q) × HearsVerdict g r q
+pub heard_at : (o p : Option SeatedSession) (r : Noted) (g : SeatedSession) → o ≡ Some g → MatchOption o (p ≡ None) (λ x. IsSomeAnd p (HearsVerdict x r)) → (q : SeatedSession) × (p ≡ Some q) × HearsVerdict g r q
 heard_at None p r g e m = absurd (let x : None ≡ Some g = e in cc)
 heard_at (Some h) None r g e m = absurd m
-heard_at (Some h) (Some q) r g e m = let x : h ≡ g = cc in (q, refl, subst (λ (z : Seat). HearsVerdict z r q) x m)
+heard_at (Some h) (Some q) r g e m = let x : h ≡ g = cc in (q, refl, subst (λ (z : SeatedSession). HearsVerdict z r q) x m)
 
 -- ---- at a session's seat nobody else puts or hears
 
 same_place : (k : Setup) (a b : ℕ) → session_seat k a ≡ session_seat k b → a ≡ b
 same_place k a b e = omega (arith, e)
 
-pub puts_none : (k : Setup) (h : State) (s : Scene) (place : ℕ) (g : Seat) (t : Scene) (printed : List ℕ) → StandsFor k h s → place < length h.visitors → get_or h.visitors place None ≡ Some g → MayNotPut h.core (due g) → PutPlay k true s (session_seat k place) t printed → ⊥
+pub puts_none : (k : Setup) (h : House) (s : Scene) (place : ℕ) (g : SeatedSession) (t : Scene) (printed : List ℕ) → StandsFor k h s → place < length h.visitors → get_or h.visitors place None ≡ Some g → MayNotPut h.core (due g) → PutPlay k true s (session_seat k place) t printed → ⊥
 puts_none k h s place g t printed st lt some why (connection_puts l p) = omega (arith, l)
 puts_none k h s place g t printed st lt some why (session_puts other e p) = put_idles k h s place g t printed st lt some why (subst (λ (n : ℕ). SessionPuts k true s n t printed) (sym (same_place k place other e)) p)
 
-pub hears_none : (k : Setup) (h : State) (s : Scene) (place : ℕ) (t : Scene) (printed : List ℕ) → StandsFor k h s → ((x : Config) → core.ChangesNothing x h.core (world.Hear (session_seat k place))) → HearPlay k true s (session_seat k place) t printed → ⊥
+pub hears_none : (k : Setup) (h : House) (s : Scene) (place : ℕ) (t : Scene) (printed : List ℕ) → StandsFor k h s → ((x : Config) → core.ChangesNothing x h.core (world.Hear (session_seat k place))) → HearPlay k true s (session_seat k place) t printed → ⊥
 hears_none k h s place t printed st still (connection_hears l p) = omega (arith, l)
 hears_none k h s place t printed st still (session_hears other e p) = hear_changes_nothing k h s place t printed st still (subst (λ (n : ℕ). SessionHears k true s n t printed) (sym (same_place k place other e)) p)
 
 -- ---- whether its client is there
 
-pub gone_there : (seat : ℕ) (next : CopyKey) (heard : List Noted) (o : Option Seat) (b : SeatedSession) → StandsForSomebody seat next heard o (Some b) → is_left o ≡ true → b.gone ≡ true
+pub gone_there : (seat : ℕ) (next : CopyKey) (heard : List Noted) (o : Option SeatedSession) (b : SeatedVisitor) → StandsForSomebody seat next heard o (Some b) → is_left o ≡ true → b.gone ≡ true
 gone_there seat next heard None b s e = absurd s
 gone_there seat next heard (Some p) b s e = sym s.gone ∙ e
 
-pub talks_there : (seat : ℕ) (next : CopyKey) (heard : List Noted) (o : Option Seat) (b : SeatedSession) → StandsForSomebody seat next heard o (Some b) → is_left o ≡ false → b.gone ≡ false
+pub talks_there : (seat : ℕ) (next : CopyKey) (heard : List Noted) (o : Option SeatedSession) (b : SeatedVisitor) → StandsForSomebody seat next heard o (Some b) → is_left o ≡ false → b.gone ≡ false
 talks_there seat next heard None b s e = absurd s
 talks_there seat next heard (Some p) b s e = sym s.gone ∙ e
 
 -- a session that is there, whose client is
-pub somebody : (o : Option Seat) → IsSome o → is_left o ≡ false → (p : Seat) × (o ≡ Some p) × (p.gone ≡ false)
+pub somebody : (o : Option SeatedSession) → IsSome o → is_left o ≡ false → (p : SeatedSession) × (o ≡ Some p) × (p.gone ≡ false)
 somebody None h e = absurd (let x : false ≡ true = h in cc)
 somebody (Some p) h e = (p, refl, e)

@@ -9,7 +9,7 @@ use Rattle.lmtp_machine.specs.declared.connection.What.{What}
 use Rattle.delivery_token.specs.declared.log.Noted.{Noted}
 use Rattle.house.specs.declared.event.Event.{Event}
 use Rattle.house.specs.declared.event.Event.TheVariants.{Bytes, Vanish, Put, Take, Deliver, Answer, Hear, End, Close, Enter, Say, Idle, Leave}
-use Rattle.house_connection.specs.HouseConnection.{HouseConnection, Terms, unread, with_unsaid}
+use Rattle.house_connection.specs.Caller.{Caller, Terms, unread, with_unsaid}
 use Rattle.house.specs.Printing.{ConnectionGoes, Leaves, Speaks, goes, stays, with_session}
 use Rattle.house.proofs.Printed.{proceeds_part, said_in_part}
 use Rattle.house.specs.Setup.{Setup, session_seat, terms_of}
@@ -19,9 +19,9 @@ use Rattle.imap_session.specs.Exchange.{Call, Answer as Told}
 use Rattle.session_store.specs.Meets.{Meets}
 use Rattle.house_session.specs.Folders.{folders_of}
 use Rattle.world.specs.World.{World}
-use Rattle.house_session.specs.HouseSession.{more_waits as visitor_more_waits}
-use Rattle.house_session.specs.Seated.{SeatedSession, seated_greeted}
-use Rattle.house_session.specs.Seat.{Seat}
+use Rattle.house_session.specs.Visitor.{more_waits as visitor_more_waits}
+use Rattle.house_session.specs.SeatedVisitor.{SeatedVisitor, seated_greeted}
+use Rattle.house_session.specs.SeatedSession.{SeatedSession}
 use Rattle.house.specs.Settling.{GoesRounds, Happened, InTurn, Tries, Visit, Visits, happens, in_a_row, passes, round}
 use Rattle.house.specs.Settled.{HappenedFrom}
 use Rattle.house.specs.Stands.{StandsFor}
@@ -32,17 +32,17 @@ use Rattle.envelope.specs.Directory.{Directory, is_shut}
 use Rattle.delivery_core.specs.New.{first_key}
 use Rattle.std.proofs.lemmas.List.Elements.{All-append, All-cons, All-get_or, All-head, All-nil, All-tail, filter-append}
 use Rattle.std.proofs.Math.Seq.{take-suc}
-use Rattle.house.specs.State.{State}
+use Rattle.house.specs.House.{House}
 use Rattle.house.specs.Effort.{MakesLess, effort}
 use Rattle.house.specs.inner.Trying.{CameVisit, CameVisits, Did, DidVisits, IsAmong, IsOwn, Moved, Rests, Wants, Went, closes, hears, puts, serve, serves}
 
 -- ---- what a whole event does, one that is cut short may do as well
 
-leaves_part : (what : What) (after : HouseConnection) (o : Option HouseConnection) → Leaves true what after o → Leaves false what after o
+leaves_part : (what : What) (after : Caller) (o : Option Caller) → Leaves true what after o → Leaves false what after o
 leaves_part what after o (goes q n e) = goes q n e
 leaves_part what after o (stays f g e) = stays (λ q x. let y : false ≡ true = x in cc) g e
 
-goes_in_part : (k : Terms) (seat : ℕ) (heard : List Noted) (b : HouseConnection) (o : Option HouseConnection) (printed : List ℕ) → ConnectionGoes k true seat heard b o printed → ConnectionGoes k false seat heard b o printed
+goes_in_part : (k : Terms) (seat : ℕ) (heard : List Noted) (b : Caller) (o : Option Caller) (printed : List ℕ) → ConnectionGoes k true seat heard b o printed → ConnectionGoes k false seat heard b o printed
 goes_in_part k seat heard b o printed g = record {
   what = g.what;
   after = g.after;
@@ -92,15 +92,15 @@ connection_hear_part k s seat t printed p = record {
   after = p.after;
 }
 
-parts_part : (k : Setup) (place : ℕ) (after : SeatedSession) (w v : World) (o : Option SeatedSession) → Parts k true place after w v o → Parts k false place after w v o
+parts_part : (k : Setup) (place : ℕ) (after : SeatedVisitor) (w v : World) (o : Option SeatedVisitor) → Parts k true place after w v o → Parts k false place after w v o
 parts_part k place after w v o (parts e u l n) = parts e u l n
 parts_part k place after w v o (remains r e n) = remains (λ f. absurd (let x : false ≡ true = f in cc)) e n
 
-speaks_part : {S : Type 0} (step : S → Call → Told → S → Type 0) (seat n : ℕ) (heard : List Noted) (b : SeatedSession) (old new : S) (after : SeatedSession) (printed : List ℕ) → Speaks step true seat n heard b old new after printed → Speaks step false seat n heard b old new after printed
+speaks_part : {S : Type 0} (step : S → Call → Told → S → Type 0) (seat n : ℕ) (heard : List Noted) (b : SeatedVisitor) (old new : S) (after : SeatedVisitor) (printed : List ℕ) → Speaks step true seat n heard b old new after printed → Speaks step false seat n heard b old new after printed
 speaks_part step seat n heard b old new after printed s =
     record { spoken = s.spoken; said = s.said; goes = said_in_part step seat heard b old new s.spoken s.said s.goes; still = s.still; prints = s.prints; is = s.is }
 
-talks_part : (k : Setup) (place : ℕ) (heard : List Noted) (w : World) (b : SeatedSession) (v : World) (o : Option SeatedSession) (printed : List ℕ) → SessionTalks k true place heard w b v o printed → SessionTalks k false place heard w b v o printed
+talks_part : (k : Setup) (place : ℕ) (heard : List Noted) (w : World) (b : SeatedVisitor) (v : World) (o : Option SeatedVisitor) (printed : List ℕ) → SessionTalks k true place heard w b v o printed → SessionTalks k false place heard w b v o printed
 talks_part k place heard w b v o printed p = record {
   after = p.after;
   mid = p.mid;
@@ -109,7 +109,7 @@ talks_part k place heard w b v o printed p = record {
   left = parts_part k place p.after p.mid v o p.left;
 }
 
-session_part : (k : Setup) (place : ℕ) (heard : List Noted) (w : World) (b : SeatedSession) (v : World) (o : Option SeatedSession) (printed : List ℕ) → SessionGoes k true place heard w b v o printed → SessionGoes k false place heard w b v o printed
+session_part : (k : Setup) (place : ℕ) (heard : List Noted) (w : World) (b : SeatedVisitor) (v : World) (o : Option SeatedVisitor) (printed : List ℕ) → SessionGoes k true place heard w b v o printed → SessionGoes k false place heard w b v o printed
 session_part k place heard w b v o printed (scene.talks l p) = scene.talks l (talks_part k place heard w b v o printed p)
 session_part k place heard w b v o printed (scene.lingers l p n e) = scene.lingers l p n e
 
@@ -148,7 +148,7 @@ hear_part : (k : Setup) (s : Scene) (seat : ℕ) (t : Scene) (printed : List ℕ
 hear_part k s seat t printed (connection_hears l p) = connection_hears l (connection_hear_part k s seat t printed p)
 hear_part k s seat t printed (session_hears place e p) = session_hears place e (session_hear_part k s place t printed p)
 
-idles_part : (k : Setup) (place : ℕ) (w : World) (b : SeatedSession) (v : World) (o : Option SeatedSession) (printed : List ℕ) → SessionIdles k true place w b v o printed → SessionIdles k false place w b v o printed
+idles_part : (k : Setup) (place : ℕ) (w : World) (b : SeatedVisitor) (v : World) (o : Option SeatedVisitor) (printed : List ℕ) → SessionIdles k true place w b v o printed → SessionIdles k false place w b v o printed
 idles_part k place w b v o printed p = record {
   is_read = p.is_read;
   idling = p.idling;
@@ -263,19 +263,19 @@ pub record Joins (P₁ P₂ P : Setup → Scene → Scene → List ℕ → Type 
   pub both : (k : Setup) (s : Scene) → I₁ k s → I₂ k s → I k s
 
 -- whether it moved or not, it went some way
-pub went : (Q : Setup → Type 0) (P : Setup → Scene → Scene → List ℕ → Type 0) (I : Setup → Scene → Type 0) (h : State) (o : List ℕ) (h1 : State) (o1 : List ℕ) (a : Bool)
+pub went : (Q : Setup → Type 0) (P : Setup → Scene → Scene → List ℕ → Type 0) (I : Setup → Scene → Type 0) (h : House) (o : List ℕ) (h1 : House) (o1 : List ℕ) (a : Bool)
     → ((k : Setup) (s : Scene) → I k s → P k s s []) → Did Q P I h o h1 o1 a → (k : Setup) (s : Scene) → Q k → StandsFor k h s → Went P k s h1 o o1
 went Q P I h o h1 o1 true f c k s q st = c.went k s q st
 went Q P I h o h1 o1 false f c k s q st = record {
   after = s;
   printed = [];
   goes = f k s (c.changes_nothing k s q st);
-  stands = subst (λ (x : State). StandsFor k x s) (sym c.same) st;
+  stands = subst (λ (x : House). StandsFor k x s) (sym c.same) st;
   out = c.silent ∙ sym (append-nil o);
 }
 
 pub joined : (P₁ P₂ P : Setup → Scene → Scene → List ℕ → Type 0) → ((k : Setup) (s m t : Scene) (one two : List ℕ) → P₁ k s m one → P₂ k m t two → P k s t (one ++ two))
-    → (k : Setup) (s : Scene) (h1 h2 : State) (o o1 o2 : List ℕ) → (w : Went P₁ k s h1 o o1) → Went P₂ k w.after h2 o1 o2 → Went P k s h2 o o2
+    → (k : Setup) (s : Scene) (h1 h2 : House) (o o1 o2 : List ℕ) → (w : Went P₁ k s h1 o o1) → Went P₂ k w.after h2 o1 o2 → Went P k s h2 o o2
 joined P₁ P₂ P f k s h1 h2 o o1 o2 w v = record {
   after = v.after;
   printed = w.printed ++ v.printed;
@@ -284,7 +284,7 @@ joined P₁ P₂ P f k s h1 h2 o o1 o2 w v = record {
   out = v.out ∙ ap (λ (x : List ℕ). x ++ v.printed) w.out ∙ append_assoc o w.printed v.printed;
 }
 
-pub did_then : (Q : Setup → Type 0) (P₁ P₂ P : Setup → Scene → Scene → List ℕ → Type 0) (I₁ I₂ I : Setup → Scene → Type 0) (h : State) (o : List ℕ) (h1 : State) (o1 : List ℕ) (h2 : State) (o2 : List ℕ) (a b : Bool)
+pub did_then : (Q : Setup → Type 0) (P₁ P₂ P : Setup → Scene → Scene → List ℕ → Type 0) (I₁ I₂ I : Setup → Scene → Type 0) (h : House) (o : List ℕ) (h1 : House) (o1 : List ℕ) (h2 : House) (o2 : List ℕ) (a b : Bool)
     → Joins P₁ P₂ P I₁ I₂ I → Did Q P₁ I₁ h o h1 o1 a → Did Q P₂ I₂ h1 o1 h2 o2 b → Did Q P I h o h2 o2 (a || b)
 did_then Q P₁ P₂ P I₁ I₂ I h o h1 o1 h2 o2 true true j c d = record {
   went = λ k s q st. let w = c.went k s q st in joined P₁ P₂ P j.join k s h1 h2 o o1 o2 w (d.went k w.after q w.stands);
@@ -301,11 +301,11 @@ did_then Q P₁ P₂ P I₁ I₂ I h o h1 o1 h2 o2 false true j c d = record {
 did_then Q P₁ P₂ P I₁ I₂ I h o h1 o1 h2 o2 false false j c d = record {
   same = d.same ∙ c.same;
   silent = d.silent ∙ c.silent;
-  changes_nothing = λ k s q st. j.both k s (c.changes_nothing k s q st) (d.changes_nothing k s q (subst (λ (x : State). StandsFor k x s) (sym c.same) st));
+  changes_nothing = λ k s q st. j.both k s (c.changes_nothing k s q st) (d.changes_nothing k s q (subst (λ (x : House). StandsFor k x s) (sym c.same) st));
 }
 
 -- want of memory after what came before
-pub wants_after : (P : Setup → Scene → Scene → List ℕ → Type 0) (k : Setup) (s : Scene) (h1 h2 : State) (o o1 o2 : List ℕ)
+pub wants_after : (P : Setup → Scene → Scene → List ℕ → Type 0) (k : Setup) (s : Scene) (h1 h2 : House) (o o1 o2 : List ℕ)
     → ((k : Setup) (s t : Scene) (printed : List ℕ) → P k s t printed → SomeHappened k s t printed)
     → (w : Went P k s h1 o o1) → HappenedFrom k w.after h2 o1 o2 → HappenedFrom k s h2 o o2
 wants_after P k s h1 h2 o o1 o2 f w v =
@@ -319,7 +319,7 @@ wants_after P k s h1 h2 o o1 o2 f w v =
       out = v.out ∙ ap (λ (x : List ℕ). x ++ v.printed) w.out ∙ append_assoc o w.printed v.printed;
     }
 
-pub did_wants : (Q : Setup → Type 0) (P : Setup → Scene → Scene → List ℕ → Type 0) (I : Setup → Scene → Type 0) (h : State) (o : List ℕ) (h1 : State) (o1 : List ℕ) (h2 : State) (o2 : List ℕ) (a : Bool)
+pub did_wants : (Q : Setup → Type 0) (P : Setup → Scene → Scene → List ℕ → Type 0) (I : Setup → Scene → Type 0) (h : House) (o : List ℕ) (h1 : House) (o1 : List ℕ) (h2 : House) (o2 : List ℕ) (a : Bool)
     → ((k : Setup) (s : Scene) → I k s → P k s s []) → ((k : Setup) (s t : Scene) (printed : List ℕ) → P k s t printed → SomeHappened k s t printed)
     → Did Q P I h o h1 o1 a → Wants Q h1 o1 h2 o2 → Wants Q h o h2 o2
 did_wants Q P I h o h1 o1 h2 o2 a r f c d = record {
@@ -328,7 +328,7 @@ did_wants Q P I h o h1 o1 h2 o2 a r f c d = record {
 
 -- ---- the same said of another way, in scenes for which the house stood
 
-pub did_as : (Q Q' : Setup → Type 0) (P P' : Setup → Scene → Scene → List ℕ → Type 0) (I I' : Setup → Scene → Type 0) (h : State) (o : List ℕ) (h1 : State) (o1 : List ℕ) (r : Bool)
+pub did_as : (Q Q' : Setup → Type 0) (P P' : Setup → Scene → Scene → List ℕ → Type 0) (I I' : Setup → Scene → Type 0) (h : House) (o : List ℕ) (h1 : House) (o1 : List ℕ) (r : Bool)
     → ((k : Setup) (s : Scene) → Q' k → StandsFor k h s → Q k)
     → ((k : Setup) (s : Scene) → Q' k → StandsFor k h s → (t : Scene) (printed : List ℕ) → P k s t printed → P' k s t printed)
     → ((k : Setup) (s : Scene) → Q' k → StandsFor k h s → I k s → I' k s)
@@ -339,12 +339,12 @@ did_as Q Q' P P' I I' h o h1 o1 true f p i c = record {
 }
 did_as Q Q' P P' I I' h o h1 o1 false f p i c = record { same = c.same; silent = c.silent; changes_nothing = λ k s q st. i k s q st (c.changes_nothing k s (f k s q st) st) }
 
-pub wants_as : (Q Q' : Setup → Type 0) (h : State) (o : List ℕ) (h1 : State) (o1 : List ℕ) → ((k : Setup) (s : Scene) → Q' k → StandsFor k h s → Q k) → Wants Q h o h1 o1 → Wants Q' h o h1 o1
+pub wants_as : (Q Q' : Setup → Type 0) (h : House) (o : List ℕ) (h1 : House) (o1 : List ℕ) → ((k : Setup) (s : Scene) → Q' k → StandsFor k h s → Q k) → Wants Q h o h1 o1 → Wants Q' h o h1 o1
 wants_as Q Q' h o h1 o1 f c = record { happened = λ k s q st. c.happened k s (f k s q st) st }
 
 -- ---- an event where nobody is
 
-nobody_there : (k : Setup) (h : State) (s : Scene) (n : ℕ) → 0 < n → n ≤ k.config.seats → StandsFor k h s → IsNoNumber h n ⊎ IsVacant h n → IsFree k s (seat_of n)
+nobody_there : (k : Setup) (h : House) (s : Scene) (n : ℕ) → 0 < n → n ≤ k.config.seats → StandsFor k h s → IsNoNumber h n ⊎ IsVacant h n → IsFree k s (seat_of n)
 nobody_there k h s n pos le st (inl (inl e)) = absurd (omega (arith, pos, e))
 nobody_there k h s n pos le st (inl (inr l)) = absurd (let e = st.seats in omega (arith, le, l, e))
 nobody_there k h s n pos le st (inr e) = vacant_free k h s (n - 1) st (let f = st.seats in omega (arith, pos, le, f)) e
@@ -357,13 +357,13 @@ none_hears : (k : Setup) (s : Scene) (seat : ℕ) (t : Scene) (printed : List �
 none_hears k s seat t printed f (connection_hears l p) = let z : None ≡ Some p.caller = sym (f.connection l) ∙ p.there in cc
 none_hears k s seat t printed f (session_hears place e p) = let z : None ≡ Some p.visitor = sym (f.session place e) ∙ p.there in cc
 
-nobody_visits_there : (k : Setup) (h : State) (s : Scene) (n : ℕ) → 0 < n → n ≤ k.config.sessions → StandsFor k h s → IsNoPlace h n ⊎ IsFreePlace h n → s.visitor (place_of n) ≡ None
+nobody_visits_there : (k : Setup) (h : House) (s : Scene) (n : ℕ) → 0 < n → n ≤ k.config.sessions → StandsFor k h s → IsNoPlace h n ⊎ IsFreePlace h n → s.visitor (place_of n) ≡ None
 nobody_visits_there k h s n pos le st (inl (inl e)) = absurd (omega (arith, pos, e))
 nobody_visits_there k h s n pos le st (inl (inr l)) = absurd (let e = st.places in omega (arith, le, l, e))
 nobody_visits_there k h s n pos le st (inr e) =
     nobody_at_place k h s (n - 1) st (let f = st.places in omega (arith, pos, le, f)) e
 
-pub nobody_nothing : (k : Setup) (h : State) (s : Scene) (e : Event) → IsAmong k e → StandsFor k h s → IsNobody h e → HasNothing k s e
+pub nobody_nothing : (k : Setup) (h : House) (s : Scene) (e : Event) → IsAmong k e → StandsFor k h s → IsNobody h e → HasNothing k s e
 nobody_nothing k h s (Bytes connection piece) q st n = absurd q
 nobody_nothing k h s (Vanish connection) q st n = absurd q
 nobody_nothing k h s (Close shard) q st n = absurd q
@@ -381,20 +381,20 @@ nobody_nothing k h s (Deliver shard) q st n = absurd (let e = st.core.shards in 
 nobody_nothing k h s (Answer shard) q st n = absurd (let e = st.core.shards in omega (arith, e, q, n))
 
 -- nor is a session shown anything while its client is gone
-pub left_nothing : (k : Setup) (h : State) (s : Scene) (session : ℕ) → StandsFor k h s → IsLeft h session → HasNothing k s (Idle session)
+pub left_nothing : (k : Setup) (h : House) (s : Scene) (session : ℕ) → StandsFor k h s → IsLeft h session → HasNothing k s (Idle session)
 left_nothing k h s session st l t printed p =
     let within : place_of session < length h.visitors = let a = l.number in let b = l.place in omega (arith, a, b) in
     let g = left_at (get_or h.visitors (place_of session) None) l.gone in
     let a = at_place k h s (place_of session) (first_key 0) g.0 st within g.1 in
     let same : a.visitor ≡ p.visitor = let x : Some a.visitor ≡ Some p.visitor = sym a.here ∙ p.there in cc in
-    absurd (let x : true ≡ false = sym g.2 ∙ a.stands.gone ∙ ap (λ (v : SeatedSession). v.gone) same ∙ p.goes.is_read in cc)
+    absurd (let x : true ≡ false = sym g.2 ∙ a.stands.gone ∙ ap (λ (v : SeatedVisitor). v.gone) same ∙ p.goes.is_read in cc)
   where
-    left_at : (o : Option Seat) → is_left o ≡ true → (g : Seat) × (o ≡ Some g) × (g.gone ≡ true)
+    left_at : (o : Option SeatedSession) → is_left o ≡ true → (g : SeatedSession) × (o ≡ Some g) × (g.gone ≡ true)
     left_at None e = absurd (let x : false ≡ true = e in cc)
     left_at (Some g) e = (g, refl, e)
 
 -- an own event makes less
-pub own_less : (e : Event) (old new : State) → IsOwn e → MakesLess e old new → effort new < effort old
+pub own_less : (e : Event) (old new : House) → IsOwn e → MakesLess e old new → effort new < effort old
 own_less (Bytes connection piece) old new o l = absurd o
 own_less (Vanish connection) old new o l = absurd o
 own_less (End connection shard) old new o l = l.1
@@ -410,7 +410,7 @@ own_less (Answer shard) old new o l = l
 own_less (Hear connection) old new o l = l
 
 -- an own event is never refused as busy
-pub own_not_busy : (e : Event) (h : State) → IsOwn e → IsBusy h e → ⊥
+pub own_not_busy : (e : Event) (h : House) → IsOwn e → IsBusy h e → ⊥
 own_not_busy (Bytes connection piece) h o b = o
 own_not_busy (Vanish connection) h o b = o
 own_not_busy (Put connection) h o b = b
@@ -426,7 +426,7 @@ own_not_busy (Leave session) h o b = o
 own_not_busy (Idle session) h o b = o
 
 -- an own event opens and shuts no shard
-pub own_keeps : (e : Event) (old new : State) → IsOwn e → KeepsMarks e old new → new.directory ≡ old.directory
+pub own_keeps : (e : Event) (old new : House) → IsOwn e → KeepsMarks e old new → new.directory ≡ old.directory
 own_keeps (Bytes connection piece) old new o m = absurd o
 own_keeps (Vanish connection) old new o m = absurd o
 own_keeps (Close shard) old new o m = absurd o
@@ -442,13 +442,13 @@ own_keeps (Hear connection) old new o m = m
 own_keeps (End connection shard) old new o m = m
 
 -- an event that happened is one that was tried
-pub tried : (e : Event) (h h1 : State) (o o1 : List ℕ) → IsOwn e → Follows h e h1 o o1 → MakesLess e h h1 → Moved (λ k. IsAmong k e) (λ k s t printed. Tries k s e t printed) h o h1 o1
+pub tried : (e : Event) (h h1 : House) (o o1 : List ℕ) → IsOwn e → Follows h e h1 o o1 → MakesLess e h h1 → Moved (λ k. IsAmong k e) (λ k s t printed. Tries k s e t printed) h o h1 o1
 tried e h h1 o o1 own f l = record {
   went = λ k s q st. let w = f k s st in record { after = w.after; printed = w.printed; goes = happens w.plays; stands = w.stands; out = w.out };
   less = own_less e h h1 own l;
 }
 
-pub led_or_not : (e : Event) (h h1 : State) (o o1 : List ℕ) (k : Setup) (s : Scene) → Led k false s e h1 o o1 ⊎ (StandsFor k h1 s × (o1 ≡ o)) → HappenedFrom k s h1 o o1
+pub led_or_not : (e : Event) (h h1 : House) (o o1 : List ℕ) (k : Setup) (s : Scene) → Led k false s e h1 o o1 ⊎ (StandsFor k h1 s × (o1 ≡ o)) → HappenedFrom k s h1 o o1
 led_or_not e h h1 o o1 k s (inl w) = record {
   events = e ∷ [];
   after = w.after;
@@ -459,7 +459,7 @@ led_or_not e h h1 o o1 k s (inl w) = record {
 }
 led_or_not e h h1 o o1 k s (inr (st, same)) = record { events = []; after = s; printed = []; happened = (refl, refl); stands = st; out = same ∙ sym (append-nil o) }
 
-pub wanted : (Q : Setup → Type 0) (e : Event) (h h1 : State) (o o1 : List ℕ) → FollowsInPart h e h1 o o1 → Wants Q h o h1 o1
+pub wanted : (Q : Setup → Type 0) (e : Event) (h h1 : House) (o o1 : List ℕ) → FollowsInPart h e h1 o o1 → Wants Q h o h1 o1
 wanted Q e h h1 o o1 f = record { happened = λ k s q st. led_or_not e h h1 o o1 k s (f k s st) }
 
 pub All-one : {A : Type 0} (P : A → Type 0) (x : A) → P x → All P (x ∷ [])
@@ -467,13 +467,13 @@ All-one P x h = All-cons P x [] h (All-nil P)
 
 -- ---- events in turn
 
-abbrev pub DidTurn : List Event → List Event → State → List ℕ → State → List ℕ → Bool → Type 0
+abbrev pub DidTurn : List Event → List Event → House → List ℕ → House → List ℕ → Bool → Type 0
 DidTurn group es h o h1 o1 moved = Did (λ k. All (IsAmong k) group) (λ k s t printed. InTurn k es s t printed) (λ k s. All (HasNothing k s) es) h o h1 o1 moved
 
 turn_one : (k : Setup) (es : List Event) (e : Event) (s m t : Scene) (one two : List ℕ) → InTurn k es s m one → Tries k m e t two → InTurn k (es ++ e ∷ []) s t (one ++ two)
 turn_one k es e s m t one two a b = turn-append k es (e ∷ []) s m t one two a (t, two, [], b, (refl, refl), sym (append-nil two))
 
-turn_then : (group es : List Event) (e : Event) (h : State) (o : List ℕ) (h1 : State) (o1 : List ℕ) (h2 : State) (o2 : List ℕ) (a b : Bool) → ((k : Setup) → All (IsAmong k) group → IsAmong k e)
+turn_then : (group es : List Event) (e : Event) (h : House) (o : List ℕ) (h1 : House) (o1 : List ℕ) (h2 : House) (o2 : List ℕ) (a b : Bool) → ((k : Setup) → All (IsAmong k) group → IsAmong k e)
     → DidTurn group es h o h1 o1 a → Did (λ k. IsAmong k e) (λ k s t printed. Tries k s e t printed) (λ k s. HasNothing k s e) h1 o1 h2 o2 b → DidTurn group (es ++ e ∷ []) h o h2 o2 (a || b)
 turn_then group es e h o h1 o1 h2 o2 a b f c d =
     did_then (λ k. All (IsAmong k) group) (λ k s t printed. InTurn k es s t printed) (λ k s t printed. Tries k s e t printed) (λ k s t printed. InTurn k (es ++ e ∷ []) s t printed)
@@ -487,14 +487,14 @@ turn_then group es e h o h1 o1 h2 o2 a b f c d =
     (did_as (λ k. IsAmong k e) (λ k. All (IsAmong k) group) (λ k s t printed. Tries k s e t printed) (λ k s t printed. Tries k s e t printed) (λ k s. HasNothing k s e) (λ k s. HasNothing k s e) h1 o1 h2 o2 b
     (λ k s q st. f k q) (λ k s q st t printed x. x) (λ k s q st x. x) d)
 
-pub each_step : (group : List Event) (i : ℕ) (d : Event) (h : State) (o : List ℕ) (h1 : State) (o1 : List ℕ) (h2 : State) (o2 : List ℕ) (a b : Bool) → i < length group
+pub each_step : (group : List Event) (i : ℕ) (d : Event) (h : House) (o : List ℕ) (h1 : House) (o1 : List ℕ) (h2 : House) (o2 : List ℕ) (a b : Bool) → i < length group
     → DidTurn group (take i group) h o h1 o1 a → Did (λ k. IsAmong k (get_or group i d)) (λ k s t printed. Tries k s (get_or group i d) t printed) (λ k s. HasNothing k s (get_or group i d)) h1 o1 h2 o2 b
     → DidTurn group (take (i + 1) group) h o h2 o2 (a || b)
 each_step group i d h o h1 o1 h2 o2 a b l c e =
     subst (λ (xs : List Event). DidTurn group xs h o h2 o2 (a || b)) (sym (take-suc group i d l) ∙ ap (λ (n : ℕ). take n group) (sym (add-one i)))
     (turn_then group (take i group) (get_or group i d) h o h1 o1 h2 o2 a b (λ k q. All-get_or (IsAmong k) group i d l q) c e)
 
-pub each_wants : (group es : List Event) (e : Event) (h : State) (o : List ℕ) (h1 : State) (o1 : List ℕ) (h2 : State) (o2 : List ℕ) (a : Bool) → ((k : Setup) → All (IsAmong k) group → IsAmong k e)
+pub each_wants : (group es : List Event) (e : Event) (h : House) (o : List ℕ) (h1 : House) (o1 : List ℕ) (h2 : House) (o2 : List ℕ) (a : Bool) → ((k : Setup) → All (IsAmong k) group → IsAmong k e)
     → DidTurn group es h o h1 o1 a → Wants (λ k. IsAmong k e) h1 o1 h2 o2 → Wants (λ k. All (IsAmong k) group) h o h2 o2
 each_wants group es e h o h1 o1 h2 o2 a f c d =
     did_wants (λ k. All (IsAmong k) group) (λ k s t printed. InTurn k es s t printed) (λ k s. All (HasNothing k s) es) h o h1 o1 h2 o2 a (λ k s x. rest_turn k es s x)
@@ -513,18 +513,18 @@ often_more k group s m t one two (n, a) b =
 pub often_happened : (k : Setup) (group : List Event) (s t : Scene) (printed : List ℕ) → Often k group s t printed → SomeHappened k s t printed
 often_happened k group s t printed (n, a) = turn_happened k (in_a_row (replicate n group)) s t printed a
 
-abbrev pub DidOften : List Event → State → List ℕ → State → List ℕ → Bool → Type 0
+abbrev pub DidOften : List Event → House → List ℕ → House → List ℕ → Bool → Type 0
 DidOften group h o h1 o1 moved = Did (λ k. All (IsAmong k) group) (λ k s t printed. Often k group s t printed) (λ k s. Unit {0}) h o h1 o1 moved
 
-often_went : (group : List Event) (h : State) (o : List ℕ) (h1 : State) (o1 : List ℕ) (a : Bool) → DidOften group h o h1 o1 a
+often_went : (group : List Event) (h : House) (o : List ℕ) (h1 : House) (o1 : List ℕ) (a : Bool) → DidOften group h o h1 o1 a
     → (k : Setup) (s : Scene) → All (IsAmong k) group → StandsFor k h s → Went (λ k s t printed. Often k group s t printed) k s h1 o o1
 often_went group h o h1 o1 a c = went (λ k. All (IsAmong k) group) (λ k s t printed. Often k group s t printed) (λ k s. Unit {0}) h o h1 o1 a (λ k s x. (0, (refl, refl))) c
 
-no_more : (group : List Event) (h : State) (o : List ℕ) (h1 : State) (o1 : List ℕ) (a : Bool) → DidOften group h o h1 o1 a → effort h1 ≤ effort h
+no_more : (group : List Event) (h : House) (o : List ℕ) (h1 : House) (o1 : List ℕ) (a : Bool) → DidOften group h o h1 o1 a → effort h1 ≤ effort h
 no_more group h o h1 o1 true c = let x = c.less in omega (arith, x)
 no_more group h o h1 o1 false c = let x = ap effort c.same in omega (arith, x)
 
-pub often_again : (group : List Event) (h : State) (o : List ℕ) (h1 : State) (o1 : List ℕ) (h2 : State) (o2 : List ℕ) (a b : Bool) → b ≡ true → DidOften group h o h1 o1 a → DidTurn group group h1 o1 h2 o2 b → DidOften group h o h2 o2 true
+pub often_again : (group : List Event) (h : House) (o : List ℕ) (h1 : House) (o1 : List ℕ) (h2 : House) (o2 : List ℕ) (a b : Bool) → b ≡ true → DidOften group h o h1 o1 a → DidTurn group group h1 o1 h2 o2 b → DidOften group h o h2 o2 true
 often_again group h o h1 o1 h2 o2 a false e c d = cc
 often_again group h o h1 o1 h2 o2 a true e c d = record {
   went = λ k s q st. let w = often_went group h o h1 o1 a c k s q st in
@@ -533,30 +533,30 @@ often_again group h o h1 o1 h2 o2 a true e c d = record {
   less = let x = no_more group h o h1 o1 a c in let y = d.less in omega (arith, x, y);
 }
 
-pub turn_less : (group : List Event) (h : State) (o : List ℕ) (h1 : State) (o1 : List ℕ) (b : Bool) → b ≡ true → DidTurn group group h o h1 o1 b → effort h1 < effort h
+pub turn_less : (group : List Event) (h : House) (o : List ℕ) (h1 : House) (o1 : List ℕ) (b : Bool) → b ≡ true → DidTurn group group h o h1 o1 b → effort h1 < effort h
 turn_less group h o h1 o1 false e d = cc
 turn_less group h o h1 o1 true e d = d.less
 
-pub often_wants : (group : List Event) (h : State) (o : List ℕ) (h1 : State) (o1 : List ℕ) (h2 : State) (o2 : List ℕ) (a : Bool) → DidOften group h o h1 o1 a → Wants (λ k. All (IsAmong k) group) h1 o1 h2 o2
+pub often_wants : (group : List Event) (h : House) (o : List ℕ) (h1 : House) (o1 : List ℕ) (h2 : House) (o2 : List ℕ) (a : Bool) → DidOften group h o h1 o1 a → Wants (λ k. All (IsAmong k) group) h1 o1 h2 o2
     → Wants (λ k. All (IsAmong k) group) h o h2 o2
 often_wants group h o h1 o1 h2 o2 a c d =
     did_wants (λ k. All (IsAmong k) group) (λ k s t printed. Often k group s t printed) (λ k s. Unit {0}) h o h1 o1 h2 o2 a (λ k s x. (0, (refl, refl))) (λ k s t printed x. often_happened k group s t printed x) c d
 
 -- the last turn moved nothing: the visit is done
-abbrev pub DidVisit : List Event → State → List ℕ → State → List ℕ → Bool → Type 0
+abbrev pub DidVisit : List Event → House → List ℕ → House → List ℕ → Bool → Type 0
 DidVisit group h o h1 o1 moved = Did (λ k. All (IsAmong k) group) (λ k s t printed. Visit k group s t printed) (λ k s. All (HasNothing k s) group) h o h1 o1 moved
 
 pub visit_of : (k : Setup) (group : List Event) (s t : Scene) (printed : List ℕ) → Often k group s t printed → All (HasNothing k t) group → Visit k group s t printed
 visit_of k group s t printed (n, a) d = record { times = n; goes = a; done = d }
 
-visit_rests : (group : List Event) (h : State) (o : List ℕ) (h1 : State) (o1 : List ℕ) (h2 : State) (o2 : List ℕ) (a : Bool) → DidOften group h o h1 o1 a
+visit_rests : (group : List Event) (h : House) (o : List ℕ) (h1 : House) (o1 : List ℕ) (h2 : House) (o2 : List ℕ) (a : Bool) → DidOften group h o h1 o1 a
     → Rests (λ k. All (IsAmong k) group) (λ k s. All (HasNothing k s) group) h1 o1 h2 o2 → DidVisit group h o h2 o2 a
 visit_rests group h o h1 o1 h2 o2 true c d = record {
   went = λ k s q st. let w = c.went k s q st in record {
     after = w.after;
     printed = w.printed;
     goes = visit_of k group s w.after w.printed w.goes (d.changes_nothing k w.after q w.stands);
-    stands = subst (λ (x : State). StandsFor k x w.after) (sym d.same) w.stands;
+    stands = subst (λ (x : House). StandsFor k x w.after) (sym d.same) w.stands;
     out = d.silent ∙ w.out;
   };
   less = let x = c.less in let y = ap effort d.same in omega (arith, x, y);
@@ -564,16 +564,16 @@ visit_rests group h o h1 o1 h2 o2 true c d = record {
 visit_rests group h o h1 o1 h2 o2 false c d = record {
   same = d.same ∙ c.same;
   silent = d.silent ∙ c.silent;
-  changes_nothing = λ k s q st. d.changes_nothing k s q (subst (λ (x : State). StandsFor k x s) (sym c.same) st);
+  changes_nothing = λ k s q st. d.changes_nothing k s q (subst (λ (x : House). StandsFor k x s) (sym c.same) st);
 }
 
-pub visit_done : (group : List Event) (h : State) (o : List ℕ) (h1 : State) (o1 : List ℕ) (h2 : State) (o2 : List ℕ) (a b : Bool) → b ≡ false → DidOften group h o h1 o1 a → DidTurn group group h1 o1 h2 o2 b → DidVisit group h o h2 o2 a
+pub visit_done : (group : List Event) (h : House) (o : List ℕ) (h1 : House) (o1 : List ℕ) (h2 : House) (o2 : List ℕ) (a b : Bool) → b ≡ false → DidOften group h o h1 o1 a → DidTurn group group h1 o1 h2 o2 b → DidVisit group h o h2 o2 a
 visit_done group h o h1 o1 h2 o2 a true e c d = cc
 visit_done group h o h1 o1 h2 o2 a false e c d = visit_rests group h o h1 o1 h2 o2 a c d
 
 -- ---- visits one after another
 
-pub visits_then : (Q : Setup → Type 0) (gs hs : Setup → List (List Event)) (h : State) (o : List ℕ) (h1 : State) (o1 : List ℕ) (h2 : State) (o2 : List ℕ) (a b : Bool)
+pub visits_then : (Q : Setup → Type 0) (gs hs : Setup → List (List Event)) (h : House) (o : List ℕ) (h1 : House) (o1 : List ℕ) (h2 : House) (o2 : List ℕ) (a b : Bool)
     → DidVisits Q gs h o h1 o1 a → DidVisits Q hs h1 o1 h2 o2 b → DidVisits Q (λ k. gs k ++ hs k) h o h2 o2 (a || b)
 visits_then Q gs hs h o h1 o1 h2 o2 a b c d =
     did_then Q (λ k s t printed. Visits k (gs k) s t printed) (λ k s t printed. Visits k (hs k) s t printed) (λ k s t printed. Visits k (gs k ++ hs k) s t printed)
@@ -585,14 +585,14 @@ visits_then Q gs hs h o h1 o1 h2 o2 a b c d =
       both = λ k s x y. All-append (λ group. All (HasNothing k s) group) (gs k) (hs k) x y;
     }) c d
 
-pub visits_wants : (Q : Setup → Type 0) (gs : Setup → List (List Event)) (h : State) (o : List ℕ) (h1 : State) (o1 : List ℕ) (h2 : State) (o2 : List ℕ) (a : Bool)
+pub visits_wants : (Q : Setup → Type 0) (gs : Setup → List (List Event)) (h : House) (o : List ℕ) (h1 : House) (o1 : List ℕ) (h2 : House) (o2 : List ℕ) (a : Bool)
     → DidVisits Q gs h o h1 o1 a → Wants Q h1 o1 h2 o2 → Wants Q h o h2 o2
 visits_wants Q gs h o h1 o1 h2 o2 a c d =
     did_wants Q (λ k s t printed. Visits k (gs k) s t printed) (λ k s. All (λ group. All (HasNothing k s) group) (gs k)) h o h1 o1 h2 o2 a
     (λ k s x. rest_visits k (gs k) s x) (λ k s t printed x. visits_happened k (gs k) s t printed x) c d
 
 -- one visit, as a list of visits
-pub one_visit : (Q : Setup → Type 0) (group : List Event) (h : State) (o : List ℕ) (h1 : State) (o1 : List ℕ) (b : Bool) → ((k : Setup) → Q k → All (IsAmong k) group)
+pub one_visit : (Q : Setup → Type 0) (group : List Event) (h : House) (o : List ℕ) (h1 : House) (o1 : List ℕ) (b : Bool) → ((k : Setup) → Q k → All (IsAmong k) group)
     → DidVisit group h o h1 o1 b → DidVisits Q (λ k. group ∷ []) h o h1 o1 b
 one_visit Q group h o h1 o1 b f c =
     did_as (λ k. All (IsAmong k) group) Q (λ k s t printed. Visit k group s t printed) (λ k s t printed. Visits k (group ∷ []) s t printed)
@@ -600,7 +600,7 @@ one_visit Q group h o h1 o1 b f c =
     (λ k s q st. f k q) (λ k s q st t printed x. (t, printed, [], x, (refl, refl), sym (append-nil printed))) (λ k s q st x. All-one (λ g. All (HasNothing k s) g) group x) c
 
 -- the seat's visit after those of the seats before it
-pub seats_step : (make : ℕ → List Event) (seats seat : ℕ) (h : State) (o : List ℕ) (h1 : State) (o1 : List ℕ) (h2 : State) (o2 : List ℕ) (a b : Bool) → ((k : Setup) → k.config.seats ≡ seats → All (IsAmong k) (make (seat + 1)))
+pub seats_step : (make : ℕ → List Event) (seats seat : ℕ) (h : House) (o : List ℕ) (h1 : House) (o1 : List ℕ) (h2 : House) (o2 : List ℕ) (a b : Bool) → ((k : Setup) → k.config.seats ≡ seats → All (IsAmong k) (make (seat + 1)))
     → DidVisits (λ k. k.config.seats ≡ seats) (λ k. map make (range_with_len 1 seat)) h o h1 o1 a → DidVisit (make (seat + 1)) h1 o1 h2 o2 b
     → DidVisits (λ k. k.config.seats ≡ seats) (λ k. map make (range_with_len 1 (seat + 1))) h o h2 o2 (a || b)
 seats_step make seats seat h o h1 o1 h2 o2 a b f c d =
@@ -608,7 +608,7 @@ seats_step make seats seat h o h1 o1 h2 o2 a b f c d =
     (visits_then (λ k. k.config.seats ≡ seats) (λ k. map make (range_with_len 1 seat)) (λ k. make (seat + 1) ∷ []) h o h1 o1 h2 o2 a b c
     (one_visit (λ k. k.config.seats ≡ seats) (make (seat + 1)) h1 o1 h2 o2 b f d))
 
-pub seats_wants : (make : ℕ → List Event) (seats seat : ℕ) (h : State) (o : List ℕ) (h1 : State) (o1 : List ℕ) (h2 : State) (o2 : List ℕ) (a : Bool) → ((k : Setup) → k.config.seats ≡ seats → All (IsAmong k) (make (seat + 1)))
+pub seats_wants : (make : ℕ → List Event) (seats seat : ℕ) (h : House) (o : List ℕ) (h1 : House) (o1 : List ℕ) (h2 : House) (o2 : List ℕ) (a : Bool) → ((k : Setup) → k.config.seats ≡ seats → All (IsAmong k) (make (seat + 1)))
     → seats ≡ length h.callers + length h.visitors → DidVisits (λ k. k.config.seats ≡ seats) (λ k. map make (range_with_len 1 seat)) h o h1 o1 a → Wants (λ k. All (IsAmong k) (make (seat + 1))) h1 o1 h2 o2 → Wants (λ k. Unit {0}) h o h2 o2
 seats_wants make seats seat h o h1 o1 h2 o2 a f e c d =
     wants_as (λ k. k.config.seats ≡ seats) (λ k. Unit {0}) h o h2 o2 (λ k s q st. sym (e ∙ st.seats))
@@ -616,7 +616,7 @@ seats_wants make seats seat h o h1 o1 h2 o2 a f e c d =
     (wants_as (λ k. All (IsAmong k) (make (seat + 1))) (λ k. k.config.seats ≡ seats) h1 o1 h2 o2 (λ k s q st. f k q) d))
 
 -- all of them, where so many seats are there
-pub visits_as : (Q : Setup → Type 0) (gs hs : Setup → List (List Event)) (h : State) (o : List ℕ) (h1 : State) (o1 : List ℕ) (b : Bool)
+pub visits_as : (Q : Setup → Type 0) (gs hs : Setup → List (List Event)) (h : House) (o : List ℕ) (h1 : House) (o1 : List ℕ) (b : Bool)
     → ((k : Setup) (s : Scene) → StandsFor k h s → Q k) → ((k : Setup) → Q k → gs k ≡ hs k) → DidVisits Q gs h o h1 o1 b → DidVisits (λ k. Unit {0}) hs h o h1 o1 b
 visits_as Q gs hs h o h1 o1 b f e c =
     did_as Q (λ k. Unit {0}) (λ k s t printed. Visits k (gs k) s t printed) (λ k s t printed. Visits k (hs k) s t printed)
@@ -648,11 +648,11 @@ served held n = one (held n) refl
 abbrev pub Rounds : Setup → (held shut : ℕ → Bool) → Scene → Scene → List ℕ → Type 0
 Rounds k held shut s t printed = (n : ℕ) × Visits k (in_a_row (replicate n (round k held shut))) s t printed
 
-abbrev pub DidRound : (held shut : ℕ → Bool) → State → List ℕ → State → List ℕ → Bool → Type 0
+abbrev pub DidRound : (held shut : ℕ → Bool) → House → List ℕ → House → List ℕ → Bool → Type 0
 DidRound held shut h o h1 o1 moved = DidVisits (λ k. Unit {0}) (λ k. round k held shut) h o h1 o1 moved
 
 -- which shards are shut in a scene for which the house stands
-pub same_marks : (k : Setup) (h : State) (s : Scene) → StandsFor k h s → is_shut h.directory ≡ is_shut_in s
+pub same_marks : (k : Setup) (h : House) (s : Scene) → StandsFor k h s → is_shut h.directory ≡ is_shut_in s
 same_marks k h s st = ap (λ (d : Directory). is_shut d) st.directory
 
 rounds_more : (k : Setup) (held shut : ℕ → Bool) (s m t : Scene) (one two : List ℕ) → Rounds k held shut s m one → Visits k (round k held shut) m t two → Rounds k held shut s t (one ++ two)
@@ -662,26 +662,26 @@ rounds_more k held shut s m t one two (n, a) b =
 rounds_some : (k : Setup) (held shut : ℕ → Bool) (s t : Scene) (printed : List ℕ) → Rounds k held shut s t printed → SomeHappened k s t printed
 rounds_some k held shut s t printed (n, a) = visits_happened k (in_a_row (replicate n (round k held shut))) s t printed a
 
-pub no_round : (k : Setup) (held shut : ℕ → Bool) (s : Scene) (h : State) (o : List ℕ) → StandsFor k h s → Went (λ k s t printed. Rounds k held shut s t printed) k s h o o
+pub no_round : (k : Setup) (held shut : ℕ → Bool) (s : Scene) (h : House) (o : List ℕ) → StandsFor k h s → Went (λ k s t printed. Rounds k held shut s t printed) k s h o o
 no_round k held shut s h o st = record { after = s; printed = []; goes = (0, (refl, refl)); stands = st; out = sym (append-nil o) }
 
-pub round_again : (held shut : ℕ → Bool) (k : Setup) (s : Scene) (h1 h2 : State) (o o1 o2 : List ℕ) (b : Bool) → Went (λ k s t printed. Rounds k held shut s t printed) k s h1 o o1 → DidRound held shut h1 o1 h2 o2 b
+pub round_again : (held shut : ℕ → Bool) (k : Setup) (s : Scene) (h1 h2 : House) (o o1 o2 : List ℕ) (b : Bool) → Went (λ k s t printed. Rounds k held shut s t printed) k s h1 o o1 → DidRound held shut h1 o1 h2 o2 b
     → Went (λ k s t printed. Rounds k held shut s t printed) k s h2 o o2
 round_again held shut k s h1 h2 o o1 o2 b w d =
     joined (λ k s t printed. Rounds k held shut s t printed) (λ k s t printed. Visits k (round k held shut) s t printed) (λ k s t printed. Rounds k held shut s t printed)
     (λ k s m t one two x y. rounds_more k held shut s m t one two x y) k s h1 h2 o o1 o2 w
     (went (λ k. Unit {0}) (λ k s t printed. Visits k (round k held shut) s t printed) (λ k s. All (λ group. All (HasNothing k s) group) (round k held shut)) h1 o1 h2 o2 b (λ k s x. rest_visits k (round k held shut) s x) d k w.after tt w.stands)
 
-pub round_less : (held shut : ℕ → Bool) (h : State) (o : List ℕ) (h1 : State) (o1 : List ℕ) (b : Bool) → b ≡ true → DidRound held shut h o h1 o1 b → effort h1 < effort h
+pub round_less : (held shut : ℕ → Bool) (h : House) (o : List ℕ) (h1 : House) (o1 : List ℕ) (b : Bool) → b ≡ true → DidRound held shut h o h1 o1 b → effort h1 < effort h
 round_less held shut h o h1 o1 false e d = cc
 round_less held shut h o h1 o1 true e d = d.less
 
-pub rounds_want : (held shut : ℕ → Bool) (k : Setup) (s : Scene) (h1 h2 : State) (o o1 o2 : List ℕ) → Went (λ k s t printed. Rounds k held shut s t printed) k s h1 o o1 → Wants (λ k. Unit {0}) h1 o1 h2 o2 → HappenedFrom k s h2 o o2
+pub rounds_want : (held shut : ℕ → Bool) (k : Setup) (s : Scene) (h1 h2 : House) (o o1 o2 : List ℕ) → Went (λ k s t printed. Rounds k held shut s t printed) k s h1 o o1 → Wants (λ k. Unit {0}) h1 o1 h2 o2 → HappenedFrom k s h2 o o2
 rounds_want held shut k s h1 h2 o o1 o2 w d =
     wants_after (λ k s t printed. Rounds k held shut s t printed) k s h1 h2 o o1 o2 (λ k s t printed x. rounds_some k held shut s t printed x) w (d.happened k w.after tt w.stands)
 
 -- the last round moved nothing
-pub rounds_done : (held shut : ℕ → Bool) (k : Setup) (s : Scene) (h1 h2 : State) (o o1 o2 : List ℕ) (b : Bool) → shut ≡ is_shut_in s → b ≡ false → Went (λ k s t printed. Rounds k held shut s t printed) k s h1 o o1 → DidRound held shut h1 o1 h2 o2 b
+pub rounds_done : (held shut : ℕ → Bool) (k : Setup) (s : Scene) (h1 h2 : House) (o o1 o2 : List ℕ) (b : Bool) → shut ≡ is_shut_in s → b ≡ false → Went (λ k s t printed. Rounds k held shut s t printed) k s h1 o o1 → DidRound held shut h1 o1 h2 o2 b
     → Went (λ k s t printed. GoesRounds k held s t printed) k s h2 o o2
 rounds_done held shut k s h1 h2 o o1 o2 true marks e w d = cc
 rounds_done held shut k s h1 h2 o o1 o2 false marks e w d = record {
@@ -689,7 +689,7 @@ rounds_done held shut k s h1 h2 o o1 o2 false marks e w d = record {
   printed = w.printed;
   goes = rounds_of w.after w.printed (w.goes.0) (subst (λ (x : ℕ → Bool). Visits k (in_a_row (replicate w.goes.0 (round k held x))) s w.after w.printed) marks w.goes.1)
       (subst (λ (x : ℕ → Bool). All (λ group. All (HasNothing k w.after) group) (round k held x)) marks (d.changes_nothing k w.after tt w.stands));
-  stands = subst (λ (x : State). StandsFor k x w.after) (sym d.same) w.stands;
+  stands = subst (λ (x : House). StandsFor k x w.after) (sym d.same) w.stands;
   out = d.silent ∙ w.out;
 }
   where
@@ -700,39 +700,39 @@ pub rounds_happened : (k : Setup) (held : ℕ → Bool) (s t : Scene) (printed :
 rounds_happened k held s t printed g = visits_happened k (in_a_row (replicate g.rounds (round k held (is_shut_in s)))) s t printed g.goes
 
 -- a round from its parts
-abbrev pub DidFirst : (shut : ℕ → Bool) → State → List ℕ → State → List ℕ → Bool → Type 0
+abbrev pub DidFirst : (shut : ℕ → Bool) → House → List ℕ → House → List ℕ → Bool → Type 0
 DidFirst shut h o h1 o1 moved = DidVisits (λ k. Unit {0}) (λ k. closes k.config.seats shut k.config.shards) h o h1 o1 moved
 
-abbrev pub DidSecond : (shut : ℕ → Bool) → State → List ℕ → State → List ℕ → Bool → Type 0
+abbrev pub DidSecond : (shut : ℕ → Bool) → House → List ℕ → House → List ℕ → Bool → Type 0
 DidSecond shut h o h1 o1 moved = DidVisits (λ k. Unit {0}) (λ k. closes k.config.seats shut k.config.shards ++ puts k.config.seats) h o h1 o1 moved
 
-abbrev pub DidThird : (held shut : ℕ → Bool) → State → List ℕ → State → List ℕ → Bool → Type 0
+abbrev pub DidThird : (held shut : ℕ → Bool) → House → List ℕ → House → List ℕ → Bool → Type 0
 DidThird held shut h o h1 o1 moved = DidVisits (λ k. Unit {0}) (λ k. closes k.config.seats shut k.config.shards ++ puts k.config.seats ++ serves held k.config.shards) h o h1 o1 moved
 
-pub first_wants : (shut : ℕ → Bool) (h : State) (o : List ℕ) (h1 : State) (o1 : List ℕ) (h2 : State) (o2 : List ℕ) (a : Bool) → DidFirst shut h o h1 o1 a → Wants (λ k. Unit {0}) h1 o1 h2 o2 → Wants (λ k. Unit {0}) h o h2 o2
+pub first_wants : (shut : ℕ → Bool) (h : House) (o : List ℕ) (h1 : House) (o1 : List ℕ) (h2 : House) (o2 : List ℕ) (a : Bool) → DidFirst shut h o h1 o1 a → Wants (λ k. Unit {0}) h1 o1 h2 o2 → Wants (λ k. Unit {0}) h o h2 o2
 first_wants shut h o h1 o1 h2 o2 a x z = visits_wants (λ k. Unit {0}) (λ k. closes k.config.seats shut k.config.shards) h o h1 o1 h2 o2 a x z
 
-pub then_puts : (shut : ℕ → Bool) (h : State) (o : List ℕ) (h1 : State) (o1 : List ℕ) (h2 : State) (o2 : List ℕ) (a b : Bool)
+pub then_puts : (shut : ℕ → Bool) (h : House) (o : List ℕ) (h1 : House) (o1 : List ℕ) (h2 : House) (o2 : List ℕ) (a b : Bool)
     → DidFirst shut h o h1 o1 a → DidVisits (λ k. Unit {0}) (λ k. puts k.config.seats) h1 o1 h2 o2 b → DidSecond shut h o h2 o2 (a || b)
 then_puts shut h o h1 o1 h2 o2 a b x y = visits_then (λ k. Unit {0}) (λ k. closes k.config.seats shut k.config.shards) (λ k. puts k.config.seats) h o h1 o1 h2 o2 a b x y
 
-pub second_wants : (shut : ℕ → Bool) (h : State) (o : List ℕ) (h1 : State) (o1 : List ℕ) (h2 : State) (o2 : List ℕ) (a : Bool) → DidSecond shut h o h1 o1 a → Wants (λ k. Unit {0}) h1 o1 h2 o2 → Wants (λ k. Unit {0}) h o h2 o2
+pub second_wants : (shut : ℕ → Bool) (h : House) (o : List ℕ) (h1 : House) (o1 : List ℕ) (h2 : House) (o2 : List ℕ) (a : Bool) → DidSecond shut h o h1 o1 a → Wants (λ k. Unit {0}) h1 o1 h2 o2 → Wants (λ k. Unit {0}) h o h2 o2
 second_wants shut h o h1 o1 h2 o2 a x z = visits_wants (λ k. Unit {0}) (λ k. closes k.config.seats shut k.config.shards ++ puts k.config.seats) h o h1 o1 h2 o2 a x z
 
-pub then_serves : (held shut : ℕ → Bool) (h : State) (o : List ℕ) (h1 : State) (o1 : List ℕ) (h2 : State) (o2 : List ℕ) (a b : Bool)
+pub then_serves : (held shut : ℕ → Bool) (h : House) (o : List ℕ) (h1 : House) (o1 : List ℕ) (h2 : House) (o2 : List ℕ) (a b : Bool)
     → DidSecond shut h o h1 o1 a → DidVisits (λ k. Unit {0}) (λ k. serves held k.config.shards) h1 o1 h2 o2 b → DidThird held shut h o h2 o2 (a || b)
 then_serves held shut h o h1 o1 h2 o2 a b x y =
     visits_then (λ k. Unit {0}) (λ k. closes k.config.seats shut k.config.shards ++ puts k.config.seats) (λ k. serves held k.config.shards) h o h1 o1 h2 o2 a b x y
 
-pub third_wants : (held shut : ℕ → Bool) (h : State) (o : List ℕ) (h1 : State) (o1 : List ℕ) (h2 : State) (o2 : List ℕ) (a : Bool) → DidThird held shut h o h1 o1 a → Wants (λ k. Unit {0}) h1 o1 h2 o2 → Wants (λ k. Unit {0}) h o h2 o2
+pub third_wants : (held shut : ℕ → Bool) (h : House) (o : List ℕ) (h1 : House) (o1 : List ℕ) (h2 : House) (o2 : List ℕ) (a : Bool) → DidThird held shut h o h1 o1 a → Wants (λ k. Unit {0}) h1 o1 h2 o2 → Wants (λ k. Unit {0}) h o h2 o2
 third_wants held shut h o h1 o1 h2 o2 a x z = visits_wants (λ k. Unit {0}) (λ k. closes k.config.seats shut k.config.shards ++ puts k.config.seats ++ serves held k.config.shards) h o h1 o1 h2 o2 a x z
 
-pub round_of : (held shut : ℕ → Bool) (h : State) (o : List ℕ) (h1 : State) (o1 : List ℕ) (h2 : State) (o2 : List ℕ) (a b : Bool)
+pub round_of : (held shut : ℕ → Bool) (h : House) (o : List ℕ) (h1 : House) (o1 : List ℕ) (h2 : House) (o2 : List ℕ) (a b : Bool)
     → DidThird held shut h o h1 o1 a → DidVisits (λ k. Unit {0}) (λ k. hears k.config.seats) h1 o1 h2 o2 b → DidRound held shut h o h2 o2 (a || b)
 round_of held shut h o h1 o1 h2 o2 a b x y =
     visits_then (λ k. Unit {0}) (λ k. closes k.config.seats shut k.config.shards ++ puts k.config.seats ++ serves held k.config.shards) (λ k. hears k.config.seats) h o h1 o1 h2 o2 a b x y
 
-pub shards_of : (k : Setup) (s : Scene) (h : State) → StandsFor k h s → k.config.shards ≡ h.directory.shards
+pub shards_of : (k : Setup) (s : Scene) (h : House) → StandsFor k h s → k.config.shards ≡ h.directory.shards
 shards_of k s h st = sym (ap (λ (d : Directory). d.shards) st.directory ∙ st.shards)
 
 -- ---- who is there
@@ -747,13 +747,13 @@ shard_among : (k : Setup) (shard : ℕ) → shard < k.config.shards → All (IsA
 shard_among k shard l = All-cons (IsAmong k) (Take shard) (Deliver shard ∷ Answer shard ∷ []) l (All-cons (IsAmong k) (Deliver shard) (Answer shard ∷ []) l (All-one (IsAmong k) (Answer shard) l))
 
 -- a shard that isn't held is visited
-pub serve_came : {E : Type 0} (shard : ℕ) (held : Bool) (h : State) (o : List ℕ) (h1 : State) (o1 : List ℕ) (r : Result Bool E) → held ≡ false
+pub serve_came : {E : Type 0} (shard : ℕ) (held : Bool) (h : House) (o : List ℕ) (h1 : House) (o1 : List ℕ) (r : Result Bool E) → held ≡ false
     → CameVisit {E = E} (Take shard ∷ Deliver shard ∷ Answer shard ∷ []) h o h1 o1 r → CameVisits {E = E} (λ k. shard < k.config.shards) (λ k. serve shard held) h o h1 o1 r
 serve_came shard true h o h1 o1 r e c = cc
 serve_came shard false h o h1 o1 (Ok b) e c = one_visit (λ k. shard < k.config.shards) (Take shard ∷ Deliver shard ∷ Answer shard ∷ []) h o h1 o1 b (λ k q. shard_among k shard q) c
 serve_came shard false h o h1 o1 (Err x) e c = wants_as (λ k. All (IsAmong k) (Take shard ∷ Deliver shard ∷ Answer shard ∷ [])) (λ k. shard < k.config.shards) h o h1 o1 (λ k s q st. shard_among k shard q) c
 
-pub shards_step : (held : ℕ → Bool) (shards shard : ℕ) (is : Bool) (h : State) (o : List ℕ) (h1 : State) (o1 : List ℕ) (h2 : State) (o2 : List ℕ) (a b : Bool) → shard < shards → is ≡ held shard
+pub shards_step : (held : ℕ → Bool) (shards shard : ℕ) (is : Bool) (h : House) (o : List ℕ) (h1 : House) (o1 : List ℕ) (h2 : House) (o2 : List ℕ) (a b : Bool) → shard < shards → is ≡ held shard
     → DidVisits (λ k. k.config.shards ≡ shards) (λ k. serves held shard) h o h1 o1 a → DidVisits (λ k. shard < k.config.shards) (λ k. serve shard is) h1 o1 h2 o2 b
     → DidVisits (λ k. k.config.shards ≡ shards) (λ k. serves held (shard + 1)) h o h2 o2 (a || b)
 shards_step held shards shard is h o h1 o1 h2 o2 a b l e c d =
@@ -763,7 +763,7 @@ shards_step held shards shard is h o h1 o1 h2 o2 a b l e c d =
     (λ k s. All (λ group. All (HasNothing k s) group) (serve shard is)) (λ k s. All (λ group. All (HasNothing k s) group) (serve shard is)) h1 o1 h2 o2 b
     (λ k s q st. omega (arith, l, q)) (λ k s q st t printed x. x) (λ k s q st x. x) d))
 
-pub shards_wants : (held : ℕ → Bool) (shard : ℕ) (h : State) (o : List ℕ) (h1 : State) (o1 : List ℕ) (h2 : State) (o2 : List ℕ) (a : Bool) → shard < h.directory.shards
+pub shards_wants : (held : ℕ → Bool) (shard : ℕ) (h : House) (o : List ℕ) (h1 : House) (o1 : List ℕ) (h2 : House) (o2 : List ℕ) (a : Bool) → shard < h.directory.shards
     → DidVisits (λ k. k.config.shards ≡ h.directory.shards) (λ k. serves held shard) h o h1 o1 a → Wants (λ k. shard < k.config.shards) h1 o1 h2 o2 → Wants (λ k. Unit {0}) h o h2 o2
 shards_wants held shard h o h1 o1 h2 o2 a l c d =
     wants_as (λ k. k.config.shards ≡ h.directory.shards) (λ k. Unit {0}) h o h2 o2 (λ k s q st. shards_of k s h st)

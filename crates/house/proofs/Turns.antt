@@ -10,16 +10,16 @@ use Rattle.shard_queue.proofs.AtLaws.{set_at-same}
 use Rattle.envelope.specs.Directory.{Directory}
 use Rattle.world.specs.World.{Config, HearStep, MayPut, PutStep, Step, World, hears_one, put_full, put_joins, put_no_memory, put_shut, shard_of}
 use Rattle.world.specs.World as world
-use Rattle.delivery_core.specs.Held.{Held, notes_of}
+use Rattle.delivery_core.specs.DeliveryCore.{DeliveryCore, notes_of}
 use Rattle.delivery_core.specs.Changes.{Hears}
 use Rattle.delivery_token.specs.Log.{heard_at_once}
 use Rattle.delivery_core.specs.New.{first_key}
 use Rattle.delivery_core.specs.Puts.{IsNextKey}
 use Rattle.delivery_core.specs.Stands as core
-use Rattle.house_connection.specs.Line.{Line}
-use Rattle.house.specs.State.{State}
+use Rattle.house_connection.specs.HouseConnection.{HouseConnection}
+use Rattle.house.specs.House.{House}
 use Rattle.lmtp_machine.specs.Dialogue.{Submission}
-use Rattle.house_connection.specs.HouseConnection.{HouseConnection, Terms, copies_of}
+use Rattle.house_connection.specs.Caller.{Caller, Terms, copies_of}
 use Rattle.house.specs.Setup.{Setup, terms_of}
 use Rattle.house.specs.Scene.{ConnectionHears, ConnectionPuts, HearPlay, PutPlay, Scene, connection_hears, connection_puts, session_hears, session_puts, with_caller, with_world}
 use Rattle.house_connection.specs.Taking.{HearsVerdict, due, noted_put}
@@ -52,9 +52,9 @@ hear_moves w p v (hears_one s r others h e) f = longer (w.heard p) _ (sym (set_a
 pub step_of : (k : Config) (w v : World) (c : Job) (p q lanes : ℕ) → p ≡ q → lanes ≡ k.shards → Step k w (world.Put p (c.mailbox % lanes) c) v → Step k w (world.Put q (shard_of k c.mailbox) c) v
 step_of k w v c p q lanes e f h = subst (λ (n : ℕ). PutStep k w q (c.mailbox % n) c v) f (subst (λ (n : ℕ). PutStep k w n (c.mailbox % lanes) c v) e h)
 
-pub put_led : (k : Setup) (h : State) (s : Scene) (number seat : ℕ) (directory : Directory) (g : Line) (c : Held) (why : Option Refusal) (place l : Option Line) (whole : Bool) (old new : List ℕ)
+pub put_led : (k : Setup) (h : House) (s : Scene) (number seat : ℕ) (directory : Directory) (g : HouseConnection) (c : DeliveryCore) (why : Option Refusal) (place l : Option HouseConnection) (whole : Bool) (old new : List ℕ)
     → StandsFor k h s → number ≡ seat + 1 → directory ≡ h.directory → seat < length h.callers → get_or h.callers seat None ≡ Some g → PutsNext h.core (due g) c why → place ≡ Some (noted_put (heard_verdict why) g)
-    → ((x : Terms) (p : ℕ) (next : CopyKey) (heard : List Noted) (b : HouseConnection) → IsOf x number p directory → StandsForMaybe x p next heard place (Some b) → PlaceWentOn x whole p next heard b l old new)
+    → ((x : Terms) (p : ℕ) (next : CopyKey) (heard : List Noted) (b : Caller) → IsOf x number p directory → StandsForMaybe x p next heard place (Some b) → PlaceWentOn x whole p next heard b l old new)
     → (t : Scene) × (printed : List ℕ) × ConnectionPuts k whole s seat t printed
     × StandsFor k (record { core = c; callers = set h.callers seat l; serials = h.serials; visitors = h.visitors; entered = h.entered; directory = h.directory; host = h.host; max_message = h.max_message }) t
     × (new ≡ old ++ printed)
@@ -74,10 +74,10 @@ put_led k h s number seat directory g c why place l whole old new st e dir lt so
     = sym (heard_is k.config c v cs seat lk) ∙ subst (λ (q : ℕ). notes_of c q ≡ notes_of h.core q ++ heard_at_once puts.copy.key puts.copy.mailbox why) es p.heard.here
     ∙ ap (λ (ns : List Noted). ns ++ heard_at_once puts.copy.key puts.copy.mailbox why) (heard_is k.config h.core s.world st.core seat lk) in
     let next : get_or c.next seat y ≡ past puts.copy.key = ap (λ (ks : List CopyKey). get_or ks seat y) (p.next ∙ ap (λ (q : ℕ). set h.core.next q (past puts.copy.key)) es) ∙ get_or-set_same h.core.next seat (past puts.copy.key) y ln in
-    let b : HouseConnection = record { serial = a.caller.serial; gone = a.caller.gone; talk = a.caller.talk; to_put = puts.others } in
+    let b : Caller = record { serial = a.caller.serial; gone = a.caller.gone; talk = a.caller.talk; to_put = puts.others } in
     let b1 = put_stands (terms_of k s.shut) seat (get_or h.core.next seat y) (s.world.heard seat) g a.caller puts.copy puts.others why (get_or c.next seat y) (v.heard seat) a.stands n next (may_of k.config s.world seat _ puts.copy v step).above_heard heard in
     let w = f (terms_of k s.shut) seat (get_or c.next seat y) (v.heard seat) b (record { numbered = e; looks_up = dir ∙ st.directory })
-    (subst (λ (x : Option Line). StandsForMaybe (terms_of k s.shut) seat (get_or c.next seat y) (v.heard seat) x (Some b)) (sym is) b1) in (
+    (subst (λ (x : Option HouseConnection). StandsForMaybe (terms_of k s.shut) seat (get_or c.next seat y) (v.heard seat) x (Some b)) (sym is) b1) in (
       with_caller (with_world s v) seat w.left,
       w.printed,
       record { caller = a.caller; there = a.here; copy = puts.copy; others = puts.others; front = n.front; moved = v; step = step; left = w.left; goes = w.goes; after = refl {a = with_caller (with_world s v) seat w.left} },
@@ -89,7 +89,7 @@ put_led k h s number seat directory g c why place l whole old new st e dir lt so
     )
 
 -- a copy that is next may be put
-may_be_put : (k : Setup) (h : State) (s : Scene) (seat : ℕ) (g : Line) (c : Job) (others : List Job) → StandsFor k h s → seat < length h.callers → get_or h.callers seat None ≡ Some g → due g ≡ c ∷ others → IsNextKey h.core c.key c.mailbox
+may_be_put : (k : Setup) (h : House) (s : Scene) (seat : ℕ) (g : HouseConnection) (c : Job) (others : List Job) → StandsFor k h s → seat < length h.callers → get_or h.callers seat None ≡ Some g → due g ≡ c ∷ others → IsNextKey h.core c.key c.mailbox
 may_be_put k h s seat g c others st lt some front =
     let y = c.key in
     let a = at_seat k h s seat y g st lt some in
@@ -109,20 +109,20 @@ may_be_put k h s seat g c others st lt some front =
     }
 
 -- where no copy may be put, none is
-pub put_idles : (k : Setup) (h : State) (s : Scene) (seat : ℕ) (g : Line) (t : Scene) (printed : List ℕ) → StandsFor k h s → seat < length h.callers → get_or h.callers seat None ≡ Some g → MayNotPut h.core (due g) → ConnectionPuts k true s seat t printed → ⊥
+pub put_idles : (k : Setup) (h : House) (s : Scene) (seat : ℕ) (g : HouseConnection) (t : Scene) (printed : List ℕ) → StandsFor k h s → seat < length h.callers → get_or h.callers seat None ≡ Some g → MayNotPut h.core (due g) → ConnectionPuts k true s seat t printed → ⊥
 put_idles k h s seat g t printed st lt some (inl none) p =
     let a = at_seat k h s seat (first_key seat) g st lt some in
     let same : a.caller ≡ p.caller = let x : Some a.caller ≡ Some p.caller = sym a.here ∙ p.there in cc in
-    let x : [] ≡ p.copy ∷ p.others = sym (empty a) ∙ ap (λ (b : HouseConnection). b.to_put) same ∙ p.front in cc
+    let x : [] ≡ p.copy ∷ p.others = sym (empty a) ∙ ap (λ (b : Caller). b.to_put) same ∙ p.front in cc
   where
     empty : (a : IsAt k s seat (get_or h.core.next seat (first_key seat)) g) → a.caller.to_put ≡ []
     empty a = a.stands.to_put ∙ ap (λ (ss : List Submission). drop (length g.verdicts) (copies_of ss)) (sym a.stands.pending) ∙ none
 put_idles k h s seat g t printed st lt some (inr (c, others, front, isnt)) p = isnt (may_be_put k h s seat g c others st lt some front)
 
-pub heard_led : (k : Setup) (h : State) (s : Scene) (number seat : ℕ) (directory : Directory) (g : Line) (c : Held) (r : Noted) (q : Line) (l : Option Line) (whole : Bool) (old new : List ℕ)
+pub heard_led : (k : Setup) (h : House) (s : Scene) (number seat : ℕ) (directory : Directory) (g : HouseConnection) (c : DeliveryCore) (r : Noted) (q : HouseConnection) (l : Option HouseConnection) (whole : Bool) (old new : List ℕ)
     → StandsFor k h s → number ≡ seat + 1 → directory ≡ h.directory → seat < length h.callers → get_or h.callers seat None ≡ Some g
     → ((x : Config) → core.Follows x h.core (world.Hear seat ∷ []) c) → Hears h.core c seat (r ∷ []) → c.next ≡ h.core.next → HearsVerdict g r q
-    → ((x : Terms) (p : ℕ) (next : CopyKey) (heard : List Noted) (b : HouseConnection) → IsOf x number p directory → StandsForMaybe x p next heard (Some q) (Some b) → PlaceWentOn x whole p next heard b l old new)
+    → ((x : Terms) (p : ℕ) (next : CopyKey) (heard : List Noted) (b : Caller) → IsOf x number p directory → StandsForMaybe x p next heard (Some q) (Some b) → PlaceWentOn x whole p next heard b l old new)
     → (t : Scene) × (printed : List ℕ) × ConnectionHears k whole s seat t printed
     × StandsFor k (record { core = c; callers = set h.callers seat l; serials = h.serials; visitors = h.visitors; entered = h.entered; directory = h.directory; host = h.host; max_message = h.max_message }) t
     × (new ≡ old ++ printed)
@@ -145,21 +145,21 @@ heard_led k h s number seat directory g c r q l whole old new st e dir lt some f
       w.out,
     )
 
-pub hear_changes_nothing : (k : Setup) (h : State) (s : Scene) (seat : ℕ) (t : Scene) (printed : List ℕ) → StandsFor k h s → ((x : Config) → core.ChangesNothing x h.core (world.Hear seat)) → ConnectionHears k true s seat t printed → ⊥
+pub hear_changes_nothing : (k : Setup) (h : House) (s : Scene) (seat : ℕ) (t : Scene) (printed : List ℕ) → StandsFor k h s → ((x : Config) → core.ChangesNothing x h.core (world.Hear seat)) → ConnectionHears k true s seat t printed → ⊥
 hear_changes_nothing k h s seat t printed st still p = hear_moves s.world seat p.moved p.step (still k.config s.world p.moved st.core p.step)
 
 -- who stands at a place heard it
-pub heard_at : (o p : Option Line) (r : Noted) (g : Line) → o ≡ Some g → MatchOption o (p ≡ None) (λ h. IsSomeAnd p (HearsVerdict h r)) → (q : Line) × (p ≡ Some q) × HearsVerdict g r q
+pub heard_at : (o p : Option HouseConnection) (r : Noted) (g : HouseConnection) → o ≡ Some g → MatchOption o (p ≡ None) (λ h. IsSomeAnd p (HearsVerdict h r)) → (q : HouseConnection) × (p ≡ Some q) × HearsVerdict g r q
 heard_at None p r g e m = absurd (let x : None ≡ Some g = e in cc)
 heard_at (Some h) None r g e m = absurd m
-heard_at (Some h) (Some q) r g e m = let x : h ≡ g = cc in (q, refl, subst (λ (z : Line). HearsVerdict z r q) x m)
+heard_at (Some h) (Some q) r g e m = let x : h ≡ g = cc in (q, refl, subst (λ (z : HouseConnection). HearsVerdict z r q) x m)
 
 -- ---- at a connection's seat nobody else puts or hears
 
-pub puts_none : (k : Setup) (h : State) (s : Scene) (seat : ℕ) (g : Line) (t : Scene) (printed : List ℕ) → StandsFor k h s → seat < length h.callers → get_or h.callers seat None ≡ Some g → MayNotPut h.core (due g) → PutPlay k true s seat t printed → ⊥
+pub puts_none : (k : Setup) (h : House) (s : Scene) (seat : ℕ) (g : HouseConnection) (t : Scene) (printed : List ℕ) → StandsFor k h s → seat < length h.callers → get_or h.callers seat None ≡ Some g → MayNotPut h.core (due g) → PutPlay k true s seat t printed → ⊥
 puts_none k h s seat g t printed st lt some why (connection_puts l p) = put_idles k h s seat g t printed st lt some why p
 puts_none k h s seat g t printed st lt some why (session_puts place e p) = seat_behind k h s seat place st lt (sym e)
 
-pub hears_none : (k : Setup) (h : State) (s : Scene) (seat : ℕ) (t : Scene) (printed : List ℕ) → StandsFor k h s → seat < length h.callers → ((x : Config) → core.ChangesNothing x h.core (world.Hear seat)) → HearPlay k true s seat t printed → ⊥
+pub hears_none : (k : Setup) (h : House) (s : Scene) (seat : ℕ) (t : Scene) (printed : List ℕ) → StandsFor k h s → seat < length h.callers → ((x : Config) → core.ChangesNothing x h.core (world.Hear seat)) → HearPlay k true s seat t printed → ⊥
 hears_none k h s seat t printed st lt still (connection_hears l p) = hear_changes_nothing k h s seat t printed st still p
 hears_none k h s seat t printed st lt still (session_hears place e p) = seat_behind k h s seat place st lt (sym e)

@@ -8,7 +8,7 @@ use Rattle.delivery_token.specs.Keys.{AtLeast}
 use Rattle.delivery_token.specs.declared.CopyKey.{CopyKey}
 use Rattle.delivery_token.specs.declared.log.Noted.{Noted}
 use Rattle.delivery_core.specs.Changes.{SameDelivery}
-use Rattle.delivery_core.specs.Held.{Held, notes_of}
+use Rattle.delivery_core.specs.DeliveryCore.{DeliveryCore, notes_of}
 use Rattle.delivery_core.specs.Stands as core
 use Rattle.delivery_core.proofs.Follow.{get_or-any}
 use Rattle.house.specs.Setup.{Setup, session_seat}
@@ -20,14 +20,14 @@ use Rattle.session_store.specs.Meets.{Meets}
 use Rattle.session_store.proofs.Served.{IsServing, carries}
 use Rattle.shard_queue.specs.At.{set_at}
 use Rattle.shard_queue.proofs.AtLaws.{set_at-same}
-use Rattle.house_session.specs.Seated as seated
-use Rattle.house_session.specs.Seated.{GoesOn, SeatedSession, Works, sent_by}
-use Rattle.house_session.specs.Seat.{Seat, StandsForSeated, key_with}
+use Rattle.house_session.specs.SeatedVisitor as seated
+use Rattle.house_session.specs.SeatedVisitor.{GoesOn, SeatedVisitor, Works, sent_by}
+use Rattle.house_session.specs.SeatedSession.{SeatedSession, StandsForSeated, key_with}
 use Rattle.house.specs.inner.Printing.{WentOn}
 use Rattle.house.specs.Printing.{Speaks}
 use Rattle.house.proofs.Carried.{speaks_carried}
 use Rattle.world.specs.World.{World}
-use Rattle.house.specs.State.{State}
+use Rattle.house.specs.House.{House}
 use Rattle.house.specs.Scene.{Lingers, Parts, Scene, SessionGoes, SessionTalks, fades, lingers, parts, remains, talks, waits}
 use Rattle.house.specs.Stands.{StandsFor, StandsForPlace, StandsForVisit, first_of}
 use Rattle.house.specs.Steps.{IsNoPlace}
@@ -35,29 +35,29 @@ use Rattle.house.specs.inner.Steps.{HasLingered, PlaceTalked, PlaceVisited, Stan
 use Rattle.house.proofs.Places.{at_there, later_connection}
 use Rattle.house.proofs.Seats.{heard_is, place_kept, seat_kept, seat_within}
 
-pub delivery_then : (a b c : Held) → SameDelivery a b → SameDelivery b c → SameDelivery a c
+pub delivery_then : (a b c : DeliveryCore) → SameDelivery a b → SameDelivery b c → SameDelivery a c
 delivery_then a b c p q = record { lanes = q.lanes ∙ p.lanes; hands = q.hands ∙ p.hands; replies = q.replies ∙ p.replies; heard = q.heard ∙ p.heard; next = q.next ∙ p.next }
 
 -- ---- one that talks
 
 -- the session went on over the desk, and so it did in the world
-record Went (k : Setup) (whole : Bool) (place number : ℕ) (heard : List Noted) (b after : SeatedSession) (w : World) (desk : Desk) (printed : List ℕ) : Type 0 where
+record Went (k : Setup) (whole : Bool) (place number : ℕ) (heard : List Noted) (b after : SeatedVisitor) (w : World) (desk : Desk) (printed : List ℕ) : Type 0 where
   pub mid : World
   pub speaks : Speaks (Meets k.config place) whole (session_seat k place) number heard b w mid after printed
   pub serving : IsServing k.config place desk mid
 
-went : (k : Setup) (whole : Bool) (place number : ℕ) (heard : List Noted) (b after : SeatedSession) (old new : Desk) (printed : List ℕ) (w : World) → Speaks Serves whole (session_seat k place) number heard b old new after printed → old.session ≡ place
+went : (k : Setup) (whole : Bool) (place number : ℕ) (heard : List Noted) (b after : SeatedVisitor) (old new : Desk) (printed : List ℕ) (w : World) → Speaks Serves whole (session_seat k place) number heard b old new after printed → old.session ≡ place
     → core.StandsFor k.config old.core w → Went k whole place number heard b after w new printed
 went k whole place number heard b after old new printed w s at stands =
     let c = speaks_carried Serves (λ w call answer v. Meets k.config place w call answer v) (IsServing k.config place) (carries k.config place) whole (session_seat k place) number heard b old new after printed w s (record { session = at; stands = stands }) in
     record { mid = c.0; speaks = c.1; serving = c.2 }
 
 -- whether it has ended is what its seat says
-ended_is : (seat : ℕ) (next : CopyKey) (heard : List Noted) (p : Seat) (v : SeatedSession) → StandsForSeated seat next heard p v → p.gone ≡ false → p.place.link.session.ended ≡ v.session.standing.ended
+ended_is : (seat : ℕ) (next : CopyKey) (heard : List Noted) (p : SeatedSession) (v : SeatedVisitor) → StandsForSeated seat next heard p v → p.gone ≡ false → p.place.link.session.ended ≡ v.session.standing.ended
 ended_is seat next heard p v s live = ap (λ (x : Standing). x.ended) (s.place live).connection.session
 
 -- it remains at its place
-pub talked : (k : Setup) (whole : Bool) (number : ℕ) (next : CopyKey) (heard : List Noted) (b : SeatedSession) (old new : Desk) (w : World) (p : Seat) (before after : List ℕ) → 0 < number → old.session ≡ number - 1 → core.StandsFor k.config old.core w
+pub talked : (k : Setup) (whole : Bool) (number : ℕ) (next : CopyKey) (heard : List Noted) (b : SeatedVisitor) (old new : Desk) (w : World) (p : SeatedSession) (before after : List ℕ) → 0 < number → old.session ≡ number - 1 → core.StandsFor k.config old.core w
     → WentOn Serves whole (session_seat k (number - 1)) number next heard b old new before after p → p.gone ≡ false → (whole ≡ true → p.place.link.session.ended ≡ false)
     → PlaceTalked k whole (number - 1) next heard w b (Some p) new.core before after
 talked k whole number next heard b old new w p before after some at stands o there live =
@@ -80,7 +80,7 @@ talked k whole number next heard b old new w p before after some at stands o the
     }
 
 -- it has parted, and left its mailbox
-pub parted : (k : Setup) (number : ℕ) (next : CopyKey) (heard : List Noted) (b : SeatedSession) (old mid new : Desk) (answer : Answer) (w : World) (p : Seat) (before after : List ℕ) → 0 < number → old.session ≡ number - 1 → core.StandsFor k.config old.core w
+pub parted : (k : Setup) (number : ℕ) (next : CopyKey) (heard : List Noted) (b : SeatedVisitor) (old mid new : Desk) (answer : Answer) (w : World) (p : SeatedSession) (before after : List ℕ) → 0 < number → old.session ≡ number - 1 → core.StandsFor k.config old.core w
     → WentOn Serves true (session_seat k (number - 1)) number next heard b old mid before after p → p.gone ≡ false → p.place.link.session.ended ≡ true → Serves mid (calls.Leave false) answer new
     → PlaceTalked k true (number - 1) next heard w b None new.core before after
 parted k number next heard b old mid new answer w p before after some at stands o there over leaves =
@@ -105,45 +105,45 @@ parted k number next heard b old mid new answer w p before after some at stands 
 
 -- ---- one that may be gone
 
-gone_is : (seat : ℕ) (next : CopyKey) (heard : List Noted) (o : Option Seat) (p : Seat) (b : SeatedSession) → o ≡ Some p → StandsForSomebody seat next heard o (Some b) → b.gone ≡ p.gone
+gone_is : (seat : ℕ) (next : CopyKey) (heard : List Noted) (o : Option SeatedSession) (p : SeatedSession) (b : SeatedVisitor) → o ≡ Some p → StandsForSomebody seat next heard o (Some b) → b.gone ≡ p.gone
 gone_is seat next heard None p b e s = absurd s
-gone_is seat next heard (Some q) p b e s = sym s.gone ∙ (let f : q ≡ p = cc in ap (λ (x : Seat). x.gone) f)
+gone_is seat next heard (Some q) p b e s = sym s.gone ∙ (let f : q ≡ p = cc in ap (λ (x : SeatedSession). x.gone) f)
 
 -- one that talks went on
-pub visited_there : (k : Setup) (whole : Bool) (place : ℕ) (next : CopyKey) (heard : List Noted) (w : World) (b : SeatedSession) (p : Option Seat) (new : Held) (before after : List ℕ) → b.gone ≡ false → PlaceTalked k whole place next heard w b p new before after
+pub visited_there : (k : Setup) (whole : Bool) (place : ℕ) (next : CopyKey) (heard : List Noted) (w : World) (b : SeatedVisitor) (p : Option SeatedSession) (new : DeliveryCore) (before after : List ℕ) → b.gone ≡ false → PlaceTalked k whole place next heard w b p new before after
     → PlaceVisited k whole place next heard w b p new before after
 visited_there k whole place next heard w b p new before after there m = record { left = m.left; moved = m.moved; printed = m.printed; goes = talks there m.goes; there = m.there; core = m.core; out = m.out }
 
 -- one whose client is gone lingered
-pub visited_gone : (k : Setup) (place : ℕ) (next : CopyKey) (heard : List Noted) (w : World) (b : SeatedSession) (p : Option Seat) (c : Held) (text : List ℕ) → b.gone ≡ true → core.StandsFor k.config c w → HasLingered (session_seat k place) next heard b p
+pub visited_gone : (k : Setup) (place : ℕ) (next : CopyKey) (heard : List Noted) (w : World) (b : SeatedVisitor) (p : Option SeatedSession) (c : DeliveryCore) (text : List ℕ) → b.gone ≡ true → core.StandsFor k.config c w → HasLingered (session_seat k place) next heard b p
     → PlaceVisited k true place next heard w b p c text text
 visited_gone k place next heard w b p c text gone stands l = record { left = l.left; moved = w; printed = []; goes = lingers gone l.lingers refl refl; there = l.there; core = stands; out = sym (append-nil text) }
 
 -- ---- serials
 
-same_serial : (a b : SeatedSession) → Some a ≡ Some b → a.serial ≡ b.serial
-same_serial a b e = let x : a ≡ b = cc in ap (λ (v : SeatedSession). v.serial) x
+same_serial : (a b : SeatedVisitor) → Some a ≡ Some b → a.serial ≡ b.serial
+same_serial a b e = let x : a ≡ b = cc in ap (λ (v : SeatedVisitor). v.serial) x
 
-spoken_serial : {S : Type 0} (step : S → calls.Call → Answer → S → Type 0) (whole : Bool) (seat : ℕ) (heard : List Noted) (a : SeatedSession) (old new : S) (after : SeatedSession) (said : List ℕ) → GoesOn step whole seat heard a old new after said → after.serial ≡ a.serial
-spoken_serial step whole seat heard a old new after said (seated.works n w) = ap (λ (v : SeatedSession). v.serial) w.is
-spoken_serial step whole seat heard a old new after said (seated.answers verdict mid first second how next known b w e) = ap (λ (v : SeatedSession). v.serial) w.is
-spoken_serial step whole seat heard a old new after said (seated.waits x n e f) = ap (λ (v : SeatedSession). v.serial) e
-spoken_serial step whole seat heard a old new after said (seated.rests x n e f) = ap (λ (v : SeatedSession). v.serial) e
-spoken_serial step whole seat heard a old new after said (seated.stalls x n e f) = ap (λ (v : SeatedSession). v.serial) e
+spoken_serial : {S : Type 0} (step : S → calls.Call → Answer → S → Type 0) (whole : Bool) (seat : ℕ) (heard : List Noted) (a : SeatedVisitor) (old new : S) (after : SeatedVisitor) (said : List ℕ) → GoesOn step whole seat heard a old new after said → after.serial ≡ a.serial
+spoken_serial step whole seat heard a old new after said (seated.works n w) = ap (λ (v : SeatedVisitor). v.serial) w.is
+spoken_serial step whole seat heard a old new after said (seated.answers verdict mid first second how next known b w e) = ap (λ (v : SeatedVisitor). v.serial) w.is
+spoken_serial step whole seat heard a old new after said (seated.waits x n e f) = ap (λ (v : SeatedVisitor). v.serial) e
+spoken_serial step whole seat heard a old new after said (seated.rests x n e f) = ap (λ (v : SeatedVisitor). v.serial) e
+spoken_serial step whole seat heard a old new after said (seated.stalls x n e f) = ap (λ (v : SeatedVisitor). v.serial) e
 
-pub parts_serial : (k : Setup) (whole : Bool) (place : ℕ) (after : SeatedSession) (w v : World) (o : Option SeatedSession) (b : SeatedSession) → Parts k whole place after w v o → o ≡ Some b → b.serial ≡ after.serial
+pub parts_serial : (k : Setup) (whole : Bool) (place : ℕ) (after : SeatedVisitor) (w v : World) (o : Option SeatedVisitor) (b : SeatedVisitor) → Parts k whole place after w v o → o ≡ Some b → b.serial ≡ after.serial
 parts_serial k whole place after w v o b (parts e u l n) f = absurd (let x : None ≡ Some b = sym n ∙ f in cc)
 parts_serial k whole place after w v o b (remains r e n) f = same_serial b after (sym f ∙ n)
 
-pub talks_serial : (k : Setup) (whole : Bool) (place : ℕ) (heard : List Noted) (w : World) (a : SeatedSession) (v : World) (o : Option SeatedSession) (printed : List ℕ) (b : SeatedSession) → SessionTalks k whole place heard w a v o printed → o ≡ Some b → b.serial ≡ a.serial
+pub talks_serial : (k : Setup) (whole : Bool) (place : ℕ) (heard : List Noted) (w : World) (a : SeatedVisitor) (v : World) (o : Option SeatedVisitor) (printed : List ℕ) (b : SeatedVisitor) → SessionTalks k whole place heard w a v o printed → o ≡ Some b → b.serial ≡ a.serial
 talks_serial k whole place heard w a v o printed b t e =
-    parts_serial k whole place t.after t.mid v o b t.left e ∙ ap (λ (x : SeatedSession). x.serial) t.speaks.is ∙ spoken_serial (Meets k.config place) whole (session_seat k place) heard a w t.mid t.speaks.spoken t.speaks.said t.speaks.goes
+    parts_serial k whole place t.after t.mid v o b t.left e ∙ ap (λ (x : SeatedVisitor). x.serial) t.speaks.is ∙ spoken_serial (Meets k.config place) whole (session_seat k place) heard a w t.mid t.speaks.spoken t.speaks.said t.speaks.goes
 
-pub lingers_serial : (seat : ℕ) (heard : List Noted) (a : SeatedSession) (o : Option SeatedSession) (b : SeatedSession) → Lingers seat heard a o → o ≡ Some b → b.serial ≡ a.serial
+pub lingers_serial : (seat : ℕ) (heard : List Noted) (a : SeatedVisitor) (o : Option SeatedVisitor) (b : SeatedVisitor) → Lingers seat heard a o → o ≡ Some b → b.serial ≡ a.serial
 lingers_serial seat heard a o b (waits x e) f = same_serial b a (sym f ∙ e)
 lingers_serial seat heard a o b (fades x e) f = absurd (let y : None ≡ Some b = sym e ∙ f in cc)
 
-pub goes_serial : (k : Setup) (whole : Bool) (place : ℕ) (heard : List Noted) (w : World) (a : SeatedSession) (v : World) (o : Option SeatedSession) (printed : List ℕ) (b : SeatedSession) → SessionGoes k whole place heard w a v o printed → o ≡ Some b → b.serial ≡ a.serial
+pub goes_serial : (k : Setup) (whole : Bool) (place : ℕ) (heard : List Noted) (w : World) (a : SeatedVisitor) (v : World) (o : Option SeatedVisitor) (printed : List ℕ) (b : SeatedVisitor) → SessionGoes k whole place heard w a v o printed → o ≡ Some b → b.serial ≡ a.serial
 goes_serial k whole place heard w a v o printed b (talks l t) e = talks_serial k whole place heard w a v o printed b t e
 goes_serial k whole place heard w a v o printed b (lingers l t n p) e = lingers_serial (session_seat k place) heard a o b t e
 
@@ -153,8 +153,8 @@ later_session : (next : CopyKey) (seat serial number : ℕ) (sent : Option Sent)
 later_session next seat serial number None slots serials a l = later_connection next seat serial number 0 serials a l
 later_session next seat serial number (Some sent) slots serials a l = later_connection next seat serial sent.append.message (length slots) serials a l
 
-pub who_stays : (seat : ℕ) (next : CopyKey) (heard : List Noted) (serials : ℕ) (l : Option Seat) (o : Option SeatedSession) (p : Seat) (a : SeatedSession) → StandsForSomebody seat next heard l o → StandsForSeated seat next heard p a → a.serial < serials
-    → ((b : SeatedSession) → o ≡ Some b → b.serial ≡ a.serial) → StandsForVisit seat next heard serials l o
+pub who_stays : (seat : ℕ) (next : CopyKey) (heard : List Noted) (serials : ℕ) (l : Option SeatedSession) (o : Option SeatedVisitor) (p : SeatedSession) (a : SeatedVisitor) → StandsForSomebody seat next heard l o → StandsForSeated seat next heard p a → a.serial < serials
+    → ((b : SeatedVisitor) → o ≡ Some b → b.serial ≡ a.serial) → StandsForVisit seat next heard serials l o
 who_stays seat next heard serials None None p a m s lt same = later_session next seat a.serial a.session.standing.mailing.number (sent_by a) p.slots serials s.ahead lt
 who_stays seat next heard serials None (Some b) p a m s lt same = m
 who_stays seat next heard serials (Some g) None p a m s lt same = m
@@ -163,14 +163,14 @@ who_stays seat next heard serials (Some g) (Some b) p a m s lt same = (m, let e 
 -- ---- the whole house
 
 -- the house after one of its sessions went on, with the delivery side and the serials that it has then
-abbrev pub with_visits : State → Held → ℕ → Option Seat → List ℕ → State
+abbrev pub with_visits : House → DeliveryCore → ℕ → Option SeatedSession → List ℕ → House
 with_visits h c place q entered = record { core = c; callers = h.callers; serials = h.serials; visitors = set h.visitors place q; entered = entered; directory = h.directory; host = h.host; max_message = h.max_message }
 
 -- the scene then
-abbrev pub visited_scene : Scene → World → ℕ → Option SeatedSession → (ℕ → ℕ) → Scene
+abbrev pub visited_scene : Scene → World → ℕ → Option SeatedVisitor → (ℕ → ℕ) → Scene
 visited_scene s v place o numbers = record { world = v; caller = s.caller; next = s.next; visitor = set_at s.visitor place o; entered = numbers; shut = s.shut }
 
-pub after_visiting : (k : Setup) (h : State) (c : Held) (entered : List ℕ) (s : Scene) (v : World) (numbers : ℕ → ℕ) (place : ℕ) (y : CopyKey) (l : Option Seat) (o : Option SeatedSession)
+pub after_visiting : (k : Setup) (h : House) (c : DeliveryCore) (entered : List ℕ) (s : Scene) (v : World) (numbers : ℕ → ℕ) (place : ℕ) (y : CopyKey) (l : Option SeatedSession) (o : Option SeatedVisitor)
     → StandsFor k h s → core.StandsFor k.config c v → place < length h.visitors
     → ((q : ℕ) → q ≢ session_seat k place → notes_of c q ≡ notes_of h.core q) → ((q : ℕ) (z : CopyKey) → q ≢ session_seat k place → get_or c.next q z ≡ get_or h.core.next q z)
     → length entered ≡ length h.entered → ((n : ℕ) → get_or entered place n ≡ numbers place) → ((q n : ℕ) → q ≢ place → get_or entered q n ≡ get_or h.entered q n) → ((q : ℕ) → q ≢ place → numbers q ≡ s.entered q)
@@ -201,15 +201,15 @@ after_visiting k h c entered s v numbers place y l o st cs lt notes nexts len he
     in_next : session_seat k place < length c.next
     in_next = let e = cs.nexts in let f = seat_within k h s place st lt in omega (arith, e, f)
 
-    at_place : (z : CopyKey) (n : ℕ) (d : Option Seat) → StandsForPlace k (visited_scene s v place o numbers) place (get_or c.next (session_seat k place) z) (get_or entered place n) (get_or (set h.visitors place l) place d)
+    at_place : (z : CopyKey) (n : ℕ) (d : Option SeatedSession) → StandsForPlace k (visited_scene s v place o numbers) place (get_or c.next (session_seat k place) z) (get_or entered place n) (get_or (set h.visitors place l) place d)
     at_place z n d = record {
       counted = here n;
       who = subst (λ (x : CopyKey). StandsForVisit (session_seat k place) x (v.heard (session_seat k place)) (numbers place) (get_or (set h.visitors place l) place d) (set_at s.visitor place o place)) (get_or-any c.next (session_seat k place) y z in_next)
-          (subst (λ (x : Option Seat). StandsForVisit (session_seat k place) (get_or c.next (session_seat k place) y) (v.heard (session_seat k place)) (numbers place) x (set_at s.visitor place o place)) (sym (get_or-set_same h.visitors place l d lt))
-          (subst (λ (x : Option SeatedSession). StandsForVisit (session_seat k place) (get_or c.next (session_seat k place) y) (v.heard (session_seat k place)) (numbers place) l x) (sym (set_at-same s.visitor place o)) one));
+          (subst (λ (x : Option SeatedSession). StandsForVisit (session_seat k place) (get_or c.next (session_seat k place) y) (v.heard (session_seat k place)) (numbers place) x (set_at s.visitor place o place)) (sym (get_or-set_same h.visitors place l d lt))
+          (subst (λ (x : Option SeatedVisitor). StandsForVisit (session_seat k place) (get_or c.next (session_seat k place) y) (v.heard (session_seat k place)) (numbers place) l x) (sym (set_at-same s.visitor place o)) one));
     }
 
-    elsewhere : (q : ℕ) (z : CopyKey) (n : ℕ) (d : Option Seat) → q < length h.visitors → q ≢ place
+    elsewhere : (q : ℕ) (z : CopyKey) (n : ℕ) (d : Option SeatedSession) → q < length h.visitors → q ≢ place
         → StandsForPlace k (visited_scene s v place o numbers) q (get_or c.next (session_seat k q) z) (get_or entered q n) (get_or (set h.visitors place l) q d)
     elsewhere q z n d m ne =
         let away : session_seat k q ≢ session_seat k place = λ e. ne (omega (arith, e)) in
@@ -218,14 +218,14 @@ after_visiting k h c entered s v numbers place y l o st cs lt notes nexts len he
         (nexts (session_seat k q) z away) (there q n ne) (get_or-set_other h.visitors place q l d ne)
         (sym (heard_is k.config c v cs (session_seat k q) lk) ∙ notes (session_seat k q) away ∙ heard_is k.config h.core s.world st.core (session_seat k q) lk) (at_there s.visitor place o q ne) (other q ne)
 
-    at : (q : ℕ) (z : CopyKey) (n : ℕ) (d : Option Seat) → q < length (set h.visitors place l) → ((eqb q place ≡ true) × (q ≡ place)) ⊎ ((eqb q place ≡ false) × (q ≢ place))
+    at : (q : ℕ) (z : CopyKey) (n : ℕ) (d : Option SeatedSession) → q < length (set h.visitors place l) → ((eqb q place ≡ true) × (q ≡ place)) ⊎ ((eqb q place ≡ false) × (q ≢ place))
         → StandsForPlace k (visited_scene s v place o numbers) q (get_or c.next (session_seat k q) z) (get_or entered q n) (get_or (set h.visitors place l) q d)
     at q z n d m (inl (b, e)) =
         subst (λ (x : ℕ). StandsForPlace k (visited_scene s v place o numbers) x (get_or c.next (session_seat k x) z) (get_or entered x n) (get_or (set h.visitors place l) x d)) (sym e) (at_place z n d)
     at q z n d m (inr (b, ne)) = elsewhere q z n d (let e = length-set h.visitors place l in omega (arith, e, m)) ne
 
 -- the same where nothing was put and nothing was heard
-pub visit_stands : (k : Setup) (h : State) (c : Held) (entered : List ℕ) (s : Scene) (v : World) (numbers : ℕ → ℕ) (place : ℕ) (y : CopyKey) (l : Option Seat) (o : Option SeatedSession)
+pub visit_stands : (k : Setup) (h : House) (c : DeliveryCore) (entered : List ℕ) (s : Scene) (v : World) (numbers : ℕ → ℕ) (place : ℕ) (y : CopyKey) (l : Option SeatedSession) (o : Option SeatedVisitor)
     → StandsFor k h s → core.StandsFor k.config c v → SameDelivery h.core c → place < length h.visitors
     → length entered ≡ length h.entered → ((n : ℕ) → get_or entered place n ≡ numbers place) → ((q n : ℕ) → q ≢ place → get_or entered q n ≡ get_or h.entered q n) → ((q : ℕ) → q ≢ place → numbers q ≡ s.entered q)
     → StandsForVisit (session_seat k place) (get_or h.core.next (session_seat k place) y) (s.world.heard (session_seat k place)) (numbers place) l o
@@ -243,32 +243,32 @@ visit_stands k h c entered s v numbers place y l o st cs rest lt len here there 
 -- ---- who is there
 
 -- a session of the scene, where a seat stands at a place
-pub record IsAtPlace (k : Setup) (s : Scene) (place : ℕ) (next : CopyKey) (p : Seat) : Type 0 where
-  pub visitor : SeatedSession
+pub record IsAtPlace (k : Setup) (s : Scene) (place : ℕ) (next : CopyKey) (p : SeatedSession) : Type 0 where
+  pub visitor : SeatedVisitor
   pub here : s.visitor place ≡ Some visitor
   pub stands : StandsForSeated (session_seat k place) next (s.world.heard (session_seat k place)) p visitor
   pub serial : visitor.serial < s.entered place
 
-is_at : (k : Setup) (s : Scene) (place : ℕ) (next : CopyKey) (p : Seat) (o : Option SeatedSession) → s.visitor place ≡ o → StandsForVisit (session_seat k place) next (s.world.heard (session_seat k place)) (s.entered place) (Some p) o → IsAtPlace k s place next p
+is_at : (k : Setup) (s : Scene) (place : ℕ) (next : CopyKey) (p : SeatedSession) (o : Option SeatedVisitor) → s.visitor place ≡ o → StandsForVisit (session_seat k place) next (s.world.heard (session_seat k place)) (s.entered place) (Some p) o → IsAtPlace k s place next p
 is_at k s place next p None e w = absurd w
 is_at k s place next p (Some b) e w = record { visitor = b; here = e; stands = w.0; serial = w.1 }
 
-pub at_place : (k : Setup) (h : State) (s : Scene) (place : ℕ) (y : CopyKey) (p : Seat) → StandsFor k h s → place < length h.visitors → get_or h.visitors place None ≡ Some p → IsAtPlace k s place (get_or h.core.next (session_seat k place) y) p
+pub at_place : (k : Setup) (h : House) (s : Scene) (place : ℕ) (y : CopyKey) (p : SeatedSession) → StandsFor k h s → place < length h.visitors → get_or h.visitors place None ≡ Some p → IsAtPlace k s place (get_or h.core.next (session_seat k place) y) p
 at_place k h s place y p st lt e =
     let w = (st.visitors place y 0 None lt).who in
     is_at k s place (get_or h.core.next (session_seat k place) y) p (s.visitor place) refl
-    (subst (λ (x : Option Seat). StandsForVisit (session_seat k place) (get_or h.core.next (session_seat k place) y) (s.world.heard (session_seat k place)) (s.entered place) x (s.visitor place)) e w)
+    (subst (λ (x : Option SeatedSession). StandsForVisit (session_seat k place) (get_or h.core.next (session_seat k place) y) (s.world.heard (session_seat k place)) (s.entered place) x (s.visitor place)) e w)
 
-pub some_seat : (o : Option Seat) → is_some o ≡ true → (p : Seat) × (o ≡ Some p)
+pub some_seat : (o : Option SeatedSession) → is_some o ≡ true → (p : SeatedSession) × (o ≡ Some p)
 some_seat None e = absurd (let f : false ≡ true = e in cc)
 some_seat (Some p) e = (p, refl)
 
-pub no_seat : (o : Option Seat) → is_some o ≡ false → o ≡ None
+pub no_seat : (o : Option SeatedSession) → is_some o ≡ false → o ≡ None
 no_seat None e = refl
 no_seat (Some p) e = absurd (let f : true ≡ false = e in cc)
 
 -- there is such a session, where the test says so
-pub has_place : (h : State) (session : ℕ) (b : Bool) → (IsTrue b) ↔ IsNoPlace h session → b ≡ false → (0 < session) × (session ≤ length h.visitors)
+pub has_place : (h : House) (session : ℕ) (b : Bool) → (IsTrue b) ↔ IsNoPlace h session → b ≡ false → (0 < session) × (session ≤ length h.visitors)
 has_place h zero b iff e = absurd (let t : b ≡ true = iff.1 (inl refl) in cc)
 has_place h (suc n) b iff e = elim (cases_lt (length h.visitors) (suc n)) [
   | inl l ↦ absurd (let t : b ≡ true = iff.1 (inr l) in cc)

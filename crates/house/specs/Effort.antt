@@ -2,37 +2,37 @@
 -- that seats have not put yet among it.
 use Rattle.std.specs.Prelude.{◌≡◌, ℕ, ◌+◌, ◌-◌, ◌<◌, Option, Some, None, slice_index_or, sum_by}
 use Rattle.delivery_core.specs.Changes.{Ends}
-use Rattle.delivery_core.specs.Held.{behind}
+use Rattle.delivery_core.specs.DeliveryCore.{behind}
 use Rattle.delivery_core.specs.Load.{load}
 use Rattle.house.specs.declared.event.Event.{Event}
 use Rattle.house.specs.declared.event.Event.TheVariants.{Bytes, Vanish, Put, Take, Deliver, Answer, Hear, End, Close, Enter, Say, Idle, Leave}
-use Rattle.house_connection.specs.Line.{Line}
-use Rattle.house.specs.State.{State}
+use Rattle.house_connection.specs.HouseConnection.{HouseConnection}
+use Rattle.house.specs.House.{House}
 use Rattle.house_connection.specs.Taking.{line_effort}
 use Rattle.house.specs.Scene.{place_of}
-use Rattle.house_session.specs.Seat.{Seat, seat_effort}
+use Rattle.house_session.specs.SeatedSession.{SeatedSession, seat_effort}
 
-abbrev pub place_effort : Option Line → ℕ
+abbrev pub place_effort : Option HouseConnection → ℕ
 place_effort None = 0
 place_effort (Some h) = line_effort h
 
-abbrev pub visit_effort : Option Seat → ℕ
+abbrev pub visit_effort : Option SeatedSession → ℕ
 visit_effort None = 0
 visit_effort (Some p) = seat_effort p
 
-abbrev pub effort : State → ℕ
+abbrev pub effort : House → ℕ
 effort h = sum_by place_effort h.callers + (sum_by visit_effort h.visitors + load h.core)
 
 -- the same of a session's turns while it idles: it may end, and so many changes it is behind its mailbox's log
-abbrev pub turns_left : Option Seat → ℕ → ℕ
+abbrev pub turns_left : Option SeatedSession → ℕ → ℕ
 turns_left None behind = 0
 turns_left (Some p) behind = 1 + behind
 
-abbrev pub idle_effort : ℕ → State → ℕ
+abbrev pub idle_effort : ℕ → House → ℕ
 idle_effort place h = turns_left (slice_index_or h.visitors place None) (behind h.core place)
 
 -- what the house does by itself makes it less; and an end that was put stands in its lane, where it stood not
-abbrev pub MakesLess : Event → State → State → Type 0
+abbrev pub MakesLess : Event → House → House → Type 0
 MakesLess (Bytes connection piece) old new = Unit {0}
 MakesLess (Vanish connection) old new = Unit {0}
 MakesLess (End number shard) old new = Ends old.core new.core (number - 1) shard × (effort new < effort old)

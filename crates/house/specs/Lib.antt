@@ -1,6 +1,6 @@
 pub mod Setup
 pub mod Printing
-pub mod State
+pub mod House
 pub mod Scene
 pub mod Settings
 pub mod Stands

@@ -6,9 +6,9 @@ use Rattle.lmtp_machine.specs.declared.connection.What.{What}
 use Rattle.lmtp_machine.specs.declared.connection.What.TheVariants.{Quit}
 use Rattle.imap_session.specs.Exchange.{Call, Answer}
 use Rattle.imap_session.specs.Store.{IdleTurns}
-use Rattle.house_connection.specs.HouseConnection.{HouseConnection, Proceeds, Terms, with_unsaid}
-use Rattle.house_session.specs.HouseSession.{HasAnswered, HouseSession}
-use Rattle.house_session.specs.Seated.{GoesOn, SeatedSession}
+use Rattle.house_connection.specs.Caller.{Caller, Proceeds, Terms, with_unsaid}
+use Rattle.house_session.specs.Visitor.{HasAnswered, Visitor}
+use Rattle.house_session.specs.SeatedVisitor.{GoesOn, SeatedVisitor}
 
 -- an L marks what connections say, an I what sessions say
 abbrev pub of_connection : ℕ
@@ -34,14 +34,14 @@ pub data Prints (mark n : ℕ) (unsaid still printed : List ℕ) : Type 0 where
 
 -- Who stands at the seat after a turn: one whose dialogue ended and who has said all is gone, and what waited is dropped. One whose peer is gone
 -- stays for its verdicts alone, and another that has ended stays only where memory was wanting.
-pub data Leaves (whole : Bool) (what : What) (after : HouseConnection) (o : Option HouseConnection) : Type 0 where
+pub data Leaves (whole : Bool) (what : What) (after : Caller) (o : Option Caller) : Type 0 where
   goes : what ≡ Quit → after.talk.unsaid ≡ [] → o ≡ None → Leaves whole what after o
   stays : (what ≡ Quit → whole ≡ true → ⊥) → (what ≡ Quit → after.gone ≡ true → ⊥) → o ≡ Some after → Leaves whole what after o
 
 -- The connection at a seat does what it can now, and what it says is printed. `whole` says that memory wasn't wanting.
-pub record ConnectionGoes (k : Terms) (whole : Bool) (seat : ℕ) (heard : List Noted) (b : HouseConnection) (o : Option HouseConnection) (printed : List ℕ) : Type 0 where
+pub record ConnectionGoes (k : Terms) (whole : Bool) (seat : ℕ) (heard : List Noted) (b : Caller) (o : Option Caller) (printed : List ℕ) : Type 0 where
   pub what : What
-  pub after : HouseConnection
+  pub after : Caller
   pub proceeds : Proceeds k whole seat heard b what after
   pub still : List ℕ
   pub prints : Prints of_connection (seat + 1) after.talk.unsaid still printed
@@ -51,16 +51,16 @@ pub record ConnectionGoes (k : Terms) (whole : Bool) (seat : ℕ) (heard : List 
 -- ---- sessions
 
 -- its session stands so
-abbrev pub with_session : HouseSession → SeatedSession → SeatedSession
+abbrev pub with_session : Visitor → SeatedVisitor → SeatedVisitor
 with_session session v = record { session = session; serial = v.serial; gone = v.gone; to_put = v.to_put }
 
 -- so much of what it said is still to be printed
-abbrev pub still_unsaid : List ℕ → SeatedSession → SeatedSession
+abbrev pub still_unsaid : List ℕ → SeatedVisitor → SeatedVisitor
 still_unsaid unsaid v = with_session (record { standing = v.session.standing; waits = v.session.waits; unsaid = unsaid }) v
 
 -- The session at a seat, whose client is there, went on over a store as far as it could, by what its seat has heard, and this was printed.
-pub record Speaks {S : Type 0} (step : S → Call → Answer → S → Type 0) (whole : Bool) (seat n : ℕ) (heard : List Noted) (before : SeatedSession) (old new : S) (after : SeatedSession) (printed : List ℕ) : Type 0 where
-  pub spoken : SeatedSession
+pub record Speaks {S : Type 0} (step : S → Call → Answer → S → Type 0) (whole : Bool) (seat n : ℕ) (heard : List Noted) (before : SeatedVisitor) (old new : S) (after : SeatedVisitor) (printed : List ℕ) : Type 0 where
+  pub spoken : SeatedVisitor
   pub said : List ℕ
   pub goes : GoesOn step whole seat heard before old new spoken said
   pub still : List ℕ
@@ -68,13 +68,13 @@ pub record Speaks {S : Type 0} (step : S → Call → Answer → S → Type 0) (
   pub is : after ≡ still_unsaid still spoken
 
 -- its session had a turn while it idles, which showed so many changes, and this was printed
-pub record Idles {S : Type 0} (step : S → Call → Answer → S → Type 0) (n : ℕ) (before : HouseSession) (old new : S) (after : HouseSession) (count : ℕ) (printed : List ℕ) : Type 0 where
+pub record Idles {S : Type 0} (step : S → Call → Answer → S → Type 0) (n : ℕ) (before : Visitor) (old new : S) (after : Visitor) (count : ℕ) (printed : List ℕ) : Type 0 where
   pub said : List ℕ
   pub turned : IdleTurns step before.standing old new [] said count after.standing
   pub waits : after.waits ≡ before.waits
   pub prints : Prints of_session n (before.unsaid ++ said) after.unsaid printed
 
 -- all that was said is printed, and nothing waits that may be answered
-pub record IsWhole (v : HouseSession) : Type 0 where
+pub record IsWhole (v : Visitor) : Type 0 where
   pub said : v.unsaid ≡ []
   pub answered : HasAnswered v

@@ -8,12 +8,12 @@ use Rattle.world.specs.World.{World, Step}
 use Rattle.imap_session.specs.Exchange as calls
 use Rattle.imap_session.specs.Exchange.{is_idling}
 use Rattle.session_store.specs.Meets.{Meets}
-use Rattle.house_connection.specs.HouseConnection.{HouseConnection, greeted, more_waits, unread}
+use Rattle.house_connection.specs.Caller.{Caller, greeted, more_waits, unread}
 use Rattle.house_session.specs.Folders.{folders_of, has_user}
-use Rattle.house_session.specs.HouseSession.{HouseSession}
-use Rattle.house_session.specs.Seated.{Awaits, IsSettled, SeatedSession, seated_greeted}
-use Rattle.house_session.specs.Seated.{unread as unread_session}
-use Rattle.house_session.specs.HouseSession.{more_waits as session_more_waits}
+use Rattle.house_session.specs.Visitor.{Visitor}
+use Rattle.house_session.specs.SeatedVisitor.{Awaits, IsSettled, SeatedVisitor, seated_greeted}
+use Rattle.house_session.specs.SeatedVisitor.{unread as unread_session}
+use Rattle.house_session.specs.Visitor.{more_waits as session_more_waits}
 use Rattle.house.specs.Printing.{ConnectionGoes, Idles, IsWhole, Speaks, with_session}
 use Rattle.house.specs.Setup.{Setup, session_seat, terms_of}
 use Rattle.house.specs.declared.event.Event.{Event}
@@ -23,9 +23,9 @@ use Rattle.house.specs.declared.event.Event.TheVariants.{Bytes, Vanish, Put, Tak
 -- the next one there; and of each shard whether it is shut: no new mail is taken for its mailboxes.
 pub record Scene : Type 0 where
   pub world : World
-  pub caller : ℕ → Option HouseConnection
+  pub caller : ℕ → Option Caller
   pub next : ℕ → ℕ
-  pub visitor : ℕ → Option SeatedSession
+  pub visitor : ℕ → Option SeatedVisitor
   pub entered : ℕ → ℕ
   pub shut : List Bool
 
@@ -45,14 +45,14 @@ abbrev pub most_serials : ℕ
 most_serials = 2 ^ 64 - 1
 
 -- at this seat now stands this caller, or nobody
-abbrev pub with_caller : Scene → ℕ → Option HouseConnection → Scene
+abbrev pub with_caller : Scene → ℕ → Option Caller → Scene
 with_caller s seat o = record s { caller = set_at s.caller seat o }
 
 abbrev pub with_world : Scene → World → Scene
 with_world s w = record s { world = w }
 
 -- at this place now stands this session, or nobody
-abbrev pub with_visitor : Scene → ℕ → Option SeatedSession → Scene
+abbrev pub with_visitor : Scene → ℕ → Option SeatedVisitor → Scene
 with_visitor s place o = record s { visitor = set_at s.visitor place o }
 
 -- whether a shard is shut; one that isn't there is not
@@ -68,41 +68,41 @@ with_shut s shard = record s { shut = slice_set s.shut shard true }
 -- bytes came from the peer of a connection
 pub data BytesPlay (k : Setup) (whole : Bool) (s : Scene) (seat : ℕ) (piece : List ℕ) (t : Scene) (printed : List ℕ) : Type 0 where
   -- nobody stands there: a connection is opened first, with the seat's next serial
-  opens : seat < k.connections → s.caller seat ≡ None → s.next seat < most_serials → (o : Option HouseConnection)
+  opens : seat < k.connections → s.caller seat ≡ None → s.next seat < most_serials → (o : Option Caller)
       → ConnectionGoes (terms_of k s.shut) whole seat (s.world.heard seat) (more_waits (greeted (terms_of k s.shut) seat (s.next seat)) piece) o printed
       → t ≡ record s { caller = set_at s.caller seat o; next = set_at s.next seat (s.next seat + 1) } → BytesPlay k whole s seat piece t printed
-  goes_on : (b : HouseConnection) → s.caller seat ≡ Some b → b.gone ≡ false → (o : Option HouseConnection)
+  goes_on : (b : Caller) → s.caller seat ≡ Some b → b.gone ≡ false → (o : Option Caller)
       → ConnectionGoes (terms_of k s.shut) whole seat (s.world.heard seat) (more_waits b piece) o printed → t ≡ with_caller s seat o → BytesPlay k whole s seat piece t printed
 
 -- the next copy of the message at hand is put
 pub record ConnectionPuts (k : Setup) (whole : Bool) (s : Scene) (seat : ℕ) (t : Scene) (printed : List ℕ) : Type 0 where
-  pub caller : HouseConnection
+  pub caller : Caller
   pub there : s.caller seat ≡ Some caller
   pub copy : Job
   pub others : List Job
   pub front : caller.to_put ≡ copy ∷ others
   pub moved : World
   pub step : Step k.config s.world (world.Put seat (world.shard_of k.config copy.mailbox) copy) moved
-  pub left : Option HouseConnection
+  pub left : Option Caller
   pub goes : ConnectionGoes (terms_of k s.shut) whole seat (moved.heard seat) (record { serial = caller.serial; gone = caller.gone; talk = caller.talk; to_put = others }) left printed
   pub after : t ≡ with_caller (with_world s moved) seat left
 
 -- its seat hears a verdict
 pub record ConnectionHears (k : Setup) (whole : Bool) (s : Scene) (seat : ℕ) (t : Scene) (printed : List ℕ) : Type 0 where
-  pub caller : HouseConnection
+  pub caller : Caller
   pub there : s.caller seat ≡ Some caller
   pub moved : World
   pub step : Step k.config s.world (world.Hear seat) moved
-  pub left : Option HouseConnection
+  pub left : Option Caller
   pub goes : ConnectionGoes (terms_of k s.shut) whole seat (moved.heard seat) caller left printed
   pub after : t ≡ with_caller (with_world s moved) seat left
 
 -- the peer of a connection is gone
 pub record VanishPlay (k : Setup) (whole : Bool) (s : Scene) (seat : ℕ) (t : Scene) (printed : List ℕ) : Type 0 where
-  pub caller : HouseConnection
+  pub caller : Caller
   pub there : s.caller seat ≡ Some caller
   pub was_read : caller.gone ≡ false
-  pub left : Option HouseConnection
+  pub left : Option Caller
   pub goes : ConnectionGoes (terms_of k s.shut) whole seat (s.world.heard seat) (unread caller) left printed
   pub after : t ≡ with_caller s seat left
 
@@ -113,34 +113,34 @@ abbrev pub LeavesMailbox : Setup → (place : ℕ) → World → World → Type 
 LeavesMailbox k place w v = (answer : calls.Answer) × Meets k.config place w (calls.Leave false) answer v
 
 -- who is at the place after a turn: one whose session has ended and who has said all is gone, and what waited is dropped
-pub data Parts (k : Setup) (whole : Bool) (place : ℕ) (after : SeatedSession) (w v : World) (o : Option SeatedSession) : Type 0 where
+pub data Parts (k : Setup) (whole : Bool) (place : ℕ) (after : SeatedVisitor) (w v : World) (o : Option SeatedVisitor) : Type 0 where
   parts : after.session.standing.ended ≡ true → after.session.unsaid ≡ [] → LeavesMailbox k place w v → o ≡ None → Parts k whole place after w v o
   remains : (whole ≡ true → after.session.standing.ended ≡ true → ⊥) → v ≡ w → o ≡ Some after → Parts k whole place after w v o
 
 -- The session at a place, whose client is there, does what it can now, by the mailboxes of the world and by what its seat has heard, and this is printed.
 -- `whole` says that memory wasn't wanting.
-pub record SessionTalks (k : Setup) (whole : Bool) (place : ℕ) (heard : List Noted) (w : World) (before : SeatedSession) (v : World) (o : Option SeatedSession) (printed : List ℕ) : Type 0 where
-  pub after : SeatedSession
+pub record SessionTalks (k : Setup) (whole : Bool) (place : ℕ) (heard : List Noted) (w : World) (before : SeatedVisitor) (v : World) (o : Option SeatedVisitor) (printed : List ℕ) : Type 0 where
+  pub after : SeatedVisitor
   pub mid : World
   pub speaks : Speaks (Meets k.config place) whole (session_seat k place) (place + 1) heard before w mid after printed
   pub all : whole ≡ true → IsWhole after.session
   pub left : Parts k whole place after mid v o
 
 -- One whose client is gone says nothing: it stays for the verdict that it awaits, and is gone as soon as its seat has heard that.
-pub data Lingers (seat : ℕ) (heard : List Noted) (v : SeatedSession) (o : Option SeatedSession) : Type 0 where
+pub data Lingers (seat : ℕ) (heard : List Noted) (v : SeatedVisitor) (o : Option SeatedVisitor) : Type 0 where
   waits : Awaits seat heard v → o ≡ Some v → Lingers seat heard v o
   fades : IsSettled seat heard v → o ≡ None → Lingers seat heard v o
 
 -- the session at a place does what it can now, whether its client is there or not
-pub data SessionGoes (k : Setup) (whole : Bool) (place : ℕ) (heard : List Noted) (w : World) (before : SeatedSession) (v : World) (o : Option SeatedSession) (printed : List ℕ) : Type 0 where
+pub data SessionGoes (k : Setup) (whole : Bool) (place : ℕ) (heard : List Noted) (w : World) (before : SeatedVisitor) (v : World) (o : Option SeatedVisitor) (printed : List ℕ) : Type 0 where
   talks : before.gone ≡ false → SessionTalks k whole place heard w before v o printed → SessionGoes k whole place heard w before v o printed
   lingers : before.gone ≡ true → Lingers (session_seat k place) heard before o → v ≡ w → printed ≡ [] → SessionGoes k whole place heard w before v o printed
 
 -- The session at a place idles and has a turn, by the mailboxes of the world: it is shown one change at least, or it ends. This is printed.
-pub record SessionIdles (k : Setup) (whole : Bool) (place : ℕ) (w : World) (before : SeatedSession) (v : World) (o : Option SeatedSession) (printed : List ℕ) : Type 0 where
+pub record SessionIdles (k : Setup) (whole : Bool) (place : ℕ) (w : World) (before : SeatedVisitor) (v : World) (o : Option SeatedVisitor) (printed : List ℕ) : Type 0 where
   pub is_read : before.gone ≡ false
   pub idling : is_idling before.session.standing ≡ true
-  pub after : HouseSession
+  pub after : Visitor
   pub mid : World
   pub shown : ℕ
   pub idles : Idles (Meets k.config place) (place + 1) before.session w mid after shown printed
@@ -155,45 +155,45 @@ pub record EnterPlay (k : Setup) (whole : Bool) (s : Scene) (place : ℕ) (user 
   pub known : has_user k.directory user ≡ true
   pub more : s.entered place < most_serials
   pub moved : World
-  pub left : Option SeatedSession
+  pub left : Option SeatedVisitor
   pub goes : SessionTalks k whole place (s.world.heard (session_seat k place)) s.world (seated_greeted (s.entered place) (Some k.max_message) (folders_of k.directory user)) moved left printed
   pub after : t ≡ record s { world = moved; visitor = set_at s.visitor place left; entered = set_at s.entered place (s.entered place + 1) }
 
 -- bytes came from a session's client: where it awaits a verdict they only wait
 pub record SayPlay (k : Setup) (whole : Bool) (s : Scene) (place : ℕ) (piece : List ℕ) (t : Scene) (printed : List ℕ) : Type 0 where
-  pub visitor : SeatedSession
+  pub visitor : SeatedVisitor
   pub there : s.visitor place ≡ Some visitor
   pub is_read : visitor.gone ≡ false
   pub moved : World
-  pub left : Option SeatedSession
+  pub left : Option SeatedVisitor
   pub goes : SessionTalks k whole place (s.world.heard (session_seat k place)) s.world (with_session (session_more_waits visitor.session piece) visitor) moved left printed
   pub after : t ≡ with_visitor (with_world s moved) place left
 
 -- A session that idles is shown what is pending. Where nothing is, there is no such play.
 pub record IdlePlay (k : Setup) (whole : Bool) (s : Scene) (place : ℕ) (t : Scene) (printed : List ℕ) : Type 0 where
-  pub visitor : SeatedSession
+  pub visitor : SeatedVisitor
   pub there : s.visitor place ≡ Some visitor
   pub moved : World
-  pub left : Option SeatedSession
+  pub left : Option SeatedVisitor
   pub goes : SessionIdles k whole place s.world visitor moved left printed
   pub after : t ≡ with_visitor (with_world s moved) place left
 
 -- A session's client is gone: what waited and what was still to be printed is dropped, and the session leaves its mailbox at once. Where it awaits a verdict,
 -- its seat stays taken till that is heard.
 pub record LeavePlay (k : Setup) (s : Scene) (place : ℕ) (t : Scene) (printed : List ℕ) : Type 0 where
-  pub visitor : SeatedSession
+  pub visitor : SeatedVisitor
   pub there : s.visitor place ≡ Some visitor
   pub was_read : visitor.gone ≡ false
   pub moved : World
   pub leaves : LeavesMailbox k place s.world moved
-  pub left : Option SeatedSession
+  pub left : Option SeatedVisitor
   pub stays : Lingers (session_seat k place) (s.world.heard (session_seat k place)) (unread_session visitor) left
   pub after : t ≡ with_visitor (with_world s moved) place left
   pub silent : printed ≡ []
 
 -- the copy of the message that it submitted is put
 pub record SessionPuts (k : Setup) (whole : Bool) (s : Scene) (place : ℕ) (t : Scene) (printed : List ℕ) : Type 0 where
-  pub visitor : SeatedSession
+  pub visitor : SeatedVisitor
   pub there : s.visitor place ≡ Some visitor
   pub copy : Job
   pub others : List Job
@@ -201,18 +201,18 @@ pub record SessionPuts (k : Setup) (whole : Bool) (s : Scene) (place : ℕ) (t :
   pub moved : World
   pub step : Step k.config s.world (world.Put (session_seat k place) (world.shard_of k.config copy.mailbox) copy) moved
   pub later : World
-  pub left : Option SeatedSession
+  pub left : Option SeatedVisitor
   pub goes : SessionGoes k whole place (moved.heard (session_seat k place)) moved (record { session = visitor.session; serial = visitor.serial; gone = visitor.gone; to_put = others }) later left printed
   pub after : t ≡ with_visitor (with_world s later) place left
 
 -- its seat hears a verdict
 pub record SessionHears (k : Setup) (whole : Bool) (s : Scene) (place : ℕ) (t : Scene) (printed : List ℕ) : Type 0 where
-  pub visitor : SeatedSession
+  pub visitor : SeatedVisitor
   pub there : s.visitor place ≡ Some visitor
   pub moved : World
   pub step : Step k.config s.world (world.Hear (session_seat k place)) moved
   pub later : World
-  pub left : Option SeatedSession
+  pub left : Option SeatedVisitor
   pub goes : SessionGoes k whole place (moved.heard (session_seat k place)) moved visitor later left printed
   pub after : t ≡ with_visitor (with_world s later) place left
 

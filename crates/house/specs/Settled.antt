@@ -1,7 +1,7 @@
 -- What settling promises: for each scene for which the house stood, a scene in which it has settled.
 use Rattle.std.specs.Prelude.{◌≡◌, ℕ, ◌++◌, Bool, List, slice_index_or, false}
 use Rattle.house.specs.declared.event.Event.{Event}
-use Rattle.house.specs.State.{State}
+use Rattle.house.specs.House.{House}
 use Rattle.house.specs.Setup.{Setup}
 use Rattle.house.specs.Scene.{Scene}
 use Rattle.house.specs.Settling.{Happened, Settles}
@@ -11,7 +11,7 @@ use Rattle.house.specs.Stands.{StandsFor}
 abbrev pub is_held : List Bool → ℕ → Bool
 is_held held shard = slice_index_or held shard false
 
-pub record SettledFrom (k : Setup) (held : List Bool) (s : Scene) (h : State) (old new : List ℕ) : Type 0 where
+pub record SettledFrom (k : Setup) (held : List Bool) (s : Scene) (h : House) (old new : List ℕ) : Type 0 where
   pub after : Scene
   pub printed : List ℕ
   pub settles : Settles k (is_held held) s after printed
@@ -19,7 +19,7 @@ pub record SettledFrom (k : Setup) (held : List Bool) (s : Scene) (h : State) (o
   pub out : new ≡ old ++ printed
 
 -- memory was wanting on the way
-pub record HappenedFrom (k : Setup) (s : Scene) (h : State) (old new : List ℕ) : Type 0 where
+pub record HappenedFrom (k : Setup) (s : Scene) (h : House) (old new : List ℕ) : Type 0 where
   pub events : List Event
   pub after : Scene
   pub printed : List ℕ

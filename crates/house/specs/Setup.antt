@@ -2,7 +2,7 @@
 use Rattle.std.specs.Prelude.{ℕ, ◌+◌, Bool, List}
 use Rattle.envelope.specs.Directory.{Directory, marked}
 use Rattle.world.specs.World.{Config}
-use Rattle.house_connection.specs.HouseConnection.{Terms}
+use Rattle.house_connection.specs.Caller.{Terms}
 
 -- The seats of connections come first, and behind them those of sessions. The directory is as it was at the start: no shard is shut there.
 pub record Setup : Type 0 where

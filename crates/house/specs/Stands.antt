@@ -4,44 +4,44 @@ use Rattle.delivery_token.specs.declared.CopyKey.{CopyKey}
 use Rattle.delivery_token.specs.declared.log.Noted.{Noted}
 use Rattle.delivery_token.specs.Keys.{AtLeast}
 use Rattle.delivery_core.specs.Stands as core
-use Rattle.house_connection.specs.Line.{Line}
-use Rattle.house.specs.State.{State}
+use Rattle.house_connection.specs.HouseConnection.{HouseConnection}
+use Rattle.house.specs.House.{House}
 use Rattle.envelope.specs.Directory.{marked}
-use Rattle.house_connection.specs.HouseConnection.{HouseConnection, Terms}
+use Rattle.house_connection.specs.Caller.{Caller, Terms}
 use Rattle.house.specs.Setup.{Setup, session_seat, terms_of}
 use Rattle.house.specs.Scene.{Scene}
 use Rattle.house_connection.specs.ConnectionStands.{StandsForConnection}
-use Rattle.house_session.specs.Seated.{SeatedSession}
-use Rattle.house_session.specs.Seat.{Seat, StandsForSeated}
+use Rattle.house_session.specs.SeatedVisitor.{SeatedVisitor}
+use Rattle.house_session.specs.SeatedSession.{SeatedSession, StandsForSeated}
 
 -- the first key of the connection or session that comes to a seat with this serial
 abbrev pub first_of : (seat serial : ℕ) → CopyKey
 first_of seat serial = record { seat = seat; serial = serial; message = 0; recipient = 0 }
 
 -- which connection stands at a seat
-abbrev pub StandsForOne : Terms → ℕ → CopyKey → List Noted → ℕ → Option Line → Option HouseConnection → Type 0
+abbrev pub StandsForOne : Terms → ℕ → CopyKey → List Noted → ℕ → Option HouseConnection → Option Caller → Type 0
 StandsForOne k seat next heard serials None None = AtLeast next (first_of seat serials)
 StandsForOne k seat next heard serials None (Some b) = ⊥
 StandsForOne k seat next heard serials (Some h) None = ⊥
 StandsForOne k seat next heard serials (Some h) (Some b) = StandsForConnection k seat next heard h b × (b.serial < serials)
 
 -- which session is at a seat
-abbrev pub StandsForVisit : (seat : ℕ) → CopyKey → List Noted → ℕ → Option Seat → Option SeatedSession → Type 0
+abbrev pub StandsForVisit : (seat : ℕ) → CopyKey → List Noted → ℕ → Option SeatedSession → Option SeatedVisitor → Type 0
 StandsForVisit seat next heard serials None None = AtLeast next (first_of seat serials)
 StandsForVisit seat next heard serials None (Some v) = ⊥
 StandsForVisit seat next heard serials (Some p) None = ⊥
 StandsForVisit seat next heard serials (Some p) (Some v) = StandsForSeated seat next heard p v × (v.serial < serials)
 
-pub record StandsForSeat (k : Setup) (s : Scene) (seat : ℕ) (next : CopyKey) (serials : ℕ) (line : Option Line) : Type 0 where
+pub record StandsForSeat (k : Setup) (s : Scene) (seat : ℕ) (next : CopyKey) (serials : ℕ) (line : Option HouseConnection) : Type 0 where
   pub counted : serials ≡ s.next seat
   pub who : StandsForOne (terms_of k s.shut) seat next (s.world.heard seat) (s.next seat) line (s.caller seat)
 
-pub record StandsForPlace (k : Setup) (s : Scene) (place : ℕ) (next : CopyKey) (serials : ℕ) (visitor : Option Seat) : Type 0 where
+pub record StandsForPlace (k : Setup) (s : Scene) (place : ℕ) (next : CopyKey) (serials : ℕ) (visitor : Option SeatedSession) : Type 0 where
   pub counted : serials ≡ s.entered place
   pub who : StandsForVisit (session_seat k place) next (s.world.heard (session_seat k place)) (s.entered place) visitor (s.visitor place)
 
 -- the house stands for a scene
-pub record StandsFor (k : Setup) (h : State) (s : Scene) : Type 0 where
+pub record StandsFor (k : Setup) (h : House) (s : Scene) : Type 0 where
   pub core : core.StandsFor k.config h.core s.world
   pub directory : h.directory ≡ marked s.shut k.directory
   pub marks : length s.shut ≡ k.config.shards
@@ -54,10 +54,10 @@ pub record StandsFor (k : Setup) (h : State) (s : Scene) : Type 0 where
   pub seats : length h.callers + length h.visitors ≡ k.config.seats
   pub connections : length h.callers ≡ k.connections
   pub numbers : length h.serials ≡ k.connections
-  pub each : (seat : ℕ) (y : CopyKey) (n : ℕ) (d : Option Line) → seat < length h.callers
+  pub each : (seat : ℕ) (y : CopyKey) (n : ℕ) (d : Option HouseConnection) → seat < length h.callers
       → StandsForSeat k s seat (slice_index_or h.core.next seat y) (slice_index_or h.serials seat n) (slice_index_or h.callers seat d)
   -- each session is at its place
   pub places : length h.visitors ≡ k.config.sessions
   pub entries : length h.entered ≡ k.config.sessions
-  pub visitors : (place : ℕ) (y : CopyKey) (n : ℕ) (d : Option Seat) → place < length h.visitors
+  pub visitors : (place : ℕ) (y : CopyKey) (n : ℕ) (d : Option SeatedSession) → place < length h.visitors
       → StandsForPlace k s place (slice_index_or h.core.next (session_seat k place) y) (slice_index_or h.entered place n) (slice_index_or h.visitors place d)

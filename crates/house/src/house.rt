@@ -3,16 +3,16 @@
 
 ghost use Rattle.std.specs.Prelude.{true, false, IsTrue, ◌≡◌, ◌≢◌, ◌≤◌, ◌<◌, ◌+◌, ◌⊎◌, ◌↔◌, ℕ, List, [], length, None, Some, Err, OnOk, OnErr, IfOk, IfErr, IfNone, IfSome, IsSome, IsSomeAnd, MatchOption, option_map};
 ghost use Rattle.delivery_token.specs.Keys.{AtLeast};
-ghost use Rattle.house_connection.specs.Line.{Line};
+ghost use Rattle.house_connection.specs.HouseConnection.{HouseConnection};
 ghost use Rattle.house_connection.specs.Taking.{HearsVerdict, due, noted_put, with_more, with_nobody_there};
 ghost use Rattle.submission.specs.inner.Verdicts.{heard_verdict};
 ghost use Rattle.delivery_token.specs.declared.CopyKey.{CopyKey};
 ghost use Rattle.delivery_token.specs.declared.log.Noted.{Noted};
 ghost use Rattle.house_connection.specs.ConnectionStands.{StandsForConnection};
 ghost use Rattle.house.specs.inner.Steps.{IsOf};
-ghost use Rattle.house_connection.specs.HouseConnection as spec;
+ghost use Rattle.house_connection.specs.Caller as spec;
 ghost use Rattle.house.specs.Scene as scene;
-ghost use Rattle.house_connection.specs.HouseConnection.{Terms, greeted, more_waits};
+ghost use Rattle.house_connection.specs.Caller.{Terms, greeted, more_waits};
 ghost use Rattle.house.specs.Setup.{Setup};
 ghost use Rattle.house.specs.Stands.{StandsFor};
 ghost use Rattle.house.specs.Effort.{MakesLess, place_effort};
@@ -50,9 +50,9 @@ pub struct House {
 
 impl Model for House {
     ghost use Rattle.std.specs.Prelude.{◌≡◌, ◌+◌, ◌<◌, ◌≤◌, length};
-    ghost use Rattle.house.specs.State.{State};
+    ghost use Rattle.house.specs.House.{House};
 
-    ghost Value = { State };
+    ghost Value = { House };
 
     ghost view = { λ h. record {
       core = h.desk.core;
@@ -77,9 +77,9 @@ fn caller_goes_on(
     out: &mut Vec<u8>,
 ) -> Result<(), AllocError>
     ensures less { place_effort place.new ≤ place_effort place.old }
-    ensures ok { OnOk result ((k : Terms) (seat : ℕ) (next : CopyKey) (heard : List Noted) (b : spec.HouseConnection) → IsOf k number seat directory.now → StandsForMaybe k seat next heard place.old (Some b) →
+    ensures ok { OnOk result ((k : Terms) (seat : ℕ) (next : CopyKey) (heard : List Noted) (b : spec.Caller) → IsOf k number seat directory.now → StandsForMaybe k seat next heard place.old (Some b) →
         PlaceWentOn k true seat next heard b place.new out.old.items out.new.items) }
-    ensures err { OnErr result ((k : Terms) (seat : ℕ) (next : CopyKey) (heard : List Noted) (b : spec.HouseConnection) → IsOf k number seat directory.now → StandsForMaybe k seat next heard place.old (Some b) →
+    ensures err { OnErr result ((k : Terms) (seat : ℕ) (next : CopyKey) (heard : List Noted) (b : spec.Caller) → IsOf k number seat directory.now → StandsForMaybe k seat next heard place.old (Some b) →
         PlaceWentOn k false seat next heard b place.new out.old.items out.new.items) }
     ensures asks { OnErr result (IfSome place.old (λ h. h.gone ≡ false)) }
 {
@@ -175,9 +175,9 @@ fn put_next(
 ) -> Result<Option<Refusal>, HouseFault>
     ensures nobody { (result ≡ Err HouseFault.Nobody) ↔ (place.now ≡ None) }
     ensures busy { result ≢ Err HouseFault.Busy }
-    ensures nothing { result ≡ Err HouseFault.Nothing → (h : Line) × (place.now ≡ Some h) × MayNotPut core.old (due h) }
-    ensures memory { result ≡ Err HouseFault.NoMemory → (h : Line) × (place.now ≡ Some h) × CannotNote core.old (due h) }
-    ensures puts { IfOk result (λ why. (h : Line) × (place.now ≡ Some h) × PutsNext core.old (due h) core.new why) }
+    ensures nothing { result ≡ Err HouseFault.Nothing → (h : HouseConnection) × (place.now ≡ Some h) × MayNotPut core.old (due h) }
+    ensures memory { result ≡ Err HouseFault.NoMemory → (h : HouseConnection) × (place.now ≡ Some h) × CannotNote core.old (due h) }
+    ensures puts { IfOk result (λ why. (h : HouseConnection) × (place.now ≡ Some h) × PutsNext core.old (due h) core.new why) }
     ensures load { OnOk result (load core.new ≤ load core.old + 4) }
     ensures refused { OnErr result (core.new ≡ core.old) }
 {

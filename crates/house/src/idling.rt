@@ -3,7 +3,7 @@
 
 ghost use Rattle.std.specs.Prelude.{◌≡◌, ◌≢◌, ◌↔◌, ◌<◌, ◌≤◌, ◌-◌, ℕ, List, [], ◌∷◌, true, false, Some, Err, IfSome, OnErr, OnOk};
 ghost use Rattle.house.specs.Setup.{Setup, session_seat};
-ghost use Rattle.delivery_core.specs.Held.{behind};
+ghost use Rattle.delivery_core.specs.DeliveryCore.{behind};
 ghost use Rattle.delivery_core.specs.Stands as core;
 ghost use Rattle.house.specs.Effort.{MakesLess, turns_left};
 ghost use Rattle.house.specs.Settling.{Visit, Visits, idle_turns};
@@ -12,7 +12,7 @@ ghost use Rattle.house.specs.Steps.{Follows, FollowsInPart, IsBusy, ChangesNothi
 ghost use Rattle.house.specs.inner.Steps.{HasNoTurn, PlaceIdled, PlaceIdledInPart, StandsForSomebody};
 ghost use Rattle.house.specs.inner.Trying.{Goes, IsAmong, Wants};
 ghost use Rattle.house.specs.declared.event.Event.TheVariants as events;
-ghost use Rattle.house_session.specs.Seated as spec;
+ghost use Rattle.house_session.specs.SeatedVisitor as spec;
 ghost use Rattle.delivery_token.specs.declared.CopyKey.{CopyKey};
 ghost use Rattle.delivery_token.specs.declared.log.Noted.{Noted};
 ghost use Rattle.world.specs.World.{World};
@@ -52,10 +52,10 @@ fn turn_at(
 ) -> Result<(), AllocError>
     requires counted { 0 < number }
     requires idles { IfSome place.old (λ p. MayIdle p (number - 1) desk.old.core) }
-    ensures ok { OnOk result ((k : Setup) (next : CopyKey) (heard : List Noted) (w : World) (b : spec.SeatedSession) → core.StandsFor k.config desk.old.core w → StandsForSomebody (session_seat k (number - 1)) next heard place.old (Some b) →
+    ensures ok { OnOk result ((k : Setup) (next : CopyKey) (heard : List Noted) (w : World) (b : spec.SeatedVisitor) → core.StandsFor k.config desk.old.core w → StandsForSomebody (session_seat k (number - 1)) next heard place.old (Some b) →
         PlaceIdled k true (number - 1) next heard w b desk.old.core place.new desk.new.core out.old.items out.new.items) }
     ensures less { OnOk result (IfSome place.old (λ p. turns_left place.new (behind desk.new.core (number - 1)) < turns_left (Some p) (behind desk.old.core (number - 1)))) }
-    ensures err { OnErr result ((k : Setup) (next : CopyKey) (heard : List Noted) (w : World) (b : spec.SeatedSession) → core.StandsFor k.config desk.old.core w → StandsForSomebody (session_seat k (number - 1)) next heard place.old (Some b) →
+    ensures err { OnErr result ((k : Setup) (next : CopyKey) (heard : List Noted) (w : World) (b : spec.SeatedVisitor) → core.StandsFor k.config desk.old.core w → StandsForSomebody (session_seat k (number - 1)) next heard place.old (Some b) →
         PlaceIdledInPart k (number - 1) next heard w b desk.old.core place.new desk.new.core out.old.items out.new.items) }
 {
     let Some(visitor) = place else {

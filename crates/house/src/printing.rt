@@ -6,14 +6,14 @@ ghost use Rattle.delivery_token.specs.declared.CopyKey.{CopyKey};
 ghost use Rattle.delivery_token.specs.declared.log.Noted.{Noted};
 ghost use Rattle.line_io.specs.Marks.{marked};
 ghost use Rattle.lmtp_machine.specs.declared.connection.What.TheVariants as whats;
-ghost use Rattle.house_connection.specs.HouseConnection as connection;
-ghost use Rattle.house_connection.specs.HouseConnection.{Terms};
+ghost use Rattle.house_connection.specs.Caller as connection;
+ghost use Rattle.house_connection.specs.Caller.{Terms};
 ghost use Rattle.house_connection.specs.ConnectionStands.{StandsForConnection};
 ghost use Rattle.house_connection.specs.Taking as taking;
 ghost use Rattle.house_connection.specs.Taking.{line_effort};
-ghost use Rattle.house_session.specs.Place.{HadTurn, with_all_said};
-ghost use Rattle.house_session.specs.Seat.{StandsForSeated, seat_effort, with_place};
-ghost use Rattle.house_session.specs.Seated as session;
+ghost use Rattle.house_session.specs.HouseSession.{HadTurn, with_all_said};
+ghost use Rattle.house_session.specs.SeatedSession.{StandsForSeated, seat_effort, with_place};
+ghost use Rattle.house_session.specs.SeatedVisitor as session;
 ghost use Rattle.delivery_core.specs.Changes.{SameDelivery};
 ghost use Rattle.session_store.specs.Desk.{Serves};
 ghost use Rattle.house.specs.Printing.{of_connection, of_session};
@@ -83,9 +83,9 @@ pub(crate) fn proceed(
     out: &mut Vec<u8>,
 ) -> Result<What, AllocError>
     ensures less { line_effort caller.new ≤ line_effort caller.old }
-    ensures ok { IfOk result (λ what. (k : Terms) (seat : ℕ) (next : CopyKey) (heard : List Noted) (b : connection.HouseConnection) → IsOf k number seat directory.now → StandsForConnection k seat next heard caller.old b →
+    ensures ok { IfOk result (λ what. (k : Terms) (seat : ℕ) (next : CopyKey) (heard : List Noted) (b : connection.Caller) → IsOf k number seat directory.now → StandsForConnection k seat next heard caller.old b →
         ConnectionWent k true seat next heard b what caller.new out.old.items out.new.items) }
-    ensures err { OnErr result ((k : Terms) (seat : ℕ) (next : CopyKey) (heard : List Noted) (b : connection.HouseConnection) → IsOf k number seat directory.now → StandsForConnection k seat next heard caller.old b →
+    ensures err { OnErr result ((k : Terms) (seat : ℕ) (next : CopyKey) (heard : List Noted) (b : connection.Caller) → IsOf k number seat directory.now → StandsForConnection k seat next heard caller.old b →
         ConnectionWent k false seat next heard b whats.More caller.new out.old.items out.new.items) }
     ensures asks { OnErr result (caller.old.gone ≡ false) }
 {
@@ -112,8 +112,8 @@ pub(crate) fn go_on(
     ensures less { seat_effort visitor.new ≤ seat_effort visitor.old }
     ensures delivery { SameDelivery desk.old.core desk.new.core }
     ensures gone { visitor.new.gone ≡ false }
-    ensures ok { OnOk result ((seat : ℕ) (next : CopyKey) (heard : List Noted) (v : session.SeatedSession) → StandsForSeated seat next heard visitor.old v → WentOn Serves true seat number next heard v desk.old desk.new out.old.items out.new.items visitor.new) }
-    ensures err { OnErr result ((seat : ℕ) (next : CopyKey) (heard : List Noted) (v : session.SeatedSession) → StandsForSeated seat next heard visitor.old v → WentOn Serves false seat number next heard v desk.old desk.new out.old.items out.new.items visitor.new) }
+    ensures ok { OnOk result ((seat : ℕ) (next : CopyKey) (heard : List Noted) (v : session.SeatedVisitor) → StandsForSeated seat next heard visitor.old v → WentOn Serves true seat number next heard v desk.old desk.new out.old.items out.new.items visitor.new) }
+    ensures err { OnErr result ((seat : ℕ) (next : CopyKey) (heard : List Noted) (v : session.SeatedVisitor) → StandsForSeated seat next heard visitor.old v → WentOn Serves false seat number next heard v desk.old desk.new out.old.items out.new.items visitor.new) }
 {
     let Ok(()) = visitor.proceed(alloc, desk) else {
         let _ = print_session(visitor, number, out);
@@ -134,9 +134,9 @@ pub(crate) fn take_turn(
 ) -> Result<usize, AllocError>
     requires there { visitor.old.gone ≡ false }
     ensures gone { visitor.new.gone ≡ false }
-    ensures ok { IfOk result (λ count. (seat : ℕ) (next : CopyKey) (heard : List Noted) (v : session.SeatedSession) → StandsForSeated seat next heard visitor.old v → Idled Serves true seat number count next heard v desk.old desk.new out.old.items out.new.items visitor.new) }
+    ensures ok { IfOk result (λ count. (seat : ℕ) (next : CopyKey) (heard : List Noted) (v : session.SeatedVisitor) → StandsForSeated seat next heard visitor.old v → Idled Serves true seat number count next heard v desk.old desk.new out.old.items out.new.items visitor.new) }
     ensures session { IfOk result (λ count. HadTurn Serves visitor.old.place desk.old desk.new count visitor.new.place) }
-    ensures err { OnErr result ((seat : ℕ) (next : CopyKey) (heard : List Noted) (v : session.SeatedSession) → StandsForSeated seat next heard visitor.old v → IdledInPart Serves seat number next heard v desk.old desk.new out.old.items out.new.items visitor.new) }
+    ensures err { OnErr result ((seat : ℕ) (next : CopyKey) (heard : List Noted) (v : session.SeatedVisitor) → StandsForSeated seat next heard visitor.old v → IdledInPart Serves seat number next heard v desk.old desk.new out.old.items out.new.items visitor.new) }
 {
     let Ok(count) = visitor.idle_turn(desk) else {
         return Err(AllocError);

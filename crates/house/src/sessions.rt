@@ -15,8 +15,8 @@ ghost use Rattle.house.specs.Stands.{StandsFor, first_of};
 ghost use Rattle.house.specs.Steps.{CannotNote, Follows, FollowsInPart, IsBusy, ChangesNothing, IsNobody, IsNoPlace, IsVacant, Led, MayWant, PutsNext, is_left};
 ghost use Rattle.house.specs.inner.Steps.{CanEnter, HasLingered, IsSession, IsTalking, MayNotPut, PlaceTalked, PlaceVisited, StandsForSomebody, with_more_came};
 ghost use Rattle.house.specs.declared.event.Event.TheVariants as events;
-ghost use Rattle.house_session.specs.Seated as spec;
-ghost use Rattle.house_session.specs.Seat.{HearsVerdict, Seat, StandsForSeated, due, noted_put, with_nobody_there};
+ghost use Rattle.house_session.specs.SeatedVisitor as spec;
+ghost use Rattle.house_session.specs.SeatedSession.{HearsVerdict, SeatedSession, StandsForSeated, due, noted_put, with_nobody_there};
 ghost use Rattle.submission.specs.inner.Verdicts.{heard_verdict};
 ghost use Rattle.world.specs.World.{World};
 
@@ -52,9 +52,9 @@ fn visitor_talks(
     requires there { is_left place.old ≡ false }
     ensures less { visit_effort place.new ≤ visit_effort place.old }
     ensures delivery { SameDelivery desk.old.core desk.new.core }
-    ensures ok { OnOk result ((k : Setup) (next : CopyKey) (heard : List NotedSpec) (w : World) (b : spec.SeatedSession) → core.StandsFor k.config desk.old.core w → StandsForSomebody (session_seat k (number - 1)) next heard place.old (Some b) →
+    ensures ok { OnOk result ((k : Setup) (next : CopyKey) (heard : List NotedSpec) (w : World) (b : spec.SeatedVisitor) → core.StandsFor k.config desk.old.core w → StandsForSomebody (session_seat k (number - 1)) next heard place.old (Some b) →
         PlaceTalked k true (number - 1) next heard w b place.new desk.new.core out.old.items out.new.items) }
-    ensures err { OnErr result ((k : Setup) (next : CopyKey) (heard : List NotedSpec) (w : World) (b : spec.SeatedSession) → core.StandsFor k.config desk.old.core w → StandsForSomebody (session_seat k (number - 1)) next heard place.old (Some b) →
+    ensures err { OnErr result ((k : Setup) (next : CopyKey) (heard : List NotedSpec) (w : World) (b : spec.SeatedVisitor) → core.StandsFor k.config desk.old.core w → StandsForSomebody (session_seat k (number - 1)) next heard place.old (Some b) →
         PlaceTalked k false (number - 1) next heard w b place.new desk.new.core out.old.items out.new.items) }
 {
     let Some(visitor) = place else {
@@ -74,7 +74,7 @@ fn visitor_talks(
 // Where the client of the session at a place is gone, it leaves its place as soon as the verdict that it awaited was heard.
 fn visitor_lingers(place: &mut Option<SeatedSession>)
     ensures less { visit_effort place.new ≤ visit_effort place.old }
-    ensures who { (seat : ℕ) (next : CopyKey) (heard : List NotedSpec) (b : spec.SeatedSession) → StandsForSomebody seat next heard place.old (Some b) → HasLingered seat next heard b place.new }
+    ensures who { (seat : ℕ) (next : CopyKey) (heard : List NotedSpec) (b : spec.SeatedVisitor) → StandsForSomebody seat next heard place.old (Some b) → HasLingered seat next heard b place.new }
 {
     let Some(visitor) = place else {
         return;
@@ -95,9 +95,9 @@ fn visitor_goes_on(
     requires counted { 0 < number }
     ensures less { visit_effort place.new ≤ visit_effort place.old }
     ensures delivery { SameDelivery desk.old.core desk.new.core }
-    ensures ok { OnOk result ((k : Setup) (next : CopyKey) (heard : List NotedSpec) (w : World) (b : spec.SeatedSession) → core.StandsFor k.config desk.old.core w → StandsForSomebody (session_seat k (number - 1)) next heard place.old (Some b) →
+    ensures ok { OnOk result ((k : Setup) (next : CopyKey) (heard : List NotedSpec) (w : World) (b : spec.SeatedVisitor) → core.StandsFor k.config desk.old.core w → StandsForSomebody (session_seat k (number - 1)) next heard place.old (Some b) →
         PlaceVisited k true (number - 1) next heard w b place.new desk.new.core out.old.items out.new.items) }
-    ensures err { OnErr result ((k : Setup) (next : CopyKey) (heard : List NotedSpec) (w : World) (b : spec.SeatedSession) → core.StandsFor k.config desk.old.core w → StandsForSomebody (session_seat k (number - 1)) next heard place.old (Some b) →
+    ensures err { OnErr result ((k : Setup) (next : CopyKey) (heard : List NotedSpec) (w : World) (b : spec.SeatedVisitor) → core.StandsFor k.config desk.old.core w → StandsForSomebody (session_seat k (number - 1)) next heard place.old (Some b) →
         PlaceVisited k false (number - 1) next heard w b place.new desk.new.core out.old.items out.new.items) }
 {
     if is_left(place) {
@@ -147,9 +147,9 @@ fn put_next(
 ) -> Result<Option<Refusal>, HouseFault>
     ensures nobody { (result ≡ Err HouseFault.Nobody) ↔ (place.now ≡ None) }
     ensures busy { result ≢ Err HouseFault.Busy }
-    ensures nothing { result ≡ Err HouseFault.Nothing → (p : Seat) × (place.now ≡ Some p) × MayNotPut core.old (due p) }
-    ensures memory { result ≡ Err HouseFault.NoMemory → (p : Seat) × (place.now ≡ Some p) × CannotNote core.old (due p) }
-    ensures puts { IfOk result (λ why. (p : Seat) × (place.now ≡ Some p) × PutsNext core.old (due p) core.new why) }
+    ensures nothing { result ≡ Err HouseFault.Nothing → (p : SeatedSession) × (place.now ≡ Some p) × MayNotPut core.old (due p) }
+    ensures memory { result ≡ Err HouseFault.NoMemory → (p : SeatedSession) × (place.now ≡ Some p) × CannotNote core.old (due p) }
+    ensures puts { IfOk result (λ why. (p : SeatedSession) × (place.now ≡ Some p) × PutsNext core.old (due p) core.new why) }
     ensures load { OnOk result (load core.new ≤ load core.old + 4) }
     ensures refused { OnErr result (core.new ≡ core.old) }
 {

@@ -2,12 +2,12 @@
 use Rattle.std.proofs.Common.{ℕ, ◌++◌, List, ap}
 use Rattle.delivery_token.specs.declared.CopyKey.{CopyKey}
 use Rattle.delivery_token.specs.declared.log.Noted.{Noted}
-use Rattle.house_connection.specs.Line.{Line}
-use Rattle.house_connection.specs.HouseConnection.{HouseConnection, Terms, more_waits}
+use Rattle.house_connection.specs.HouseConnection.{HouseConnection}
+use Rattle.house_connection.specs.Caller.{Caller, Terms, more_waits}
 use Rattle.house_connection.specs.Taking.{with_more}
 use Rattle.house_connection.specs.ConnectionStands.{StandsForConnection}
 
-pub more_stands : (k : Terms) (seat : ℕ) (next : CopyKey) (heard : List Noted) (h : Line) (b : HouseConnection) (piece : List ℕ) → StandsForConnection k seat next heard h b
+pub more_stands : (k : Terms) (seat : ℕ) (next : CopyKey) (heard : List Noted) (h : HouseConnection) (b : Caller) (piece : List ℕ) → StandsForConnection k seat next heard h b
     → StandsForConnection k seat next heard (with_more piece h) (more_waits b piece)
 more_stands k seat next heard h b piece s = record {
   serial = s.serial;

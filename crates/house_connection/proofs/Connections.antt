@@ -15,14 +15,14 @@ use Rattle.lmtp_machine.specs.Conversation.{Conversation, IsListening, opened}
 use Rattle.lmtp_machine.specs.Calls.{Happens, Tells}
 use Rattle.lmtp_machine.specs.inner.Calls.{Taken}
 use Rattle.lmtp_machine.specs.Kept.{AreMessages, IsMessage}
-use Rattle.lmtp_machine.specs.Machine.{Machine, StandsFor}
+use Rattle.lmtp_machine.specs.LmtpMachine.{LmtpMachine, StandsFor}
 use Rattle.lmtp_machine.specs.declared.commands.Stage.TheVariants as stages
 use Rattle.lmtp_machine.proofs.Calls.{nothing_taken}
 use Rattle.lmtp_machine.proofs.Follow.{still_listens}
 use Rattle.lmtp_machine.proofs.Kept.{taken_keeps, event_keeps}
-use Rattle.house_connection.specs.Line.{Line}
+use Rattle.house_connection.specs.HouseConnection.{HouseConnection}
 use Rattle.house_connection.specs.Talk.{Talk}
-use Rattle.house_connection.specs.HouseConnection.{HouseConnection, IsAnswered, Terms, answers, copies_of, fades, greeted, keys_of, lingers, meets, setting_of, stalls, talks, unread, waits, with_unsaid, works}
+use Rattle.house_connection.specs.Caller.{Caller, IsAnswered, Terms, answers, copies_of, fades, greeted, keys_of, lingers, meets, setting_of, stalls, talks, unread, waits, with_unsaid, works}
 use Rattle.house_connection.specs.Taking.{AreKnown, with_all_said, with_nobody_there}
 use Rattle.house_connection.specs.inner.Taking.{TakenBy}
 use Rattle.delivery_token.specs.Keys.{AtLeast}
@@ -57,7 +57,7 @@ awaits Submit turn pending phase t e p = subst (λ (ss : List Submission). IsAwa
 awaits Quit turn pending phase t e p = subst (λ (ss : List Submission). IsAwaited ss phase) (sym (e ∙ t.0)) (λ n q. let a : Ended ≡ Waiting n = sym (p ∙ t.1) ∙ q in cc)
 
 module _ (k : Terms) (seat : ℕ) (next : CopyKey) (heard : List Noted) where
-  took : (whole : Bool) (b : HouseConnection) (h : Line) (m : Machine) (bytes left said : List ℕ) (what : What)
+  took : (whole : Bool) (b : Caller) (h : HouseConnection) (m : LmtpMachine) (bytes left said : List ℕ) (what : What)
       → StandsForConnection k seat next heard h b → h.machine.pending ≡ [] → h.waits ≡ bytes ++ left → m.setting ≡ h.machine.setting → m.host ≡ h.machine.host
       → (whole ≡ true → what ≡ More → left ≡ [])
       → Taken (StandsFor m) (setting_of k seat b.serial) k.host k.directory b.talk.at bytes h.unsaid said what m.pending
@@ -96,21 +96,21 @@ module _ (k : Terms) (seat : ℕ) (next : CopyKey) (heard : List Noted) where
       }
 
   -- by the machine's own setting
-  own : (b : HouseConnection) (h : Line) (m : Machine) (bytes said : List ℕ) (what : What) → StandsForConnection k seat next heard h b
+  own : (b : Caller) (h : HouseConnection) (m : LmtpMachine) (bytes said : List ℕ) (what : What) → StandsForConnection k seat next heard h b
       → Taken (StandsFor m) h.machine.setting h.machine.host k.directory b.talk.at bytes h.unsaid said what m.pending
       → Taken (StandsFor m) (setting_of k seat b.serial) k.host k.directory b.talk.at bytes h.unsaid said what m.pending
   own b h m bytes said what s t =
       subst (λ (n : List ℕ). Taken (StandsFor m) (setting_of k seat b.serial) n k.directory b.talk.at bytes h.unsaid said what m.pending) s.host
       (subst (λ (x : Setting). Taken (StandsFor m) x h.machine.host k.directory b.talk.at bytes h.unsaid said what m.pending) s.setting t)
 
-  pub took_all : (b : HouseConnection) (h : Line) (m : Machine) (bytes left said : List ℕ) (what : What)
+  pub took_all : (b : Caller) (h : HouseConnection) (m : LmtpMachine) (bytes left said : List ℕ) (what : What)
       → StandsForConnection k seat next heard h b → h.machine.pending ≡ [] → h.waits ≡ bytes ++ left → m.setting ≡ h.machine.setting → m.host ≡ h.machine.host
       → (what ≡ More → left ≡ []) → TakenBy (StandsFor m) h.machine.setting h.machine.host k.directory b.talk.at bytes h.unsaid said (Some what) m.pending
       → WorkedOff k true seat next heard b what (record { serial = h.serial; gone = h.gone; machine = m; waits = left; unsaid = said; verdicts = h.verdicts })
   took_all b h m bytes left said what s quiet split es eh all t = took true b h m bytes left said what s quiet split es eh (λ w. all) (own b h m bytes said what s t)
 
   -- memory was wanting
-  pub took_part : (b : HouseConnection) (h : Line) (m : Machine) (bytes left said : List ℕ)
+  pub took_part : (b : Caller) (h : HouseConnection) (m : LmtpMachine) (bytes left said : List ℕ)
       → StandsForConnection k seat next heard h b → h.machine.pending ≡ [] → h.waits ≡ bytes ++ left → m.setting ≡ h.machine.setting → m.host ≡ h.machine.host
       → TakenBy (StandsFor m) h.machine.setting h.machine.host k.directory b.talk.at bytes h.unsaid said None m.pending
       → (what : What) × WorkedOff k false seat next heard b what (record { serial = h.serial; gone = h.gone; machine = m; waits = left; unsaid = said; verdicts = h.verdicts })
@@ -118,7 +118,7 @@ module _ (k : Terms) (seat : ℕ) (next : CopyKey) (heard : List Noted) where
       (t.0, took false b h m bytes left said t.0 s quiet split es eh (λ w. absurd (let y : false ≡ true = w in cc)) (own b h m bytes said t.0 s t.1))
 
   -- nothing waits, and the dialogue goes on
-  pub took_nothing : (b : HouseConnection) (h : Line) → StandsForConnection k seat next heard h b → h.machine.pending ≡ [] → h.waits ≡ [] → (h.machine.commands.stage ≡ stages.Ended → ⊥)
+  pub took_nothing : (b : Caller) (h : HouseConnection) → StandsForConnection k seat next heard h b → h.machine.pending ≡ [] → h.waits ≡ [] → (h.machine.commands.stage ≡ stages.Ended → ⊥)
       → WorkedOff k true seat next heard b More h
   took_nothing b h s quiet none going =
       let unawaited : IsAwaited [] b.talk.at.standing.phase = subst (λ (ss : List Submission). IsAwaited ss b.talk.at.standing.phase) (sym s.pending ∙ quiet) s.awaited in
@@ -148,7 +148,7 @@ module _ (k : Terms) (seat : ℕ) (next : CopyKey) (heard : List Noted) where
       omega (arith, p, q)
 
   -- what was heard is known
-  known_of : (b : HouseConnection) (h : Line) (vs : List Verdict) → StandsForConnection k seat next heard h b → IsAnswered heard b vs → (us : List Verdict) × AreKnown h us
+  known_of : (b : Caller) (h : HouseConnection) (vs : List Verdict) → StandsForConnection k seat next heard h b → IsAnswered heard b vs → (us : List Verdict) × AreKnown h us
   known_of b h vs s a =
       let f = all-full heard (keys_of b.talk.pending) h.verdicts vs s.verdicts a.each in
       let n = counted b.talk.at.standing.submitted (length h.verdicts) (setting_of k seat b.serial) s.message b.talk.at.standing.phase b.talk.pending s.numbered s.awaited (sym s.to_put ∙ a.put) in
@@ -157,7 +157,7 @@ module _ (k : Terms) (seat : ℕ) (next : CopyKey) (heard : List Noted) where
       (f.0, record { all = omega (arith, n, r, t); each = f.1 })
 
   -- what is known was heard
-  answered_of : (b : HouseConnection) (h : Line) (vs : List Verdict) → StandsForConnection k seat next heard h b → AreKnown h vs → IsAnswered heard b vs
+  answered_of : (b : Caller) (h : HouseConnection) (vs : List Verdict) → StandsForConnection k seat next heard h b → AreKnown h vs → IsAnswered heard b vs
   answered_of b h vs s known =
       let a = known.all in
       let t = ap (λ (ss : List Submission). length (keys_of ss)) s.pending in
@@ -168,7 +168,7 @@ module _ (k : Terms) (seat : ℕ) (next : CopyKey) (heard : List Noted) where
       }
 
   -- the verdicts are said
-  pub said_verdicts : (b : HouseConnection) (h : Line) (m : Machine) (vs : List Verdict) (said : List ℕ) → StandsForConnection k seat next heard h b → 0 < length b.talk.pending → length h.machine.pending ≡ 1 → AreKnown h vs
+  pub said_verdicts : (b : Caller) (h : HouseConnection) (m : LmtpMachine) (vs : List Verdict) (said : List ℕ) → StandsForConnection k seat next heard h b → 0 < length b.talk.pending → length h.machine.pending ≡ 1 → AreKnown h vs
       → m.setting ≡ h.machine.setting → m.host ≡ h.machine.host → m.pending ≡ []
       → ((d : Directory) (c : Conversation) → StandsFor h.machine c → Happens (StandsFor m) h.machine.setting h.machine.host d c (dialogue.Answered vs) h.unsaid said)
       → SaidVerdicts k seat next heard b vs (record { serial = h.serial; gone = h.gone; machine = m; waits = h.waits; unsaid = said; verdicts = [] })
@@ -210,23 +210,23 @@ module _ (k : Terms) (seat : ℕ) (next : CopyKey) (heard : List Noted) where
 
   -- ---- going on
 
-  pub went_works : (whole : Bool) (b : HouseConnection) (h new_h : Line) (what : What) → StandsForConnection k seat next heard h b → h.machine.pending ≡ []
+  pub went_works : (whole : Bool) (b : Caller) (h new_h : HouseConnection) (what : What) → StandsForConnection k seat next heard h b → h.machine.pending ≡ []
       → WorkedOff k whole seat next heard b what new_h → WentOn k whole seat next heard b what new_h
   went_works whole b h new_h what s quiet w = record { after = w.after; goes = works (sym s.pending ∙ quiet) w.works; stands = w.stands }
 
   some_pending : (ss ts : List Submission) → ss ≡ ts → length ss ≡ 1 → 0 < length ts
   some_pending ss ts e h = let l = ap (λ (x : List Submission). length x) e in omega (arith, l, h)
 
-  pub went_answers : (whole : Bool) (b : HouseConnection) (vs : List Verdict) (h m new_h : Line) (what : What) → StandsForConnection k seat next heard h b → length h.machine.pending ≡ 1
+  pub went_answers : (whole : Bool) (b : Caller) (vs : List Verdict) (h m new_h : HouseConnection) (what : What) → StandsForConnection k seat next heard h b → length h.machine.pending ≡ 1
       → SaidVerdicts k seat next heard b vs m → WorkedOff k whole seat next heard (meets k seat b (dialogue.Answered vs)) what new_h → WentOn k whole seat next heard b what new_h
   went_answers whole b vs h m new_h what s one said w =
       record { after = w.after; goes = answers vs (some_pending _ _ s.pending one) said.answered w.works; stands = w.stands }
 
-  pub went_stalls : (b : HouseConnection) (h : Line) → StandsForConnection k seat next heard h b → WentOn k false seat next heard b More h
+  pub went_stalls : (b : Caller) (h : HouseConnection) → StandsForConnection k seat next heard h b → WentOn k false seat next heard b More h
   went_stalls b h s = record { after = b; goes = stalls refl refl refl; stands = s }
 
   -- before every verdict is known nothing is done
-  pub went_waits : (b : HouseConnection) (h : Line) → StandsForConnection k seat next heard h b → length h.machine.pending ≡ 1
+  pub went_waits : (b : Caller) (h : HouseConnection) → StandsForConnection k seat next heard h b → length h.machine.pending ≡ 1
       → ((vs : List Verdict) → AreKnown h vs → ⊥) → WentOn k true seat next heard b Submit h
   went_waits b h s one unknown = record {
     after = b;
@@ -236,25 +236,25 @@ module _ (k : Terms) (seat : ℕ) (next : CopyKey) (heard : List Noted) where
 
   -- ---- a caller whose peer may be gone
 
-  pub proceeds : (whole : Bool) (b : HouseConnection) (what : What) (h new_h : Line) → StandsForConnection k seat next heard h b → h.gone ≡ false
+  pub proceeds : (whole : Bool) (b : Caller) (what : What) (h new_h : HouseConnection) → StandsForConnection k seat next heard h b → h.gone ≡ false
       → WentOn k whole seat next heard b what new_h → Proceeded k whole seat next heard b what new_h
   proceeds whole b what h new_h s live w = record { after = w.after; proceeds = talks (sym s.gone ∙ live) w.goes; stands = w.stands }
 
-  pub lingered : (b : HouseConnection) (h : Line) → StandsForConnection k seat next heard h b → h.gone ≡ true → h.unsaid ≡ [] → ((vs : List Verdict) → AreKnown h vs → ⊥) → Proceeded k true seat next heard b Submit h
+  pub lingered : (b : Caller) (h : HouseConnection) → StandsForConnection k seat next heard h b → h.gone ≡ true → h.unsaid ≡ [] → ((vs : List Verdict) → AreKnown h vs → ⊥) → Proceeded k true seat next heard b Submit h
   lingered b h s gone silent unknown = record {
     after = b;
     proceeds = lingers (sym s.gone ∙ gone) (sym s.unsaid ∙ silent) (λ vs a. let u = known_of b h vs s a in unknown u.0 u.1) refl refl;
     stands = s;
   }
 
-  pub faded : (b : HouseConnection) (h : Line) → StandsForConnection k seat next heard h b → h.gone ≡ true → h.unsaid ≡ [] → ((vs : List Verdict) × AreKnown h vs) → Proceeded k true seat next heard b Quit h
+  pub faded : (b : Caller) (h : HouseConnection) → StandsForConnection k seat next heard h b → h.gone ≡ true → h.unsaid ≡ [] → ((vs : List Verdict) × AreKnown h vs) → Proceeded k true seat next heard b Quit h
   faded b h s gone silent known = record {
     after = b;
     proceeds = fades known.0 (sym s.gone ∙ gone) (sym s.unsaid ∙ silent) (answered_of b h known.0 s known.1) refl refl;
     stands = s;
   }
 
-  pub unread_stands : (h : Line) (b : HouseConnection) → StandsForConnection k seat next heard h b → StandsForConnection k seat next heard (with_nobody_there h) (unread b)
+  pub unread_stands : (h : HouseConnection) (b : Caller) → StandsForConnection k seat next heard h b → StandsForConnection k seat next heard (with_nobody_there h) (unread b)
   unread_stands h b s = record {
     serial = s.serial;
     gone = refl;
@@ -274,7 +274,7 @@ module _ (k : Terms) (seat : ℕ) (next : CopyKey) (heard : List Noted) where
   }
 
   -- all that it said is printed
-  pub printed_stands : (h : Line) (b : HouseConnection) → StandsForConnection k seat next heard h b → StandsForConnection k seat next heard (with_all_said h) (with_unsaid [] b)
+  pub printed_stands : (h : HouseConnection) (b : Caller) → StandsForConnection k seat next heard h b → StandsForConnection k seat next heard (with_all_said h) (with_unsaid [] b)
   printed_stands h b s = record {
     serial = s.serial;
     gone = s.gone;
@@ -295,7 +295,7 @@ module _ (k : Terms) (seat : ℕ) (next : CopyKey) (heard : List Noted) where
 
   -- ---- a new connection
 
-  pub opened_stands : (serial limit : ℕ) (host said : List ℕ) (m n : Machine) → StandsFor m opened → m.setting ≡ record { seat = seat; serial = serial; max_message = limit } → m.host ≡ host → m.pending ≡ []
+  pub opened_stands : (serial limit : ℕ) (host said : List ℕ) (m n : LmtpMachine) → StandsFor m opened → m.setting ≡ record { seat = seat; serial = serial; max_message = limit } → m.host ≡ host → m.pending ≡ []
       → ((d : Directory) (c : Conversation) → StandsFor m c → Happens (StandsFor n) m.setting m.host d c dialogue.Opened [] said) → n.setting ≡ m.setting → n.host ≡ m.host → n.pending ≡ m.pending
       → k.host ≡ host → k.max_message ≡ limit → AtLeast next (record { seat = seat; serial = serial; message = 0; recipient = 0 })
       → StandsForConnection k seat next heard (record { serial = serial; gone = false; machine = n; waits = []; unsaid = said; verdicts = [] }) (greeted k seat serial)
@@ -328,7 +328,7 @@ abbrev pub under : List Bool → Terms → Terms
 under shut k = record k { directory = marked shut k.directory }
 
 -- a connection that stands for a caller does so whichever shards are shut
-pub stands_marked : (k : Terms) (shut : List Bool) (seat : ℕ) (next : CopyKey) (heard : List Noted) (h : Line) (b : HouseConnection)
+pub stands_marked : (k : Terms) (shut : List Bool) (seat : ℕ) (next : CopyKey) (heard : List Noted) (h : HouseConnection) (b : Caller)
     → StandsForConnection k seat next heard h b → StandsForConnection (under shut k) seat next heard h b
 stands_marked k shut seat next heard h b s = record {
   serial = s.serial;
@@ -348,7 +348,7 @@ stands_marked k shut seat next heard h b s = record {
   ahead = s.ahead;
 }
 
-pub stands_unmarked : (k : Terms) (shut : List Bool) (seat : ℕ) (next : CopyKey) (heard : List Noted) (h : Line) (b : HouseConnection)
+pub stands_unmarked : (k : Terms) (shut : List Bool) (seat : ℕ) (next : CopyKey) (heard : List Noted) (h : HouseConnection) (b : Caller)
     → StandsForConnection (under shut k) seat next heard h b → StandsForConnection k seat next heard h b
 stands_unmarked k shut seat next heard h b s = record {
   serial = s.serial;

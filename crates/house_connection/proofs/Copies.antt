@@ -10,7 +10,7 @@ use Rattle.delivery_token.specs.declared.Job.{Job}
 use Rattle.lmtp_machine.specs.Dialogue.{Submission}
 use Rattle.submission.specs.Copies.{copies}
 use Rattle.submission.proofs.Copies.{length-copies}
-use Rattle.house_connection.specs.HouseConnection.{copies_of, keys_of}
+use Rattle.house_connection.specs.Caller.{copies_of, keys_of}
 
 -- one submission alone
 pub copies-one : (ss : List Submission) (s : Submission) → ss ≡ s ∷ [] → copies_of ss ≡ copies s.keys s.mailboxes s.text no_flags

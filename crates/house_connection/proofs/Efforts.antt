@@ -9,11 +9,11 @@ use Rattle.delivery_token.specs.declared.Verdict.{Verdict}
 use Rattle.lmtp_machine.specs.declared.connection.What.{What}
 use Rattle.lmtp_machine.specs.declared.connection.What.TheVariants.{More, Submit, Quit}
 use Rattle.lmtp_machine.specs.Dialogue.{Submission}
-use Rattle.house_connection.specs.Line.{Line}
+use Rattle.house_connection.specs.HouseConnection.{HouseConnection}
 use Rattle.house_connection.specs.Taking.{line_effort}
 use Rattle.house_connection.specs.inner.Few.{AreFew}
 use Rattle.submission.specs.Copies.{copies}
-use Rattle.house_connection.specs.HouseConnection.{copies_of}
+use Rattle.house_connection.specs.Caller.{copies_of}
 use Rattle.house_connection.specs.Taking.{due, noted_put}
 use Rattle.house_connection.specs.inner.Taking.{AwaitsIn}
 use Rattle.submission.proofs.Copies.{length-copies}
@@ -45,7 +45,7 @@ took_less waits used n (Some Quit) before after e l m a f = let d = length-drop 
 drop_one : {A : Type 0} (n : ℕ) (xs : List A) → 0 < length (drop n xs) → length (drop (suc n) xs) + 1 ≡ length (drop n xs)
 drop_one n xs h = let a = length-drop n xs in let b = length-drop (suc n) xs in omega (arith, a, b, h)
 
-pub put_less : (v : Option Verdict) (h : Line) → 0 < length (due h) → line_effort (noted_put v h) + 5 ≡ line_effort h
+pub put_less : (v : Option Verdict) (h : HouseConnection) → 0 < length (due h) → line_effort (noted_put v h) + 5 ≡ line_effort h
 put_less v h more =
     let e : length (h.verdicts ++ v ∷ []) ≡ suc (length h.verdicts) = let l = length-append h.verdicts (v ∷ []) in omega (arith, l) in
     let d = drop_one (length h.verdicts) (copies_of h.machine.pending) more in

@@ -24,8 +24,8 @@ use Rattle.submission.specs.Verdicts.{Hears}
 use Rattle.submission.specs.inner.Verdicts.{heard_verdict}
 use Rattle.submission.proofs.Copies.{behind_front, front_key, front_mailbox, front_within, length-copies}
 use Rattle.submission.proofs.Slots.{hears_slots, slot_more, slot_now, slots_push}
-use Rattle.house_connection.specs.Line.{Line}
-use Rattle.house_connection.specs.HouseConnection.{HouseConnection, Terms, copies_of, keys_of, setting_of}
+use Rattle.house_connection.specs.HouseConnection.{HouseConnection}
+use Rattle.house_connection.specs.Caller.{Caller, Terms, copies_of, keys_of, setting_of}
 use Rattle.house_connection.specs.Taking.{HearsVerdict, due, noted_put}
 use Rattle.house_connection.specs.ConnectionStands.{IsAwaited, StandsForConnection}
 use Rattle.house_connection.proofs.Copies.{copies-one, keys-one}
@@ -60,7 +60,7 @@ few_pending [] phase a = omega arith
 few_pending (s ∷ ss) phase a = let e = ap (λ (l : List Submission). length l) a.0 in omega (arith, e)
 
 -- what is known of the copy that is next: its key is that of its place
-pub record IsNextCopy (k : Terms) (seat : ℕ) (h : Line) (b : HouseConnection) (message : ℕ) (c : Job) (others : List Job) : Type 0 where
+pub record IsNextCopy (k : Terms) (seat : ℕ) (h : HouseConnection) (b : Caller) (message : ℕ) (c : Job) (others : List Job) : Type 0 where
   pub key : c.key ≡ record { seat = seat; serial = b.serial; message = message; recipient = length h.verdicts }
   pub room : length h.verdicts < length (keys_of b.talk.pending)
   pub few : length (keys_of b.talk.pending) ≤ 100
@@ -71,7 +71,7 @@ pub record IsNextCopy (k : Terms) (seat : ℕ) (h : Line) (b : HouseConnection) 
   pub mailbox : c.mailbox < length k.directory.homes
 
 module _ (k : Terms) (seat : ℕ) (next : CopyKey) (heard : List Noted) where
-  pub next_copy : (h : Line) (b : HouseConnection) (c : Job) (others : List Job) → (s : StandsForConnection k seat next heard h b) → due h ≡ c ∷ others → IsNextCopy k seat h b s.message c others
+  pub next_copy : (h : HouseConnection) (b : Caller) (c : Job) (others : List Job) → (s : StandsForConnection k seat next heard h b) → due h ≡ c ∷ others → IsNextCopy k seat h b s.message c others
   next_copy h b c others s e =
       let n = length h.verdicts in
       let f : drop n (copies_of b.talk.pending) ≡ c ∷ others = ap (λ (ss : List Submission). drop n (copies_of ss)) (sym s.pending) ∙ e in
@@ -98,7 +98,7 @@ module _ (k : Terms) (seat : ℕ) (next : CopyKey) (heard : List Noted) where
         mailbox = front_mailbox n o.0.keys o.0.mailboxes o.0.text no_flags c others (length k.directory.homes) o.2.each g;
       }
 
-  pub put_stands : (h : Line) (b : HouseConnection) (c : Job) (others : List Job) (why : Option Refusal) (after : CopyKey) (now : List Noted) → (s : StandsForConnection k seat next heard h b) → IsNextCopy k seat h b s.message c others
+  pub put_stands : (h : HouseConnection) (b : Caller) (c : Job) (others : List Job) (why : Option Refusal) (after : CopyKey) (now : List Noted) → (s : StandsForConnection k seat next heard h b) → IsNextCopy k seat h b s.message c others
       → after ≡ past c.key → All (λ r. Below r.key c.key) heard → now ≡ heard ++ heard_at_once c.key c.mailbox why
       → StandsForConnection k seat after now (noted_put (heard_verdict why) h) (record { serial = b.serial; gone = b.gone; talk = b.talk; to_put = others })
   put_stands h b c others why after now s n ea above en = record {
@@ -138,7 +138,7 @@ module _ (k : Terms) (seat : ℕ) (next : CopyKey) (heard : List Noted) where
 
   -- ---- a verdict was heard
 
-  numbers : (b : HouseConnection) (h : Line) → (s : StandsForConnection k seat next heard h b) → (i : ℕ) (d : CopyKey) → i < length (keys_of b.talk.pending) → get_or (keys_of b.talk.pending) i d ≡ record { seat = seat; serial = b.serial; message = s.message; recipient = i }
+  numbers : (b : Caller) (h : HouseConnection) → (s : StandsForConnection k seat next heard h b) → (i : ℕ) (d : CopyKey) → i < length (keys_of b.talk.pending) → get_or (keys_of b.talk.pending) i d ≡ record { seat = seat; serial = b.serial; message = s.message; recipient = i }
   numbers b h s = at b.talk.pending (few_pending b.talk.pending b.talk.at.standing.phase s.awaited) s.numbered
     where
       at : (pending : List Submission) → length pending ≤ 1 → AreMessages (setting_of k seat b.serial) (length k.directory.homes) s.message pending b.talk.at.standing.submitted
@@ -153,12 +153,12 @@ module _ (k : Terms) (seat : ℕ) (next : CopyKey) (heard : List Noted) where
           ∙ ap (λ (n : ℕ). record { seat = seat; serial = b.serial; message = s.message; recipient = n }) z
       at (t ∷ u ∷ us) few m i d lt = absurd (omega (arith, few))
 
-  pub heard_stands : (b : HouseConnection) (h : Line) (r : Noted) (g : Line) (now : List Noted) → StandsForConnection k seat next heard h b → HearsVerdict h r g → now ≡ heard ++ r ∷ [] → StandsForConnection k seat next now g b
+  pub heard_stands : (b : Caller) (h : HouseConnection) (r : Noted) (g : HouseConnection) (now : List Noted) → StandsForConnection k seat next heard h b → HearsVerdict h r g → now ≡ heard ++ r ∷ [] → StandsForConnection k seat next now g b
   heard_stands b h r g now s q en =
       let tell : TellPlaces (keys_of b.talk.pending) = λ i d lt. ap (λ (x : CopyKey). x.recipient) (numbers b h s i d lt) in
       let keys = ap keys_of s.pending in
       let o = hears_slots heard (keys_of b.talk.pending) h.verdicts r g.verdicts tell s.verdicts (subst (λ (x : List CopyKey). Hears x h.verdicts r g.verdicts) keys q.hears) in
-      subst (λ (x : Line). StandsForConnection k seat next now x b) (sym q.rest) (record {
+      subst (λ (x : HouseConnection). StandsForConnection k seat next now x b) (sym q.rest) (record {
         serial = s.serial;
         gone = s.gone;
         setting = s.setting;

@@ -7,9 +7,9 @@ use Rattle.submission.specs.Heard.{SlotsFor}
 use Rattle.lmtp_machine.specs.declared.connection.What.{What}
 use Rattle.lmtp_machine.specs.Dialogue.{Phase, Waiting, Submission}
 use Rattle.lmtp_machine.specs.Kept.{Kept, AreMessages}
-use Rattle.lmtp_machine.specs.Machine as machine
-use Rattle.house_connection.specs.Line.{Line}
-use Rattle.house_connection.specs.HouseConnection.{HouseConnection, Proceeds, Terms, copies_of, keys_of, setting_of}
+use Rattle.lmtp_machine.specs.LmtpMachine as machine
+use Rattle.house_connection.specs.HouseConnection.{HouseConnection}
+use Rattle.house_connection.specs.Caller.{Caller, Proceeds, Terms, copies_of, keys_of, setting_of}
 
 -- verdicts are awaited exactly where a message was submitted
 abbrev pub IsAwaited : List Submission → Phase → Type 0
@@ -18,7 +18,7 @@ IsAwaited (s ∷ ss) phase = (ss ≡ []) × (phase ≡ Waiting (length s.keys))
 
 -- The connection stands for this caller, whose seat has heard these verdicts and may use keys from `next` on. Which shards of the directory are shut
 -- doesn't matter to that.
-pub record StandsForConnection (k : Terms) (seat : ℕ) (next : CopyKey) (heard : List Noted) (h : Line) (b : HouseConnection) : Type 0 where
+pub record StandsForConnection (k : Terms) (seat : ℕ) (next : CopyKey) (heard : List Noted) (h : HouseConnection) (b : Caller) : Type 0 where
   pub serial : h.serial ≡ b.serial
   pub gone : h.gone ≡ b.gone
   pub setting : h.machine.setting ≡ setting_of k seat b.serial
@@ -37,7 +37,7 @@ pub record StandsForConnection (k : Terms) (seat : ℕ) (next : CopyKey) (heard 
   pub ahead : AtLeast next (record { seat = seat; serial = b.serial; message = message; recipient = length h.verdicts })
 
 -- After a caller proceeded: the connection stands for what it is then.
-pub record Proceeded (k : Terms) (whole : Bool) (seat : ℕ) (next : CopyKey) (heard : List Noted) (b : HouseConnection) (what : What) (h : Line) : Type 0 where
-  pub after : HouseConnection
+pub record Proceeded (k : Terms) (whole : Bool) (seat : ℕ) (next : CopyKey) (heard : List Noted) (b : Caller) (what : What) (h : HouseConnection) : Type 0 where
+  pub after : Caller
   pub proceeds : Proceeds k whole seat heard b what after
   pub stands : StandsForConnection k seat next heard h after

@@ -1,6 +1,6 @@
 pub mod Talk
-pub mod Line
 pub mod HouseConnection
+pub mod Caller
 pub mod Taking
 pub mod ConnectionStands
 pub mod Laws

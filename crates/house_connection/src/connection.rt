@@ -11,11 +11,11 @@ ghost use Rattle.delivery_token.specs.declared.Verdict.{Verdict};
 ghost use Rattle.delivery_token.specs.declared.log.Noted.{Noted};
 ghost use Rattle.lmtp_machine.specs.Calls.{submission_of};
 ghost use Rattle.lmtp_machine.specs.Conversation.{Conversation};
-ghost use Rattle.lmtp_machine.specs.Machine.{StandsFor};
+ghost use Rattle.lmtp_machine.specs.LmtpMachine.{StandsFor};
 ghost use Rattle.lmtp_machine.specs.declared.connection.What.{What};
 ghost use Rattle.lmtp_machine.specs.declared.connection.What.TheVariants as whats;
-ghost use Rattle.house_connection.specs.HouseConnection as spec;
-ghost use Rattle.house_connection.specs.HouseConnection.{Terms, greeted};
+ghost use Rattle.house_connection.specs.Caller as spec;
+ghost use Rattle.house_connection.specs.Caller.{Terms, greeted};
 ghost use Rattle.house_connection.specs.ConnectionStands.{IsAwaited, Proceeded, StandsForConnection};
 ghost use Rattle.house_connection.specs.inner.ConnectionStands.{WentOn, WorkedOff};
 ghost use Rattle.house_connection.specs.inner.ConnectionSteps.{SaidVerdicts};
@@ -51,10 +51,10 @@ pub struct HouseConnection {
 
 impl Model for HouseConnection {
     ghost use Rattle.std.specs.Prelude.{◌≡◌, ◌≤◌, length, true, false, []};
-    ghost use Rattle.house_connection.specs.Line.{Line};
+    ghost use Rattle.house_connection.specs.HouseConnection.{HouseConnection};
     ghost use Rattle.house_connection.specs.inner.Few.{AreFew};
 
-    ghost Value = { Line };
+    ghost Value = { HouseConnection };
 
     ghost view = { λ c. record {
       serial = c.serial;
@@ -193,9 +193,9 @@ impl HouseConnection {
         requires read { self.old.gone ≡ false }
         ensures same { self.new.gone ≡ self.old.gone }
         ensures less { line_effort self.new ≤ line_effort self.old }
-        ensures ok { IfOk result (λ what. (k : Terms) (seat : ℕ) (next : CopyKey) (heard : List Noted) (b : spec.HouseConnection) → directory.now ≡ k.directory → StandsForConnection k seat next heard self.old b →
+        ensures ok { IfOk result (λ what. (k : Terms) (seat : ℕ) (next : CopyKey) (heard : List Noted) (b : spec.Caller) → directory.now ≡ k.directory → StandsForConnection k seat next heard self.old b →
             WorkedOff k true seat next heard b what self.new) }
-        ensures err { OnErr result ((k : Terms) (seat : ℕ) (next : CopyKey) (heard : List Noted) (b : spec.HouseConnection) → directory.now ≡ k.directory → StandsForConnection k seat next heard self.old b →
+        ensures err { OnErr result ((k : Terms) (seat : ℕ) (next : CopyKey) (heard : List Noted) (b : spec.Caller) → directory.now ≡ k.directory → StandsForConnection k seat next heard self.old b →
             (what : What) × WorkedOff k false seat next heard b what self.new) }
         ensures asks { OnErr result (IsCalm self.old → ⊥) }
     {
@@ -225,9 +225,9 @@ impl HouseConnection {
         requires read { self.old.gone ≡ false }
         ensures same { self.new.gone ≡ self.old.gone }
         ensures less { line_effort self.new ≤ line_effort self.old }
-        ensures ok { IfOk result (λ what. (k : Terms) (seat : ℕ) (next : CopyKey) (heard : List Noted) (b : spec.HouseConnection) → directory.now ≡ k.directory → StandsForConnection k seat next heard self.old b →
+        ensures ok { IfOk result (λ what. (k : Terms) (seat : ℕ) (next : CopyKey) (heard : List Noted) (b : spec.Caller) → directory.now ≡ k.directory → StandsForConnection k seat next heard self.old b →
             WentOn k true seat next heard b what self.new) }
-        ensures err { OnErr result ((k : Terms) (seat : ℕ) (next : CopyKey) (heard : List Noted) (b : spec.HouseConnection) → directory.now ≡ k.directory → StandsForConnection k seat next heard self.old b →
+        ensures err { OnErr result ((k : Terms) (seat : ℕ) (next : CopyKey) (heard : List Noted) (b : spec.Caller) → directory.now ≡ k.directory → StandsForConnection k seat next heard self.old b →
             (what : What) × WentOn k false seat next heard b what self.new) }
         ensures asks { OnErr result (HasWork self.old) }
     {
@@ -246,9 +246,9 @@ impl HouseConnection {
         requires read { self.old.gone ≡ false }
         ensures same { self.new.gone ≡ self.old.gone }
         ensures less { line_effort self.new ≤ line_effort self.old }
-        ensures ok { IfOk result (λ what. (k : Terms) (seat : ℕ) (next : CopyKey) (heard : List Noted) (b : spec.HouseConnection) → directory.now ≡ k.directory → StandsForConnection k seat next heard self.old b →
+        ensures ok { IfOk result (λ what. (k : Terms) (seat : ℕ) (next : CopyKey) (heard : List Noted) (b : spec.Caller) → directory.now ≡ k.directory → StandsForConnection k seat next heard self.old b →
             WentOn k true seat next heard b what self.new) }
-        ensures err { OnErr result ((k : Terms) (seat : ℕ) (next : CopyKey) (heard : List Noted) (b : spec.HouseConnection) → directory.now ≡ k.directory → StandsForConnection k seat next heard self.old b →
+        ensures err { OnErr result ((k : Terms) (seat : ℕ) (next : CopyKey) (heard : List Noted) (b : spec.Caller) → directory.now ≡ k.directory → StandsForConnection k seat next heard self.old b →
             (what : What) × WentOn k false seat next heard b what self.new) }
         ensures asks { OnErr result (IsPatient self.old → ⊥) }
     {
@@ -276,7 +276,7 @@ impl HouseConnection {
         ensures err { OnErr result (self.new ≡ self.old) }
         ensures quiet { OnOk result (self.new.machine.pending ≡ []) }
         ensures read { self.new.gone ≡ false }
-        ensures ok { OnOk result ((k : Terms) (seat : ℕ) (next : CopyKey) (heard : List Noted) (b : spec.HouseConnection) → StandsForConnection k seat next heard self.old b → 0 < length b.talk.pending →
+        ensures ok { OnOk result ((k : Terms) (seat : ℕ) (next : CopyKey) (heard : List Noted) (b : spec.Caller) → StandsForConnection k seat next heard self.old b → 0 < length b.talk.pending →
             SaidVerdicts k seat next heard b verdicts.now self.new) }
     {
         self.machine.answer(verdicts, &mut self.unsaid)?;
@@ -321,9 +321,9 @@ impl HouseConnection {
     pub fn proceed(&mut self, directory: &Directory) -> Result<What, AllocError>
         ensures same { self.new.gone ≡ self.old.gone }
         ensures less { line_effort self.new ≤ line_effort self.old }
-        ensures ok { IfOk result (λ what. (k : Terms) (seat : ℕ) (next : CopyKey) (heard : List Noted) (b : spec.HouseConnection) → directory.now ≡ k.directory → StandsForConnection k seat next heard self.old b →
+        ensures ok { IfOk result (λ what. (k : Terms) (seat : ℕ) (next : CopyKey) (heard : List Noted) (b : spec.Caller) → directory.now ≡ k.directory → StandsForConnection k seat next heard self.old b →
             Proceeded k true seat next heard b what self.new) }
-        ensures err { OnErr result ((k : Terms) (seat : ℕ) (next : CopyKey) (heard : List Noted) (b : spec.HouseConnection) → directory.now ≡ k.directory → StandsForConnection k seat next heard self.old b →
+        ensures err { OnErr result ((k : Terms) (seat : ℕ) (next : CopyKey) (heard : List Noted) (b : spec.Caller) → directory.now ≡ k.directory → StandsForConnection k seat next heard self.old b →
             (what : What) × Proceeded k false seat next heard b what self.new) }
         ensures asks { OnErr result ((self.old.gone ≡ false) × HasWork self.old) }
     {

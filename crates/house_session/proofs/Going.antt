@@ -12,17 +12,17 @@ use Rattle.imap_session.proofs.Turns.{turns_awake}
 use Rattle.imap_session.specs.Store.{IdleTurns}
 use Rattle.imap_connection.specs.declared.connection.Progress.{Progress}
 use Rattle.imap_connection.specs.Dialogue as dialogue
-use Rattle.imap_connection.specs.Dialogue.{Dialogue, Hears, Link, Took, Turns, may_follow, spelled}
+use Rattle.imap_connection.specs.Dialogue.{Dialogue, Hears, ImapConnection, Took, Turns, may_follow, spelled}
 use Rattle.delivery_token.specs.declared.Verdict.{Verdict}
-use Rattle.house_session.specs.HouseSession.{HouseSession}
-use Rattle.house_session.specs.Place.{HadTurn, Answered, AnsweredVerdict, Place, StandsFor, Turned}
+use Rattle.house_session.specs.Visitor.{Visitor}
+use Rattle.house_session.specs.HouseSession.{HadTurn, Answered, AnsweredVerdict, HouseSession, StandsFor, Turned}
 
 -- where all of it was taken, nothing waits
 none_left : (waits : List ℕ) (used : ℕ) → used ≡ length waits → drop used waits ≡ []
 none_left waits used e = ap (λ n. drop n waits) e ∙ drop-length waits
 
 -- nothing that may be answered waits, where the connection says what may come next
-all_answered : (next : Dialogue) (rest : List ℕ) (link : Link) (how : After) → dialogue.StandsFor link next → (may_follow how ≡ true → rest ≡ []) → how ≡ may_send link.session
+all_answered : (next : Dialogue) (rest : List ℕ) (link : ImapConnection) (how : After) → dialogue.StandsFor link next → (may_follow how ≡ true → rest ≡ []) → how ≡ may_send link.session
     → may_follow (may_send next.standing) ≡ true → IsUncut (next.begun ++ rest) × (0 < due_of next.standing.mailing.begun → next.begun ++ rest ≡ [])
 all_answered next rest link how s none sends free =
     let follows : may_follow how ≡ true = ap may_follow (sends ∙ ap may_send s.session) ∙ free in
@@ -32,7 +32,7 @@ all_answered next rest link how s none sends free =
 if_some : {A : Type 0} (o : Option A) (x : A) (P : A → Type 0) → o ≡ Some x → IfSome o P → P x
 if_some o x P e h = subst (λ y. IfSome y P) e h
 
-pub answered : {S : Type 0} (step : S → Call → Answer → S → Type 0) (whole : Bool) (v : HouseSession) (old new : S) (link new_link : Link) (came : List ℕ) (unsaid new_unsaid : List ℕ) (progress : Progress)
+pub answered : {S : Type 0} (step : S → Call → Answer → S → Type 0) (whole : Bool) (v : Visitor) (old new : S) (link new_link : ImapConnection) (came : List ℕ) (unsaid new_unsaid : List ℕ) (progress : Progress)
     → StandsFor (record { link = link; came = came; unsaid = unsaid }) v
     → ((d : Dialogue) → dialogue.StandsFor link d → Took step d came old new unsaid new_unsaid progress new_link)
     → IfSome progress.after (λ after. may_follow after ≡ true → progress.used ≡ length came)
@@ -77,7 +77,7 @@ sent_rests false (Some s) other e = refl
 pub awaiting_rests : (x : Standing) → is_some x.mailing.sent ≡ true → may_follow (may_send x) ≡ false
 awaiting_rests x e = sent_rests x.ended x.mailing.sent (waits_begun x.mailing.begun (waits_idling x.idling)) e
 
-pub rests : {S : Type 0} (step : S → Call → Answer → S → Type 0) (v : HouseSession) (old : S) (p : Place) → StandsFor p v → may_follow (may_send p.link.session) ≡ false → Answered step true v old old p
+pub rests : {S : Type 0} (step : S → Call → Answer → S → Type 0) (v : Visitor) (old : S) (p : HouseSession) → StandsFor p v → may_follow (may_send p.link.session) ≡ false → Answered step true v old old p
 rests step v old p s over = record {
   after = v;
   said = [];
@@ -90,7 +90,7 @@ rests step v old p s over = record {
 -- ---- turns while it idles
 
 -- what a turn said, at its place
-pub turned : {S : Type 0} (step : S → Call → Answer → S → Type 0) (v : HouseSession) (old new : S) (link new_link : Link) (came unsaid new_unsaid : List ℕ) (count : ℕ)
+pub turned : {S : Type 0} (step : S → Call → Answer → S → Type 0) (v : Visitor) (old new : S) (link new_link : ImapConnection) (came unsaid new_unsaid : List ℕ) (count : ℕ)
     → StandsFor (record { link = link; came = came; unsaid = unsaid }) v
     → ((d : Dialogue) → dialogue.StandsFor link d → Turns step d old new unsaid new_unsaid count new_link)
     → Turned step count v old new (record { link = new_link; came = came; unsaid = new_unsaid })
@@ -111,7 +111,7 @@ ended_idles_not : (x : Standing) (some : Bool) → x.ended ≡ true → is_some 
 ended_idles_not x true e h = ap (λ b. b && not x.ended) h ∙ ap not e
 ended_idles_not x false e h = ap (λ b. b && not x.ended) h
 
-pub turned_ended : {S : Type 0} (step : S → Call → Answer → S → Type 0) (v : HouseSession) (old : S) (p : Place) → StandsFor p v → p.link.session.ended ≡ true → Turned step 0 v old old p
+pub turned_ended : {S : Type 0} (step : S → Call → Answer → S → Type 0) (v : Visitor) (old : S) (p : HouseSession) → StandsFor p v → p.link.session.ended ≡ true → Turned step 0 v old old p
 turned_ended step v old p s over = record {
   after = v;
   said = [];
@@ -122,17 +122,17 @@ turned_ended step v old p s over = record {
 }
 
 -- the same, for whichever visitor
-pub had_none : {S : Type 0} (step : S → Call → Answer → S → Type 0) (old : S) (p : Place) → p.link.session.ended ≡ true → HadTurn step p old old 0 p
+pub had_none : {S : Type 0} (step : S → Call → Answer → S → Type 0) (old : S) (p : HouseSession) → p.link.session.ended ≡ true → HadTurn step p old old 0 p
 had_none step old p over = ([], turns_awake step p.link.session old [] (ended_idles_not p.link.session (is_some p.link.session.idling) over refl))
 
-pub had_turn : {S : Type 0} (step : S → Call → Answer → S → Type 0) (p q : Place) (old new : S) (before after : List ℕ) (count : ℕ) → IdleTurns step p.link.session old new before after count q.link.session → HadTurn step p old new count q
+pub had_turn : {S : Type 0} (step : S → Call → Answer → S → Type 0) (p q : HouseSession) (old new : S) (before after : List ℕ) (count : ℕ) → IdleTurns step p.link.session old new before after count q.link.session → HadTurn step p old new count q
 had_turn step p q old new before after count a =
     (a.bytes, record { answers = a.answers; events = a.events; bytes = a.bytes; how = a.how; played = a.played; met = a.met; wrote = refl; shown = a.shown })
 
 -- ---- verdicts
 
 -- what was said to a verdict, at its place
-pub verdict_answered : {S : Type 0} (step : S → Call → Answer → S → Type 0) (verdict : Verdict) (v : HouseSession) (old new : S) (link new_link : Link) (came unsaid new_unsaid : List ℕ) (how : After)
+pub verdict_answered : {S : Type 0} (step : S → Call → Answer → S → Type 0) (verdict : Verdict) (v : Visitor) (old new : S) (link new_link : ImapConnection) (came unsaid new_unsaid : List ℕ) (how : After)
     → StandsFor (record { link = link; came = came; unsaid = unsaid }) v
     → ((d : Dialogue) → dialogue.StandsFor link d → Hears step d verdict old new unsaid new_unsaid how new_link)
     → AnsweredVerdict step verdict v old new (record { link = new_link; came = came; unsaid = new_unsaid })

@@ -16,8 +16,8 @@ use Rattle.submission.specs.inner.Verdicts.{heard_verdict}
 use Rattle.submission.proofs.Copies.{front_within}
 use Rattle.submission.proofs.Slots.{slot_now, slots_push}
 use Rattle.imap_session.specs.Exchange.{Sent}
-use Rattle.house_session.specs.Seated.{SeatedSession, copies_of, keys_of, sent_by}
-use Rattle.house_session.specs.Seat.{Seat, StandsForSeated, due, key_with, noted_put, submitted_at}
+use Rattle.house_session.specs.SeatedVisitor.{SeatedVisitor, copies_of, keys_of, sent_by}
+use Rattle.house_session.specs.SeatedSession.{SeatedSession, StandsForSeated, due, key_with, noted_put, submitted_at}
 
 -- the copy of this message
 abbrev pub copy_of : ℕ → ℕ → Sent → Job
@@ -37,7 +37,7 @@ next_of seat serial (Some x) [] c others e =
     record { message = x; submitted = refl; none_put = refl; is = let f : copy_of seat serial x ≡ c = cc in sym f; only = let f : [] ≡ others = cc in sym f }
 next_of seat serial (Some x) (o ∷ os) c others e = absurd (let l = front_within (suc (length os)) (copy_of seat serial x ∷ []) c others e in omega (arith, l))
 
-pub next_copy : (seat : ℕ) (next : CopyKey) (heard : List Noted) (v : SeatedSession) (p : Seat) (c : Job) (others : List Job) → StandsForSeated seat next heard p v → due p ≡ c ∷ others → IsNextCopy seat v.serial (sent_by v) p.slots c others
+pub next_copy : (seat : ℕ) (next : CopyKey) (heard : List Noted) (v : SeatedVisitor) (p : SeatedSession) (c : Job) (others : List Job) → StandsForSeated seat next heard p v → due p ≡ c ∷ others → IsNextCopy seat v.serial (sent_by v) p.slots c others
 next_copy seat next heard v p c others s e =
     let same : copies_of p.number p.serial (submitted_at p) ≡ copies_of seat v.serial (sent_by v) = ap (λ (n : ℕ). copies_of n p.serial (submitted_at p)) s.number ∙ ap (λ (n : ℕ). copies_of seat n (submitted_at p)) s.serial ∙ ap (copies_of seat v.serial) s.submitted in
     next_of seat v.serial (sent_by v) p.slots c others (ap (λ (jobs : List Job). submission.due jobs p.slots) (sym same) ∙ e)
@@ -66,7 +66,7 @@ one_slot heard key mailbox (Some r) above =
     let now : Noted = record { key = key; mailbox = mailbox; verdict = Refused r } in
     slots_push (heard ++ now ∷ []) (key ∷ []) [] (Some (Refused r)) (omega arith) (λ i k d l. absurd (omega (arith, l))) (λ k. slot_now heard key now refl)
 
-pub put_stands : (seat : ℕ) (next : CopyKey) (heard now : List Noted) (v : SeatedSession) (p : Seat) (c : Job) (others : List Job) (why : Option Refusal) (after : CopyKey) → StandsForSeated seat next heard p v
+pub put_stands : (seat : ℕ) (next : CopyKey) (heard now : List Noted) (v : SeatedVisitor) (p : SeatedSession) (c : Job) (others : List Job) (why : Option Refusal) (after : CopyKey) → StandsForSeated seat next heard p v
     → IsNextCopy seat v.serial (sent_by v) p.slots c others → after ≡ past c.key → All (λ (r : Noted). Below r.key c.key) heard → now ≡ heard ++ heard_at_once c.key c.mailbox why
     → StandsForSeated seat after now (noted_put (heard_verdict why) p) (record { session = v.session; serial = v.serial; gone = v.gone; to_put = others })
 put_stands seat next heard now v p c others why after s n used above heard_now = record {

@@ -12,14 +12,14 @@ use Rattle.submission.proofs.Copies.{all_put, no-key}
 use Rattle.submission.proofs.Slots.{all-full, heard-for, hears_slots, no-slots}
 use Rattle.imap_session.specs.Exchange.{Call, Answer, Mailing, Sent, Standing, may_send}
 use Rattle.imap_connection.specs.Dialogue.{may_follow}
-use Rattle.house_session.specs.HouseSession.{Answers, HasAnswered, HouseSession}
-use Rattle.house_session.specs.Place as place
-use Rattle.house_session.specs.Place.{Answered, AnsweredVerdict, Place, Turned}
-use Rattle.house_session.specs.Seated.{Awaits, IsAnswered, IsSettled, SeatedSession, Works, copies_of, keys_of, sent_by, told}
-use Rattle.house_session.specs.Seated as seated
+use Rattle.house_session.specs.Visitor.{Answers, HasAnswered, Visitor}
+use Rattle.house_session.specs.HouseSession as place
+use Rattle.house_session.specs.HouseSession.{Answered, AnsweredVerdict, HouseSession, Turned}
+use Rattle.house_session.specs.SeatedVisitor.{Awaits, IsAnswered, IsSettled, SeatedVisitor, Works, copies_of, keys_of, sent_by, told}
+use Rattle.house_session.specs.SeatedVisitor as seated
 use Rattle.delivery_token.specs.Keys.{AtLeast, Below}
 use Rattle.house_session.proofs.Rising.{NumbersRise, converses_rise, idles_keep, verdict_rises}
-use Rattle.house_session.specs.Seat.{HearsVerdict, key_with, Proceeded, SeatedTurned, Seat, StandsForSeated, submitted_at, with_nobody_there, with_place}
+use Rattle.house_session.specs.SeatedSession.{HearsVerdict, key_with, Proceeded, SeatedTurned, SeatedSession, StandsForSeated, submitted_at, with_nobody_there, with_place}
 use Rattle.house_session.proofs.Going.{awaiting_rests, ended_rests}
 
 -- ---- one copy
@@ -101,15 +101,15 @@ ahead_told seat next serial n m (Some x) slots e below l a = by a
 -- ---- what comes of a call
 
 -- what waited was answered, and the copy of a message that ends it is to be put
-record Went {S : Type 0} (step : S → Call → Answer → S → Type 0) (whole : Bool) (seat : ℕ) (next : CopyKey) (heard : List Noted) (v : SeatedSession) (old new : S) (p : Seat) : Type 0 where
-  pub after : SeatedSession
+record Went {S : Type 0} (step : S → Call → Answer → S → Type 0) (whole : Bool) (seat : ℕ) (next : CopyKey) (heard : List Noted) (v : SeatedVisitor) (old new : S) (p : SeatedSession) : Type 0 where
+  pub after : SeatedVisitor
   pub said : List ℕ
   pub works : Works step seat v old new after said
   pub kept : after.session.unsaid ≡ v.session.unsaid ++ said
   pub all : whole ≡ true → HasAnswered after.session
   pub stands : StandsForSeated seat next heard p after
 
-went : {S : Type 0} (step : S → Call → Answer → S → Type 0) (whole : Bool) (seat : ℕ) (next : CopyKey) (heard : List Noted) (v : SeatedSession) (old new : S) (p : Seat) (q : Place) → StandsForSeated seat next heard p v → sent_by v ≡ None
+went : {S : Type 0} (step : S → Call → Answer → S → Type 0) (whole : Bool) (seat : ℕ) (next : CopyKey) (heard : List Noted) (v : SeatedVisitor) (old new : S) (p : SeatedSession) (q : HouseSession) → StandsForSeated seat next heard p v → sent_by v ≡ None
     → Answered step whole v.session old new q → Went step whole seat next heard v old new (with_place q p)
 went step whole seat next heard v old new p q s none a =
     let empty = none_kept seat v.serial heard (sent_by v) p.slots none s.verdicts in
@@ -149,23 +149,23 @@ went step whole seat next heard v old new p q s none a =
     later x (inr r) = r.0
 
 -- nothing was submitted: it answers what waits
-pub worked : {S : Type 0} (step : S → Call → Answer → S → Type 0) (whole : Bool) (seat : ℕ) (next : CopyKey) (heard : List Noted) (v : SeatedSession) (old new : S) (p : Seat) (q : Place) → StandsForSeated seat next heard p v → p.gone ≡ false
-    → p.place.link.session.mailing.sent ≡ None → ((w : HouseSession) → place.StandsFor p.place w → Answered step whole w old new q) → Proceeded step whole seat next heard v old new (with_place q p)
+pub worked : {S : Type 0} (step : S → Call → Answer → S → Type 0) (whole : Bool) (seat : ℕ) (next : CopyKey) (heard : List Noted) (v : SeatedVisitor) (old new : S) (p : SeatedSession) (q : HouseSession) → StandsForSeated seat next heard p v → p.gone ≡ false
+    → p.place.link.session.mailing.sent ≡ None → ((w : Visitor) → place.StandsFor p.place w → Answered step whole w old new q) → Proceeded step whole seat next heard v old new (with_place q p)
 worked step whole seat next heard v old new p q s there none goes =
     let unsent : sent_by v ≡ None = sym s.submitted ∙ none in
     let w = went step whole seat next heard v old new p q s unsent (goes v.session (s.place there)) in
     record { after = w.after; said = w.said; proceeds = seated.talks (sym s.gone ∙ there) (seated.works unsent w.works); kept = w.kept; all = λ all live. w.all all; stands = w.stands }
 
 -- the verdict is known: it answers that, and then what waits
-pub told_and_worked : {S : Type 0} (step : S → Call → Answer → S → Type 0) (whole : Bool) (seat : ℕ) (next : CopyKey) (heard : List Noted) (v : SeatedSession) (old mid new : S) (p : Seat) (q r : Place) (verdict : Verdict) → StandsForSeated seat next heard p v
-    → p.gone ≡ false → is_some p.place.link.session.mailing.sent ≡ true → AreKnown 1 p.slots (verdict ∷ []) → ((w : HouseSession) → place.StandsFor p.place w → AnsweredVerdict step verdict w old mid q) → q.link.session.mailing.sent ≡ None
-    → ((w : HouseSession) → place.StandsFor q w → Answered step whole w mid new r) → Proceeded step whole seat next heard v old new (record { place = r; number = p.number; serial = p.serial; gone = p.gone; slots = [] })
+pub told_and_worked : {S : Type 0} (step : S → Call → Answer → S → Type 0) (whole : Bool) (seat : ℕ) (next : CopyKey) (heard : List Noted) (v : SeatedVisitor) (old mid new : S) (p : SeatedSession) (q r : HouseSession) (verdict : Verdict) → StandsForSeated seat next heard p v
+    → p.gone ≡ false → is_some p.place.link.session.mailing.sent ≡ true → AreKnown 1 p.slots (verdict ∷ []) → ((w : Visitor) → place.StandsFor p.place w → AnsweredVerdict step verdict w old mid q) → q.link.session.mailing.sent ≡ None
+    → ((w : Visitor) → place.StandsFor q w → Answered step whole w mid new r) → Proceeded step whole seat next heard v old new (record { place = r; number = p.number; serial = p.serial; gone = p.gone; slots = [] })
 told_and_worked step whole seat next heard v old mid new p q r verdict s there sent known tells done goes =
     let a = tells v.session (s.place there) in
     let awaited : is_some (sent_by v) ≡ true = ap (λ (o : Option Sent). is_some o) (sym s.submitted) ∙ sent in
     let unsent : a.after.standing.mailing.sent ≡ None = ap (λ (x : Standing). x.mailing.sent) (sym a.stands.connection.session) ∙ done in
-    let between : SeatedSession = record { session = a.after; serial = v.serial; gone = v.gone; to_put = [] } in
-    let here : Seat = record { place = q; number = p.number; serial = p.serial; gone = p.gone; slots = [] } in
+    let between : SeatedVisitor = record { session = a.after; serial = v.serial; gone = v.gone; to_put = [] } in
+    let here : SeatedSession = record { place = q; number = p.number; serial = p.serial; gone = p.gone; slots = [] } in
     let at : StandsForSeated seat next heard here between = record {
       place = λ live. a.stands;
       submitted = ap (λ (x : Standing). x.mailing.sent) a.stands.connection.session;
@@ -193,16 +193,16 @@ told_and_worked step whole seat next heard v old mid new p q r verdict s there s
 
 -- ---- nothing is done
 
-unmoved : {S : Type 0} (step : S → Call → Answer → S → Type 0) (whole : Bool) (seat : ℕ) (next : CopyKey) (heard : List Noted) (v : SeatedSession) (old : S) (p : Seat) → StandsForSeated seat next heard p v
+unmoved : {S : Type 0} (step : S → Call → Answer → S → Type 0) (whole : Bool) (seat : ℕ) (next : CopyKey) (heard : List Noted) (v : SeatedVisitor) (old : S) (p : SeatedSession) → StandsForSeated seat next heard p v
     → seated.Proceeds step whole seat heard v old old v [] → (whole ≡ true → v.gone ≡ false → HasAnswered v.session) → Proceeded step whole seat next heard v old old p
 unmoved step whole seat next heard v old p s proceeds all = record { after = v; said = []; proceeds = proceeds; kept = sym (append-nil v.session.unsaid); all = all; stands = s }
 
 -- a session that may be sent nothing has answered all
-may_not : (v : HouseSession) → may_follow (may_send v.standing) ≡ false → HasAnswered v
+may_not : (v : Visitor) → may_follow (may_send v.standing) ≡ false → HasAnswered v
 may_not v e free = absurd (let a : may_follow (may_send v.standing) ≡ false = e in let b : may_follow (may_send v.standing) ≡ true = free in cc)
 
 -- the verdict isn't known
-pub waited : {S : Type 0} (step : S → Call → Answer → S → Type 0) (seat : ℕ) (next : CopyKey) (heard : List Noted) (v : SeatedSession) (old : S) (p : Seat) → StandsForSeated seat next heard p v → p.gone ≡ false
+pub waited : {S : Type 0} (step : S → Call → Answer → S → Type 0) (seat : ℕ) (next : CopyKey) (heard : List Noted) (v : SeatedVisitor) (old : S) (p : SeatedSession) → StandsForSeated seat next heard p v → p.gone ≡ false
     → is_some p.place.link.session.mailing.sent ≡ true → ((vs : List Verdict) → AreKnown 1 p.slots vs → ⊥) → Proceeded step true seat next heard v old old p
 waited step seat next heard v old p s there sent unknown =
     let awaited : is_some (sent_by v) ≡ true = ap (λ (o : Option Sent). is_some o) (sym s.submitted) ∙ sent in
@@ -214,26 +214,26 @@ waited step seat next heard v old p s there sent unknown =
     }) refl refl refl))
     (λ all live. may_not v.session (awaiting_rests v.session.standing awaited))
 
-pub stalled : {S : Type 0} (step : S → Call → Answer → S → Type 0) (seat : ℕ) (next : CopyKey) (heard : List Noted) (v : SeatedSession) (old new : S) (p : Seat) → StandsForSeated seat next heard p v → p.gone ≡ false → new ≡ old
+pub stalled : {S : Type 0} (step : S → Call → Answer → S → Type 0) (seat : ℕ) (next : CopyKey) (heard : List Noted) (v : SeatedVisitor) (old new : S) (p : SeatedSession) → StandsForSeated seat next heard p v → p.gone ≡ false → new ≡ old
     → Proceeded step false seat next heard v old new p
 stalled step seat next heard v old new p s there same =
     subst (λ (x : _). Proceeded step false seat next heard v old x p) (sym same)
     (unmoved step false seat next heard v old p s (seated.talks (sym s.gone ∙ there) (seated.stalls refl refl refl refl)) (λ all live. absurd (let x : false ≡ true = all in cc)))
 
-pub ended : {S : Type 0} (step : S → Call → Answer → S → Type 0) (seat : ℕ) (next : CopyKey) (heard : List Noted) (v : SeatedSession) (old : S) (p : Seat) → StandsForSeated seat next heard p v → p.gone ≡ false → p.place.link.session.ended ≡ true
+pub ended : {S : Type 0} (step : S → Call → Answer → S → Type 0) (seat : ℕ) (next : CopyKey) (heard : List Noted) (v : SeatedVisitor) (old : S) (p : SeatedSession) → StandsForSeated seat next heard p v → p.gone ≡ false → p.place.link.session.ended ≡ true
     → Proceeded step true seat next heard v old old p
 ended step seat next heard v old p s there over =
     let is : v.session.standing.ended ≡ true = ap (λ (x : Standing). x.ended) (sym (s.place there).connection.session) ∙ over in
     unmoved step true seat next heard v old p s (seated.talks (sym s.gone ∙ there) (seated.rests is refl refl refl)) (λ all live. may_not v.session (ended_rests v.session.standing is))
 
-pub unread : {S : Type 0} (step : S → Call → Answer → S → Type 0) (seat : ℕ) (next : CopyKey) (heard : List Noted) (v : SeatedSession) (old : S) (p : Seat) → StandsForSeated seat next heard p v → p.gone ≡ true → Proceeded step true seat next heard v old old p
+pub unread : {S : Type 0} (step : S → Call → Answer → S → Type 0) (seat : ℕ) (next : CopyKey) (heard : List Noted) (v : SeatedVisitor) (old : S) (p : SeatedSession) → StandsForSeated seat next heard p v → p.gone ≡ true → Proceeded step true seat next heard v old old p
 unread step seat next heard v old p s gone =
     unmoved step true seat next heard v old p s (seated.lingers (sym s.gone ∙ gone) refl refl refl)
     (λ all live. absurd (let a : v.gone ≡ true = sym s.gone ∙ gone in let b : v.gone ≡ false = live in cc))
 
 -- ---- what is awaited
 
-pub awaits : (seat : ℕ) (next : CopyKey) (heard : List Noted) (v : SeatedSession) (p : Seat) → StandsForSeated seat next heard p v → is_some p.place.link.session.mailing.sent ≡ true → ((vs : List Verdict) → AreKnown 1 p.slots vs → ⊥) → Awaits seat heard v
+pub awaits : (seat : ℕ) (next : CopyKey) (heard : List Noted) (v : SeatedVisitor) (p : SeatedSession) → StandsForSeated seat next heard p v → is_some p.place.link.session.mailing.sent ≡ true → ((vs : List Verdict) → AreKnown 1 p.slots vs → ⊥) → Awaits seat heard v
 awaits seat next heard v p s sent unknown =
     let awaited : is_some (sent_by v) ≡ true = ap (λ (o : Option Sent). is_some o) (sym s.submitted) ∙ sent in
     record {
@@ -241,14 +241,14 @@ awaits seat next heard v p s sent unknown =
       unheard = λ verdict a. let k = known_of seat v.serial heard (sent_by v) p.slots verdict awaited s.verdicts (subst (λ (jobs : List _). AreAnswered heard jobs (keys_of seat v.serial (sent_by v)) (verdict ∷ [])) s.to_put a) in unknown k.0 k.1;
     }
 
-pub is_settled : (seat : ℕ) (next : CopyKey) (heard : List Noted) (v : SeatedSession) (p : Seat) (verdict : Verdict) → StandsForSeated seat next heard p v → is_some p.place.link.session.mailing.sent ≡ true → AreKnown 1 p.slots (verdict ∷ []) → IsSettled seat heard v
+pub is_settled : (seat : ℕ) (next : CopyKey) (heard : List Noted) (v : SeatedVisitor) (p : SeatedSession) (verdict : Verdict) → StandsForSeated seat next heard p v → is_some p.place.link.session.mailing.sent ≡ true → AreKnown 1 p.slots (verdict ∷ []) → IsSettled seat heard v
 is_settled seat next heard v p verdict s sent known =
     let awaited : is_some (sent_by v) ≡ true = ap (λ (o : Option Sent). is_some o) (sym s.submitted) ∙ sent in
     inr (verdict, subst (λ (jobs : List _). AreAnswered heard jobs (keys_of seat v.serial (sent_by v)) (verdict ∷ [])) (sym s.to_put) (answered_of seat v.serial heard (sent_by v) p.slots verdict awaited s.verdicts known))
 
 -- ---- a copy was put, or a verdict was heard
 
-pub vanished : (seat : ℕ) (next : CopyKey) (heard : List Noted) (v : SeatedSession) (p : Seat) → StandsForSeated seat next heard p v → StandsForSeated seat next heard (with_nobody_there p) (seated.unread v)
+pub vanished : (seat : ℕ) (next : CopyKey) (heard : List Noted) (v : SeatedVisitor) (p : SeatedSession) → StandsForSeated seat next heard p v → StandsForSeated seat next heard (with_nobody_there p) (seated.unread v)
 vanished seat next heard v p s = record {
   place = λ live. absurd (let x : true ≡ false = live in cc);
   submitted = s.submitted;
@@ -266,12 +266,12 @@ one_key seat serial None i d l = absurd (omega (arith, l))
 one_key seat serial (Some sent) zero d l = refl
 one_key seat serial (Some sent) (suc i) d l = absurd (omega (arith, l))
 
-pub heard_stands : (seat : ℕ) (next : CopyKey) (heard now : List Noted) (v : SeatedSession) (p q : Seat) (r : Noted) → StandsForSeated seat next heard p v → HearsVerdict p r q → now ≡ heard ++ r ∷ [] → StandsForSeated seat next now q v
+pub heard_stands : (seat : ℕ) (next : CopyKey) (heard now : List Noted) (v : SeatedVisitor) (p q : SeatedSession) (r : Noted) → StandsForSeated seat next heard p v → HearsVerdict p r q → now ≡ heard ++ r ∷ [] → StandsForSeated seat next now q v
 heard_stands seat next heard now v p q r s h e =
     let keys = keys_of seat v.serial (sent_by v) in
     let same : keys_of p.number p.serial (submitted_at p) ≡ keys = ap (λ (n : ℕ). keys_of n p.serial (submitted_at p)) s.number ∙ ap (λ (n : ℕ). keys_of seat n (submitted_at p)) s.serial ∙ ap (keys_of seat v.serial) s.submitted in
     let o = hears_slots heard keys p.slots r q.slots (one_key seat v.serial (sent_by v)) s.verdicts (subst (λ (ks : List CopyKey). Hears ks p.slots r q.slots) same h.hears) in
-    subst (λ (x : Seat). StandsForSeated seat next now x v) (sym h.rest) (record {
+    subst (λ (x : SeatedSession). StandsForSeated seat next now x v) (sym h.rest) (record {
       place = s.place;
       submitted = s.submitted;
       number = s.number;
@@ -289,8 +289,8 @@ heard_stands seat next heard now v p q r s h e =
 
 -- ---- turns while it idles
 
-pub seat_turned : {S : Type 0} (step : S → Call → Answer → S → Type 0) (count : ℕ) (seat : ℕ) (next : CopyKey) (heard : List Noted) (v : SeatedSession) (old new : S) (p : Seat) (q : Place) → StandsForSeated seat next heard p v → p.gone ≡ false
-    → ((w : HouseSession) → place.StandsFor p.place w → Turned step count w old new q) → SeatedTurned step count seat next heard v old new (with_place q p)
+pub seat_turned : {S : Type 0} (step : S → Call → Answer → S → Type 0) (count : ℕ) (seat : ℕ) (next : CopyKey) (heard : List Noted) (v : SeatedVisitor) (old new : S) (p : SeatedSession) (q : HouseSession) → StandsForSeated seat next heard p v → p.gone ≡ false
+    → ((w : Visitor) → place.StandsFor p.place w → Turned step count w old new q) → SeatedTurned step count seat next heard v old new (with_place q p)
 seat_turned step count seat next heard v old new p q s there turns =
     let t = turns v.session (s.place there) in
     let same : t.after.standing.mailing ≡ v.session.standing.mailing = idles_keep step v.session.standing old new [] t.said count t.after.standing t.turned in

@@ -1,5 +1,5 @@
+pub mod Visitor
 pub mod HouseSession
-pub mod Place
 pub mod Folders
-pub mod Seated
-pub mod Seat
+pub mod SeatedVisitor
+pub mod SeatedSession

@@ -10,10 +10,10 @@ ghost use Rattle.delivery_token.specs.declared.log.Noted.{Noted as NotedSpec};
 ghost use Rattle.imap_session.specs.Exchange.{is_idling};
 ghost use Rattle.imap_session.specs.Store.{Starves};
 ghost use Rattle.imap_connection.specs.Dialogue.{Asks};
-ghost use Rattle.house_session.specs.Place.{HadTurn, with_all_said, with_more};
-ghost use Rattle.house_session.specs.Seated as spec;
-ghost use Rattle.house_session.specs.Seated.{Awaits, IsSettled, keys_of, seated_greeted};
-ghost use Rattle.house_session.specs.Seat.{HearsVerdict, Proceeded, SeatedTurned, StandsForSeated, due, noted_put, seat_effort, submitted_at, with_nobody_there, with_place};
+ghost use Rattle.house_session.specs.HouseSession.{HadTurn, with_all_said, with_more};
+ghost use Rattle.house_session.specs.SeatedVisitor as spec;
+ghost use Rattle.house_session.specs.SeatedVisitor.{Awaits, IsSettled, keys_of, seated_greeted};
+ghost use Rattle.house_session.specs.SeatedSession.{HearsVerdict, Proceeded, SeatedTurned, StandsForSeated, due, noted_put, seat_effort, submitted_at, with_nobody_there, with_place};
 
 use crate::session::HouseSession;
 use delivery_token::{CopyKey, Noted, Verdict};
@@ -35,9 +35,9 @@ pub struct SeatedSession {
 
 impl Model for SeatedSession {
     ghost use Rattle.std.specs.Prelude.{◌≤◌};
-    ghost use Rattle.house_session.specs.Seat.{Seat};
+    ghost use Rattle.house_session.specs.SeatedSession.{SeatedSession};
 
-    ghost Value = { Seat };
+    ghost Value = { SeatedSession };
 
     ghost view = { λ s. record { place = s.session; number = s.seat; serial = s.serial; gone = s.is_gone; slots = s.verdicts.slots } };
 
@@ -163,8 +163,8 @@ impl SeatedSession {
         requires there { self.old.gone ≡ false }
         requires going { self.old.place.link.session.ended ≡ false }
         requires waits { is_some (submitted_at self.old) ≡ true }
-        ensures ok { OnOk result ((seat : ℕ) (next : Key) (heard : List NotedSpec) (v : spec.SeatedSession) → StandsForSeated seat next heard self.old v → Proceeded S.step true seat next heard v store.old store.new self.new) }
-        ensures err { OnErr result ((seat : ℕ) (next : Key) (heard : List NotedSpec) (v : spec.SeatedSession) → StandsForSeated seat next heard self.old v → Proceeded S.step false seat next heard v store.old store.new self.new) }
+        ensures ok { OnOk result ((seat : ℕ) (next : Key) (heard : List NotedSpec) (v : spec.SeatedVisitor) → StandsForSeated seat next heard self.old v → Proceeded S.step true seat next heard v store.old store.new self.new) }
+        ensures err { OnErr result ((seat : ℕ) (next : Key) (heard : List NotedSpec) (v : spec.SeatedVisitor) → StandsForSeated seat next heard self.old v → Proceeded S.step false seat next heard v store.old store.new self.new) }
         ensures less { seat_effort self.new ≤ seat_effort self.old }
         ensures asked { Asks S.step store.old store.new }
         ensures gone { self.new.gone ≡ self.old.gone }
@@ -193,8 +193,8 @@ impl SeatedSession {
 
     /// Whether it awaits the verdict on a message, and that isn't known.
     pub fn awaits_verdict(&self) -> bool
-        ensures awaits { result ≡ true → (seat : ℕ) (next : Key) (heard : List NotedSpec) (v : spec.SeatedSession) → StandsForSeated seat next heard self.now v → Awaits seat heard v }
-        ensures settled { result ≡ false → (seat : ℕ) (next : Key) (heard : List NotedSpec) (v : spec.SeatedSession) → StandsForSeated seat next heard self.now v → IsSettled seat heard v }
+        ensures awaits { result ≡ true → (seat : ℕ) (next : Key) (heard : List NotedSpec) (v : spec.SeatedVisitor) → StandsForSeated seat next heard self.now v → Awaits seat heard v }
+        ensures settled { result ≡ false → (seat : ℕ) (next : Key) (heard : List NotedSpec) (v : spec.SeatedVisitor) → StandsForSeated seat next heard self.now v → IsSettled seat heard v }
     {
         if !self.session.awaits_verdict() {
             return false;
@@ -212,8 +212,8 @@ impl SeatedSession {
     ///
     /// Errors: `AllocError` where memory was refused. What was done stands, and the next call goes on from there.
     pub fn proceed<S: Store>(&mut self, alloc: Global, store: &mut S) -> Result<(), AllocError>
-        ensures ok { OnOk result ((seat : ℕ) (next : Key) (heard : List NotedSpec) (v : spec.SeatedSession) → StandsForSeated seat next heard self.old v → Proceeded S.step true seat next heard v store.old store.new self.new) }
-        ensures err { OnErr result ((seat : ℕ) (next : Key) (heard : List NotedSpec) (v : spec.SeatedSession) → StandsForSeated seat next heard self.old v → Proceeded S.step false seat next heard v store.old store.new self.new) }
+        ensures ok { OnOk result ((seat : ℕ) (next : Key) (heard : List NotedSpec) (v : spec.SeatedVisitor) → StandsForSeated seat next heard self.old v → Proceeded S.step true seat next heard v store.old store.new self.new) }
+        ensures err { OnErr result ((seat : ℕ) (next : Key) (heard : List NotedSpec) (v : spec.SeatedVisitor) → StandsForSeated seat next heard self.old v → Proceeded S.step false seat next heard v store.old store.new self.new) }
         ensures less { seat_effort self.new ≤ seat_effort self.old }
         ensures asked { Asks S.step store.old store.new }
         ensures gone { self.new.gone ≡ self.old.gone }
@@ -238,7 +238,7 @@ impl SeatedSession {
     /// Errors: `AllocError` where memory was refused. Nothing happened then.
     pub fn idle_turn<S: Store>(&mut self, store: &mut S) -> Result<usize, AllocError>
         requires there { self.old.gone ≡ false }
-        ensures ok { IfOk result (λ count. (seat : ℕ) (next : Key) (heard : List NotedSpec) (v : spec.SeatedSession) → StandsForSeated seat next heard self.old v → SeatedTurned S.step count seat next heard v store.old store.new self.new) }
+        ensures ok { IfOk result (λ count. (seat : ℕ) (next : Key) (heard : List NotedSpec) (v : spec.SeatedVisitor) → StandsForSeated seat next heard self.old v → SeatedTurned S.step count seat next heard v store.old store.new self.new) }
         ensures session { IfOk result (λ count. HadTurn S.step self.old.place store.old store.new count self.new.place) }
         ensures few { IfOk result (λ count. count ≤ 64) }
         ensures gone { self.new.gone ≡ self.old.gone }

@@ -6,9 +6,9 @@ ghost use Rattle.std.specs.Option.{is_some, option_map};
 ghost use Rattle.imap_session.specs.Exchange.{Sent, is_idling};
 ghost use Rattle.imap_session.specs.Store.{Starves};
 ghost use Rattle.imap_connection.specs.Dialogue.{Asks};
-ghost use Rattle.house_session.specs.HouseSession as spec;
-ghost use Rattle.house_session.specs.HouseSession.{greeted};
-ghost use Rattle.house_session.specs.Place.{Answered, AnsweredVerdict, HadTurn, StandsFor, Turned, with_all_said, with_more, with_nothing_left};
+ghost use Rattle.house_session.specs.Visitor as spec;
+ghost use Rattle.house_session.specs.Visitor.{greeted};
+ghost use Rattle.house_session.specs.HouseSession.{Answered, AnsweredVerdict, HadTurn, StandsFor, Turned, with_all_said, with_more, with_nothing_left};
 
 use delivery_token::Verdict;
 use imap_connection::ImapConnection;
@@ -26,9 +26,9 @@ pub struct HouseSession {
 }
 
 impl Model for HouseSession {
-    ghost use Rattle.house_session.specs.Place.{Place};
+    ghost use Rattle.house_session.specs.HouseSession.{HouseSession};
 
-    ghost Value = { Place };
+    ghost Value = { HouseSession };
 
     ghost view = { λ v. record { link = v.connection; came = v.incoming; unsaid = v.unsaid.items } };
 }
@@ -109,7 +109,7 @@ impl HouseSession {
     pub fn answer<S: Store>(&mut self, verdict: Verdict, store: &mut S) -> Result<(), AllocError>
         requires going { self.old.link.session.ended ≡ false }
         requires waits { is_some self.old.link.session.mailing.sent ≡ true }
-        ensures ok { OnOk result ((v : spec.HouseSession) → StandsFor self.old v → AnsweredVerdict S.step verdict v store.old store.new self.new) }
+        ensures ok { OnOk result ((v : spec.Visitor) → StandsFor self.old v → AnsweredVerdict S.step verdict v store.old store.new self.new) }
         ensures done { OnOk result (self.new.link.session.mailing.sent ≡ None) }
         ensures came { self.new.came ≡ self.old.came }
         ensures asked { Asks S.step store.old store.new }
@@ -127,8 +127,8 @@ impl HouseSession {
     ///
     /// Errors: `AllocError` where memory was refused. What was done stands, and the next call goes on from there.
     pub fn go_on<S: Store>(&mut self, alloc: Global, store: &mut S) -> Result<(), AllocError>
-        ensures ok { OnOk result ((v : spec.HouseSession) → StandsFor self.old v → Answered S.step true v store.old store.new self.new) }
-        ensures err { OnErr result ((v : spec.HouseSession) → StandsFor self.old v → Answered S.step false v store.old store.new self.new) }
+        ensures ok { OnOk result ((v : spec.Visitor) → StandsFor self.old v → Answered S.step true v store.old store.new self.new) }
+        ensures err { OnErr result ((v : spec.Visitor) → StandsFor self.old v → Answered S.step false v store.old store.new self.new) }
         ensures asked { Asks S.step store.old store.new }
         ensures fewer { length self.new.came ≤ length self.old.came }
         ensures moves { self.old.link.session.mailing.sent ≡ None → is_some self.new.link.session.mailing.sent ≡ true → length self.new.came < length self.old.came }
@@ -154,7 +154,7 @@ impl HouseSession {
     ///
     /// Errors: `AllocError` where memory was refused. Nothing happened then.
     pub fn idle_turn<S: Store>(&mut self, store: &mut S) -> Result<usize, AllocError>
-        ensures ok { IfOk result (λ count. (v : spec.HouseSession) → StandsFor self.old v → Turned S.step count v store.old store.new self.new) }
+        ensures ok { IfOk result (λ count. (v : spec.Visitor) → StandsFor self.old v → Turned S.step count v store.old store.new self.new) }
         ensures session { IfOk result (λ count. HadTurn S.step self.old store.old store.new count self.new) }
         ensures few { IfOk result (λ count. count ≤ 64) }
         ensures quiet { IfOk result (λ count. count ≡ 0 → self.new.link.session.ended ≡ false → self.new ≡ self.old) }

@@ -17,7 +17,7 @@ use Rattle.lane_work.specs.declared.desk.Desk.{Desk}
 use Rattle.lane_work.specs.declared.desk.Office.{Office}
 use Rattle.lane_work.proofs.ServedLaws.{accounted_of}
 use Rattle.session_thread.specs.Life.{Lives, greeted_at}
-use Rattle.session_thread.specs.Locks.{Place}
+use Rattle.session_thread.specs.Locks.{LockedDesk}
 use Rattle.shard_queue.specs.Reply.{received}
 use Rattle.lane_work.specs.Seats.{put_by}
 use Rattle.shard_queue.specs.Shared.{IsStartOf}
@@ -34,7 +34,7 @@ same_books office now desk seat serial notes carried there own first books =
     (subst (λ (n : ℕ). AreBooksOf now.directory (rooms_of now.lanes.items) n (map (judged_of n 0) carried) (notes_tell notes) (received desk.receiver) (map put_by desk.seats.items)) own
     (subst (λ (s : ℕ). AreBooksOf now.directory (rooms_of now.lanes.items) desk.number (map (judged_of desk.number s) carried) (notes_tell notes) (received desk.receiver) (map put_by desk.seats.items)) first books))
 
-pub session_account : (floor : Floor) (now : Office) (desk : Desk) (seat serial : ℕ) (visit : Visit) (user : List ℕ) (place : Place) (carried : List Carried) (text : List ℕ) (replies : List (List ℕ)) (notes kept : List Noted)
+pub session_account : (floor : Floor) (now : Office) (desk : Desk) (seat serial : ℕ) (visit : Visit) (user : List ℕ) (place : LockedDesk) (carried : List Carried) (text : List ℕ) (replies : List (List ℕ)) (notes kept : List Noted)
     (hears : List (Entry Noted)) (after : List (List (Entry Job)))
     → now ≡ floor.office → desk.number ≡ seat → serial ≡ 0 → kept ≡ notes
     → user_numbered visit.user floor.office.directory.homes ≡ Some user → place ≡ record { mailboxes = length floor.depot.mailboxes.items; entered = None }
@@ -48,7 +48,7 @@ session_account floor now desk seat serial visit user place carried text replies
     user = user;
     named = named;
     last = lived.last;
-    lives = subst (λ (p : Place). Lives floor.turns (greeted_at (Some (most_of floor.office.max_message)) (folders_of floor.office.directory user) p greeting) visit.steps.items carried lived.last) outside lived.lives;
+    lives = subst (λ (p : LockedDesk). Lives floor.turns (greeted_at (Some (most_of floor.office.max_message)) (folders_of floor.office.directory user) p greeting) visit.steps.items carried lived.last) outside lived.lives;
     wrote = lived.wrote;
   };
   alone = one;

@@ -7,7 +7,7 @@ use Rattle.imap_session.specs.declared.standing.After.{After}
 use Rattle.imap_session.specs.declared.standing.After.TheVariants.{Bye}
 use Rattle.imap_connection.specs.declared.connection.Fed.{Fed}
 use Rattle.imap_session.specs.Exchange.{Appending, Call, Answer, Sent, Standing, may_send, waits_begun, waits_for, waits_idling, waits_sent}
-use Rattle.imap_connection.specs.Dialogue.{Answered, AnswersLine, AnswersOne, Bytes, Converses, Dialogue, Line, Link, Sends, StandsFor, Takes, Took, begins, ends, goes_on, has_ended, may_follow, parts, reads, silent, spelled, takes, too_long}
+use Rattle.imap_connection.specs.Dialogue.{Answered, AnswersLine, AnswersOne, Bytes, Converses, Dialogue, Line, ImapConnection, Sends, StandsFor, Takes, Took, begins, ends, goes_on, has_ended, may_follow, parts, reads, silent, spelled, takes, too_long}
 
 -- what was written for a line is what is said of it alone
 said_alone : {S : Type 0} (step : S → Call → Answer → S → Type 0) (now : Standing) (line : List ℕ) (old new : S) (before after : List ℕ) (how : After) (next : Standing)
@@ -55,14 +55,14 @@ converses_on step now between next sent others old mid new one two first how (go
 
 -- ---- what a call takes behind what was taken
 
-pub record TookMore {S : Type 0} (step : S → Call → Answer → S → Type 0) (d : Dialogue) (bytes : List ℕ) (old new : S) (said before after : List ℕ) (how : After) (link : Link) : Type 0 where
+pub record TookMore {S : Type 0} (step : S → Call → Answer → S → Type 0) (d : Dialogue) (bytes : List ℕ) (old new : S) (said before after : List ℕ) (how : After) (link : ImapConnection) : Type 0 where
   pub more : List ℕ
   pub next : Dialogue
   pub answered : Answered step d bytes old new (said ++ more) how next
   pub stands : StandsFor link next
   pub wrote : after ≡ before ++ more
 
-one_more : {S : Type 0} (step : S → Call → Answer → S → Type 0) (d between : Dialogue) (bytes used : List ℕ) (old mid new : S) (said more before after : List ℕ) (how : After) (next : Standing) (link : Link) (one : Sends)
+one_more : {S : Type 0} (step : S → Call → Answer → S → Type 0) (d between : Dialogue) (bytes used : List ℕ) (old mid new : S) (said more before after : List ℕ) (how : After) (next : Standing) (link : ImapConnection) (one : Sends)
     → Answered step d bytes old mid said (waits_for between.standing) between → may_follow (waits_for between.standing) ≡ true → how ≡ may_send next → between.begun ++ used ≡ spelled one
     → AnswersOne step between.standing one mid new [] more how next → StandsFor link (record { standing = next; begun = [] }) → after ≡ before ++ more
     → TookMore step d (bytes ++ used) old new said before after how link
@@ -82,7 +82,7 @@ one_more step d between bytes used old mid new said more before after how next l
       wrote = wrote;
     }
 
-pub took_more : {S : Type 0} (step : S → Call → Answer → S → Type 0) (d between : Dialogue) (bytes piece : List ℕ) (old mid new : S) (said before after : List ℕ) (fed : Fed) (link : Link)
+pub took_more : {S : Type 0} (step : S → Call → Answer → S → Type 0) (d between : Dialogue) (bytes piece : List ℕ) (old mid new : S) (said before after : List ℕ) (fed : Fed) (link : ImapConnection)
     → Answered step d bytes old mid said (waits_for between.standing) between → between.standing.ended ≡ false → may_follow (waits_for between.standing) ≡ true → fed.after ≡ may_send link.session → Takes step between piece mid new before after fed link
     → TookMore step d (bytes ++ take fed.used piece) old new said before after fed.after link
 took_more {S} step d between bytes piece old mid new said before after fed link h live f sends (has_ended ended used bye same quiet stands) = absurd (let e = live in let o = ended in cc)
@@ -110,14 +110,14 @@ took_more {S} step d between bytes piece old mid new said before after fed link 
     (record { some = t.some; due = t.due; takes = t.takes; unasked = t.unasked; silent = refl; waits = t.waits }) stands (t.silent ∙ sym (append-nil before))
 
 -- what was taken of a piece so far, and what it came to
-pub record TookTo {S : Type 0} (step : S → Call → Answer → S → Type 0) (d : Dialogue) (bytes : List ℕ) (old new : S) (before after : List ℕ) (how : After) (link : Link) : Type 0 where
+pub record TookTo {S : Type 0} (step : S → Call → Answer → S → Type 0) (d : Dialogue) (bytes : List ℕ) (old new : S) (before after : List ℕ) (how : After) (link : ImapConnection) : Type 0 where
   pub said : List ℕ
   pub next : Dialogue
   pub answered : Answered step d bytes old new said how next
   pub stands : StandsFor link next
   pub wrote : after ≡ before ++ said
 
-pub taken_on : {S : Type 0} (step : S → Call → Answer → S → Type 0) (d between : Dialogue) (piece : List ℕ) (used : ℕ) (old mid new : S) (said first before after : List ℕ) (fed : Fed) (link new_link : Link)
+pub taken_on : {S : Type 0} (step : S → Call → Answer → S → Type 0) (d between : Dialogue) (piece : List ℕ) (used : ℕ) (old mid new : S) (said first before after : List ℕ) (fed : Fed) (link new_link : ImapConnection)
     → Answered step d (take used piece) old mid said (waits_for between.standing) between → StandsFor link between → link.session.ended ≡ false → link.session.mailing.sent ≡ None → before ≡ first ++ said → fed.after ≡ may_send new_link.session
     → Takes step between (take (length piece - used) (drop used piece)) mid new before after fed new_link
     → TookTo step d (take (used + fed.used) piece) old new first after fed.after new_link
@@ -136,7 +136,7 @@ pub nothing_taken : {S : Type 0} (step : S → Call → Answer → S → Type 0)
 nothing_taken step d old = record { sent = []; whole = append-nil d.begun; converses = silent d.standing old }
 
 -- what may follow, where the session goes on
-pub goes_to : (how : After) (link : Link) (next : Dialogue) → how ≡ may_send link.session → link.session.ended ≡ false → StandsFor link next → how ≡ waits_for next.standing
+pub goes_to : (how : After) (link : ImapConnection) (next : Dialogue) → how ≡ may_send link.session → link.session.ended ≡ false → StandsFor link next → how ≡ waits_for next.standing
 goes_to how link next sends live stands =
     sends ∙ ap (λ (b : Bool). if b then Bye else waits_for link.session) live ∙ ap waits_for stands.session
 
@@ -147,7 +147,7 @@ some_of [] empty is e = absurd (let f : true ≡ false = sym is ∙ e in cc)
 some_of (x ∷ xs) empty is e = omega arith
 
 -- nothing was taken, and the connection says what it waits for
-pub took_nothing : {S : Type 0} (step : S → Call → Answer → S → Type 0) (d : Dialogue) (piece text : List ℕ) (store : S) (link : Link) (sends : After) → StandsFor link d → link.session.ended ≡ false → sends ≡ may_send link.session
+pub took_nothing : {S : Type 0} (step : S → Call → Answer → S → Type 0) (d : Dialogue) (piece text : List ℕ) (store : S) (link : ImapConnection) (sends : After) → StandsFor link d → link.session.ended ≡ false → sends ≡ may_send link.session
     → Took step d piece store store text text (record { used = 0; after = Some sends }) link
 took_nothing step d piece text store link sends s live is = record {
   said = [];

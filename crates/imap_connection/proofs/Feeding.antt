@@ -4,7 +4,7 @@ use Rattle.std.specs.Prelude.{All}
 use Rattle.std.proofs.lemmas.List.Elements.{All-head}
 use Rattle.line_io.specs.Wire.{EndsInCr, IsUncut, crlf, joined, wire_lines, wire_rest}
 use Rattle.line_io.specs.inner.WireLaws.{lines_are, reading_cut, uncut_nil}
-use Rattle.line_io.specs.Cutting.{Cutter, EndsLine}
+use Rattle.line_io.specs.Cutting.{LineCutter, EndsLine}
 use Rattle.line_io.specs.Cutting as cutting
 use Rattle.std.proofs.lemmas.List.{length-take}
 use Rattle.imap_session.specs.declared.standing.After.{After}
@@ -13,7 +13,7 @@ use Rattle.imap_session.specs.Exchange.{Answer, Call, Standing, may_send, waits_
 use Rattle.imap_session.specs.Store.{TakesBytes}
 use Rattle.imap_connection.specs.declared.connection.Fed.{Fed}
 use Rattle.imap_session.specs.Commands.{due_of}
-use Rattle.imap_connection.specs.Dialogue.{Dialogue, Link, StandsFor, Takes, begins, takes}
+use Rattle.imap_connection.specs.Dialogue.{Dialogue, ImapConnection, StandsFor, Takes, begins, takes}
 
 -- what is within one line has no line, and is its own rest
 uncut_reads : (bytes : List ℕ) → IsUncut bytes → (wire_lines bytes ≡ []) × (wire_rest bytes ≡ bytes)
@@ -34,7 +34,7 @@ one_line bytes line e r =
     (whole ∙ append-nil (joined (line ∷ [])) ∙ append-nil (line ++ crlf), All-head IsUncut line [] (subst (λ (ls : List (List ℕ)). All IsUncut ls) e cut.each))
 
 -- between two lines it is as at the start
-stands_afresh : (cutter : Cutter) (stream : List ℕ) → cutting.StandsFor cutter stream → wire_rest stream ≡ [] → cutting.StandsFor cutter []
+stands_afresh : (cutter : LineCutter) (stream : List ℕ) → cutting.StandsFor cutter stream → wire_rest stream ≡ [] → cutting.StandsFor cutter []
 stands_afresh cutter stream s e = record {
   kept = s.kept ∙ ap (λ t. take cutter.max t) e;
   cr = subst (λ (t : List ℕ). cutter.after_cr ≡ true → EndsInCr t) e s.cr;
@@ -42,7 +42,7 @@ stands_afresh cutter stream s e = record {
 }
 
 -- no line ended in the piece
-pub has_begun : (session : Standing) (cutter : Cutter) (d : Dialogue) (piece : List ℕ) → session ≡ d.standing → IsUncut d.begun → due_of d.standing.mailing.begun ≡ 0
+pub has_begun : (session : Standing) (cutter : LineCutter) (d : Dialogue) (piece : List ℕ) → session ≡ d.standing → IsUncut d.begun → due_of d.standing.mailing.begun ≡ 0
     → cutting.StandsFor cutter (d.begun ++ piece) → wire_lines (d.begun ++ piece) ≡ wire_lines d.begun
     → StandsFor (record { session = session; cutter = cutter }) (record { standing = d.standing; begun = d.begun ++ piece })
 has_begun session cutter d piece same uncut none stands e = record {
@@ -57,7 +57,7 @@ pub line_ends : (d : Dialogue) (used line : List ℕ) → IsUncut d.begun → En
 line_ends d used line uncut h =
     one_line (d.begun ++ used) line (h.lines ∙ ap (λ (ls : List (List ℕ)). ls ++ line ∷ []) (uncut_reads d.begun uncut).0) h.rest
 
-pub stands_anew : (session : Standing) (cutter : Cutter) (begun used line : List ℕ) → cutting.StandsFor cutter (begun ++ used) → EndsLine begun used line
+pub stands_anew : (session : Standing) (cutter : LineCutter) (begun used line : List ℕ) → cutting.StandsFor cutter (begun ++ used) → EndsLine begun used line
     → StandsFor (record { session = session; cutter = cutter }) (record { standing = session; begun = [] })
 stands_anew session cutter begun used line stands h = record {
   session = refl;
@@ -67,15 +67,15 @@ stands_anew session cutter begun used line stands h = record {
 }
 
 -- no byte came, and the connection stands as it did
-pub as_before : (link : Link) (d : Dialogue) → StandsFor link d → StandsFor link (record { standing = d.standing; begun = d.begun ++ [] })
+pub as_before : (link : ImapConnection) (d : Dialogue) → StandsFor link d → StandsFor link (record { standing = d.standing; begun = d.begun ++ [] })
 as_before link d s = subst (λ (t : List ℕ). StandsFor link (record { standing = d.standing; begun = t })) (sym (append-nil d.begun)) s
 
 -- bytes of a literal were taken, and the cutter wasn't asked
-pub stands_behind : (session : Standing) (cutter : Cutter) (d : Dialogue) (link : Link) → StandsFor link d → d.begun ≡ [] → cutter ≡ link.cutter
+pub stands_behind : (session : Standing) (cutter : LineCutter) (d : Dialogue) (link : ImapConnection) → StandsFor link d → d.begun ≡ [] → cutter ≡ link.cutter
     → StandsFor (record { session = session; cutter = cutter }) (record { standing = session; begun = [] })
 stands_behind session cutter d link s none same = record {
   session = refl;
-  cutter = subst (λ (c : Cutter). cutting.StandsFor c []) (sym same) (subst (λ (t : List ℕ). cutting.StandsFor link.cutter t) none s.cutter);
+  cutter = subst (λ (c : LineCutter). cutting.StandsFor c []) (sym same) (subst (λ (t : List ℕ). cutting.StandsFor link.cutter t) none s.cutter);
   uncut = uncut_nil;
   alone = λ due. refl;
 }
@@ -92,13 +92,13 @@ on_live : (how : After) (session : Standing) → how ≡ may_send session → se
 on_live how session sends live = sends ∙ ap (λ (b : Bool). if b then Bye else waits_for session) live
 
 -- bytes of a literal were taken, or none came
-pub literal_taken : {S : Type 0} (step : S → Call → Answer → S → Type 0) (d : Dialogue) (piece : List ℕ) (store : S) (text : List ℕ) (fed : Fed) (old new : Link) → StandsFor old d → d.standing.ended ≡ false
+pub literal_taken : {S : Type 0} (step : S → Call → Answer → S → Type 0) (d : Dialogue) (piece : List ℕ) (store : S) (text : List ℕ) (fed : Fed) (old new : ImapConnection) → StandsFor old d → d.standing.ended ≡ false
     → 0 < due_of d.standing.mailing.begun → fed.used ≡ min (length piece) (due_of d.standing.mailing.begun) → (length piece ≡ 0 → new ≡ old) → (0 < length piece → TakesBytes d.standing (take fed.used piece) new.session)
     → new.cutter ≡ old.cutter → fed.after ≡ may_send new.session → Takes step d piece store store text text fed new
 literal_taken step d [] store text fed old new s live due used none took cutter sends =
     let same = none refl in
-    let session : new.session ≡ d.standing = ap (λ (l : Link). l.session) same ∙ s.session in
-    begins live (omega (arith, used)) (on_live fed.after d.standing (sends ∙ ap may_send session) live) refl refl (subst (λ (l : Link). StandsFor l (record { standing = d.standing; begun = d.begun ++ [] })) (sym same) (as_before old d s))
+    let session : new.session ≡ d.standing = ap (λ (l : ImapConnection). l.session) same ∙ s.session in
+    begins live (omega (arith, used)) (on_live fed.after d.standing (sends ∙ ap may_send session) live) refl refl (subst (λ (l : ImapConnection). StandsFor l (record { standing = d.standing; begun = d.begun ++ [] })) (sym same) (as_before old d s))
 literal_taken step d (x ∷ xs) store text fed old new s live due used none took cutter sends =
     let bytes = took (omega arith) in
     let now : new.session.ended ≡ false = ap (λ (s : Standing). s.ended) bytes.1 ∙ live in

@@ -21,12 +21,12 @@ pub record Dialogue : Type 0 where
   pub begun : List ℕ
 
 -- what a connection holds, as contracts see it
-pub record Link : Type 0 where
+pub record ImapConnection : Type 0 where
   pub session : Standing
-  pub cutter : cutting.Cutter
+  pub cutter : cutting.LineCutter
 
 -- The connection stands for a dialogue. No line has begun where bytes of a literal are due.
-pub record StandsFor (link : Link) (d : Dialogue) : Type 0 where
+pub record StandsFor (link : ImapConnection) (d : Dialogue) : Type 0 where
   pub session : link.session ≡ d.standing
   pub cutter : cutting.StandsFor link.cutter d.begun
   pub uncut : IsUncut d.begun
@@ -71,7 +71,7 @@ AnswersOne step now (Bytes bytes) old new before after how next = TakesLiteral n
 
 -- What a call took of a piece: nothing where the session has ended, all of it where no line ends in it, the end of the line that has begun, which was answered,
 -- or bytes of the literal that is due.
-pub data Takes {S : Type 0} (step : S → Call → Answer → S → Type 0) (d : Dialogue) (piece : List ℕ) (old new : S) (before after : List ℕ) (fed : Fed) (link : Link) : Type 0 where
+pub data Takes {S : Type 0} (step : S → Call → Answer → S → Type 0) (d : Dialogue) (piece : List ℕ) (old new : S) (before after : List ℕ) (fed : Fed) (link : ImapConnection) : Type 0 where
   has_ended : d.standing.ended ≡ true → fed.used ≡ 0 → fed.after ≡ Bye → new ≡ old → after ≡ before → StandsFor link d → Takes step d piece old new before after fed link
   begins : d.standing.ended ≡ false → fed.used ≡ length piece → fed.after ≡ waits_for d.standing → new ≡ old → after ≡ before
       → StandsFor link (record { standing = d.standing; begun = d.begun ++ piece }) → Takes step d piece old new before after fed link
@@ -97,7 +97,7 @@ pub record Answered {S : Type 0} (step : S → Call → Answer → S → Type 0)
   pub converses : Converses step d.standing sent old new said how next.standing
 
 -- So it is with the first bytes of a piece, and the connection stands for what they lead to.
-pub record Took {S : Type 0} (step : S → Call → Answer → S → Type 0) (d : Dialogue) (piece : List ℕ) (old new : S) (before after : List ℕ) (progress : Progress) (link : Link) : Type 0 where
+pub record Took {S : Type 0} (step : S → Call → Answer → S → Type 0) (d : Dialogue) (piece : List ℕ) (old new : S) (before after : List ℕ) (progress : Progress) (link : ImapConnection) : Type 0 where
   pub said : List ℕ
   pub how : After
   pub next : Dialogue
@@ -114,7 +114,7 @@ tag_len None = 0
 tag_len (Some tag) = length tag
 
 -- The session had a turn over a store, while it idles, and showed so many changes; the connection stands for what that leads to.
-pub record Turns {S : Type 0} (step : S → Call → Answer → S → Type 0) (d : Dialogue) (old new : S) (before after : List ℕ) (count : ℕ) (link : Link) : Type 0 where
+pub record Turns {S : Type 0} (step : S → Call → Answer → S → Type 0) (d : Dialogue) (old new : S) (before after : List ℕ) (count : ℕ) (link : ImapConnection) : Type 0 where
   pub next : Standing
   pub turned : IdleTurns step d.standing old new before after count next
   pub stands : StandsFor link (record { standing = next; begun = d.begun })
@@ -122,7 +122,7 @@ pub record Turns {S : Type 0} (step : S → Call → Answer → S → Type 0) (d
 -- ---- verdicts
 
 -- The verdict that the session waits for was answered over a store; the connection stands for what that leads to.
-pub record Hears {S : Type 0} (step : S → Call → Answer → S → Type 0) (d : Dialogue) (verdict : Verdict) (old new : S) (before after : List ℕ) (how : After) (link : Link) : Type 0 where
+pub record Hears {S : Type 0} (step : S → Call → Answer → S → Type 0) (d : Dialogue) (verdict : Verdict) (old new : S) (before after : List ℕ) (how : After) (link : ImapConnection) : Type 0 where
   pub next : Standing
   pub answered : AnswersVerdict step d.standing verdict old new before after how next
   pub stands : StandsFor link (record { standing = next; begun = d.begun })

@@ -59,9 +59,9 @@ pub struct ImapConnection {
 impl Model for ImapConnection {
     ghost use Rattle.std.specs.Prelude.{◌≡◌, ℕ, List};
     ghost use Rattle.line_io.specs.Cutting as cutting;
-    ghost use Rattle.imap_connection.specs.Dialogue.{Link};
+    ghost use Rattle.imap_connection.specs.Dialogue.{ImapConnection};
 
-    ghost Value = { Link };
+    ghost Value = { ImapConnection };
 
     ghost view = { λ c. record { session = c.session; cutter = c.cutter } };
 

@@ -5,17 +5,17 @@ use Rattle.imap_session.specs.declared.standing.After.{After}
 use Rattle.imap_session.specs.declared.standing.After.TheVariants.{Bye}
 use Rattle.imap_session.specs.Exchange.{Folder, bye, is_idling, may_send, nothing_sent}
 use Rattle.imap_session.specs.Commands.{greeting}
-use Rattle.imap_connection.specs.Dialogue.{Dialogue, Link, StandsFor, may_follow}
-use Rattle.session_thread.specs.Locks.{Place}
+use Rattle.imap_connection.specs.Dialogue.{Dialogue, ImapConnection, StandsFor, may_follow}
+use Rattle.session_thread.specs.Locks.{LockedDesk}
 use Rattle.session_thread.specs.Life.{HasTurn, IsShort, Moment, Says, SaysInPart, moment}
 use Rattle.courier.specs.Carried.{Carried}
 use Rattle.courier.specs.declared.Lost.{Lost}
 use Rattle.courier.specs.declared.Lost.TheVariants as lost
 
 -- What is known of a visit. Between two calls nothing that was said is left unsent.
-pub record VisitState : Type 0 where
-  pub link : Link
-  pub place : Place
+pub record Visit : Type 0 where
+  pub link : ImapConnection
+  pub place : LockedDesk
   -- the bytes that its output took, where that tells them
   pub taken : Option (List ℕ)
   -- the output failed
@@ -26,15 +26,15 @@ pub record VisitState : Type 0 where
   pub room : ℕ
 
 -- Nothing more is done for the client.
-abbrev pub is_over : VisitState → Bool
+abbrev pub is_over : Visit → Bool
 is_over visit = visit.closed || visit.link.session.ended
 
 -- what the client may send next
-abbrev pub awaited : VisitState → After
+abbrev pub awaited : Visit → After
 awaited visit = if visit.closed then Bye else may_send visit.link.session
 
 -- Bytes of the client are taken: the visit isn't over, and its session awaits no verdict on a message.
-abbrev pub takes_bytes : VisitState → Bool
+abbrev pub takes_bytes : Visit → Bool
 takes_bytes visit = may_follow (awaited visit)
 
 -- ---- turns
@@ -77,16 +77,16 @@ pub data HearsInPart (room : ℕ) (piece : List ℕ) (why : Lost) (before after 
 -- ---- what is sent
 
 -- Each dialogue for which the connection stood was led by P to one for which it stands, and this was said on the way.
-abbrev pub LeadsTo : (Moment → Moment → Type 0) → VisitState → List ℕ → VisitState → Type 0
+abbrev pub LeadsTo : (Moment → Moment → Type 0) → Visit → List ℕ → Visit → Type 0
 LeadsTo P old said new = (d : Dialogue) → StandsFor old.link d → (next : Dialogue) × StandsFor new.link next × P (moment d old.place []) (moment next new.place said)
 
 -- All that was said was sent.
-pub record SendsAll (old : VisitState) (said : List ℕ) (new : VisitState) : Type 0 where
+pub record SendsAll (old : Visit) (said : List ℕ) (new : Visit) : Type 0 where
   pub took : Appends old.taken new.taken said
   pub live : new.failed ≡ false
 
 -- The output failed. It took exactly the first bytes of what was said, fewer than all, and nothing more is sent.
-pub record SendsFirst (old : VisitState) (said : List ℕ) (new : VisitState) : Type 0 where
+pub record SendsFirst (old : Visit) (said : List ℕ) (new : Visit) : Type 0 where
   pub sent : ℕ
   pub few : sent < length said
   pub took : Appends old.taken new.taken (take sent said)
@@ -94,7 +94,7 @@ pub record SendsFirst (old : VisitState) (said : List ℕ) (new : VisitState) : 
   pub over : new.closed ≡ true
 
 -- P was done, and what was said was sent: all of it where Sends is `SendsAll`.
-pub record Tells (P : Moment → Moment → Type 0) (Sends : VisitState → List ℕ → VisitState → Type 0) (old new : VisitState) : Type 0 where
+pub record Tells (P : Moment → Moment → Type 0) (Sends : Visit → List ℕ → Visit → Type 0) (old new : Visit) : Type 0 where
   pub said : List ℕ
   pub leads : LeadsTo P old said new
   pub sends : Sends old said new
@@ -102,7 +102,7 @@ pub record Tells (P : Moment → Moment → Type 0) (Sends : VisitState → List
 -- ---- the first and the last words
 
 -- The client was greeted (RFC 9051, 7.1.4), and nothing else was done: its session is in no mailbox, it takes messages of at most so many bytes, or none, and its line has not begun.
-pub record IsGreeted (most : Option ℕ) (folders : List Folder) (place : Place) (taken : Option (List ℕ)) (visit : VisitState) : Type 0 where
+pub record IsGreeted (most : Option ℕ) (folders : List Folder) (place : LockedDesk) (taken : Option (List ℕ)) (visit : Visit) : Type 0 where
   pub stands : StandsFor visit.link (record { standing = record { folders = folders; selected = None; idling = None; ended = false; mailing = nothing_sent most }; begun = [] })
   pub desk : visit.place ≡ place
   pub took : Appends taken visit.taken greeting

@@ -8,7 +8,7 @@ ghost use Rattle.courier.specs.Carried.{Carried};
 ghost use Rattle.courier.specs.declared.Lost.{Lost};
 ghost use Rattle.session_thread.specs.Life.{Departs};
 ghost use Rattle.imap_session.specs.Commands.{greeting};
-ghost use Rattle.imap_stream.specs.Visits.{Hears, HearsInPart, IsGreeted, SendsAll, SendsFirst, ShowsAll, ShowsInPart, Tells, VisitState, awaited, farewell, is_over, takes_bytes};
+ghost use Rattle.imap_stream.specs.Visits.{Hears, HearsInPart, IsGreeted, SendsAll, SendsFirst, ShowsAll, ShowsInPart, Tells, Visit, awaited, farewell, is_over, takes_bytes};
 
 use crate::turns::{answer_and_show, show_all};
 use courier::{Courier, Lost};
@@ -81,9 +81,9 @@ pub struct Visit<'a, R: Wait, G: Gate, W: Sink> {
 impl<'a, R: Wait, G: Gate, W: Sink> Model for Visit<'a, R, G, W> {
     ghost use Rattle.std.specs.Prelude.{◌≡◌, [], false};
     ghost use Rattle.std.specs.Vec.{vec_capacity};
-    ghost use Rattle.imap_stream.specs.Visits.{VisitState};
+    ghost use Rattle.imap_stream.specs.Visits.{Visit};
 
-    ghost Value = { VisitState };
+    ghost Value = { Visit };
 
     ghost view = { λ v. record {
       link = v.connection;

@@ -15,7 +15,7 @@ use Rattle.lmtp_machine.specs.Calls.{Follows, Happens, Submits, Tells}
 use Rattle.lmtp_machine.specs.Conversation.{Conversation, led_by, opened}
 use Rattle.lmtp_machine.specs.Dialogue.{Phase, Waiting, Ended, Setting, Submission, Turn, Event, on_event, on_verdicts, verdict_reply}
 use Rattle.lmtp_machine.specs.Dialogue as on
-use Rattle.lmtp_machine.specs.Machine.{Machine, StandsFor}
+use Rattle.lmtp_machine.specs.LmtpMachine.{LmtpMachine, StandsFor}
 use Rattle.lmtp_machine.specs.Replies.{reply_text, wire}
 use Rattle.shard_queue.specs.declared.lane.Entry.{Entry}
 use Rattle.lane_work.specs.Talk.{Judged, HasTaken, greeted, goes_on, submits}
@@ -62,7 +62,7 @@ happens_behind told setting host d c event old new h = record {
 }
 
 -- some bytes were taken, and nothing was submitted
-pub stands_on : (own d : Directory) (rooms : List Room) (p : ℕ) (done : List Judged) (bytes : List ℕ) (m after : Machine) (out more : List ℕ) (keeps : List (Job × Verdict) → Type 0) (heard : List (Entry Noted)) (sent : List (List (Entry Job))) (piece : List ℕ) (fed : Fed)
+pub stands_on : (own d : Directory) (rooms : List Room) (p : ℕ) (done : List Judged) (bytes : List ℕ) (m after : LmtpMachine) (out more : List ℕ) (keeps : List (Job × Verdict) → Type 0) (heard : List (Entry Noted)) (sent : List (List (Entry Job))) (piece : List ℕ) (fed : Fed)
     → after.setting ≡ m.setting → after.host ≡ m.host → (fed.what ≡ Submit → ⊥)
     → ((c : Conversation) → StandsFor m c → Follows (StandsFor after) m.setting m.host own c piece fed out more after.pending)
     → Stands own d rooms p done bytes false m out keeps heard sent
@@ -90,7 +90,7 @@ waits_now Submit turn e tells = tells
 waits_now Quit turn e tells = absurd (let x : Quit ≡ Submit = e in cc)
 
 -- some bytes were taken, and a message was submitted, judged and answered
-pub stands_judged : (own d : Directory) (rooms : List Room) (p : ℕ) (done : List Judged) (bytes : List ℕ) (m mid after : Machine) (out between more : List ℕ) (keeps kept : List (Job × Verdict) → Type 0) (heard hears : List (Entry Noted)) (sent put : List (List (Entry Job)))
+pub stands_judged : (own d : Directory) (rooms : List Room) (p : ℕ) (done : List Judged) (bytes : List ℕ) (m mid after : LmtpMachine) (out between more : List ℕ) (keeps kept : List (Job × Verdict) → Type 0) (heard hears : List (Entry Noted)) (sent put : List (List (Entry Job)))
     (piece : List ℕ) (fed : Fed) (message : Submission) (vs : List Verdict)
     → mid.setting ≡ m.setting → mid.host ≡ m.host → after.setting ≡ mid.setting → after.host ≡ mid.host → fed.what ≡ Submit
     → mid.pending ≡ message ∷ [] → length vs ≡ length message.keys
@@ -130,7 +130,7 @@ stands_judged own d rooms p done bytes m mid after out between more keeps kept h
     }
 
 -- all was taken, or the dialogue has ended
-pub spoke : (own d : Directory) (rooms : List Room) (p : ℕ) (done : List Judged) (bytes taken left : List ℕ) (over : Bool) (m : Machine) (setting : Setting) (host out : List ℕ) (keeps : List (Job × Verdict) → Type 0) (heard : List (Entry Noted)) (sent : List (List (Entry Job)))
+pub spoke : (own d : Directory) (rooms : List Room) (p : ℕ) (done : List Judged) (bytes taken left : List ℕ) (over : Bool) (m : LmtpMachine) (setting : Setting) (host out : List ℕ) (keeps : List (Job × Verdict) → Type 0) (heard : List (Entry Noted)) (sent : List (List (Entry Job)))
     → bytes ≡ taken ++ left → (left ≡ []) ⊎ (over ≡ true) → m.setting ≡ setting → m.host ≡ host
     → Stands own d rooms p done taken over m out keeps heard sent → Spoke own d rooms p done bytes setting host out keeps heard sent
 spoke own d rooms p done bytes taken left over m setting host out keeps heard sent whole ended set same s = record {
@@ -152,7 +152,7 @@ spoke own d rooms p done bytes taken left over m setting host out keeps heard se
   how (inr e) k = inr (k e)
 
 -- a new connection was greeted
-pub begins : (own d : Directory) (rooms : List Room) (p : ℕ) (done : List Judged) (m after : Machine) (out : List ℕ) (keeps : List (Job × Verdict) → Type 0) (heard : List (Entry Noted)) (sent : List (List (Entry Job)))
+pub begins : (own d : Directory) (rooms : List Room) (p : ℕ) (done : List Judged) (m after : LmtpMachine) (out : List ℕ) (keeps : List (Job × Verdict) → Type 0) (heard : List (Entry Noted)) (sent : List (List (Entry Job)))
     → after.setting ≡ m.setting → after.host ≡ m.host → StandsFor m opened
     → ((x : Directory) (c : Conversation) → StandsFor m c → Happens (StandsFor after) m.setting m.host x c on.Opened [] out)
     → AreBooks d rooms p done keeps heard sent → Stands own d rooms p done [] false after out keeps heard sent

@@ -6,7 +6,7 @@ use Rattle.delivery_token.specs.declared.Refusal.TheVariants.{NoMemory}
 use Rattle.delivery_token.specs.declared.Verdict.{Verdict}
 use Rattle.delivery_token.specs.declared.Verdict.TheVariants.{Stored, Refused}
 use Rattle.delivery_token.specs.declared.log.Noted.{Noted}
-use Rattle.mailbox.specs.Mail.{Mail}
+use Rattle.mailbox.specs.Mailbox.{Mailbox}
 use Rattle.mailbox.specs.declared.mailbox.Receipt.{Receipt}
 use Rattle.mailbox_holds.specs.Holds.{DoesDeliver}
 use Rattle.shard_queue.specs.declared.lane.Entry.{Entry}
@@ -14,8 +14,8 @@ use Rattle.shard_queue.specs.declared.lane.Entry.TheVariants.{Item, End}
 
 -- A lock was taken: this mailbox was found, this was done to it, it was left like that, and the lock was let go. Of what one hold leaves and the next
 -- one finds nothing is said.
-abbrev pub UnderLock : (Mail → Mail → Type 0) → Type 0
-UnderLock P = (found : Mail) × (left : Mail) × P found left
+abbrev pub UnderLock : (Mailbox → Mailbox → Type 0) → Type 0
+UnderLock P = (found : Mailbox) × (left : Mailbox) × P found left
 
 -- a delivery's answer, as its producer is told
 abbrev pub verdict_of : Result Receipt Refusal → Verdict
@@ -23,7 +23,7 @@ verdict_of (Ok receipt) = Stored receipt.uid
 verdict_of (Err why) = Refused why
 
 -- The copy was delivered, and nothing else was done; the verdict is that delivery's answer.
-pub record IsDelivered (job : Job) (verdict : Verdict) (found left : Mail) : Type 0 where
+pub record IsDelivered (job : Job) (verdict : Verdict) (found left : Mailbox) : Type 0 where
   pub delivered : Result Receipt Refusal
   pub does : DoesDeliver found job delivered left
   pub tells : verdict ≡ verdict_of delivered

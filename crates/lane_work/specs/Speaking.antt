@@ -9,7 +9,7 @@ use Rattle.lmtp_machine.specs.declared.connection.What.TheVariants.{More, Submit
 use Rattle.lmtp_machine.specs.declared.reply.Reply.{Reply}
 use Rattle.lmtp_machine.specs.Conversation.{Conversation}
 use Rattle.lmtp_machine.specs.Dialogue.{Ended}
-use Rattle.lmtp_machine.specs.Machine.{Machine, StandsFor}
+use Rattle.lmtp_machine.specs.LmtpMachine.{LmtpMachine, StandsFor}
 use Rattle.lmtp_machine.specs.Replies.{wire}
 use Rattle.shard_queue.specs.declared.lane.Entry.{Entry}
 use Rattle.lane_work.specs.declared.desk.Office.{Office}
@@ -33,7 +33,7 @@ is_quit Quit = true
 
 -- The connection has taken these bytes, by the producer's own directory; its replies are in `out`, and what it submitted stands in the books, behind what was
 -- done before it.
-pub record Stands (own directory : Directory) (rooms : List Room) (seat : ℕ) (done : List Judged) (bytes : List ℕ) (over : Bool) (m : Machine) (out : List ℕ) (keeps : List (Job × Verdict) → Type 0) (heard : List (Entry Noted)) (sent : List (List (Entry Job))) : Type 0 where
+pub record Stands (own directory : Directory) (rooms : List Room) (seat : ℕ) (done : List Judged) (bytes : List ℕ) (over : Bool) (m : LmtpMachine) (out : List ℕ) (keeps : List (Job × Verdict) → Type 0) (heard : List (Entry Noted)) (sent : List (List (Entry Job))) : Type 0 where
   pub said : List Reply
   pub judged : List Judged
   pub at : Conversation

@@ -6,21 +6,21 @@ use Rattle.std.proofs.Math.Seq.{take-suc, take-append-add}
 use Rattle.line_io.specs.Wire.{EndsInCr, IsCut, wire_lines, wire_rest}
 use Rattle.line_io.specs.inner.WireLaws.{cut_more, cut_end, reading_cut, lines_are, wire_more}
 use Rattle.line_io.proofs.Appended.{take_two_of}
-use Rattle.line_io.specs.Cutting.{Cutter, StandsFor, EndsLine, Tells}
+use Rattle.line_io.specs.Cutting.{LineCutter, StandsFor, EndsLine, Tells}
 use Rattle.line_io.specs.declared.What.{What}
 use Rattle.line_io.specs.declared.What.TheVariants.{NeedMore, Line, TooLong}
 
 -- the cutter has taken this stream, which has these lines and this rest
-pub record StandsAt (cutter : Cutter) (stream : List ℕ) (lines : List (List ℕ)) (rest : List ℕ) : Type 0 where
+pub record StandsAt (cutter : LineCutter) (stream : List ℕ) (lines : List (List ℕ)) (rest : List ℕ) : Type 0 where
   pub cut : IsCut stream lines rest
   pub kept : cutter.kept ≡ take cutter.max rest
   pub cr : cutter.after_cr ≡ true → EndsInCr rest
   pub no_cr : cutter.after_cr ≡ false → EndsInCr rest → ⊥
 
-pub at_stands : (c : Cutter) (stream : List ℕ) → StandsFor c stream → StandsAt c stream (wire_lines stream) (wire_rest stream)
+pub at_stands : (c : LineCutter) (stream : List ℕ) → StandsFor c stream → StandsAt c stream (wire_lines stream) (wire_rest stream)
 at_stands c stream s = record { cut = reading_cut stream; kept = s.kept; cr = s.cr; no_cr = s.no_cr }
 
-pub stands_at : (c : Cutter) (stream : List ℕ) (lines : List (List ℕ)) (rest : List ℕ) → StandsAt c stream lines rest → StandsFor c stream
+pub stands_at : (c : LineCutter) (stream : List ℕ) (lines : List (List ℕ)) (rest : List ℕ) → StandsAt c stream lines rest → StandsFor c stream
 stands_at c stream lines rest at =
     let e : rest ≡ wire_rest stream = sym (lines_are stream lines rest at.cut).1 in
     record {
@@ -36,7 +36,7 @@ take_kept (suc max) [] byte = refl
 take_kept (suc max) (x ∷ rest) byte = ap (λ t. x ∷ t) (take_kept max rest byte)
 
 -- the cutter after a byte that ends no line
-at_more : (old new : Cutter) (stream : List ℕ) (lines : List (List ℕ)) (rest : List ℕ) (byte : ℕ) →
+at_more : (old new : LineCutter) (stream : List ℕ) (lines : List (List ℕ)) (rest : List ℕ) (byte : ℕ) →
     StandsAt old stream lines rest →
     new.max ≡ old.max →
     new.kept ≡ take old.max (old.kept ++ byte ∷ []) →
@@ -56,7 +56,7 @@ at_more old new stream lines rest byte at m k cr no_cr not_end = record {
     elim_bool false t f = f refl
 
 -- a cutter that begins a line
-pub stands_new : (c : Cutter) (stream : List ℕ) (lines : List (List ℕ)) → IsCut stream lines [] → c.kept ≡ [] → c.after_cr ≡ false → StandsAt c stream lines []
+pub stands_new : (c : LineCutter) (stream : List ℕ) (lines : List (List ℕ)) → IsCut stream lines [] → c.kept ≡ [] → c.after_cr ≡ false → StandsAt c stream lines []
 stands_new c stream lines h k f = record {
   cut = h;
   kept = k ∙ sym (none c.max);
@@ -73,7 +73,7 @@ stands_new c stream lines h k f = record {
     uncut_end (x ∷ front) e = cc
 
 -- the line that ends at an LF after a CR, where what was kept is shorter than max
-at_line : (old new : Cutter) (stream : List ℕ) (lines : List (List ℕ)) (rest : List ℕ) (byte : ℕ) →
+at_line : (old new : LineCutter) (stream : List ℕ) (lines : List (List ℕ)) (rest : List ℕ) (byte : ℕ) →
     StandsAt old stream lines rest → byte ≡ 10 → old.after_cr ≡ true → new.kept ≡ [] → new.after_cr ≡ false →
     length old.kept < old.max →
     (line : List ℕ) × StandsAt new (stream ++ byte ∷ []) (lines ++ line ∷ []) [] × (length line + 2 ≤ old.max) × (take (length old.kept - 1) old.kept ≡ line)
@@ -90,7 +90,7 @@ at_line old new stream lines rest byte at b t k f l =
     )
 
 -- the line that ends there, where max bytes were kept
-at_long : (old new : Cutter) (stream : List ℕ) (lines : List (List ℕ)) (rest : List ℕ) (byte : ℕ) →
+at_long : (old new : LineCutter) (stream : List ℕ) (lines : List (List ℕ)) (rest : List ℕ) (byte : ℕ) →
     StandsAt old stream lines rest → byte ≡ 10 → old.after_cr ≡ true → new.kept ≡ [] → new.after_cr ≡ false →
     old.max ≤ length old.kept →
     (line : List ℕ) × StandsAt new (stream ++ byte ∷ []) (lines ++ line ∷ []) [] × (old.max < length line + 2)
@@ -104,15 +104,15 @@ at_long old new stream lines rest byte at b t k f l =
     )
 
 -- the fields of a cutter that has no line to give
-pub fields : (max : ℕ) (bytes : List ℕ) (after_cr is_ready : Bool) (c : Cutter) →
+pub fields : (max : ℕ) (bytes : List ℕ) (after_cr is_ready : Bool) (c : LineCutter) →
     record { max = max; kept = (if is_ready then [] else bytes); after_cr = after_cr; line = (if is_ready then Some bytes else None) } ≡ c →
     c.line ≡ None →
     (is_ready ≡ false) × (c.max ≡ max) × (c.kept ≡ bytes) × (c.after_cr ≡ after_cr)
-fields max bytes after_cr true c e n = absurd (let h : Some bytes ≡ None = ap (λ (c : Cutter). c.line) e ∙ n in cc)
-fields max bytes after_cr false c e n = (refl, sym (ap (λ (c : Cutter). c.max) e), sym (ap (λ (c : Cutter). c.kept) e), sym (ap (λ (c : Cutter). c.after_cr) e))
+fields max bytes after_cr true c e n = absurd (let h : Some bytes ≡ None = ap (λ (c : LineCutter). c.line) e ∙ n in cc)
+fields max bytes after_cr false c e n = (refl, sym (ap (λ (c : LineCutter). c.max) e), sym (ap (λ (c : LineCutter). c.kept) e), sym (ap (λ (c : LineCutter). c.after_cr) e))
 
 -- a cutter that lets go of its line
-pub stands_begun : (c : Cutter) (stream : List ℕ) → StandsFor c stream → StandsFor (record c { line = None }) stream
+pub stands_begun : (c : LineCutter) (stream : List ℕ) → StandsFor c stream → StandsFor (record c { line = None }) stream
 stands_begun c stream at = record { kept = at.kept; cr = at.cr; no_cr = at.no_cr }
 
 ends_joined : (stream more used line : List ℕ) → wire_lines (stream ++ more) ≡ wire_lines stream → EndsLine (stream ++ more) used line → EndsLine stream (more ++ used) line
@@ -122,7 +122,7 @@ ends_joined stream more used line e t = record {
 }
 
 -- an answer after bytes that ended no line
-pub tells_joined : (what : What) (c : Cutter) (stream more used : List ℕ) →
+pub tells_joined : (what : What) (c : LineCutter) (stream more used : List ℕ) →
     wire_lines (stream ++ more) ≡ wire_lines stream → Tells what c (stream ++ more) used → Tells what c stream (more ++ used)
 tells_joined NeedMore c stream more used e t = ap wire_lines (sym (append_assoc stream more used)) ∙ t ∙ e
 tells_joined Line c stream more used e t = (t.0, ends_joined stream more used t.0 e t.1, t.2, t.3)
@@ -136,7 +136,7 @@ pub kept_full : (max : ℕ) (kept bytes : List ℕ) (byte : ℕ) → kept ≡ by
 kept_full max kept bytes byte k l = sym k ∙ sym (take_at kept (byte ∷ []) max l)
 
 -- the same, of the stream alone
-pub stands_more : (old new : Cutter) (stream : List ℕ) (byte : ℕ) →
+pub stands_more : (old new : LineCutter) (stream : List ℕ) (byte : ℕ) →
     StandsFor old stream →
     new.max ≡ old.max →
     new.kept ≡ take old.max (old.kept ++ byte ∷ []) →
@@ -148,10 +148,10 @@ stands_more old new stream byte s m k cr no_cr not_end =
     let at = at_more old new stream _ _ byte (at_stands old stream s) m k cr no_cr not_end in
     (stands_at new _ _ _ at, (lines_are _ _ _ at.cut).0)
 
-ends_at : (c : Cutter) (stream used line : List ℕ) → StandsAt c (stream ++ used) (wire_lines stream ++ line ∷ []) [] → StandsFor c (stream ++ used) × EndsLine stream used line
+ends_at : (c : LineCutter) (stream used line : List ℕ) → StandsAt c (stream ++ used) (wire_lines stream ++ line ∷ []) [] → StandsFor c (stream ++ used) × EndsLine stream used line
 ends_at c stream used line at = let e = lines_are _ _ _ at.cut in (stands_at c _ _ _ at, record { lines = e.0; rest = e.1 })
 
-pub stands_line : (old new : Cutter) (stream : List ℕ) (byte : ℕ) →
+pub stands_line : (old new : LineCutter) (stream : List ℕ) (byte : ℕ) →
     StandsFor old stream → byte ≡ 10 → old.after_cr ≡ true → new.kept ≡ [] → new.after_cr ≡ false →
     length old.kept < old.max →
     StandsFor new (stream ++ byte ∷ []) × ((line : List ℕ) × EndsLine stream (byte ∷ []) line × (length line + 2 ≤ old.max) × (take (length old.kept - 1) old.kept ≡ line))
@@ -160,7 +160,7 @@ stands_line old new stream byte s b t k f l =
     let e = ends_at new stream (byte ∷ []) w.0 w.1 in
     (e.0, (w.0, e.1, w.2, w.3))
 
-pub stands_long : (old new : Cutter) (stream : List ℕ) (byte : ℕ) →
+pub stands_long : (old new : LineCutter) (stream : List ℕ) (byte : ℕ) →
     StandsFor old stream → byte ≡ 10 → old.after_cr ≡ true → new.kept ≡ [] → new.after_cr ≡ false →
     old.max ≤ length old.kept →
     StandsFor new (stream ++ byte ∷ []) × ((line : List ℕ) × EndsLine stream (byte ∷ []) line × (old.max < length line + 2))
@@ -195,7 +195,7 @@ run_more stream piece (suc n) h no_lf =
           ∙ ap (λ t. wire_rest stream ++ t) (sym (take-suc piece n 0 (omega arith))),
     )
 
-pub stands_run : (old new : Cutter) (stream piece : List ℕ) (n last : ℕ) → StandsFor old stream →
+pub stands_run : (old new : LineCutter) (stream piece : List ℕ) (n last : ℕ) → StandsFor old stream →
     n ≡ suc last → n ≤ length piece → ((k : ℕ) → k < n → get_or piece k 0 ≡ 10 → ⊥) →
     new.max ≡ old.max → new.kept ≡ take old.max (old.kept ++ take n piece) →
     (new.after_cr ≡ true → get_or piece last 0 ≡ 13) →
@@ -217,7 +217,7 @@ stands_run old new stream piece n last s e h no_lf m k cr no_cr =
     )
 
 -- a part of a piece and a run behind it
-pub run_joined : (c : Cutter) (stream piece : List ℕ) (i n : ℕ) → wire_lines (stream ++ take i piece) ≡ wire_lines stream →
+pub run_joined : (c : LineCutter) (stream piece : List ℕ) (i n : ℕ) → wire_lines (stream ++ take i piece) ≡ wire_lines stream →
     (let after = (stream ++ take i piece) ++ take n (take (length piece - i) (drop i piece)) in
     StandsFor c after × (wire_lines after ≡ wire_lines (stream ++ take i piece))) →
     StandsFor c (stream ++ take (i + n) piece) × (wire_lines (stream ++ take (i + n) piece) ≡ wire_lines stream)

@@ -51,9 +51,9 @@ pub struct LineCutter {
 
 impl Model for LineCutter {
     ghost use Rattle.std.specs.Prelude.{◌≡◌, ◌<◌, ◌≤◌, [], Some, None, true, false, if◌then◌else◌, vec_len, vec_capacity};
-    ghost use Rattle.line_io.specs.Cutting.{Cutter};
+    ghost use Rattle.line_io.specs.Cutting.{LineCutter};
 
-    ghost Value = { Cutter };
+    ghost Value = { LineCutter };
 
     ghost view = { λ a. record {
       max = a.max;

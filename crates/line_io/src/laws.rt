@@ -1,6 +1,6 @@
 //! What follows from the definition of wire lines, for readers and for proofs above. No code runs here.
 
-ghost use Rattle.line_io.specs.Cutting.{Cutter, StandsFor};
+ghost use Rattle.line_io.specs.Cutting.{LineCutter, StandsFor};
 ghost use Rattle.std.specs.Prelude.{[], ◌++◌, ◌≡◌, ℕ, List};
 ghost use Rattle.line_io.specs.Wire.{IsCut, wire_lines, wire_rest};
 
@@ -13,6 +13,6 @@ pub fn each_stream_is_cut_in_one_way()
 
 /// Between two lines a cutter stands also for its stream with whole lines after it that another took, as mail data.
 pub fn whole_lines_may_be_taken_by_others()
-    ensures { (cutter : Cutter) (stream more : List ℕ) → StandsFor cutter stream →
+    ensures { (cutter : LineCutter) (stream more : List ℕ) → StandsFor cutter stream →
         wire_rest stream ≡ [] → wire_rest more ≡ [] → StandsFor cutter (stream ++ more) }
 {}

@@ -7,10 +7,10 @@ use Rattle.std.proofs.lemmas.List.Elements.{All-nil, All-append, All-head, All-t
 use Rattle.std.proofs.lemmas.List.Concat.{flat_map-append}
 use Rattle.line_io.specs.Wire.{crlf, IsCut, IsUncut, EndsInCr, joined, wire_lines, wire_rest}
 use Rattle.line_io.specs.inner.WireLaws.{reading_cut, lines_are, wire_join, wire_joined, uncut_nil}
-use Rattle.line_io.specs.Cutting.{Cutter, EndsLine}
+use Rattle.line_io.specs.Cutting.{LineCutter, EndsLine}
 use Rattle.line_io.specs.Cutting.{StandsFor as HasTaken}
 use Rattle.dot_stuffing.specs.Data.{dot, Plain}
-use Rattle.dot_stuffing.specs.Unstuffing.{IsBehind, Unstuffing, Tells as TellsData}
+use Rattle.dot_stuffing.specs.Unstuffing.{IsBehind, Unstuffer, Tells as TellsData}
 use Rattle.dot_stuffing.specs.Unstuffing.{StandsFor as HasUnstuffed}
 use Rattle.dot_stuffing.specs.declared.Outcome.{Outcome}
 use Rattle.dot_stuffing.specs.declared.Outcome.TheVariants as outcomes
@@ -24,11 +24,11 @@ use Rattle.lmtp_machine.specs.declared.reply.Reply.{Reply}
 use Rattle.lmtp_machine.specs.declared.reply.Reply.TheVariants.{LineTooLong, OutOfMemory, MessageTooBig, NulByte}
 use Rattle.lmtp_machine.specs.Replies.{wire}
 use Rattle.lmtp_machine.specs.Message.{plain, outcome, return_path}
-use Rattle.lmtp_machine.specs.Standing.{CommandState, standing_of, phase_of, IsOpen, Takes}
+use Rattle.lmtp_machine.specs.Standing.{Commands, standing_of, phase_of, IsOpen, Takes}
 use Rattle.lmtp_machine.specs.Dialogue.{Phase, Start, Ready, Transaction, Data, Waiting, Ended, Standing, Setting, Submission, Event, Line, Starved, Turn, turn, dialogue, on_event, on_line, on_command_line, on_outcome, at_end, is_dot}
 use Rattle.lmtp_machine.specs.Conversation.{Conversation, Heard, none, line, starved, IsListening, MayHear, EachMayBeHeard, ◌⨾◌}
-use Rattle.lmtp_machine.specs.Machine.{Machine, BetweenLines, WithinData, IsHere, StandsFor}
-use Rattle.lmtp_machine.specs.inner.Machine.{IsPending}
+use Rattle.lmtp_machine.specs.LmtpMachine.{LmtpMachine, BetweenLines, WithinData, IsHere, StandsFor}
+use Rattle.lmtp_machine.specs.inner.LmtpMachine.{IsPending}
 use Rattle.lmtp_machine.specs.Calls.{Follows, Tells, IsQuiet}
 use Rattle.lmtp_machine.specs.inner.Ending.{Becomes, Does, IsBetween, what_of}
 use Rattle.lmtp_machine.proofs.Pieces.{goes_on, heard-append, may-append}
@@ -45,7 +45,7 @@ uncut_from s e =
     subst (λ (t : List ℕ). IsUncut t) (sym c.whole) c.open_end
 
 -- a cutter knows its stream by what has not ended
-taken_as : (cutter : Cutter) (s t : List ℕ) → wire_rest s ≡ wire_rest t → HasTaken cutter s → HasTaken cutter t
+taken_as : (cutter : LineCutter) (s t : List ℕ) → wire_rest s ≡ wire_rest t → HasTaken cutter s → HasTaken cutter t
 taken_as cutter s t r h = record {
   kept = h.kept ∙ ap (λ (u : List ℕ). take cutter.max u) r;
   cr = subst (λ (u : List ℕ). cutter.after_cr ≡ true → EndsInCr u) r h.cr;
@@ -54,7 +54,7 @@ taken_as cutter s t r h = record {
 
 -- ---- stages
 
-between_open : (stage : Stage) (m : Machine) (c : Conversation) → IsOpen stage → IsHere stage m c → BetweenLines m c
+between_open : (stage : Stage) (m : LmtpMachine) (c : Conversation) → IsOpen stage → IsHere stage m c → BetweenLines m c
 between_open stages.Start m c o h = h
 between_open stages.Ready m c o h = h
 between_open stages.Transaction m c o h = h
@@ -62,7 +62,7 @@ between_open stages.Data m c o h = absurd o
 between_open stages.Waiting m c o h = absurd o
 between_open stages.Ended m c o h = absurd o
 
-here_between : (stage : Stage) (m : Machine) (c : Conversation) → IsBetween stage → BetweenLines m c → IsHere stage m c
+here_between : (stage : Stage) (m : LmtpMachine) (c : Conversation) → IsBetween stage → BetweenLines m c → IsHere stage m c
 here_between stages.Start m c b h = h
 here_between stages.Ready m c b h = h
 here_between stages.Transaction m c b h = h
@@ -95,7 +95,7 @@ open_listening stages.Waiting sender recipients o = absurd o
 open_listening stages.Ended sender recipients o = absurd o
 
 -- between commands, where a command line may come
-listens_at : (m : Machine) (c : Conversation) → IsOpen m.commands.stage → BetweenLines m c → IsListening c.standing.phase
+listens_at : (m : LmtpMachine) (c : Conversation) → IsOpen m.commands.stage → BetweenLines m c → IsListening c.standing.phase
 listens_at m c o b = subst (λ (x : Standing). IsListening x.phase) (sym b.standing) (open_listening m.commands.stage m.commands.sender m.commands.recipients o)
 
 open_more : (stage : Stage) → IsOpen stage → what_of stage ≡ More
@@ -165,7 +165,7 @@ before_none setting directory s (f ∷ events) last h = absurd (let k : ◌≡�
 
 -- ---- a command line
 
-after_line : (stage : Stage) (new : Machine) (t : Turn) → new.commands.stage ≡ stage → standing_of new.commands ≡ t.standing → IsGoing t.standing.phase → HasTaken new.cutter [] → HasUnstuffed new.unstuffer []
+after_line : (stage : Stage) (new : LmtpMachine) (t : Turn) → new.commands.stage ≡ stage → standing_of new.commands ≡ t.standing → IsGoing t.standing.phase → HasTaken new.cutter [] → HasUnstuffed new.unstuffer []
     → (new.commands.stage ≡ stages.Data → IsBehind new.unstuffer.collected (return_path new.commands.sender))
     → IsHere stage new (record { standing = t.standing; unfinished = [] })
 after_line stages.Start new t e s g k u f = record { standing = sym s; cutter = k; unstuffer = u }
@@ -187,7 +187,7 @@ after_line stages.Data new t e s g k u f =
 after_line stages.Waiting new t e s g k u f = record { standing = sym s; cutter = k; unstuffer = u }
 after_line stages.Ended new t e s g k u f = sym s
 
-pub line_follows : (m new : Machine) (directory : Directory) (c : Conversation) (piece : List ℕ) (used : ℕ) (what : What) (old out l : List ℕ)
+pub line_follows : (m new : LmtpMachine) (directory : Directory) (c : Conversation) (piece : List ℕ) (used : ℕ) (what : What) (old out l : List ℕ)
     → IsOpen m.commands.stage → StandsFor m c → (HasUnstuffed m.unstuffer [] → HasUnstuffed new.unstuffer [])
     → (new.commands.stage ≡ stages.Data → IsBehind new.unstuffer.collected (return_path new.commands.sender)) → HasTaken new.cutter (c.unfinished ++ take used piece)
     → EndsLine c.unfinished (take used piece) l → Takes m.host (on_command_line directory (standing_of m.commands) l) new.commands old out
@@ -229,7 +229,7 @@ line_follows m new directory c piece used what old out l o s goes behind kt el t
     }
 
 -- the line has not ended
-pub more_follows : (m new : Machine) (directory : Directory) (c : Conversation) (piece : List ℕ) (used : ℕ) (what : What) (old out : List ℕ)
+pub more_follows : (m new : LmtpMachine) (directory : Directory) (c : Conversation) (piece : List ℕ) (used : ℕ) (what : What) (old out : List ℕ)
     → IsOpen m.commands.stage → StandsFor m c → new.commands ≡ m.commands → new.unstuffer ≡ m.unstuffer → HasTaken new.cutter (c.unfinished ++ take used piece)
     → wire_lines (c.unfinished ++ take used piece) ≡ wire_lines c.unfinished → used ≡ length piece → out ≡ old → new.pending ≡ [] → what ≡ what_of new.commands.stage
     → Follows (StandsFor new) m.setting m.host directory c piece (record { used = used; what = what }) old out new.pending
@@ -239,7 +239,7 @@ more_follows m new directory c piece used what old out o s ec eu kt el all eo ep
     let uncut : IsUncut bytes = uncut_from bytes (el ∙ (uncut_is c.unfinished s.open_end).0) in
     let t : Turn = turn c.standing.phase c.standing.submitted [] in
     let after : Conversation = record { standing = c.standing; unfinished = bytes } in
-    let o' : IsOpen new.commands.stage = subst (λ (x : CommandState). IsOpen x.stage) (sym ec) o in
+    let o' : IsOpen new.commands.stage = subst (λ (x : Commands). IsOpen x.stage) (sym ec) o in
     record {
       turn = t;
       after = after;
@@ -247,9 +247,9 @@ more_follows m new directory c piece used what old out o s ec eu kt el all eo ep
       stands = record {
         open_end = uncut;
         here = here_between new.commands.stage new after (open_between new.commands.stage o') (record {
-          standing = b.standing ∙ ap (λ (x : CommandState). standing_of x) (sym ec);
+          standing = b.standing ∙ ap (λ (x : Commands). standing_of x) (sym ec);
           cutter = kt;
-          unstuffer = subst (λ (u : Unstuffing). HasUnstuffed u []) (sym eu) b.unstuffer;
+          unstuffer = subst (λ (u : Unstuffer). HasUnstuffed u []) (sym eu) b.unstuffer;
         });
       };
       said = eo ∙ sym (append-nil old);
@@ -262,34 +262,34 @@ more_follows m new directory c piece used what old out o s ec eu kt el all eo ep
     }
 
 -- a line that is too long was answered as one
-pub long_takes : (m new : Machine) (directory : Directory) (l old out : List ℕ) → new.commands ≡ m.commands → 512 < length l + 2 → out ≡ old ++ wire m.host (LineTooLong ∷ [])
+pub long_takes : (m new : LmtpMachine) (directory : Directory) (l old out : List ℕ) → new.commands ≡ m.commands → 512 < length l + 2 → out ≡ old ++ wire m.host (LineTooLong ∷ [])
     → Takes m.host (on_command_line directory (standing_of m.commands) l) new.commands old out
 long_takes m new directory l old out ec h eo =
     let e = too_long directory (phase_of m.commands.stage m.commands.sender m.commands.recipients) m.commands.submitted l h in
     record {
-      standing = ap (λ (x : CommandState). standing_of x) ec ∙ ap (λ (t : Turn). t.standing) (sym e);
+      standing = ap (λ (x : Commands). standing_of x) ec ∙ ap (λ (t : Turn). t.standing) (sym e);
       said = eo ∙ ap (λ (t : Turn). old ++ wire m.host t.replies) (sym e);
     }
 
 -- where the commands stay, no data begins
-pub no_data_begins : (m new : Machine) → IsOpen m.commands.stage → new.commands ≡ m.commands
+pub no_data_begins : (m new : LmtpMachine) → IsOpen m.commands.stage → new.commands ≡ m.commands
     → new.commands.stage ≡ stages.Data → IsBehind new.unstuffer.collected (return_path new.commands.sender)
-no_data_begins m new o ec e = absurd (subst (λ (x : Stage). IsOpen x) (ap (λ (x : CommandState). x.stage) (sym ec) ∙ e) o)
+no_data_begins m new o ec e = absurd (subst (λ (x : Stage). IsOpen x) (ap (λ (x : Commands). x.stage) (sym ec) ∙ e) o)
 
 -- the same answer under other names
-pub takes_as : (directory : Directory) (host host' : List ℕ) (a a' b b' : CommandState) (l l' old old' out out' : List ℕ)
+pub takes_as : (directory : Directory) (host host' : List ℕ) (a a' b b' : Commands) (l l' old old' out out' : List ℕ)
     → host ≡ host' → a ≡ a' → b ≡ b' → l ≡ l' → old ≡ old' → out ≡ out'
     → Takes host (on_command_line directory (standing_of a) l) b old out → Takes host' (on_command_line directory (standing_of a') l') b' old' out'
 takes_as directory host host' a a' b b' l l' old old' out out' eh ea eb el eo en k =
     subst (λ (x : List ℕ). Takes x (on_command_line directory (standing_of a') l') b' old' out') eh
-    (subst (λ (x : CommandState). Takes host (on_command_line directory (standing_of x) l') b' old' out') ea
-    (subst (λ (x : CommandState). Takes host (on_command_line directory (standing_of a) l') x old' out') eb
+    (subst (λ (x : Commands). Takes host (on_command_line directory (standing_of x) l') b' old' out') ea
+    (subst (λ (x : Commands). Takes host (on_command_line directory (standing_of a) l') x old' out') eb
     (subst (λ (x : List ℕ). Takes host (on_command_line directory (standing_of a) x) b old' out') el
     (subst (λ (x : List ℕ). Takes host (on_command_line directory (standing_of a) l) b x out') eo
     (subst (λ (x : List ℕ). Takes host (on_command_line directory (standing_of a) l) b old x) en k)))))
 
 -- between commands the cutter has what has come of the next line
-pub cutter_of : (m : Machine) (c : Conversation) → IsOpen m.commands.stage → StandsFor m c → HasTaken m.cutter c.unfinished
+pub cutter_of : (m : LmtpMachine) (c : Conversation) → IsOpen m.commands.stage → StandsFor m c → HasTaken m.cutter c.unfinished
 cutter_of m c o s = (between_open m.commands.stage m c o s.here).cutter
 
 -- ---- data
@@ -352,19 +352,19 @@ quiet_before setting directory s events more h =
     let e : dialogue setting directory s (events ++ more) ≡ first ⨾ others = goes_on setting directory s events more in
     (nil_front first.replies others.replies (ap (λ (t : Turn). t.replies) (sym e) ∙ h.0), nil_front first.submissions others.submissions (ap (λ (t : Turn). t.submissions) (sym e) ∙ h.1))
 
-within : (m : Machine) (c : Conversation) → m.commands.stage ≡ stages.Data → StandsFor m c → WithinData m c
+within : (m : LmtpMachine) (c : Conversation) → m.commands.stage ≡ stages.Data → StandsFor m c → WithinData m c
 within m c e s = subst (λ (x : Stage). IsHere x m c) e s.here
 
-standing_in : (m : Machine) (c : Conversation) (d : WithinData m c) → c.standing ≡ in_data m.commands.sender m.commands.recipients d.lines m.commands.submitted
+standing_in : (m : LmtpMachine) (c : Conversation) (d : WithinData m c) → c.standing ≡ in_data m.commands.sender m.commands.recipients d.lines m.commands.submitted
 standing_in m c d =
     ap (λ (p : Phase). let s : Standing = record { phase = p; submitted = c.standing.submitted } in s) d.phase
     ∙ ap (λ (n : ℕ). in_data m.commands.sender m.commands.recipients d.lines n) d.submitted
 
-may_at : (setting : Setting) (directory : Directory) (m : Machine) (c : Conversation) (d : WithinData m c) (events : List Event)
+may_at : (setting : Setting) (directory : Directory) (m : LmtpMachine) (c : Conversation) (d : WithinData m c) (events : List Event)
     → EachMayBeHeard setting directory (in_data m.commands.sender m.commands.recipients d.lines m.commands.submitted) events → EachMayBeHeard setting directory c.standing events
 may_at setting directory m c d events h = subst (λ (x : Standing). EachMayBeHeard setting directory x events) (sym (standing_in m c d)) h
 
-not_ended_in_data : (m : Machine) (c : Conversation) → WithinData m c → c.standing.phase ≡ Ended → ⊥
+not_ended_in_data : (m : LmtpMachine) (c : Conversation) → WithinData m c → c.standing.phase ≡ Ended → ⊥
 not_ended_in_data m c d e = let k : ◌≡◌ {A = Phase} (Data m.commands.sender m.commands.recipients d.lines) Ended = sym d.phase ∙ e in cc
 
 -- the lines and the rest of data that goes on
@@ -374,7 +374,7 @@ data_joined lines bytes h =
     let k = wire_join (joined lines) bytes j.1 in
     (k.0 ∙ ap (λ (x : List (List ℕ)). x ++ wire_lines bytes) j.0, k.1)
 
-pub data_more_follows : (m new : Machine) (directory : Directory) (c : Conversation) (piece : List ℕ) (used : ℕ) (old out : List ℕ)
+pub data_more_follows : (m new : LmtpMachine) (directory : Directory) (c : Conversation) (piece : List ℕ) (used : ℕ) (old out : List ℕ)
     → m.commands.stage ≡ stages.Data → StandsFor m c → new.commands ≡ m.commands → new.cutter ≡ m.cutter
     → ((wire : List ℕ) → HasUnstuffed m.unstuffer wire → HasUnstuffed new.unstuffer (wire ++ take used piece))
     → ((front : List ℕ) → IsBehind m.unstuffer.collected front → IsBehind new.unstuffer.collected front)
@@ -399,12 +399,12 @@ data_more_follows m new directory c piece used old out es s ec ek goes stays all
     let w : WithinData new after = record {
       lines = d.lines ++ news;
       each = All-append IsUncut d.lines news d.each cut.each;
-      some = subst (λ (x : CommandState). 0 < length x.recipients) (sym ec) d.some;
-      phase = ap (λ (x : CommandState). Data x.sender x.recipients (d.lines ++ news)) (sym ec);
-      submitted = ap (λ (x : CommandState). x.submitted) (sym ec);
-      cutter = subst (λ (k : Cutter). HasTaken k []) (sym ek) d.cutter;
+      some = subst (λ (x : Commands). 0 < length x.recipients) (sym ec) d.some;
+      phase = ap (λ (x : Commands). Data x.sender x.recipients (d.lines ++ news)) (sym ec);
+      submitted = ap (λ (x : Commands). x.submitted) (sym ec);
+      cutter = subst (λ (k : LineCutter). HasTaken k []) (sym ek) d.cutter;
       unstuffer = subst (λ (x : List ℕ). HasUnstuffed new.unstuffer x) whole u;
-      behind = stays (return_path new.commands.sender) (subst (λ (x : CommandState). IsBehind m.unstuffer.collected (return_path x.sender)) (sym ec) d.behind);
+      behind = stays (return_path new.commands.sender) (subst (λ (x : Commands). IsBehind m.unstuffer.collected (return_path x.sender)) (sym ec) d.behind);
     } in
     record {
       turn = t;
@@ -419,7 +419,7 @@ data_more_follows m new directory c piece used old out es s ec ek goes stays all
         stands = refl;
         behind = inl tt;
       };
-      stands = record { open_end = cut.open_end; here = subst (λ (x : Stage). IsHere x new after) (sym (ap (λ (x : CommandState). x.stage) ec ∙ es)) w };
+      stands = record { open_end = cut.open_end; here = subst (λ (x : Stage). IsHere x new after) (sym (ap (λ (x : Commands). x.stage) ec ∙ es)) w };
       said = eo ∙ sym (append-nil old);
       tells = (refl, tt);
       submits = ep;
@@ -475,7 +475,7 @@ end_found lines news lines' h e = elim (last_of_lines news) [
     last_of_lines [] = inl refl
     last_of_lines (x ∷ xs) = elim (last_of_lines xs) [ inl e ↦ inr ([], x, ap (λ t. x ∷ t) e) | inr w ↦ inr (x ∷ w.0, w.1, ap (λ t. x ∷ t) w.2) ]
 
-pub data_done_follows : (m new : Machine) (fresh : Unstuffing) (directory : Directory) (c : Conversation) (piece : List ℕ) (used : ℕ) (what : What) (old out : List ℕ) (u : Unstuffing) (o : Outcome)
+pub data_done_follows : (m new : LmtpMachine) (fresh : Unstuffer) (directory : Directory) (c : Conversation) (piece : List ℕ) (used : ℕ) (what : What) (old out : List ℕ) (u : Unstuffer) (o : Outcome)
     → m.commands.stage ≡ stages.Data → StandsFor m c → HasUnstuffed fresh []
     → ((wire : List ℕ) → HasUnstuffed m.unstuffer wire → TellsData (Done o) u wire (take used piece))
     → ((front : List ℕ) → IsBehind m.unstuffer.collected front → IsBehind u.collected front)
@@ -539,8 +539,8 @@ data_done_follows m new fresh directory c piece used what old out u o es s ef te
         open_end = uncut_nil;
         here = here_between new.commands.stage new after k.stage (record {
           standing = sym k.standing;
-          cutter = subst (λ (x : Cutter). HasTaken x []) (sym k.cutter) d.cutter;
-          unstuffer = subst (λ (x : Unstuffing). HasUnstuffed x []) (sym k.unstuffer) ef;
+          cutter = subst (λ (x : LineCutter). HasTaken x []) (sym k.cutter) d.cutter;
+          unstuffer = subst (λ (x : Unstuffer). HasUnstuffed x []) (sym k.unstuffer) ef;
         });
       };
       said = k.said;
@@ -556,7 +556,7 @@ data_done_follows m new fresh directory c piece used what old out u o es s ef te
 -- ---- who listens
 
 -- a connection that has not ended and awaits no verdicts listens
-pub still_listens : (m : Machine) (c : Conversation) → StandsFor m c → (m.commands.stage ≡ stages.Ended → ⊥) → ((n : ℕ) → c.standing.phase ≡ Waiting n → ⊥)
+pub still_listens : (m : LmtpMachine) (c : Conversation) → StandsFor m c → (m.commands.stage ≡ stages.Ended → ⊥) → ((n : ℕ) → c.standing.phase ≡ Waiting n → ⊥)
     → IsListening c.standing.phase
 still_listens m c s going unawaited = by_stage m.commands.stage refl s.here
   where
@@ -573,7 +573,7 @@ still_listens m c s going unawaited = by_stage m.commands.stage refl s.here
 
 -- ---- the end
 
-pub ended_follows : (m : Machine) (directory : Directory) (c : Conversation) (piece old : List ℕ) → m.commands.stage ≡ stages.Ended → StandsFor m c → m.pending ≡ []
+pub ended_follows : (m : LmtpMachine) (directory : Directory) (c : Conversation) (piece old : List ℕ) → m.commands.stage ≡ stages.Ended → StandsFor m c → m.pending ≡ []
     → Follows (StandsFor m) m.setting m.host directory c piece (record { used = 0; what = Quit }) old old m.pending
 ended_follows m directory c piece old es s ep =
     let here : c.standing ≡ standing_of m.commands = subst (λ (x : Stage). IsHere x m c) es s.here in

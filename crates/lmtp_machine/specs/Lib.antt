@@ -3,7 +3,7 @@ pub mod Message
 pub mod Dialogue
 pub mod Standing
 pub mod Conversation
-pub mod Machine
+pub mod LmtpMachine
 pub mod Calls
 pub mod Kept
 pub mod Laws

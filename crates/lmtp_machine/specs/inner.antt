@@ -1,4 +1,4 @@
 pub mod Calls
 pub mod Ending
-pub mod Machine
+pub mod LmtpMachine
 pub mod Standing

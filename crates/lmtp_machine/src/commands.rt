@@ -48,10 +48,10 @@ pub struct Commands {
 
 impl Model for Commands {
     ghost use Rattle.std.specs.Prelude.{◌≤◌, vec_capacity};
-    ghost use Rattle.lmtp_machine.specs.Standing.{CommandState};
+    ghost use Rattle.lmtp_machine.specs.Standing.{Commands};
     ghost use Rattle.lmtp_machine.specs.inner.Standing.{HasNumber};
 
-    ghost Value = { CommandState };
+    ghost Value = { Commands };
 
     ghost view = { λ c. record { stage = c.stage; submitted = c.submitted; sender = c.sender.items; recipients = c.recipients } };
 

@@ -6,7 +6,7 @@ ghost use Rattle.std.specs.Prelude.{All, ◌≡◌, ◌+◌, ◌*◌, ◌++◌, 
 ghost use Rattle.lmtp_machine.specs.Dialogue as dialogue;
 ghost use Rattle.lmtp_machine.specs.Conversation.{Conversation, opened};
 ghost use Rattle.envelope.specs.Directory.{Directory};
-ghost use Rattle.lmtp_machine.specs.Machine.{StandsFor, is_data};
+ghost use Rattle.lmtp_machine.specs.LmtpMachine.{StandsFor, is_data};
 ghost use Rattle.lmtp_machine.specs.Standing.{IsOpen};
 ghost use Rattle.lmtp_machine.specs.Message.{plain, return_path};
 ghost use Rattle.dot_stuffing.specs.Unstuffing.{IsBehind};
@@ -47,11 +47,11 @@ pub struct LmtpMachine {
 impl Model for LmtpMachine {
     ghost use Rattle.std.specs.Prelude.{◌≡◌, ◌<◌, ◌∷◌, [], length, None};
     ghost use Rattle.std.specs.Option.{option_map, option_to_list};
-    ghost use Rattle.lmtp_machine.specs.Machine.{Machine};
-    ghost use Rattle.lmtp_machine.specs.inner.Machine.{IsPending};
+    ghost use Rattle.lmtp_machine.specs.LmtpMachine.{LmtpMachine};
+    ghost use Rattle.lmtp_machine.specs.inner.LmtpMachine.{IsPending};
     ghost use Rattle.lmtp_machine.specs.Calls.{submission_of};
 
-    ghost Value = { Machine };
+    ghost Value = { LmtpMachine };
 
     ghost view = { λ m. record {
       setting = record { seat = m.seat; serial = m.serial; max_message = m.max_message };

@@ -12,7 +12,7 @@ use Rattle.lmtp_machine.specs.declared.reply.Reply.{Reply}
 use Rattle.lmtp_machine.specs.declared.reply.Reply.TheVariants.{Greeting}
 use Rattle.lmtp_machine.specs.Conversation.{Conversation, opened}
 use Rattle.lmtp_machine.specs.Dialogue.{Ended, Phase, Setting}
-use Rattle.lmtp_machine.specs.Machine.{Machine, StandsFor}
+use Rattle.lmtp_machine.specs.LmtpMachine.{LmtpMachine, StandsFor}
 use Rattle.lmtp_machine.specs.Replies.{reply_text, wire}
 use Rattle.shard_queue.specs.declared.lane.Entry.{Entry}
 use Rattle.lane_work.specs.Talk.{Judged, HasTaken, greeted}
@@ -28,7 +28,7 @@ use Rattle.lmtp_stream.specs.Streaming.{AreSent, AreCutShort, AreGivenUp, SaysLa
 use Rattle.lmtp_stream.proofs.LastWords.{goes_on}
 
 -- Between two reads: `told` was sent, and `out` is still to be sent. All that came was taken, where the dialogue goes on.
-pub record Goes (house : Premises) (seat : ℕ) (done : List Judged) (stream rest before after : Option (List ℕ)) (m : Machine) (out : List ℕ) (keeps : List (Job × Verdict) → Type 0) (heard : List (Entry Noted)) (sent : List (List (Entry Job))) : Type 0 where
+pub record Goes (house : Premises) (seat : ℕ) (done : List Judged) (stream rest before after : Option (List ℕ)) (m : LmtpMachine) (out : List ℕ) (keeps : List (Job × Verdict) → Type 0) (heard : List (Entry Noted)) (sent : List (List (Entry Job))) : Type 0 where
   pub came : List ℕ
   pub taken : List ℕ
   pub dropped : List ℕ
@@ -72,7 +72,7 @@ module _ (before mid after : Option (List ℕ)) (failed : Bool) (told : List ℕ
 
 module _ (house : Premises) (seat : ℕ) (done : List Judged) (stream before : Option (List ℕ)) where
   -- nothing was read yet, and nothing sent
-  pub goes_begin : (m : Machine) (out : List ℕ) (keeps : List (Job × Verdict) → Type 0) (heard : List (Entry Noted)) (sent : List (List (Entry Job)))
+  pub goes_begin : (m : LmtpMachine) (out : List ℕ) (keeps : List (Job × Verdict) → Type 0) (heard : List (Entry Noted)) (sent : List (List (Entry Job)))
       → Stands house.directory house.directory house.rooms seat done [] false m out keeps heard sent → Goes house seat done stream stream before before m out keeps heard sent
   goes_begin m out keeps heard sent s = record {
     came = [];
@@ -88,7 +88,7 @@ module _ (house : Premises) (seat : ℕ) (done : List Judged) (stream before : O
   }
 
   -- all that was said is sent
-  pub goes_sent : (rest mid after : Option (List ℕ)) (m : Machine) (out left : List ℕ) (keeps : List (Job × Verdict) → Type 0) (heard : List (Entry Noted)) (sent : List (List (Entry Job)))
+  pub goes_sent : (rest mid after : Option (List ℕ)) (m : LmtpMachine) (out left : List ℕ) (keeps : List (Job × Verdict) → Type 0) (heard : List (Entry Noted)) (sent : List (List (Entry Job)))
       → left ≡ [] → Appends mid after out
       → Goes house seat done stream rest before mid m out keeps heard sent → Goes house seat done stream rest before after m left keeps heard sent
   goes_sent rest mid after m out left keeps heard sent none appends g = record {
@@ -105,7 +105,7 @@ module _ (house : Premises) (seat : ℕ) (done : List Judged) (stream before : O
   }
 
   -- a new connection was greeted
-  pub begun : (m : Machine) (out : List ℕ) (keeps : List (Job × Verdict) → Type 0) (heard : List (Entry Noted)) (sent : List (List (Entry Job))) → StandsFor m opened → out ≡ wire m.host (Greeting ∷ [])
+  pub begun : (m : LmtpMachine) (out : List ℕ) (keeps : List (Job × Verdict) → Type 0) (heard : List (Entry Noted)) (sent : List (List (Entry Job))) → StandsFor m opened → out ≡ wire m.host (Greeting ∷ [])
       → AreBooks house.directory house.rooms seat done keeps heard sent → Stands house.directory house.directory house.rooms seat done [] false m out keeps heard sent
   begun m out keeps heard sent stands said books = record {
     said = Greeting ∷ [];
@@ -135,7 +135,7 @@ module _ (house : Premises) (seat : ℕ) (done : List Judged) (stream before : O
     books = λ _. subst (λ l. AreBooks house.directory house.rooms seat l keeps heard sent) (sym (append-nil done)) books;
   }
 
-  module _ (rest after : Option (List ℕ)) (m : Machine) (out : List ℕ) (keeps : List (Job × Verdict) → Type 0) (heard : List (Entry Noted)) (sent : List (List (Entry Job))) where
+  module _ (rest after : Option (List ℕ)) (m : LmtpMachine) (out : List ℕ) (keeps : List (Job × Verdict) → Type 0) (heard : List (Entry Noted)) (sent : List (List (Entry Job))) where
     -- where the dialogue goes on
     pub going : (g : Goes house seat done stream rest before after m out keeps heard sent) → (m.commands.stage ≡ stages.Ended → ⊥)
         → (g.dropped ≡ []) × (g.stands.at.standing.phase ≢ Ended) × (g.over ≡ false)
@@ -171,7 +171,7 @@ module _ (house : Premises) (seat : ℕ) (done : List Judged) (stream before : O
 
     -- the piece was taken, and the next may be read
     pub goes_piece : (g : Goes house seat done stream rest before after m out keeps heard sent) → (m.commands.stage ≡ stages.Ended → ⊥)
-        → (less : Option (List ℕ)) (piece : List ℕ) (m' : Machine) (out' : List ℕ) (keeps' : List (Job × Verdict) → Type 0) (heard' : List (Entry Noted)) (sent' : List (List (Entry Job)))
+        → (less : Option (List ℕ)) (piece : List ℕ) (m' : LmtpMachine) (out' : List ℕ) (keeps' : List (Job × Verdict) → Type 0) (heard' : List (Entry Noted)) (sent' : List (List (Entry Job)))
         → Consumes rest less piece → TookPiece house.directory house.rooms seat done g.taken piece nexts.Read m' (g.told ++ out') keeps' heard' sent'
         → Goes house seat done stream less before after m' out' keeps' heard' sent'
     goes_piece g not less piece m' out' keeps' heard' sent' c t =
@@ -228,7 +228,7 @@ module _ (house : Premises) (seat : ℕ) (done : List Judged) (stream before : O
 
     -- the house stops: the piece was taken so far, and what is said last was offered
     pub ends_shut : (g : Goes house seat done stream rest before after m out keeps heard sent) → (m.commands.stage ≡ stages.Ended → ⊥)
-        → (less final : Option (List ℕ)) (failed : Bool) (setting : Setting) (piece : List ℕ) (m' : Machine) (out' : List ℕ) (keeps' : List (Job × Verdict) → Type 0) (heard' : List (Entry Noted)) (sent' : List (List (Entry Job))) (result : Result Ending TalkFault)
+        → (less final : Option (List ℕ)) (failed : Bool) (setting : Setting) (piece : List ℕ) (m' : LmtpMachine) (out' : List ℕ) (keeps' : List (Job × Verdict) → Type 0) (heard' : List (Entry Noted)) (sent' : List (List (Entry Job))) (result : Result Ending TalkFault)
         → m'.setting ≡ setting → m'.host ≡ house.host
         → Consumes rest less piece → TookPiece house.directory house.rooms seat done g.taken piece nexts.Shut m' (g.told ++ out') keeps' heard' sent'
         → ((c : Conversation) → StandsFor m' c → SaysLast after final failed m'.host out' c.standing.phase result)

@@ -8,19 +8,19 @@ use Rattle.lmtp_machine.specs.Calls.{Happens}
 use Rattle.lmtp_machine.specs.Conversation.{Conversation}
 use Rattle.lmtp_machine.specs.Dialogue.{Phase, Start, Ready, Transaction, Data, Waiting, Ended}
 use Rattle.lmtp_machine.specs.Dialogue as on
-use Rattle.lmtp_machine.specs.Machine.{Machine, StandsFor, IsHere, is_data}
+use Rattle.lmtp_machine.specs.LmtpMachine.{LmtpMachine, StandsFor, IsHere, is_data}
 use Rattle.lmtp_machine.specs.Standing.{phase_of}
 use Rattle.lmtp_machine.specs.Replies.{wire}
 use Rattle.lmtp_stream.specs.Streaming.{last_words}
 
 -- a machine that has ended stands for a dialogue that has ended
-pub has_ended : (m : Machine) (c : Conversation) → m.commands.stage ≡ stages.Ended → StandsFor m c → c.standing.phase ≡ Ended
+pub has_ended : (m : LmtpMachine) (c : Conversation) → m.commands.stage ≡ stages.Ended → StandsFor m c → c.standing.phase ≡ Ended
 has_ended m c e s =
     let here : IsHere stages.Ended m c = subst (λ x. IsHere x m c) e s.here in
     ap (λ x. x.phase) here ∙ ap (λ x. phase_of x m.commands.sender m.commands.recipients) e
 
 -- and no other does
-pub goes_on : (m : Machine) (c : Conversation) → (m.commands.stage ≡ stages.Ended → ⊥) → StandsFor m c → c.standing.phase ≢ Ended
+pub goes_on : (m : LmtpMachine) (c : Conversation) → (m.commands.stage ≡ stages.Ended → ⊥) → StandsFor m c → c.standing.phase ≢ Ended
 goes_on m c not s over = go m.commands.stage refl s.here where
   phase_at : (stage : Stage) → m.commands.stage ≡ stage → c.standing.phase ≡ phase_of m.commands.stage m.commands.sender m.commands.recipients → phase_of stage m.commands.sender m.commands.recipients ≡ Ended
   phase_at stage e p = ap (λ x. phase_of x m.commands.sender m.commands.recipients) (sym e) ∙ sym p ∙ over
@@ -60,7 +60,7 @@ nowhere : Directory
 nowhere = record { domains = []; homes = []; shards = 0; shut = [] }
 
 -- that it shuts down is said
-pub shut_said : (m after : Machine) (c : Conversation) (old new : List ℕ) → is_data c.standing.phase ≡ false → (m.commands.stage ≡ stages.Ended → ⊥)
+pub shut_said : (m after : LmtpMachine) (c : Conversation) (old new : List ℕ) → is_data c.standing.phase ≡ false → (m.commands.stage ≡ stages.Ended → ⊥)
     → ((d : Directory) (k : Conversation) → StandsFor m k → Happens (StandsFor after) m.setting m.host d k on.Shut old new)
     → StandsFor m c → new ≡ old ++ wire m.host (last_words c.standing.phase)
 shut_said m after c old new outside not shuts s =

@@ -5,7 +5,7 @@ use Rattle.delivery_token.specs.declared.Verdict.{Verdict}
 use Rattle.delivery_token.specs.declared.log.Noted.{Noted}
 use Rattle.envelope.specs.Directory.{Directory}
 use Rattle.lmtp_machine.specs.Dialogue.{Setting}
-use Rattle.lmtp_machine.specs.Machine.{Machine}
+use Rattle.lmtp_machine.specs.LmtpMachine.{LmtpMachine}
 use Rattle.lmtp_machine.specs.Replies.{wire}
 use Rattle.shard_queue.specs.declared.lane.Entry.{Entry}
 use Rattle.shard_queue.specs.Shared.{IsStartOf}
@@ -19,7 +19,7 @@ use Rattle.lmtp_stream.specs.declared.piece.Next.{Next}
 use Rattle.lmtp_stream.specs.declared.piece.Next.TheVariants as nexts
 use Rattle.lmtp_stream.specs.inner.Pieces.{TookPiece, SaidByThen}
 
-module _ (d : Directory) (rooms : List Room) (p : ℕ) (done : List Judged) (bytes piece : List ℕ) (m : Machine) (out : List ℕ) (keeps : List (Job × Verdict) → Type 0) (heard : List (Entry Noted)) (sent : List (List (Entry Job))) where
+module _ (d : Directory) (rooms : List Room) (p : ℕ) (done : List Judged) (bytes piece : List ℕ) (m : LmtpMachine) (out : List ℕ) (keeps : List (Job × Verdict) → Type 0) (heard : List (Entry Noted)) (sent : List (List (Entry Job))) where
   -- one turn more
   pub turned : (used more : ℕ) (over : Bool) → Stands d d rooms p done ((bytes ++ take used piece) ++ take more (take (length piece - used) (drop used piece))) over m out keeps heard sent
       → Stands d d rooms p done (bytes ++ take (used + more) piece) over m out keeps heard sent

@@ -3,7 +3,7 @@
 
 ghost use Rattle.std.specs.Prelude.{◌≡◌, ◌≢◌, ◌++◌, List, false, true, OnOk, OnErr, Err};
 ghost use Rattle.lmtp_machine.specs.Conversation.{Conversation};
-ghost use Rattle.lmtp_machine.specs.Machine.{StandsFor};
+ghost use Rattle.lmtp_machine.specs.LmtpMachine.{StandsFor};
 ghost use Rattle.lmtp_machine.specs.Replies.{wire};
 ghost use Rattle.lmtp_stream.specs.Streaming.{AreGivenUp, SaysLast, last_words};
 

@@ -4,7 +4,7 @@
 ghost use Rattle.std.specs.Prelude.{◌≡◌, ◌<◌, ◌++◌, ◌∷◌, ℕ, List, [], map, length, Err, IfOk, OnOk, OnErr, false, true};
 ghost use Rattle.lmtp_machine.specs.declared.reply.Reply.TheVariants.{Greeting};
 ghost use Rattle.lmtp_machine.specs.Conversation.{opened};
-ghost use Rattle.lmtp_machine.specs.Machine.{StandsFor};
+ghost use Rattle.lmtp_machine.specs.LmtpMachine.{StandsFor};
 ghost use Rattle.lmtp_machine.specs.Replies.{wire};
 ghost use Rattle.shard_queue.specs.Reply.{IsReceiver, received};
 ghost use Rattle.shard_queue.specs.Shared.{IsStartOf};

@@ -12,7 +12,7 @@ use Rattle.change_ring.specs.Logged.{arrival, flags_differ, flags_logged, new_fl
 use Rattle.change_ring.specs.Window.{total}
 use Rattle.cursor_set.proofs.Places.{Rises, Rises-from}
 use Rattle.mailbox.specs.Events.{Logs}
-use Rattle.mailbox.specs.Mail.{Mail, Message, flagged, is_spent, message_with, next_uid, row_of, uids_of}
+use Rattle.mailbox.specs.Mailbox.{Mailbox, Message, flagged, is_spent, message_with, next_uid, row_of, uids_of}
 use Rattle.mailbox.specs.Stands.{Stands}
 use Rattle.mailbox.proofs.MessageLaws.{length_new, logged_with}
 
@@ -61,7 +61,7 @@ arrival_length uid flags true e = ap suc (length_new uid no_flags flags true e)
 arrival_length uid flags false e = ap suc (length_new uid no_flags flags false e)
 
 -- one after the other
-pub Logs-append : (old middle new : Mail) (cs ds : List Change) → Logs old middle cs → Logs middle new ds → Logs old new (cs ++ ds)
+pub Logs-append : (old middle new : Mailbox) (cs ds : List Change) → Logs old middle cs → Logs middle new ds → Logs old new (cs ++ ds)
 Logs-append old middle new cs ds one two = λ log s. subst (Stands new) (append_assoc log cs ds) (two (log ++ cs) (one log s))
 
 or_false : (a b : Bool) → (a || b) ≡ false → (a ≡ false) × (b ≡ false)
@@ -72,7 +72,7 @@ not_less : (a b : ℕ) → nat_lt a b ≡ false → b ≤ a
 not_less a b e = grind (arith, nat_tests)
 
 -- a mailbox that isn't spent has room for all that an arrival logs
-pub room_for_all : (flags : Flags) (m : Mail) → is_spent flags m ≡ false → total m.window + length (arrival (next_uid m) flags) ≤ 4611686018427387904
+pub room_for_all : (flags : Flags) (m : Mailbox) → is_spent flags m ≡ false → total m.window + length (arrival (next_uid m) flags) ≤ 4611686018427387904
 room_for_all flags m e =
     not_less 4611686018427387904 (total m.window + length (arrival (next_uid m) flags))
     (or_false (nat_le 4294967295 (next_uid m)) (nat_lt 4611686018427387904 (total m.window + length (arrival (next_uid m) flags))) e).1

@@ -17,7 +17,7 @@ use Rattle.mailbox.specs.Counts.{bytes_in_all, unseen_count}
 use Rattle.mailbox.specs.declared.letters.Letter.{Letter}
 use Rattle.mailbox.specs.declared.letters.Letters.TheInside.{Inside}
 use Rattle.mailbox.specs.inner.Letters.{AreCounted, in_front, letter_uids, message_of, messages_of, reflagged, without_message}
-use Rattle.mailbox.specs.Mail.{Message, message_with, uids_of}
+use Rattle.mailbox.specs.Mailbox.{Message, message_with, uids_of}
 
 -- 1 where it is so
 abbrev pub one_if : Bool → ℕ

@@ -16,7 +16,7 @@ use Rattle.change_ring.specs.Log.{without}
 use Rattle.cursor_set.proofs.Places.{Rises, Rises-from}
 use Rattle.mailbox.specs.Counts.{deleted_count}
 use Rattle.mailbox.specs.inner.Letters.{reflagged}
-use Rattle.mailbox.specs.Mail.{Message, message_with, remaining, uids_of}
+use Rattle.mailbox.specs.Mailbox.{Message, message_with, remaining, uids_of}
 use Rattle.mailbox.specs.inner.Marks.{marked_of, put_in, remarked}
 
 same_message : {x y : Message} → Some x ≡ Some y → x ≡ y

@@ -11,7 +11,7 @@ use Rattle.change_ring.specs.Logged.{seen_logged, differ, flags_differ, flags_af
 use Rattle.cursor_set.proofs.Places.{Rises}
 use Rattle.mailbox.specs.Events.{mark, seen_after}
 use Rattle.mailbox.specs.inner.Letters.{reflagged}
-use Rattle.mailbox.specs.Mail.{Message, row_of, uids_of, flagged, message_with}
+use Rattle.mailbox.specs.Mailbox.{Message, row_of, uids_of, flagged, message_with}
 
 same_some : {x y : Message} → Some x ≡ Some y → x ≡ y
 same_some e = cc

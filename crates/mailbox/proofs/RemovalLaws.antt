@@ -8,12 +8,12 @@ use Rattle.change_ring.specs.declared.change.Change.TheVariants.{Gone}
 use Rattle.change_ring.specs.Log.{Row, FitsView, without, without_row, rows_after, added}
 use Rattle.change_ring.specs.Logged.{removals}
 use Rattle.change_ring.specs.Window.{Window, IsWindowOf, total}
-use Rattle.cursor_set.specs.Cursors.{Cursors}
+use Rattle.cursor_set.specs.Cursors.{CursorSet}
 use Rattle.cursor_set.proofs.Places.{Rises}
 use Rattle.mailbox.specs.Events.{Moves}
 use Rattle.mailbox.specs.inner.Events.{GoesOn}
 use Rattle.mailbox.proofs.WindowMoves.{Moves-append, moves_logged}
-use Rattle.mailbox.specs.Mail.{Message, row_of, uids_of, remaining}
+use Rattle.mailbox.specs.Mailbox.{Message, row_of, uids_of, remaining}
 
 -- ---- a list of UIDs has one
 
@@ -132,13 +132,13 @@ pub GoesOn-append : (old middle new : Window) (cs ds : List Change) → GoesOn o
 GoesOn-append old middle new cs ds first second = λ log is. subst (IsWindowOf new) (append_assoc log cs ds) (second (log ++ cs) (first log is))
 
 -- some of all these changes are logged, and some are left
-pub record IsLogging (cursors : Cursors) (old new : Window) (all left : List Change) : Type 0 where
+pub record IsLogging (cursors : CursorSet) (old new : Window) (all left : List Change) : Type 0 where
   pub done : List Change
   pub split : done ++ left ≡ all
   pub goes_on : GoesOn old new done
   pub moves : Moves cursors old new done
 
-pub none_logged : (cursors : Cursors) (w : Window) (all : List Change) → IsLogging cursors w w all all
+pub none_logged : (cursors : CursorSet) (w : Window) (all : List Change) → IsLogging cursors w w all all
 none_logged cursors w all = record {
   done = [];
   split = refl;
@@ -146,7 +146,7 @@ none_logged cursors w all = record {
   moves = refl;
 }
 
-pub one_logged : (cursors : Cursors) (old middle new : Window) (all left : List Change) (c : Change) → IsLogging cursors old middle all (c ∷ left) →
+pub one_logged : (cursors : CursorSet) (old middle new : Window) (all left : List Change) (c : Change) → IsLogging cursors old middle all (c ∷ left) →
     GoesOn middle new (c ∷ []) → Moves cursors middle new (c ∷ []) → IsLogging cursors old new all left
 one_logged cursors old middle new all left c h goes moves = record {
   done = h.done ++ c ∷ [];
@@ -155,10 +155,10 @@ one_logged cursors old middle new all left c h goes moves = record {
   moves = Moves-append cursors old middle new h.done (c ∷ []) h.moves moves;
 }
 
-pub room_left : (cursors : Cursors) (old middle : Window) (all left : List Change) (c : Change) (most : ℕ) → IsLogging cursors old middle all (c ∷ left) → total old + length all ≤ most → total middle < most
+pub room_left : (cursors : CursorSet) (old middle : Window) (all left : List Change) (c : Change) (most : ℕ) → IsLogging cursors old middle all (c ∷ left) → total old + length all ≤ most → total middle < most
 room_left cursors old middle all left c most h room = omega (arith, room, moves_logged cursors old middle h.done h.moves, ap length h.split, length-append h.done (c ∷ left))
 
-pub all_logged : (cursors : Cursors) (old new : Window) (all : List Change) → IsLogging cursors old new all [] → GoesOn old new all × Moves cursors old new all
+pub all_logged : (cursors : CursorSet) (old new : Window) (all : List Change) → IsLogging cursors old new all [] → GoesOn old new all × Moves cursors old new all
 all_logged cursors old new all h =
     let e : h.done ≡ all = sym (append-nil h.done) ∙ h.split in
     (subst (GoesOn old new) e h.goes_on, subst (Moves cursors old new) e h.moves)

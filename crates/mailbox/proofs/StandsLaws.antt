@@ -14,7 +14,7 @@ use Rattle.change_ring.specs.Window.{changes_from, total}
 use Rattle.change_ring.proofs.LogLaws.{FitsView-append, rows_after-append, added-append, replay-append, uids-rows_after}
 use Rattle.change_ring.proofs.RangeLaws.{range-push}
 use Rattle.change_ring.proofs.WindowLaws.{changes_from-log}
-use Rattle.cursor_set.specs.Cursors.{Cursors, Open, Seat, Updates, after_showing, held, in_slot, next_changes}
+use Rattle.cursor_set.specs.Cursors.{CursorSet, Open, CursorSeat, Updates, after_showing, held, in_slot, next_changes}
 use Rattle.cursor_set.specs.Legal.{IsLegalOn}
 use Rattle.cursor_set.specs.Lines.{lines}
 use Rattle.cursor_set.proofs.LegalLaws.{legal_log, legal_rises}
@@ -23,7 +23,7 @@ use Rattle.cursor_set.proofs.Places.{Rises, Rises-from, Rises-to}
 use Rattle.delivery_token.specs.declared.CopyKey.{CopyKey}
 use Rattle.mailbox.specs.Events.{Logs}
 use Rattle.mailbox.specs.inner.Events.{GoesOn}
-use Rattle.mailbox.specs.Mail.{Mail, Message, row_of, uids_of, accepted_uids, next_uid}
+use Rattle.mailbox.specs.Mailbox.{Mailbox, Message, row_of, uids_of, accepted_uids, next_uid}
 use Rattle.mailbox.specs.Stands.{Stands, IsShown, next_of}
 
 -- ---- what a log that a mailbox stands for is
@@ -36,7 +36,7 @@ range_rises : (a n : ℕ) → Rises (range_with_len a n)
 range_rises a zero = tt
 range_rises a (suc n) = (range_above a (a + 1) n (omega arith), range_rises (a + 1) n)
 
-pub Stands-legal : (m : Mail) (log : List Change) → Stands m log → IsLegalLog log
+pub Stands-legal : (m : Mailbox) (log : List Change) → Stands m log → IsLegalLog log
 Stands-legal m log s = record {
   rising = subst IsStrictlyIncreasing (sym s.numbered ∙ s.accepted) (Rises-to (range_with_len m.first_uid (length m.accepted)) (range_rises m.first_uid (length m.accepted)));
   there = s.there;
@@ -47,14 +47,14 @@ map_uids [] = refl
 map_uids (m ∷ ms) = ap (λ (us : List ℕ). m.uid ∷ us) (map_uids ms)
 
 -- who was shown the whole log counts the messages that are there
-pub view-all : (m : Mail) (log : List Change) → Stands m log → uids_of m.messages ≡ replay [] log
+pub view-all : (m : Mailbox) (log : List Change) → Stands m log → uids_of m.messages ≡ replay [] log
 view-all m log is = sym (map_uids m.messages) ∙ ap (map (λ (r : Row). r.uid)) is.messages ∙ uids-rows_after [] log
 
-view-end : (m : Mail) (log : List Change) → Stands m log → uids_of m.messages ≡ view_at log (total m.window)
+view-end : (m : Mailbox) (log : List Change) → Stands m log → uids_of m.messages ≡ view_at log (total m.window)
 view-end m log is = view-all m log is ∙ ap (replay []) (sym (take_all (total m.window) log (omega (arith, is.window.long))))
 
 -- the messages' UIDs rise
-pub Stands-rising : (m : Mail) (log : List Change) → Stands m log → IsStrictlyIncreasing (uids_of m.messages)
+pub Stands-rising : (m : Mailbox) (log : List Change) → Stands m log → IsStrictlyIncreasing (uids_of m.messages)
 Stands-rising m log is =
     subst IsStrictlyIncreasing (sym (view-end m log is)) (legal_rises (view_at log (total m.window)) (drop (total m.window) log) (legal_log log (total m.window) (Stands-legal m log is)))
 
@@ -66,7 +66,7 @@ viewed None view e = cc
 viewed (Some o) view e = (o, refl, same_view e)
 
 -- and so do the UIDs that a client was shown
-pub Stands-shown_rises : (m : Mail) (log : List Change) → Stands m log → (seat : Seat) (view : List ℕ) → option_map (λ (o : Open). o.view) (held m.cursors seat) ≡ Some view → IsStrictlyIncreasing view
+pub Stands-shown_rises : (m : Mailbox) (log : List Change) → Stands m log → (seat : CursorSeat) (view : List ℕ) → option_map (λ (o : Open). o.view) (held m.cursors seat) ≡ Some view → IsStrictlyIncreasing view
 Stands-shown_rises m log is seat view e =
     let h = viewed (held m.cursors seat) view e in
     let shown : IsShown log h.0 = is.cursors seat.slot h.0 (held_in_slot m.cursors seat h.0 h.1) in
@@ -82,7 +82,7 @@ IsShown-more log more o is = record {
 }
 
 -- changes that fit what is there, with the cursors as they were
-pub Stands-logged : (m n : Mail) (log cs : List Change) → Stands m log → FitsView (uids_of m.messages) cs →
+pub Stands-logged : (m n : Mailbox) (log cs : List Change) → Stands m log → FitsView (uids_of m.messages) cs →
     map row_of n.messages ≡ rows_after (map row_of m.messages) cs →
     GoesOn m.window n.window cs →
     accepted_uids n ≡ accepted_uids m ++ added cs → accepted_uids n ≡ range_with_len n.first_uid (length n.accepted) →
@@ -93,11 +93,11 @@ Stands-logged m n log cs s fits rows goes accepts numbered cursors = record {
   window = goes log s.window;
   accepted = accepts ∙ ap (λ (us : List ℕ). us ++ added cs) s.accepted ∙ sym (added-append log cs);
   numbered = numbered;
-  cursors = λ slot o found. IsShown-more log cs o (s.cursors slot o (ap (λ (t : Cursors). in_slot t slot) (sym cursors) ∙ found));
+  cursors = λ slot o found. IsShown-more log cs o (s.cursors slot o (ap (λ (t : CursorSet). in_slot t slot) (sym cursors) ∙ found));
 }
 
 -- the same where no message is added
-pub Stands-changed : (m n : Mail) (log cs : List Change) → Stands m log → FitsView (uids_of m.messages) cs →
+pub Stands-changed : (m n : Mailbox) (log cs : List Change) → Stands m log → FitsView (uids_of m.messages) cs →
     map row_of n.messages ≡ rows_after (map row_of m.messages) cs → GoesOn m.window n.window cs → added cs ≡ [] →
     n.accepted ≡ m.accepted → n.first_uid ≡ m.first_uid → n.cursors ≡ m.cursors → Stands n (log ++ cs)
 Stands-changed m n log cs s fits rows goes adds accepted first cursors =
@@ -107,7 +107,7 @@ Stands-changed m n log cs s fits rows goes adds accepted first cursors =
     (same ∙ s.numbered ∙ ap₂ range_with_len (sym first) (ap length (sym accepted))) cursors
 
 -- a delivery
-pub Stands-deliver : (m n : Mail) (log : List Change) (key : CopyKey) (uid : ℕ) (text : List ℕ) → uid ≡ next_uid m →
+pub Stands-deliver : (m n : Mailbox) (log : List Change) (key : CopyKey) (uid : ℕ) (text : List ℕ) → uid ≡ next_uid m →
     n.messages ≡ m.messages ++ record { uid = uid; flags = no_flags; text = text } ∷ [] →
     GoesOn m.window n.window (Add uid ∷ []) →
     n.accepted ≡ m.accepted ++ (key, uid) ∷ [] → n.cursors ≡ m.cursors → n.first_uid ≡ m.first_uid → Stands m log → Stands n (log ++ Add uid ∷ [])
@@ -130,7 +130,7 @@ none_open : {o : Open} → None ≡ Some o → ⊥
 none_open e = cc
 
 -- it stands for the empty log
-pub Stands-new : (m : Mail) → m.messages ≡ [] → m.window.base ≡ 0 → m.window.changes ≡ [] → m.accepted ≡ [] → m.cursors.slots ≡ [] → Stands m []
+pub Stands-new : (m : Mailbox) → m.messages ≡ [] → m.window.base ≡ 0 → m.window.changes ≡ [] → m.accepted ≡ [] → m.cursors.slots ≡ [] → Stands m []
 Stands-new m messages base changes accepted cursors = record {
   there = tt;
   messages = ap (map row_of) messages;
@@ -143,7 +143,7 @@ Stands-new m messages base changes accepted cursors = record {
 -- ---- cursors
 
 -- other cursors, each shown what it says
-pub Stands-cursors : (m : Mail) (s : Cursors) (log : List Change) → Stands m log →
+pub Stands-cursors : (m : Mailbox) (s : CursorSet) (log : List Change) → Stands m log →
     ((slot : ℕ) (o : Open) → in_slot s slot ≡ Some o → IsShown log o) → Stands (record m { cursors = s }) log
 Stands-cursors m s log is shown = record {
   there = is.there;
@@ -158,7 +158,7 @@ same_some : {o p : Open} → Some o ≡ Some p → o ≡ p
 same_some e = cc
 
 -- one slot has another cursor
-Stands-slot : (m : Mail) (s : Cursors) (log : List Change) (slot : ℕ) (p : Open) → Stands m log → Updates m.cursors s slot (Some p) → IsShown log p → Stands (record m { cursors = s }) log
+Stands-slot : (m : Mailbox) (s : CursorSet) (log : List Change) (slot : ℕ) (p : Open) → Stands m log → Updates m.cursors s slot (Some p) → IsShown log p → Stands (record m { cursors = s }) log
 Stands-slot m s log slot p is changes shown =
     Stands-cursors m s log is (λ k o found. elim (cases_eq k slot) [
       | inl same ↦ subst (IsShown log) (same_some (sym changes.changed ∙ ap (in_slot s) (sym same) ∙ found)) shown
@@ -166,7 +166,7 @@ Stands-slot m s log slot p is changes shown =
     ])
 
 -- a cursor is opened at the end
-pub Stands-enter : (m : Mail) (s : Cursors) (log : List Change) (slot serial : ℕ) → Stands m log →
+pub Stands-enter : (m : Mailbox) (s : CursorSet) (log : List Change) (slot serial : ℕ) → Stands m log →
     Updates m.cursors s slot (Some (record { serial = serial; at = total m.window; view = uids_of m.messages })) → Stands (record m { cursors = s }) log
 Stands-enter m s log slot serial is changes =
     Stands-slot m s log slot (record { serial = serial; at = total m.window; view = uids_of m.messages }) is changes (record {
@@ -175,7 +175,7 @@ Stands-enter m s log slot serial is changes =
     })
 
 -- a cursor is closed
-pub Stands-close : (m : Mail) (s : Cursors) (log : List Change) (slot : ℕ) → Stands m log → Updates m.cursors s slot None → Stands (record m { cursors = s }) log
+pub Stands-close : (m : Mailbox) (s : CursorSet) (log : List Change) (slot : ℕ) → Stands m log → Updates m.cursors s slot None → Stands (record m { cursors = s }) log
 Stands-close m s log slot is changes =
     Stands-cursors m s log is (λ k o found. elim (cases_eq k slot) [
       | inl same ↦ absurd (none_open (sym changes.changed ∙ ap (in_slot s) (sym same) ∙ found))
@@ -183,11 +183,11 @@ Stands-close m s log slot is changes =
     ])
 
 -- what a cursor is to be shown next is the log's
-next-log : (m : Mail) (log : List Change) (n : ℕ) (o : Open) → Stands m log → m.window.base ≤ o.at → next_changes m.window o.at n ≡ next_of log o.at n
+next-log : (m : Mailbox) (log : List Change) (n : ℕ) (o : Open) → Stands m log → m.window.base ≤ o.at → next_changes m.window o.at n ≡ next_of log o.at n
 next-log m log n o is low = ap (take n) (changes_from-log m.window log o.at is.window low)
 
 -- a cursor moves over changes that it was shown
-pub Stands-feed : (m : Mail) (s : Cursors) (log : List Change) (slot n : ℕ) (o : Open) → Stands m log → in_slot m.cursors slot ≡ Some o →
+pub Stands-feed : (m : Mailbox) (s : CursorSet) (log : List Change) (slot n : ℕ) (o : Open) → Stands m log → in_slot m.cursors slot ≡ Some o →
     m.window.base ≤ o.at → n ≤ total m.window - o.at → length (next_changes m.window o.at n) ≡ n →
     Updates m.cursors s slot (Some (after_showing (next_changes m.window o.at n) o)) → Stands (record m { cursors = s }) log
 Stands-feed m s log slot n o is found low few long changes =
@@ -199,19 +199,19 @@ Stands-feed m s log slot n o is found low few long changes =
     })
 
 -- the lines of what a cursor is shown are those of the log
-pub lines-log : (m : Mail) (log : List Change) (slot n : ℕ) (o : Open) → Stands m log → in_slot m.cursors slot ≡ Some o → m.window.base ≤ o.at →
+pub lines-log : (m : Mailbox) (log : List Change) (slot n : ℕ) (o : Open) → Stands m log → in_slot m.cursors slot ≡ Some o → m.window.base ≤ o.at →
     lines o.view (next_changes m.window o.at n) ≡ lines (view_at log o.at) (next_of log o.at n)
 lines-log m log slot n o is found low = ap₂ lines (is.cursors slot o found).view (next-log m log n o is low)
 
 -- what a cursor is to be shown may be shown to it
-pub pending-legal : (m : Mail) (log : List Change) (slot : ℕ) (o : Open) → Stands m log → in_slot m.cursors slot ≡ Some o → m.window.base ≤ o.at →
+pub pending-legal : (m : Mailbox) (log : List Change) (slot : ℕ) (o : Open) → Stands m log → in_slot m.cursors slot ≡ Some o → m.window.base ≤ o.at →
     IsLegalOn o.view (changes_from o.at m.window)
 pending-legal m log slot o s found low =
     subst (λ (v : List ℕ). IsLegalOn v (changes_from o.at m.window)) (sym (s.cursors slot o found).view)
     (subst (IsLegalOn (view_at log o.at)) (sym (changes_from-log m.window log o.at s.window low)) (legal_log log o.at (Stands-legal m log s)))
 
 -- nothing was logged
-pub Logs-nothing : (m : Mail) (changes : List Change) → changes ≡ [] → Logs m m changes
+pub Logs-nothing : (m : Mailbox) (changes : List Change) → changes ≡ [] → Logs m m changes
 Logs-nothing m changes none = λ log s. subst (λ (cs : List Change). Stands m (log ++ cs)) (sym none) (subst (Stands m) (sym (append-nil log)) s)
 
 -- ---- the next UID is above all that are there
@@ -228,7 +228,7 @@ drop_first : (log more : List Change) → drop (length log) (log ++ more) ≡ mo
 drop_first [] more = refl
 drop_first (c ∷ cs) more = drop_first cs more
 
-pub Stands-below : (m : Mail) (log : List Change) → Stands m log → All (λ u. u < next_uid m) (uids_of m.messages)
+pub Stands-below : (m : Mailbox) (log : List Change) → Stands m log → All (λ u. u < next_uid m) (uids_of m.messages)
 Stands-below m log s =
     let n = next_uid m in
     let one : List Change = Add n ∷ [] in

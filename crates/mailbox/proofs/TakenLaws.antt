@@ -11,7 +11,7 @@ use Rattle.change_ring.specs.Log.{Row}
 use Rattle.change_ring.specs.Logged.{removals}
 use Rattle.cursor_set.proofs.Places.{Rises}
 use Rattle.mailbox.specs.inner.Letters.{without_message}
-use Rattle.mailbox.specs.Mail.{Message, remaining, row_of, uids_of}
+use Rattle.mailbox.specs.Mailbox.{Message, remaining, row_of, uids_of}
 use Rattle.mailbox.specs.inner.Marks.{gone_of, marked_of, without_each}
 use Rattle.mailbox.proofs.MarkLaws.{first_no, first_yes, marked_all}
 

@@ -5,7 +5,7 @@ use Rattle.std.proofs.lemmas.Bool.{cases_lt, eq-eqb, ne_eqb}
 use Rattle.change_ring.specs.declared.change.Change.{Change}
 use Rattle.change_ring.specs.Window.{Window, BaseAfter, capacity_after, total}
 use Rattle.change_ring.proofs.WindowLaws.{BaseAfter-less, BaseAfter-rises}
-use Rattle.cursor_set.specs.Cursors.{Cursors, open_numbers}
+use Rattle.cursor_set.specs.Cursors.{CursorSet, open_numbers}
 use Rattle.mailbox.specs.Events.{Takes, has_room, grows, drops, Moves}
 
 -- a window by its parts
@@ -18,7 +18,7 @@ window_is w base changes capacity max b c k m =
     ∙ ap (λ (x : ℕ). let v : Window = record { base = base; changes = changes; capacity = capacity; max = x } in v) m
 
 -- what a push leaves, where the ring has room for some change
-pub taken : (cursors : Cursors) (old new : Window) (change : Change) (lost : Option Change) → option_to_list lost ++ new.changes ≡ old.changes ++ change ∷ []
+pub taken : (cursors : CursorSet) (old new : Window) (change : Change) (lost : Option Change) → option_to_list lost ++ new.changes ≡ old.changes ++ change ∷ []
     → new.base ≡ old.base + length (option_to_list lost) → new.capacity ≡ capacity_after old lost → new.max ≡ old.max → (IsSome lost → length old.changes ≡ old.capacity)
     → length new.changes ≤ new.capacity → length old.changes ≤ old.capacity → 0 < old.capacity → (old.capacity < new.capacity → 0 < length old.changes → Contains (open_numbers cursors) old.base) → Takes cursors old change new
 taken cursors old new change (Some oldest) window base capacity max full within held some wanted = go old.changes refl
@@ -42,44 +42,44 @@ taken cursors old new change None window base capacity max full within held some
 
 -- ---- one change
 
-takes_logged : (cursors : Cursors) (old new : Window) (c : Change) → Takes cursors old c new → total new ≡ total old + 1
+takes_logged : (cursors : CursorSet) (old new : Window) (c : Change) → Takes cursors old c new → total new ≡ total old + 1
 takes_logged cursors old new c (has_room room is) = ap total is ∙ omega (arith, length-append old.changes (c ∷ []))
 takes_logged cursors old new c (grows full more wanted is) = ap total is ∙ omega (arith, length-append old.changes (c ∷ []))
 takes_logged cursors old new c (drops full x xs split is) = ap total is ∙ omega (arith, length-append xs (c ∷ []), ap length split)
 
-takes_base : (cursors : Cursors) (old new : Window) (c : Change) → Takes cursors old c new → BaseAfter old.capacity (total old) old.base (c ∷ []) new.base
+takes_base : (cursors : CursorSet) (old new : Window) (c : Change) → Takes cursors old c new → BaseAfter old.capacity (total old) old.base (c ∷ []) new.base
 takes_base cursors old new c (has_room room is) = inl (ap (λ (w : Window). w.base) is)
 takes_base cursors old new c (grows full more wanted is) = inl (ap (λ (w : Window). w.base) is)
 takes_base cursors old new c (drops full x xs split is) = inr (omega (arith, full), omega (arith, ap (λ (w : Window). w.base) is))
 
-takes_grows : (cursors : Cursors) (old new : Window) (c : Change) → Takes cursors old c new → old.capacity ≤ new.capacity
+takes_grows : (cursors : CursorSet) (old new : Window) (c : Change) → Takes cursors old c new → old.capacity ≤ new.capacity
 takes_grows cursors old new c (has_room room is) = omega (arith, ap (λ (w : Window). w.capacity) is)
 takes_grows cursors old new c (grows full more wanted is) = omega (arith, more, ap (λ (w : Window). w.capacity) is)
 takes_grows cursors old new c (drops full x xs split is) = omega (arith, ap (λ (w : Window). w.capacity) is)
 
-takes_max : (cursors : Cursors) (old new : Window) (c : Change) → Takes cursors old c new → new.max ≡ old.max
+takes_max : (cursors : CursorSet) (old new : Window) (c : Change) → Takes cursors old c new → new.max ≡ old.max
 takes_max cursors old new c (has_room room is) = ap (λ (w : Window). w.max) is
 takes_max cursors old new c (grows full more wanted is) = ap (λ (w : Window). w.max) is
 takes_max cursors old new c (drops full x xs split is) = ap (λ (w : Window). w.max) is
 
-takes_held : (cursors : Cursors) (old new : Window) (c : Change) → length old.changes ≤ old.capacity → Takes cursors old c new → length new.changes ≤ new.capacity
+takes_held : (cursors : CursorSet) (old new : Window) (c : Change) → length old.changes ≤ old.capacity → Takes cursors old c new → length new.changes ≤ new.capacity
 takes_held cursors old new c held (has_room room is) = omega (arith, room, ap (λ (w : Window). length w.changes) is, ap (λ (w : Window). w.capacity) is, length-append old.changes (c ∷ []))
 takes_held cursors old new c held (grows full more wanted is) = omega (arith, full, more, ap (λ (w : Window). length w.changes) is, ap (λ (w : Window). w.capacity) is, length-append old.changes (c ∷ []))
 takes_held cursors old new c held (drops full x xs split is) = omega (arith, full, ap length split, ap (λ (w : Window). length w.changes) is, ap (λ (w : Window). w.capacity) is, length-append xs (c ∷ []))
 
-takes_most : (cursors : Cursors) (old new : Window) (c : Change) → old.capacity ≤ old.max → Takes cursors old c new → new.capacity ≤ new.max
+takes_most : (cursors : CursorSet) (old new : Window) (c : Change) → old.capacity ≤ old.max → Takes cursors old c new → new.capacity ≤ new.max
 takes_most cursors old new c most (has_room room is) = omega (arith, most, ap (λ (w : Window). w.capacity) is, ap (λ (w : Window). w.max) is)
 takes_most cursors old new c most (grows full more wanted is) = omega (arith, ap (λ (w : Window). w.capacity) is, ap (λ (w : Window). w.max) is)
 takes_most cursors old new c most (drops full x xs split is) = omega (arith, most, ap (λ (w : Window). w.capacity) is, ap (λ (w : Window). w.max) is)
 
 -- ---- any changes
 
-pub moves_logged : (cursors : Cursors) (old new : Window) (cs : List Change) → Moves cursors old new cs → total new ≡ total old + length cs
+pub moves_logged : (cursors : CursorSet) (old new : Window) (cs : List Change) → Moves cursors old new cs → total new ≡ total old + length cs
 moves_logged cursors old new [] h = ap total h ∙ omega arith
 moves_logged cursors old new (c ∷ cs) h = omega (arith, takes_logged cursors old h.0 c h.1, moves_logged cursors h.0 new cs h.2)
 
 -- how far the base may have risen
-pub moves_base : (cursors : Cursors) (old new : Window) (cs : List Change) → Moves cursors old new cs → BaseAfter old.capacity (total old) old.base cs new.base
+pub moves_base : (cursors : CursorSet) (old new : Window) (cs : List Change) → Moves cursors old new cs → BaseAfter old.capacity (total old) old.base cs new.base
 moves_base cursors old new [] h = ap (λ (w : Window). w.base) h
 moves_base cursors old new (c ∷ cs) h =
     let later : BaseAfter old.capacity (suc (total old)) h.0.base cs new.base =
@@ -90,27 +90,27 @@ moves_base cursors old new (c ∷ cs) h =
       | inr rises ↦ inr (rises.0, subst (λ (b : ℕ). BaseAfter old.capacity (suc (total old)) b cs new.base) rises.1 later)
     ]
 
-pub moves_rises : (cursors : Cursors) (old new : Window) (cs : List Change) → Moves cursors old new cs → old.base ≤ new.base
+pub moves_rises : (cursors : CursorSet) (old new : Window) (cs : List Change) → Moves cursors old new cs → old.base ≤ new.base
 moves_rises cursors old new cs h = BaseAfter-rises old.capacity (total old) old.base cs new.base (moves_base cursors old new cs h)
 
-pub moves_grows : (cursors : Cursors) (old new : Window) (cs : List Change) → Moves cursors old new cs → old.capacity ≤ new.capacity
+pub moves_grows : (cursors : CursorSet) (old new : Window) (cs : List Change) → Moves cursors old new cs → old.capacity ≤ new.capacity
 moves_grows cursors old new [] h = omega (arith, ap (λ (w : Window). w.capacity) h)
 moves_grows cursors old new (c ∷ cs) h = omega (arith, takes_grows cursors old h.0 c h.1, moves_grows cursors h.0 new cs h.2)
 
-pub moves_max : (cursors : Cursors) (old new : Window) (cs : List Change) → Moves cursors old new cs → new.max ≡ old.max
+pub moves_max : (cursors : CursorSet) (old new : Window) (cs : List Change) → Moves cursors old new cs → new.max ≡ old.max
 moves_max cursors old new [] h = ap (λ (w : Window). w.max) h
 moves_max cursors old new (c ∷ cs) h = moves_max cursors h.0 new cs h.2 ∙ takes_max cursors old h.0 c h.1
 
 -- what the window has still fits
-pub moves_held : (cursors : Cursors) (old new : Window) (cs : List Change) → length old.changes ≤ old.capacity → Moves cursors old new cs → length new.changes ≤ new.capacity
+pub moves_held : (cursors : CursorSet) (old new : Window) (cs : List Change) → length old.changes ≤ old.capacity → Moves cursors old new cs → length new.changes ≤ new.capacity
 moves_held cursors old new [] held h = omega (arith, held, ap (λ (w : Window). length w.changes) h, ap (λ (w : Window). w.capacity) h)
 moves_held cursors old new (c ∷ cs) held h = moves_held cursors h.0 new cs (takes_held cursors old h.0 c held h.1) h.2
 
 -- and its room is still at most its most
-pub moves_most : (cursors : Cursors) (old new : Window) (cs : List Change) → old.capacity ≤ old.max → Moves cursors old new cs → new.capacity ≤ new.max
+pub moves_most : (cursors : CursorSet) (old new : Window) (cs : List Change) → old.capacity ≤ old.max → Moves cursors old new cs → new.capacity ≤ new.max
 moves_most cursors old new [] most h = omega (arith, most, ap (λ (w : Window). w.capacity) h, ap (λ (w : Window). w.max) h)
 moves_most cursors old new (c ∷ cs) most h = moves_most cursors h.0 new cs (takes_most cursors old h.0 c most h.1) h.2
 
-pub Moves-append : (cursors : Cursors) (old middle new : Window) (cs ds : List Change) → Moves cursors old middle cs → Moves cursors middle new ds → Moves cursors old new (cs ++ ds)
+pub Moves-append : (cursors : CursorSet) (old middle new : Window) (cs ds : List Change) → Moves cursors old middle cs → Moves cursors middle new ds → Moves cursors old new (cs ++ ds)
 Moves-append cursors old middle new [] ds first second = subst (λ (w : Window). Moves cursors w new ds) first second
 Moves-append cursors old middle new (c ∷ cs) ds first second = (first.0, first.1, Moves-append cursors first.0 middle new cs ds first.2 second)

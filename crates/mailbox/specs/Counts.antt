@@ -1,6 +1,6 @@
 -- What STATUS counts (RFC 9051, 6.3.11).
 use Rattle.std.specs.Prelude.{ℕ, not, List, length, count_by, sum_by}
-use Rattle.mailbox.specs.Mail.{Message}
+use Rattle.mailbox.specs.Mailbox.{Message}
 
 -- the messages without \Seen
 abbrev pub unseen_count : List Message → ℕ

@@ -6,21 +6,21 @@ use Rattle.change_ring.specs.Log.{no_flags}
 use Rattle.change_ring.specs.Window.{Window, total}
 use Rattle.change_ring.specs.declared.flag_op.FlagOp.{FlagOp}
 use Rattle.change_ring.specs.declared.flag_op.FlagOp.TheVariants.{Insert}
-use Rattle.cursor_set.specs.Cursors.{Cursors, Seat, held, open_numbers}
-use Rattle.mailbox.specs.Mail.{Mail, Message, flagged}
+use Rattle.cursor_set.specs.Cursors.{CursorSet, CursorSeat, held, open_numbers}
+use Rattle.mailbox.specs.Mailbox.{Mailbox, Message, flagged}
 use Rattle.mailbox.specs.Stands.{Stands}
 
 -- the call logged these changes, on every log for which the mailbox stood
-abbrev pub Logs : Mail → Mail → List Change → Type 0
+abbrev pub Logs : Mailbox → Mailbox → List Change → Type 0
 Logs old new changes = (log : List Change) → Stands old log → Stands new (log ++ changes)
 
 -- the call logged nothing
-abbrev pub KeepsLog : Mail → Mail → Type 0
+abbrev pub KeepsLog : Mailbox → Mailbox → Type 0
 KeepsLog old new = (log : List Change) → Stands old log → Stands new log
 
 -- One change went into the window. There was room for it; or there was none, some client is still to be shown the oldest change, and the room was
 -- doubled, up to the most; or there was none, and the oldest change was dropped.
-pub data Takes (cursors : Cursors) (old : Window) (change : Change) (new : Window) : Type 0 where
+pub data Takes (cursors : CursorSet) (old : Window) (change : Change) (new : Window) : Type 0 where
   has_room : length old.changes < old.capacity → new ≡ record old { changes = old.changes ++ change ∷ [] } → Takes cursors old change new
   grows : length old.changes ≡ old.capacity → old.capacity < min (2 * old.capacity) old.max → Contains (open_numbers cursors) old.base
       → new ≡ record old { changes = old.changes ++ change ∷ []; capacity = min (2 * old.capacity) old.max } → Takes cursors old change new
@@ -28,24 +28,24 @@ pub data Takes (cursors : Cursors) (old : Window) (change : Change) (new : Windo
       → new ≡ record old { base = old.base + 1; changes = others ++ change ∷ [] } → Takes cursors old change new
 
 -- These changes went into the window, one after another. So its base stays only where there was room or it grew for a client.
-abbrev pub Moves : Cursors → Window → Window → List Change → Type 0
+abbrev pub Moves : CursorSet → Window → Window → List Change → Type 0
 Moves cursors old new [] = new ≡ old
 Moves cursors old new (c ∷ cs) = (between : Window) × Takes cursors old c between × Moves cursors between new cs
 
 -- so many changes more can't be numbered
-abbrev pub IsTooMany : Mail → List Change → Type 0
+abbrev pub IsTooMany : Mailbox → List Change → Type 0
 IsTooMany m changes = 4611686018427387904 < total m.window + length changes
 
 -- no cursor here is the seat's
-abbrev pub IsStranger : Mail → Seat → Type 0
+abbrev pub IsStranger : Mailbox → CursorSeat → Type 0
 IsStranger m seat = held m.cursors seat ≡ None
 
 -- the seat's cursor is here, and the change that it is to be shown next was overwritten
-abbrev pub IsLapped : Mail → Seat → Type 0
+abbrev pub IsLapped : Mailbox → CursorSeat → Type 0
 IsLapped m seat = IsSome (held m.cursors seat) × (seat.at < m.window.base)
 
 -- the seat's cursor is here, and the window has all that it is to be shown
-abbrev pub IsCurrent : Mail → Seat → Type 0
+abbrev pub IsCurrent : Mailbox → CursorSeat → Type 0
 IsCurrent m seat = IsSome (held m.cursors seat) × (m.window.base ≤ seat.at)
 
 -- any UID, or those of a set

@@ -1,5 +1,5 @@
-pub mod Copies
-pub mod Mail
+pub mod Accepted
+pub mod Mailbox
 pub mod Stands
 pub mod Events
 pub mod Counts

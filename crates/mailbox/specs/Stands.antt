@@ -6,7 +6,7 @@ use Rattle.change_ring.specs.declared.change.Change.{Change}
 use Rattle.change_ring.specs.Log.{rows_of, view_at, replay, added, FitsView}
 use Rattle.change_ring.specs.Window.{IsWindowOf, changes_from, total}
 use Rattle.cursor_set.specs.Cursors.{Open, in_slot}
-use Rattle.mailbox.specs.Mail.{Mail, row_of, uids_of, accepted_uids}
+use Rattle.mailbox.specs.Mailbox.{Mailbox, row_of, uids_of, accepted_uids}
 
 -- A cursor's client was shown the first changes of the log, up to the cursor's number, and counts what they leave: also one that fell behind
 -- the window, since the log only grows.
@@ -15,7 +15,7 @@ pub record IsShown (log : List Change) (o : Open) : Type 0 where
   pub view : o.view ≡ view_at log o.at
 
 -- the mailbox is as this log leaves it: its messages, its window, the UIDs that it gave out and what its clients count are the log's
-pub record Stands (m : Mail) (log : List Change) : Type 0 where
+pub record Stands (m : Mailbox) (log : List Change) : Type 0 where
   pub there : FitsView [] log
   pub messages : map row_of m.messages ≡ rows_of log
   pub window : IsWindowOf m.window log
@@ -28,7 +28,7 @@ abbrev pub next_of : List Change → ℕ → ℕ → List Change
 next_of log at n = take n (drop at log)
 
 -- What every mailbox keeps, whatever was called, and so each lock around one.
-pub record IsKept (m : Mail) : Type 0 where
+pub record IsKept (m : Mailbox) : Type 0 where
   -- where the window still has what a client is to be shown, its view with these changes replayed is the messages' UIDs
   pub views : (slot : ℕ) (o : Open) → in_slot m.cursors slot ≡ Some o → m.window.base ≤ o.at → replay o.view (changes_from o.at m.window) ≡ uids_of m.messages
   -- no cursor is past the end of the log

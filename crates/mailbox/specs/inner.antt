@@ -1,5 +1,5 @@
 pub mod Choices
-pub mod Copies
+pub mod Accepted
 pub mod Events
 pub mod Letters
 pub mod Marks

@@ -10,7 +10,7 @@ ghost use Rattle.cursor_set.specs.Cursors.{Updates, after_showing, held, in_slot
 ghost use Rattle.cursor_set.specs.Lines.{lines};
 ghost use Rattle.mailbox.specs.Events.{IsCurrent, IsLapped, IsStranger, IsTooMany, KeepsLog, Logs, Moves, seen_after, was_logged};
 ghost use Rattle.mailbox.specs.inner.Letters.{message_of};
-ghost use Rattle.mailbox.specs.Mail.{Message as Kept, flagged, message_with, next_uid, rows, uids_of};
+ghost use Rattle.mailbox.specs.Mailbox.{Message as Kept, flagged, message_with, next_uid, rows, uids_of};
 ghost use Rattle.mailbox.specs.Stands.{Stands, next_of};
 
 use crate::logging::log_change;

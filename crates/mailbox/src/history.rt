@@ -2,8 +2,8 @@
 //! there at run time. Messages, which come and go, are not told here.
 
 ghost use Rattle.std.specs.Prelude.{◌≡◌, [], ◌∷◌, ◌++◌, OnOk, IsOk};
-ghost use Rattle.mailbox.specs.Copies.{kept_of};
-ghost use Rattle.mailbox.specs.inner.Copies.{HasRoom};
+ghost use Rattle.mailbox.specs.Accepted.{kept_of};
+ghost use Rattle.mailbox.specs.inner.Accepted.{HasRoom};
 
 use delivery_token::CopyKey;
 use http_server::Log;
@@ -30,9 +30,9 @@ pub(crate) struct Accepted {
 
 impl Model for Accepted {
     ghost use Rattle.std.specs.Prelude.{◌≡◌, ◌-◌, vec_capacity, vec_len};
-    ghost use Rattle.mailbox.specs.Copies.{Copies, kept_of};
+    ghost use Rattle.mailbox.specs.Accepted.{Accepted, kept_of};
 
-    ghost Value = { Copies };
+    ghost Value = { Accepted };
 
     ghost view = { λ a. record { history = a.history; items = a.all.items; spare = vec_capacity a.kept - vec_len a.kept } };
 

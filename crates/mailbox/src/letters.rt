@@ -10,7 +10,7 @@ ghost use Rattle.std.specs.List.Sorted.{IsStrictlyIncreasing};
 ghost use Rattle.change_ring.specs.Log.{no_flags};
 ghost use Rattle.mailbox.specs.Counts.{unseen_count, bytes_in_all};
 ghost use Rattle.mailbox.specs.inner.Letters.{letter_uids, message_of, messages_of, reflagged, without_message};
-ghost use Rattle.mailbox.specs.Mail.{message_with, texts_of, uids_of};
+ghost use Rattle.mailbox.specs.Mailbox.{message_with, texts_of, uids_of};
 
 use change_ring::{Flags, NO_FLAGS};
 use delivery_token::Text;
@@ -38,7 +38,7 @@ pub(crate) struct Letters {
 impl Model for Letters {
     ghost use Rattle.std.specs.Prelude.{List};
     ghost use Rattle.mailbox.specs.inner.Letters.{AreCounted, messages_of};
-    ghost use Rattle.mailbox.specs.Mail.{Message};
+    ghost use Rattle.mailbox.specs.Mailbox.{Message};
 
     ghost Value = { List Message };
 

@@ -5,10 +5,10 @@ ghost use Rattle.std.specs.Prelude.{◌≡◌, ◌+◌, ◌^◌, ◌⊎◌, ◌<
 ghost use Rattle.change_ring.specs.Log.{no_flags};
 ghost use Rattle.change_ring.specs.Logged.{arrival};
 ghost use Rattle.change_ring.specs.Window.{total};
-ghost use Rattle.mailbox.specs.Copies.{kept_of};
+ghost use Rattle.mailbox.specs.Accepted.{kept_of};
 ghost use Rattle.mailbox.specs.Counts.{unseen_count, deleted_count, bytes_in_all};
 ghost use Rattle.mailbox.specs.Events.{Logs, Moves};
-ghost use Rattle.mailbox.specs.Mail.{SameMailbox, next_uid, is_spent, is_full, texts_of, uids_of};
+ghost use Rattle.mailbox.specs.Mailbox.{SameMailbox, next_uid, is_spent, is_full, texts_of, uids_of};
 ghost use Rattle.std.specs.List.Sorted.{IsStrictlyIncreasing};
 ghost use Rattle.mailbox.specs.Stands.{Stands};
 
@@ -75,10 +75,10 @@ pub struct Mailbox {
 
 impl Model for Mailbox {
     ghost use Rattle.std.specs.Prelude.{◌≡◌, ◌+◌, ◌≤◌, ◌<◌, length};
-    ghost use Rattle.mailbox.specs.Mail.{Mail, next_uid};
+    ghost use Rattle.mailbox.specs.Mailbox.{Mailbox, next_uid};
     ghost use Rattle.mailbox.specs.inner.Stands.{IsSound};
 
-    ghost Value = { Mail };
+    ghost Value = { Mailbox };
 
     ghost use Rattle.mailbox.specs.inner.Seen.{mail_of};
 

@@ -7,7 +7,7 @@ ghost use Rattle.change_ring.specs.Log.{no_flags, without};
 ghost use Rattle.mailbox.specs.inner.Choices.{IsFound, passes};
 ghost use Rattle.mailbox.specs.Counts.{unseen_count, deleted_count, bytes_in_all};
 ghost use Rattle.mailbox.specs.inner.Letters.{message_of, reflagged};
-ghost use Rattle.mailbox.specs.Mail.{message_with, remaining, texts_of, uids_of};
+ghost use Rattle.mailbox.specs.Mailbox.{message_with, remaining, texts_of, uids_of};
 ghost use Rattle.mailbox.specs.inner.Marks.{marked_of, put_in, remarked, without_each};
 
 use crate::choice::Choice;
@@ -27,7 +27,7 @@ pub(crate) struct Messages {
 
 impl Model for Messages {
     ghost use Rattle.std.specs.Prelude.{List};
-    ghost use Rattle.mailbox.specs.Mail.{Message};
+    ghost use Rattle.mailbox.specs.Mailbox.{Message};
     ghost use Rattle.mailbox.specs.inner.Marks.{AreMarked};
 
     ghost Value = { List Message };

@@ -12,7 +12,7 @@ ghost use Rattle.cursor_set.specs.Lines.{lines};
 ghost use Rattle.mailbox.specs.inner.Choices.{IsFound, passes};
 ghost use Rattle.mailbox.specs.Events.{IsCurrent, IsLapped, IsStranger, IsTooMany, KeepsLog, Logs, Moves, in_set};
 ghost use Rattle.mailbox.specs.inner.Events.{GoesOn};
-ghost use Rattle.mailbox.specs.Mail.{remaining, rows};
+ghost use Rattle.mailbox.specs.Mailbox.{remaining, rows};
 ghost use Rattle.mailbox.specs.inner.Marks.{gone_of};
 ghost use Rattle.mailbox.specs.Stands.{Stands};
 

@@ -5,14 +5,14 @@ use Rattle.change_ring.specs.declared.change.Change.{Change}
 use Rattle.change_ring.specs.Log.{view_at}
 use Rattle.change_ring.specs.Logged.{removals}
 use Rattle.change_ring.specs.Window.{Window, changes_from, total}
-use Rattle.cursor_set.specs.Cursors.{Cursors, Open, Seat, Updates, after_showing, held, next_changes}
+use Rattle.cursor_set.specs.Cursors.{CursorSet, Open, CursorSeat, Updates, after_showing, held, next_changes}
 use Rattle.cursor_set.specs.Lines.{lines}
 use Rattle.cursor_set.specs.declared.set.FeedFault.{FeedFault}
 use Rattle.cursor_set.specs.declared.set.FeedFault.TheVariants as lapse
 use Rattle.mailbox.specs.declared.clients.MailFault.{MailFault}
 use Rattle.mailbox.specs.declared.clients.MailFault.TheVariants.{Stranger, Lapped, Spent, NoMemory}
 use Rattle.mailbox.specs.Events.{IsCurrent, IsLapped, IsStranger, IsTooMany, KeepsLog, Logs, Moves, in_set}
-use Rattle.mailbox.specs.Mail.{Mail, Message, SameMailbox, remaining, rows}
+use Rattle.mailbox.specs.Mailbox.{Mailbox, Message, SameMailbox, remaining, rows}
 use Rattle.mailbox.specs.Stands.{IsKept, Stands, next_of}
 use Rattle.mailbox_holds.specs.Holds.{DoesExpunge, DoesFeed, IsEvent, IsRefused, IsSeated, Refuses}
 use Rattle.mailbox_holds.specs.inner.Holds.{answer_of}
@@ -24,22 +24,22 @@ ok_err : {A B : Type 0} {x : A} {f : B} → Ok x ≡ Err f → ⊥
 ok_err e = cc
 
 -- the facts on refusals that each call tells
-pub record Tells {A : Type 0} (r : Result A MailFault) (m : Mail) (seat : Seat) (changes : List Change) (wants : Type 0) : Type 0 where
+pub record Tells {A : Type 0} (r : Result A MailFault) (m : Mailbox) (seat : CursorSeat) (changes : List Change) (wants : Type 0) : Type 0 where
   pub stranger : (r ≡ Err Stranger) ↔ IsStranger m seat
   pub lapsed : (r ≡ Err Lapped) ↔ IsLapped m seat
   pub spent : (r ≡ Err Spent) ↔ (IsCurrent m seat × IsTooMany m changes)
   pub memory : r ≡ Err NoMemory → wants
 
-known : {A : Type 0} (r : Result A MailFault) (m : Mail) (seat : Seat) (changes : List Change) (wants : Type 0) (x : A) → Tells r m seat changes wants → r ≡ Ok x → IsStranger m seat → ⊥
+known : {A : Type 0} (r : Result A MailFault) (m : Mailbox) (seat : CursorSeat) (changes : List Change) (wants : Type 0) (x : A) → Tells r m seat changes wants → r ≡ Ok x → IsStranger m seat → ⊥
 known r m seat changes wants x t e h = ok_err (sym e ∙ t.stranger.1 h)
 
-near : {A : Type 0} (r : Result A MailFault) (m : Mail) (seat : Seat) (changes : List Change) (wants : Type 0) (x : A) → Tells r m seat changes wants → r ≡ Ok x → IsLapped m seat → ⊥
+near : {A : Type 0} (r : Result A MailFault) (m : Mailbox) (seat : CursorSeat) (changes : List Change) (wants : Type 0) (x : A) → Tells r m seat changes wants → r ≡ Ok x → IsLapped m seat → ⊥
 near r m seat changes wants x t e h = ok_err (sym e ∙ t.lapsed.1 h)
 
-taken : {A : Type 0} (r : Result A MailFault) (m : Mail) (seat : Seat) (changes : List Change) (wants : Type 0) (x : A) → Tells r m seat changes wants → r ≡ Ok x → IsCurrent m seat
+taken : {A : Type 0} (r : Result A MailFault) (m : Mailbox) (seat : CursorSeat) (changes : List Change) (wants : Type 0) (x : A) → Tells r m seat changes wants → r ≡ Ok x → IsCurrent m seat
 taken r m seat changes wants x t e = current m seat (known r m seat changes wants x t e) (near r m seat changes wants x t e)
 
-fits : {A : Type 0} (r : Result A MailFault) (m : Mail) (seat : Seat) (changes : List Change) (wants : Type 0) (x : A) → Tells r m seat changes wants → r ≡ Ok x → IsTooMany m changes → ⊥
+fits : {A : Type 0} (r : Result A MailFault) (m : Mailbox) (seat : CursorSeat) (changes : List Change) (wants : Type 0) (x : A) → Tells r m seat changes wants → r ≡ Ok x → IsTooMany m changes → ⊥
 fits r m seat changes wants x t e h = ok_err (sym e ∙ t.spent.1 (taken r m seat changes wants x t e, h))
 
 no_memory_stranger : {A : Type 0} {r : Result A MailFault} → r ≡ Err NoMemory → r ≡ Err Stranger → ⊥
@@ -51,7 +51,7 @@ no_memory_lapped e f = let g = sym e ∙ f in cc
 no_memory_spent : {A : Type 0} {r : Result A MailFault} → r ≡ Err NoMemory → r ≡ Err Spent → ⊥
 no_memory_spent e f = let g = sym e ∙ f in cc
 
-why : {A : Type 0} (r : Result A MailFault) (m : Mail) (seat : Seat) (changes : List Change) (wants : Type 0) (fault : MailFault) → Tells r m seat changes wants → r ≡ Err fault → Refuses fault m seat (IsTooMany m changes) wants
+why : {A : Type 0} (r : Result A MailFault) (m : Mailbox) (seat : CursorSeat) (changes : List Change) (wants : Type 0) (fault : MailFault) → Tells r m seat changes wants → r ≡ Err fault → Refuses fault m seat (IsTooMany m changes) wants
 why r m seat changes wants Stranger t e = t.stranger.0 e
 why r m seat changes wants Lapped t e = t.lapsed.0 e
 why r m seat changes wants Spent t e = t.spent.0 e
@@ -59,34 +59,34 @@ why r m seat changes wants NoMemory t e =
     let here : IsCurrent m seat = current m seat (λ h. no_memory_stranger e (t.stranger.1 h)) (λ h. no_memory_lapped e (t.lapsed.1 h)) in
     (here, (λ h. no_memory_spent e (t.spent.1 (here, h))), t.memory e)
 
-refused : {A : Type 0} (r : Result A MailFault) (m n : Mail) (seat : Seat) (changes : List Change) (wants : Type 0) (fault : MailFault) → IsKept m → Tells r m seat changes wants → r ≡ Err fault → n ≡ m
+refused : {A : Type 0} (r : Result A MailFault) (m n : Mailbox) (seat : CursorSeat) (changes : List Change) (wants : Type 0) (fault : MailFault) → IsKept m → Tells r m seat changes wants → r ≡ Err fault → n ≡ m
     → IsRefused m seat (IsTooMany m changes) wants fault n
 refused r m n seat changes wants fault kept t e still = record { kept = kept; same = still; why = why r m seat changes wants fault t e }
 
 -- ---- what is the same
 
-same_mailbox : (m n : Mail) → n.number ≡ m.number → n.uidvalidity ≡ m.uidvalidity → n.first_uid ≡ m.first_uid → n.limit ≡ m.limit → n.history ≡ m.history → SameMailbox m n
+same_mailbox : (m n : Mailbox) → n.number ≡ m.number → n.uidvalidity ≡ m.uidvalidity → n.first_uid ≡ m.first_uid → n.limit ≡ m.limit → n.history ≡ m.history → SameMailbox m n
 same_mailbox m n a b c d e = record { number = a; uidvalidity = b; first_uid = c; limit = d; history = e }
 
 -- messages, window and cursors may have changed, and the log went on
-event : (m n : Mail) (changes : List Change) → IsKept m → IsKept n → Logs m n changes → n ≡ record m { messages = n.messages; window = n.window; cursors = n.cursors } → IsEvent m n changes
+event : (m n : Mailbox) (changes : List Change) → IsKept m → IsKept n → Logs m n changes → n ≡ record m { messages = n.messages; window = n.window; cursors = n.cursors } → IsEvent m n changes
 event m n changes before after logs rest = record {
   found_kept = before;
   left_kept = after;
   logs = logs;
-  same = same_mailbox m n (ap (λ (z : Mail). z.number) rest) (ap (λ (z : Mail). z.uidvalidity) rest) (ap (λ (z : Mail). z.first_uid) rest) (ap (λ (z : Mail). z.limit) rest) (ap (λ (z : Mail). z.history) rest);
-  accepted = ap (λ (z : Mail). z.accepted) rest;
+  same = same_mailbox m n (ap (λ (z : Mailbox). z.number) rest) (ap (λ (z : Mailbox). z.uidvalidity) rest) (ap (λ (z : Mailbox). z.first_uid) rest) (ap (λ (z : Mailbox). z.limit) rest) (ap (λ (z : Mailbox). z.history) rest);
+  accepted = ap (λ (z : Mailbox). z.accepted) rest;
 }
 
 -- the messages and the window alone changed
-with_cursors : (m n : Mail) → n ≡ record m { messages = n.messages; window = n.window } → n ≡ record m { messages = n.messages; window = n.window; cursors = n.cursors }
-with_cursors m n rest = rest ∙ ap (λ (s : Cursors). let z : Mail = record m { messages = n.messages; window = n.window; cursors = s } in z) (sym (ap (λ (z : Mail). z.cursors) rest))
+with_cursors : (m n : Mailbox) → n ≡ record m { messages = n.messages; window = n.window } → n ≡ record m { messages = n.messages; window = n.window; cursors = n.cursors }
+with_cursors m n rest = rest ∙ ap (λ (s : CursorSet). let z : Mailbox = record m { messages = n.messages; window = n.window; cursors = s } in z) (sym (ap (λ (z : Mailbox). z.cursors) rest))
 
 -- the cursors alone changed
-only_cursors : (m n : Mail) → n ≡ record m { cursors = n.cursors } → n ≡ record m { messages = n.messages; window = n.window; cursors = n.cursors }
-only_cursors m n rest = rest ∙ ap₂ (λ (ms : List Message) (w : Window). let z : Mail = record m { messages = ms; window = w; cursors = n.cursors } in z) (sym (ap (λ (z : Mail). z.messages) rest)) (sym (ap (λ (z : Mail). z.window) rest))
+only_cursors : (m n : Mailbox) → n ≡ record m { cursors = n.cursors } → n ≡ record m { messages = n.messages; window = n.window; cursors = n.cursors }
+only_cursors m n rest = rest ∙ ap₂ (λ (ms : List Message) (w : Window). let z : Mailbox = record m { messages = ms; window = w; cursors = n.cursors } in z) (sym (ap (λ (z : Mailbox). z.messages) rest)) (sym (ap (λ (z : Mailbox). z.window) rest))
 
-logs_nothing : (m n : Mail) → KeepsLog m n → Logs m n []
+logs_nothing : (m n : Mailbox) → KeepsLog m n → Logs m n []
 logs_nothing m n keeps log s = subst (Stands n) (sym (append-nil log)) (keeps log s)
 
 -- ---- the calls
@@ -108,7 +108,7 @@ back_stranger (Err lapse.NoMemory) e = cc
 fed_length : (w : Window) (at n limit : ℕ) → w.base ≤ at → n ≡ min limit (total w - at) → length (next_changes w at n) ≡ n
 fed_length w at n limit low count = omega (arith, length-take n (changes_from at w), length-drop (at - w.base) w.changes, count, low)
 
-pub feeds : (m n : Mail) (seat next : Seat) (limit : ℕ) (before after : List ℕ) (r : Result ℕ FeedFault) → IsKept m → IsKept n → (r ≡ Err lapse.Stranger) ↔ IsStranger m seat → (r ≡ Err lapse.Lapped) ↔ IsLapped m seat
+pub feeds : (m n : Mailbox) (seat next : CursorSeat) (limit : ℕ) (before after : List ℕ) (r : Result ℕ FeedFault) → IsKept m → IsKept n → (r ≡ Err lapse.Stranger) ↔ IsStranger m seat → (r ≡ Err lapse.Lapped) ↔ IsLapped m seat
     → (r ≡ Err lapse.NoMemory → 0 < min limit (total m.window - seat.at)) → OnErr r ((n ≡ m) × (next ≡ seat) × (after ≡ before)) → IfOk r (λ k. k ≡ min limit (total m.window - seat.at)) → IfOk r (λ k. next ≡ record seat { at = seat.at + k })
     → KeepsLog m n → n ≡ record m { cursors = n.cursors }
     → IfOk r (λ k. Updates m.cursors n.cursors seat.slot (option_map (after_showing (next_changes m.window seat.at k)) (held m.cursors seat)))
@@ -155,7 +155,7 @@ feeds m n seat next limit before after (Ok k) kept left strange lapses memory er
     long = fed_length m.window seat.at k limit low count
 
     on : next ≡ record seat { at = seat.at + length changes }
-    on = is ∙ ap (λ (j : ℕ). let z : Seat = record { number = seat.number; slot = seat.slot; serial = seat.serial; at = seat.at + j } in z) (sym long)
+    on = is ∙ ap (λ (j : ℕ). let z : CursorSeat = record { number = seat.number; slot = seat.slot; serial = seat.serial; at = seat.at + j } in z) (sym long)
 feeds m n seat next limit before after (Err lapse.Stranger) kept left strange lapses memory err count is keeps rest moved wrote serials shown = record { refused = record { kept = kept; same = err.0; why = strange.0 refl }; still = err.1; wrote = err.2 }
 feeds m n seat next limit before after (Err lapse.Lapped) kept left strange lapses memory err count is keeps rest moved wrote serials shown = record { refused = record { kept = kept; same = err.0; why = lapses.0 refl }; still = err.1; wrote = err.2 }
 feeds m n seat next limit before after (Err lapse.NoMemory) kept left strange lapses memory err count is keeps rest moved wrote serials shown = record {
@@ -164,7 +164,7 @@ feeds m n seat next limit before after (Err lapse.NoMemory) kept left strange la
   wrote = err.2;
 }
 
-pub expunges : (m n : Mail) (seat next : Seat) (uids : Option (List ℕ)) (before after : List ℕ) (r : Result ℕ MailFault) → IsKept m → IsKept n → Tells r m seat (removals (in_set uids) (rows m)) (seat.at < total m.window)
+pub expunges : (m n : Mailbox) (seat next : CursorSeat) (uids : Option (List ℕ)) (before after : List ℕ) (r : Result ℕ MailFault) → IsKept m → IsKept n → Tells r m seat (removals (in_set uids) (rows m)) (seat.at < total m.window)
     → OnErr r ((n ≡ m) × (next ≡ seat) × (after ≡ before)) → OnOk r (next ≡ record seat { at = total m.window })
     → OnOk r (Updates m.cursors n.cursors seat.slot (option_map (after_showing (changes_from seat.at m.window)) (held m.cursors seat)))
     → OnOk r (Logs m n (removals (in_set uids) (rows m))) → OnOk r (Moves n.cursors m.window n.window (removals (in_set uids) (rows m)))
@@ -204,7 +204,7 @@ expunges m n seat next uids before after (Ok k) kept left t err is moved logs mo
     whole = omega (arith, length-drop (seat.at - m.window.base) m.window.changes, low, at.1.within)
 
     on : next ≡ record seat { at = seat.at + length (changes_from seat.at m.window) }
-    on = is ∙ ap (λ (j : ℕ). let z : Seat = record { number = seat.number; slot = seat.slot; serial = seat.serial; at = j } in z) whole
+    on = is ∙ ap (λ (j : ℕ). let z : CursorSeat = record { number = seat.number; slot = seat.slot; serial = seat.serial; at = j } in z) whole
 expunges m n seat next uids before after (Err fault) kept left t err is moved logs moves messages rest count wrote serials shown = record {
   refused = refused (Err fault) m n seat _ _ fault kept t refl err.0;
   still = err.1;

@@ -7,7 +7,7 @@ use Rattle.change_ring.specs.declared.flag_op.FlagOp.{FlagOp}
 use Rattle.change_ring.specs.Log.{replay, view_at}
 use Rattle.change_ring.specs.Logged.{arrival, flags_logged, removals, removals_if, seen_logged}
 use Rattle.change_ring.specs.Window.{changes_from, total}
-use Rattle.cursor_set.specs.Cursors.{Seat, Updates, held, in_slot, next_changes}
+use Rattle.cursor_set.specs.Cursors.{CursorSeat, Updates, held, in_slot, next_changes}
 use Rattle.cursor_set.specs.Lines.{lines}
 use Rattle.delivery_token.specs.declared.CopyKey.{CopyKey}
 use Rattle.delivery_token.specs.declared.Job.{Job}
@@ -17,7 +17,7 @@ use Rattle.mailbox.specs.declared.mailbox.Receipt.{Receipt}
 use Rattle.mailbox.specs.Counts.{bytes_in_all, deleted_count, unseen_count}
 use Rattle.mailbox.specs.declared.mailbox.Status.{Status}
 use Rattle.mailbox.specs.Events.{IsCurrent, IsLapped, IsStranger, IsTooMany, Logs, Moves, in_set, seen_after, was_logged}
-use Rattle.mailbox.specs.Mail.{Mail, Message, SameMailbox, flagged, is_full, is_spent, message_with, next_uid, remaining, rows, uids_of}
+use Rattle.mailbox.specs.Mailbox.{Mailbox, Message, SameMailbox, flagged, is_full, is_spent, message_with, next_uid, remaining, rows, uids_of}
 use Rattle.mailbox.specs.Stands.{IsKept, Stands, next_of}
 use Rattle.mailbox.specs.declared.clients.MailFault.{MailFault}
 use Rattle.mailbox.specs.declared.clients.MailFault.TheVariants.{Stranger, Lapped, Spent, NoMemory}
@@ -26,7 +26,7 @@ use Rattle.mailbox.specs.declared.clients.Row.{Row}
 
 -- The mailbox that was found and the one that was left: both keep what every mailbox keeps, and the log went on by these changes, on every
 -- log for which the mailbox stood. No copy was delivered.
-pub record IsEvent (found left : Mail) (changes : List Change) : Type 0 where
+pub record IsEvent (found left : Mailbox) (changes : List Change) : Type 0 where
   pub found_kept : IsKept found
   pub left_kept : IsKept left
   pub logs : Logs found left changes
@@ -34,7 +34,7 @@ pub record IsEvent (found left : Mail) (changes : List Change) : Type 0 where
   pub accepted : left.accepted ≡ found.accepted
 
 -- The same, where one copy was delivered: the log went on by its message's arrival, with these flags, and this copy alone was added to those that were accepted, under the next UID.
-pub record IsDelivery (found left : Mail) (key : CopyKey) (flags : Flags) : Type 0 where
+pub record IsDelivery (found left : Mailbox) (key : CopyKey) (flags : Flags) : Type 0 where
   pub found_kept : IsKept found
   pub left_kept : IsKept left
   pub logs : Logs found left (arrival (next_uid found) flags)
@@ -42,18 +42,18 @@ pub record IsDelivery (found left : Mail) (key : CopyKey) (flags : Flags) : Type
   pub accepted : left.accepted ≡ found.accepted ++ (key, next_uid found) ∷ []
 
 -- The seat is no stranger: its cursor stands in this mailbox at the seat's number, and counts this view. The log is at least as long as that number.
-pub record IsSeated (m : Mail) (seat : Seat) (view : List ℕ) : Type 0 where
+pub record IsSeated (m : Mailbox) (seat : CursorSeat) (view : List ℕ) : Type 0 where
   pub cursor : held m.cursors seat ≡ Some (record { serial = seat.serial; at = seat.at; view = view })
   pub within : seat.at ≤ total m.window
 
 -- The cursor in the seat's slot is this seat's now, and counts this view; no other slot changed.
-abbrev pub Seats : Mail → Mail → Seat → List ℕ → Type 0
+abbrev pub Seats : Mailbox → Mailbox → CursorSeat → List ℕ → Type 0
 Seats found left seat view = Updates found.cursors left.cursors seat.slot (Some (record { serial = seat.serial; at = seat.at; view = view }))
 
 -- ---- what each event does
 
 -- The seat was made, of the next serial and in a slot that was vacant, at the end of the log: its client counts the messages that are there.
-pub record Enters (found : Mail) (opening : Opening) (left : Mail) (seat : Seat) : Type 0 where
+pub record Enters (found : Mailbox) (opening : Opening) (left : Mailbox) (seat : CursorSeat) : Type 0 where
   pub event : IsEvent found left []
   pub serial_left : found.cursors.next < 2 ^ 64 - 1
   pub tells : opening ≡ record { count = length found.messages; uidnext = next_uid found; uidvalidity = found.uidvalidity }
@@ -65,7 +65,7 @@ pub record Enters (found : Mail) (opening : Opening) (left : Mail) (seat : Seat)
   pub rest : left ≡ record found { cursors = left.cursors }
 
 -- The client was shown its next changes, at most so many, and the seat went on by as many.
-pub record Feeds (found : Mail) (seat : Seat) (limit : ℕ) (view : List ℕ) (changes : List Change) (left : Mail) (next : Seat) : Type 0 where
+pub record Feeds (found : Mailbox) (seat : CursorSeat) (limit : ℕ) (view : List ℕ) (changes : List Change) (left : Mailbox) (next : CursorSeat) : Type 0 where
   pub event : IsEvent found left []
   pub seated : IsSeated found seat view
   pub current : found.window.base ≤ seat.at
@@ -78,7 +78,7 @@ pub record Feeds (found : Mail) (seat : Seat) (limit : ℕ) (view : List ℕ) (c
   pub rest : left ≡ record found { cursors = left.cursors }
 
 -- The client was shown all that was pending, and then the messages with \Deleted went, those of the set.
-pub record Expunges (found : Mail) (seat : Seat) (uids : Option (List ℕ)) (view : List ℕ) (changes : List Change) (gone : ℕ) (left : Mail) (next : Seat) : Type 0 where
+pub record Expunges (found : Mailbox) (seat : CursorSeat) (uids : Option (List ℕ)) (view : List ℕ) (changes : List Change) (gone : ℕ) (left : Mailbox) (next : CursorSeat) : Type 0 where
   pub event : IsEvent found left (removals (in_set uids) (rows found))
   pub seated : IsSeated found seat view
   pub current : found.window.base ≤ seat.at
@@ -94,7 +94,7 @@ pub record Expunges (found : Mail) (seat : Seat) (uids : Option (List ℕ)) (vie
   pub went : gone ≡ length (removals (in_set uids) (rows found))
 
 -- The message of a UID was read.
-pub record Reads (found : Mail) (seat : Seat) (uid : ℕ) (mark_seen : Bool) (row : Option Row) (left : Mail) : Type 0 where
+pub record Reads (found : Mailbox) (seat : CursorSeat) (uid : ℕ) (mark_seen : Bool) (row : Option Row) (left : Mailbox) : Type 0 where
   pub event : IsEvent found left (seen_logged mark_seen (rows found) uid)
   pub seated : (view : List ℕ) × IsSeated found seat view
   pub current : found.window.base ≤ seat.at
@@ -110,7 +110,7 @@ pub record Reads (found : Mail) (seat : Seat) (uid : ℕ) (mark_seen : Bool) (ro
   }) (message_with uid left.messages)
 
 -- The flags of the message of a UID were changed.
-pub record Alters (found : Mail) (seat : Seat) (uid : ℕ) (op : FlagOp) (flags : Option Flags) (left : Mail) : Type 0 where
+pub record Alters (found : Mailbox) (seat : CursorSeat) (uid : ℕ) (op : FlagOp) (flags : Option Flags) (left : Mailbox) : Type 0 where
   pub event : IsEvent found left (flags_logged (rows found) uid op)
   pub seated : (view : List ℕ) × IsSeated found seat view
   pub current : found.window.base ≤ seat.at
@@ -121,7 +121,7 @@ pub record Alters (found : Mail) (seat : Seat) (uid : ℕ) (op : FlagOp) (flags 
   pub answers : flags ≡ option_map (λ (m : Message). m.flags) (message_with uid left.messages)
 
 -- The seat was closed, and where it was asked for the messages with \Deleted went. The client may have fallen behind the window.
-pub record Leaves (found : Mail) (seat : Seat) (remove : Bool) (gone : ℕ) (left : Mail) : Type 0 where
+pub record Leaves (found : Mailbox) (seat : CursorSeat) (remove : Bool) (gone : ℕ) (left : Mailbox) : Type 0 where
   pub event : IsEvent found left (removals_if remove (rows found))
   pub seated : (view : List ℕ) × IsSeated found seat view
   pub room : IsTooMany found (removals_if remove (rows found)) → ⊥
@@ -133,7 +133,7 @@ pub record Leaves (found : Mail) (seat : Seat) (remove : Bool) (gone : ℕ) (lef
   pub went : gone ≡ length (removals_if remove (rows found))
 
 -- The copy was delivered: its message is the last one, with the copy's flags, and no cursor changed.
-pub record Delivers (found : Mail) (job : Job) (receipt : Receipt) (left : Mail) : Type 0 where
+pub record Delivers (found : Mailbox) (job : Job) (receipt : Receipt) (left : Mailbox) : Type 0 where
   pub event : IsDelivery found left job.key job.flags
   pub uid_left : is_spent job.flags found ≡ false
   pub place_left : is_full found ≡ false
@@ -146,34 +146,34 @@ pub record Delivers (found : Mail) (job : Job) (receipt : Receipt) (left : Mail)
 
 -- Why a client was refused: the first of these that holds. Where `spent`, the log has no room for what the call would log; and memory is wanted
 -- only where `wants`.
-abbrev pub Refuses : MailFault → Mail → Seat → Type 0 → Type 0 → Type 0
+abbrev pub Refuses : MailFault → Mailbox → CursorSeat → Type 0 → Type 0 → Type 0
 Refuses Stranger m seat spent wants = IsStranger m seat
 Refuses Lapped m seat spent wants = IsLapped m seat
 Refuses Spent m seat spent wants = IsCurrent m seat × spent
 Refuses NoMemory m seat spent wants = IsCurrent m seat × (spent → ⊥) × wants
 
 -- The call was refused, and changed nothing.
-pub record IsRefused (found : Mail) (seat : Seat) (spent wants : Type 0) (fault : MailFault) (left : Mail) : Type 0 where
+pub record IsRefused (found : Mailbox) (seat : CursorSeat) (spent wants : Type 0) (fault : MailFault) (left : Mailbox) : Type 0 where
   pub kept : IsKept found
   pub same : left ≡ found
   pub why : Refuses fault found seat spent wants
 
 -- why no seat was made: no serial is left, or one is and memory was refused
-abbrev pub EntersNot : MailFault → Mail → Type 0
+abbrev pub EntersNot : MailFault → Mailbox → Type 0
 EntersNot Stranger m = ⊥
 EntersNot Lapped m = ⊥
 EntersNot Spent m = 2 ^ 64 - 1 ≤ m.cursors.next
 EntersNot NoMemory m = m.cursors.next < 2 ^ 64 - 1
 
 -- why a client that would leave could not, of whom these changes would be logged: one that fell behind may, and it takes no memory
-abbrev pub LeavesNot : MailFault → Mail → Seat → List Change → Type 0
+abbrev pub LeavesNot : MailFault → Mailbox → CursorSeat → List Change → Type 0
 LeavesNot Stranger m seat changes = IsStranger m seat
 LeavesNot Lapped m seat changes = ⊥
 LeavesNot Spent m seat changes = IsSome (held m.cursors seat) × IsTooMany m changes
 LeavesNot NoMemory m seat changes = ⊥
 
 -- why a copy with these flags was not stored: the first of these that holds
-abbrev pub DeliversNot : Refusal → Flags → Mail → Type 0
+abbrev pub DeliversNot : Refusal → Flags → Mailbox → Type 0
 DeliversNot copy.Full flags m = ⊥
 DeliversNot copy.Shut flags m = ⊥
 DeliversNot copy.UidSpent flags m = is_spent flags m ≡ true
@@ -182,17 +182,17 @@ DeliversNot copy.NoMemory flags m = (is_spent flags m ≡ false) × (is_full m �
 
 -- ---- by the answer
 
-abbrev pub DoesRead : Mail → Seat → ℕ → Bool → Result (Option Row) MailFault → Mail → Type 0
+abbrev pub DoesRead : Mailbox → CursorSeat → ℕ → Bool → Result (Option Row) MailFault → Mailbox → Type 0
 DoesRead found seat uid mark_seen (Ok row) left = Reads found seat uid mark_seen row left
 DoesRead found seat uid mark_seen (Err fault) left = IsRefused found seat (IsTooMany found (seen_logged mark_seen (rows found) uid)) (IsSome (message_with uid found.messages)) fault left
 
-abbrev pub DoesAlter : Mail → Seat → ℕ → FlagOp → Result (Option Flags) MailFault → Mail → Type 0
+abbrev pub DoesAlter : Mailbox → CursorSeat → ℕ → FlagOp → Result (Option Flags) MailFault → Mailbox → Type 0
 DoesAlter found seat uid op (Ok flags) left = Alters found seat uid op flags left
 DoesAlter found seat uid op (Err fault) left = IsRefused found seat (IsTooMany found (flags_logged (rows found) uid op)) ⊥ fault left
 
 -- What was shown, and what was written of it: a line for each change as the client counts, which are the next changes of each log for which the
 -- mailbox stood, by what that log says that the client counts.
-pub record Shown (P : List ℕ → List Change → Type 0) (found : Mail) (seat : Seat) (before after : List ℕ) (count : ℕ) : Type 0 where
+pub record Shown (P : List ℕ → List Change → Type 0) (found : Mailbox) (seat : CursorSeat) (before after : List ℕ) (count : ℕ) : Type 0 where
   pub view : List ℕ
   pub changes : List Change
   pub does : P view changes
@@ -201,7 +201,7 @@ pub record Shown (P : List ℕ → List Change → Type 0) (found : Mail) (seat 
   pub of_log : (log : List Change) → Stands found log → after ≡ before ++ lines (view_at log seat.at) (next_of log seat.at count)
 
 -- the same, where all that was pending was shown, and the answer isn't how many
-pub record Told (P : List ℕ → List Change → Type 0) (found : Mail) (seat : Seat) (before after : List ℕ) : Type 0 where
+pub record Told (P : List ℕ → List Change → Type 0) (found : Mailbox) (seat : CursorSeat) (before after : List ℕ) : Type 0 where
   pub view : List ℕ
   pub changes : List Change
   pub does : P view changes
@@ -209,35 +209,35 @@ pub record Told (P : List ℕ → List Change → Type 0) (found : Mail) (seat :
   pub of_log : (log : List Change) → Stands found log → after ≡ before ++ lines (view_at log seat.at) (drop seat.at log)
 
 -- Nothing was shown: neither the seat nor what is written changed.
-pub record NothingShown (P : Type 0) (seat next : Seat) (before after : List ℕ) : Type 0 where
+pub record NothingShown (P : Type 0) (seat next : CursorSeat) (before after : List ℕ) : Type 0 where
   pub refused : P
   pub still : next ≡ seat
   pub wrote : after ≡ before
 
 -- It logs nothing, so the log always has room; and it wants memory only where there is something to show.
-abbrev pub DoesFeed : Mail → Seat → ℕ → List ℕ → List ℕ → Result ℕ MailFault → Mail → Seat → Type 0
+abbrev pub DoesFeed : Mailbox → CursorSeat → ℕ → List ℕ → List ℕ → Result ℕ MailFault → Mailbox → CursorSeat → Type 0
 DoesFeed found seat limit before after (Ok n) left next = Shown (λ view changes. Feeds found seat limit view changes left next) found seat before after n
 DoesFeed found seat limit before after (Err fault) left next = NothingShown (IsRefused found seat ⊥ (0 < min limit (total found.window - seat.at)) fault left) seat next before after
 
-abbrev pub DoesExpunge : Mail → Seat → Option (List ℕ) → List ℕ → List ℕ → Result ℕ MailFault → Mail → Seat → Type 0
+abbrev pub DoesExpunge : Mailbox → CursorSeat → Option (List ℕ) → List ℕ → List ℕ → Result ℕ MailFault → Mailbox → CursorSeat → Type 0
 DoesExpunge found seat uids before after (Ok gone) left next = Told (λ view changes. Expunges found seat uids view changes gone left next) found seat before after
 DoesExpunge found seat uids before after (Err fault) left next = NothingShown (IsRefused found seat (IsTooMany found (removals (in_set uids) (rows found))) (seat.at < total found.window) fault left) seat next before after
 
-abbrev pub DoesEnter : Mail → Result (Seat × Opening) MailFault → Mail → Type 0
+abbrev pub DoesEnter : Mailbox → Result (CursorSeat × Opening) MailFault → Mailbox → Type 0
 DoesEnter found (Ok entered) left = Enters found entered.1 left entered.0
 DoesEnter found (Err fault) left = IsKept found × (left ≡ found) × EntersNot fault found
 
 -- A seat that may not leave is handed back.
-abbrev pub DoesLeave : Mail → Seat → Bool → Result ℕ (Seat × MailFault) → Mail → Type 0
+abbrev pub DoesLeave : Mailbox → CursorSeat → Bool → Result ℕ (CursorSeat × MailFault) → Mailbox → Type 0
 DoesLeave found seat remove (Ok gone) left = Leaves found seat remove gone left
 DoesLeave found seat remove (Err back) left = (back.0 ≡ seat) × IsKept found × (left ≡ found) × LeavesNot back.1 found seat (removals_if remove (rows found))
 
-abbrev pub DoesDeliver : Mail → Job → Result Receipt Refusal → Mail → Type 0
+abbrev pub DoesDeliver : Mailbox → Job → Result Receipt Refusal → Mailbox → Type 0
 DoesDeliver found job (Ok receipt) left = Delivers found job receipt left
 DoesDeliver found job (Err refusal) left = IsKept found × (left ≡ found) × DeliversNot refusal job.flags found
 
 -- The view was looked at, or memory was refused though there is one, or the seat is a stranger. It is no event.
-abbrev pub DoesLook : Mail → Seat → Result (List ℕ) MailFault → Type 0
+abbrev pub DoesLook : Mailbox → CursorSeat → Result (List ℕ) MailFault → Type 0
 DoesLook found seat (Ok view) = IsKept found × IsSeated found seat view
 DoesLook found seat (Err Stranger) = IsKept found × IsStranger found seat
 DoesLook found seat (Err Lapped) = ⊥
@@ -245,7 +245,7 @@ DoesLook found seat (Err Spent) = ⊥
 DoesLook found seat (Err NoMemory) = IsKept found × (view : List ℕ) × IsSeated found seat view
 
 -- The mailbox was counted (RFC 9051, 6.3.11). It is no event.
-pub record Counts (found : Mail) (status : Status) : Type 0 where
+pub record Counts (found : Mailbox) (status : Status) : Type 0 where
   pub kept : IsKept found
   pub tells : status ≡ record {
     messages = length found.messages;

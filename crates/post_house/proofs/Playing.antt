@@ -2,7 +2,7 @@
 use Rattle.std.proofs.Common.{lit<, ◌≡◌, ◌⊎◌, ◌∙◌, ap, ℕ, Bool, true, List, inl, inr, refl, sym, subst, Option, Some, None, Result, Ok, Err, arith}
 use Rattle.std.specs.Prelude.{IfSome}
 use Rattle.house.specs.Settings.{setup_of}
-use Rattle.house.specs.State.{State}
+use Rattle.house.specs.House.{House}
 use Rattle.house.specs.declared.config.Config.{Config}
 use Rattle.house.specs.declared.config.ConfigFault.{ConfigFault}
 use Rattle.house.specs.declared.config.ConfigFault.TheVariants as config_faults
@@ -27,7 +27,7 @@ unplayed config lines old =
     wrote_beginning (setup_of config) lines (λ number others s. Unit {0}) old old (run_unbegun (setup_of config) lines old (λ number others s. Unit {0}) tt)
 
 -- a run that failed, by its fault
-pub failed_played : (config : Config) (lines : List ScriptLine) (h : State) (failed : Bool) (old new : Option (List ℕ)) (f : RunFault) (r : Failure) → r ≡ run_failure f
+pub failed_played : (config : Config) (lines : List ScriptLine) (h : House) (failed : Bool) (old new : Option (List ℕ)) (f : RunFault) (r : Failure) → r ≡ run_failure f
     → ((sent : ℕ) → ◌≡◌ {A = Result (Unit {0}) RunFault} (Err f) (Err (run_faults.Write sent)) → WritesFirst (setup_of config) lines sent h old new)
     → ((sent : ℕ) → ◌≡◌ {A = Result (Unit {0}) RunFault} (Err f) (Err (run_faults.Write sent)) → failed ≡ true)
     → (◌≡◌ {A = Result (Unit {0}) RunFault} (Err f) (Err run_faults.NoMemory) → WritesBeginning (setup_of config) lines (IsLeftWanting (setup_of config) h) old new)

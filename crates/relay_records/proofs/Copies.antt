@@ -10,7 +10,7 @@ use Rattle.envelope.specs.Directory.{Directory}
 use Rattle.submission.specs.Copies.{copies}
 use Rattle.submission.specs.Heard.{HeardFor}
 use Rattle.lmtp_machine.specs.Dialogue.{Setting, Submission, keys_from}
-use Rattle.house_connection.specs.HouseConnection.{copies_of}
+use Rattle.house_connection.specs.Caller.{copies_of}
 use Rattle.relay_replies.specs.Fates.{AreNamed, Names}
 use Rattle.relay_replies.specs.Laws.{is_stored}
 use Rattle.relay_replies.specs.Numbers.{no_submission}

@@ -7,7 +7,7 @@ use Rattle.shard_queue.proofs.AtLaws.{at_cases, set_at-same}
 use Rattle.world.specs.World as world
 use Rattle.world.specs.World.{World, shard_of}
 use Rattle.lmtp_machine.specs.Replies.{wire}
-use Rattle.house_connection.specs.HouseConnection.{HouseConnection, greeted, more_waits, unread}
+use Rattle.house_connection.specs.Caller.{Caller, greeted, more_waits, unread}
 use Rattle.house.specs.Printing.{ConnectionGoes}
 use Rattle.house.specs.Scene.{BytesPlay, ConnectionHears, ConnectionPuts, HearPlay, Moves, Plays, PutPlay, Scene, SessionHears, SessionPuts, VanishPlay, connection_hears, connection_puts, empty_scene, goes_on, opens, place_of, seat_of, session_hears, session_puts}
 use Rattle.house.specs.Setup.{Setup, session_seat, terms_of}
@@ -38,7 +38,7 @@ or_false true = refl
 or_false false = refl
 
 -- a connection is opened by its first bytes
-opens_here : (k : Setup) (pasts : (seat serial : ℕ) → Past) (s : Scene) (e : Event) (piece : Piece) (at : ℕ) (bytes : List ℕ) (o : Option HouseConnection) → IsInLine k.host → SceneKnown k pasts s
+opens_here : (k : Setup) (pasts : (seat serial : ℕ) → Past) (s : Scene) (e : Event) (piece : Piece) (at : ℕ) (bytes : List ℕ) (o : Option Caller) → IsInLine k.host → SceneKnown k pasts s
     → Says k s at piece → Brings s e at bytes false → s.caller at ≡ None
     → ConnectionGoes (terms_of k s.shut) false at (s.world.heard at) (more_waits (greeted (terms_of k s.shut) at (s.next at)) bytes) o (text_of k piece)
     → at < k.connections → SeatKnown k at (s.world.heard at) (sent_by s.world at) (set_at s.next at (s.next at + 1) at) (past_then k pasts s e piece at) o
@@ -57,7 +57,7 @@ opens_here k pasts s e piece at bytes o in_line h says brings free goes l =
     (subst (λ (x : Past). WentOn (own_terms k) at heard sent (record { came = x.came ++ bytes; told = x.told ++ wire k.host says.replies; gone = x.gone || false }) serial o) (sym new.0) went)
 
 -- bytes come for one that stands there
-bytes_here : (k : Setup) (pasts : (seat serial : ℕ) → Past) (s : Scene) (e : Event) (piece : Piece) (at : ℕ) (bytes : List ℕ) (b : HouseConnection) (o : Option HouseConnection) → IsInLine k.host
+bytes_here : (k : Setup) (pasts : (seat serial : ℕ) → Past) (s : Scene) (e : Event) (piece : Piece) (at : ℕ) (bytes : List ℕ) (b : Caller) (o : Option Caller) → IsInLine k.host
     → SceneKnown k pasts s → Says k s at piece → Brings s e at bytes false → s.caller at ≡ Some b → b.gone ≡ false
     → ConnectionGoes (terms_of k s.shut) false at (s.world.heard at) (more_waits b bytes) o (text_of k piece)
     → at < k.connections → SeatKnown k at (s.world.heard at) (sent_by s.world at) (s.next at) (past_then k pasts s e piece at) o

@@ -19,7 +19,7 @@ use Rattle.lmtp_machine.specs.declared.reply.Reply.TheVariants.{Greeting}
 use Rattle.lmtp_machine.specs.Dialogue.{Setting, Submission}
 use Rattle.lmtp_machine.specs.Message.{stored_text}
 use Rattle.lmtp_machine.specs.Replies.{wire}
-use Rattle.house_connection.specs.HouseConnection.{HouseConnection, Terms, copies_of, setting_of}
+use Rattle.house_connection.specs.Caller.{Caller, Terms, copies_of, setting_of}
 use Rattle.relay_replies.specs.Conclusions.{MayForget}
 use Rattle.relay_replies.specs.Fates.{AreCut, Fate, HaveFates, IsSender, IsSubmitted, Names, all_submitted, all_told, was_stored}
 use Rattle.relay_replies.specs.Handed.{Handed, handed_over, is_taken}
@@ -247,7 +247,7 @@ nothing_else k w host directory setting known whole f mailbox entry there seat s
 wire-append : (host : List ℕ) (xs ys : List Reply) → wire host (xs ++ ys) ≡ wire host xs ++ wire host ys
 wire-append host xs ys = flat_map-append _ xs ys
 
-abbrev facts_of : (k : Config) (w : World) → Kept k w → Headline k w → (g : Terms) (seat : ℕ) (b : HouseConnection) (came told : List ℕ)
+abbrev facts_of : (k : Config) (w : World) → Kept k w → Headline k w → (g : Terms) (seat : ℕ) (b : Caller) (came told : List ℕ)
     → (h : IsKnown g seat (w.heard seat) (sent_by w seat) came told b)
     → (known whole : List Handed) → AreCut known whole → MayForget g.host g.directory known whole h.submitted h.answered
     → Facts k w g.host g.directory (setting_of g seat b.serial) known whole
@@ -292,17 +292,17 @@ may_of k w world g seat serial sent heard untold replies said f =
     }
 
 -- all bytes that were sent, as those that were taken and others
-sent_is : (g : Terms) (seat : ℕ) (heard : List Noted) (sent : ℕ → List (Entry Job)) (came told later : List ℕ) (b : HouseConnection) → (h : IsKnown g seat heard sent came told b)
+sent_is : (g : Terms) (seat : ℕ) (heard : List Noted) (sent : ℕ → List (Entry Job)) (came told later : List ℕ) (b : Caller) → (h : IsKnown g seat heard sent came told b)
     → h.taken ++ (h.waited ++ later) ≡ came ++ later
 sent_is g seat heard sent came told later b h = sym (ap (λ (l : List ℕ). l ++ later) h.came_is ∙ append_assoc h.taken h.waited later)
 
 -- and all that was said, as what was printed and what wasn't
-said_is : (g : Terms) (seat : ℕ) (heard : List Noted) (sent : ℕ → List (Entry Job)) (came told : List ℕ) (b : HouseConnection) → (h : IsKnown g seat heard sent came told b)
+said_is : (g : Terms) (seat : ℕ) (heard : List Noted) (sent : ℕ → List (Entry Job)) (came told : List ℕ) (b : Caller) → (h : IsKnown g seat heard sent came told b)
     → told ++ wire g.host h.unprinted ≡ wire g.host (Greeting ∷ h.said)
 said_is g seat heard sent came told b h =
     ap (λ (l : List ℕ). l ++ wire g.host h.unprinted) h.told_is ∙ sym (wire-append g.host h.printed h.unprinted) ∙ ap (wire g.host) (sym h.said_is)
 
-pub connection_concludes : (k : Config) (w : World) → Kept k w → Headline k w → (g : Terms) → IsInLine g.host → (seat : ℕ) (b : HouseConnection) (came told : List ℕ)
+pub connection_concludes : (k : Config) (w : World) → Kept k w → Headline k w → (g : Terms) → IsInLine g.host → (seat : ℕ) (b : Caller) (came told : List ℕ)
     → IsKnown g seat (w.heard seat) (sent_by w seat) came told b
     → (later heard unheard : List ℕ) → heard ++ unheard ≡ told → MayConclude g.host g.directory w seat b.serial (came ++ later) heard
 connection_concludes k w kept world g in_line seat b came told h later heard unheard e =
@@ -355,7 +355,7 @@ each_is_read k w host directory setting known whole f all none mailbox entry the
     by (inl e) = (o.i, o.j, o.key, e)
     by (inr l) = absurd (omega (arith, l, within))
 
-pub connection_knows_all : (k : Config) (w : World) → Kept k w → Headline k w → (g : Terms) → IsInLine g.host → (seat : ℕ) (b : HouseConnection) (came told : List ℕ)
+pub connection_knows_all : (k : Config) (w : World) → Kept k w → Headline k w → (g : Terms) → IsInLine g.host → (seat : ℕ) (b : Caller) (came told : List ℕ)
     → IsKnown g seat (w.heard seat) (sent_by w seat) came told b → b.gone ≡ false → b.talk.pending ≡ [] → b.talk.unsaid ≡ []
     → (later : List ℕ) → KnowsAll g.host g.directory w seat b.serial (came ++ later) told
 connection_knows_all k w kept world g in_line seat b came told h there none silent later =

@@ -10,7 +10,7 @@ use Rattle.lmtp_machine.specs.declared.connection.What.{What}
 use Rattle.lmtp_machine.specs.declared.connection.What.TheVariants.{More, Submit, Quit}
 use Rattle.lmtp_machine.specs.declared.reply.Reply.{Reply}
 use Rattle.lmtp_machine.specs.Replies.{wire}
-use Rattle.house_connection.specs.HouseConnection.{GoesOn, HouseConnection, Proceeds, Terms, Works, answers, fades, lingers, stalls, talks, waits, with_unsaid, works}
+use Rattle.house_connection.specs.Caller.{GoesOn, Caller, Proceeds, Terms, Works, answers, fades, lingers, stalls, talks, waits, with_unsaid, works}
 use Rattle.house.specs.Printing.{ConnectionGoes, Leaves, Prints, goes, marked_connection, of_connection, prints_all, prints_none, stays}
 use Rattle.house.proofs.Places.{does_serial}
 use Rattle.relay_replies.specs.Laws.{IsInLine}
@@ -21,7 +21,7 @@ wire-append : (host : List ℕ) (xs ys : List Reply) → wire host (xs ++ ys) �
 wire-append host xs ys = flat_map-append _ xs ys
 
 -- nothing was told, and so much is still to be printed
-same_known : (g : Terms) (seat : ℕ) (heard : List Noted) (sent : ℕ → List (Entry Job)) (came told more : List ℕ) (b : HouseConnection) (still : List ℕ)
+same_known : (g : Terms) (seat : ℕ) (heard : List Noted) (sent : ℕ → List (Entry Job)) (came told more : List ℕ) (b : Caller) (still : List ℕ)
     → still ≡ b.talk.unsaid → more ≡ [] → IsKnown g seat heard sent came told b → IsKnown g seat heard sent came (told ++ more) (with_unsaid still b)
 same_known g seat heard sent came told more b still e none h = record {
   taken = h.taken;
@@ -47,7 +47,7 @@ same_known g seat heard sent came told more b still e none h = record {
 }
 
 -- all of it was told
-all_known : (g : Terms) (seat : ℕ) (heard : List Noted) (sent : ℕ → List (Entry Job)) (came told more : List ℕ) (b : HouseConnection) (still : List ℕ)
+all_known : (g : Terms) (seat : ℕ) (heard : List Noted) (sent : ℕ → List (Entry Job)) (came told more : List ℕ) (b : Caller) (still : List ℕ)
     → b.gone ≡ false → still ≡ [] → (h : IsKnown g seat heard sent came told b) → wire g.host h.unprinted ≡ more → IsKnown g seat heard sent came (told ++ more) (with_unsaid still b)
 all_known g seat heard sent came told more b still there e h same = record {
   taken = h.taken;
@@ -72,7 +72,7 @@ all_known g seat heard sent came told more b still there e h same = record {
   left = h.left;
 }
 
-printed_known : (g : Terms) (seat : ℕ) (heard : List Noted) (sent : ℕ → List (Entry Job)) (came told : List ℕ) (b : HouseConnection) (still printed : List ℕ) (replies : List Reply)
+printed_known : (g : Terms) (seat : ℕ) (heard : List Noted) (sent : ℕ → List (Entry Job)) (came told : List ℕ) (b : Caller) (still printed : List ℕ) (replies : List Reply)
     → IsInLine g.host
     → IsKnown g seat heard sent came told b → Prints of_connection (seat + 1) b.talk.unsaid still printed → printed ≡ marked_connection (seat + 1) (wire g.host replies)
     → IsKnown g seat heard sent came (told ++ wire g.host replies) (with_unsaid still b)
@@ -98,34 +98,34 @@ pub record Past : Type 0 where
   pub gone : Bool
 
 -- where its peer was there to the end, nothing is awaited of it and nothing still to be printed
-abbrev pub HasEnded : HouseConnection → Type 0
+abbrev pub HasEnded : Caller → Type 0
 HasEnded b = b.gone ≡ false → (b.talk.pending ≡ []) × (b.talk.unsaid ≡ [])
 
 -- what the connection of a serial went on to, and whether it stands there still
-pub record WentOn (g : Terms) (seat : ℕ) (heard : List Noted) (sent : ℕ → List (Entry Job)) (past : Past) (serial : ℕ) (o : Option HouseConnection) : Type 0 where
-  pub last : HouseConnection
+pub record WentOn (g : Terms) (seat : ℕ) (heard : List Noted) (sent : ℕ → List (Entry Job)) (past : Past) (serial : ℕ) (o : Option Caller) : Type 0 where
+  pub last : Caller
   pub serial_is : last.serial ≡ serial
   pub known : IsKnown g seat heard sent past.came past.told last
   pub gone_is : last.gone ≡ past.gone
   pub here : ((o ≡ None) × HasEnded last) ⊎ (o ≡ Some last)
 
-goes_gone : (k : Terms) (whole : Bool) (seat : ℕ) (heard : List Noted) (b : HouseConnection) (what : What) (after : HouseConnection) → GoesOn k whole seat heard b what after → after.gone ≡ b.gone
-goes_gone k whole seat heard b what after (works none w) = ap (λ (x : HouseConnection). x.gone) w.is
-goes_gone k whole seat heard b what after (waits some unknown is same) = ap (λ (x : HouseConnection). x.gone) same
-goes_gone k whole seat heard b what after (answers vs some is w) = ap (λ (x : HouseConnection). x.gone) w.is
-goes_gone k whole seat heard b what after (stalls part is same) = ap (λ (x : HouseConnection). x.gone) same
+goes_gone : (k : Terms) (whole : Bool) (seat : ℕ) (heard : List Noted) (b : Caller) (what : What) (after : Caller) → GoesOn k whole seat heard b what after → after.gone ≡ b.gone
+goes_gone k whole seat heard b what after (works none w) = ap (λ (x : Caller). x.gone) w.is
+goes_gone k whole seat heard b what after (waits some unknown is same) = ap (λ (x : Caller). x.gone) same
+goes_gone k whole seat heard b what after (answers vs some is w) = ap (λ (x : Caller). x.gone) w.is
+goes_gone k whole seat heard b what after (stalls part is same) = ap (λ (x : Caller). x.gone) same
 
-proceeds_gone : (k : Terms) (whole : Bool) (seat : ℕ) (heard : List Noted) (b : HouseConnection) (what : What) (after : HouseConnection) → Proceeds k whole seat heard b what after
+proceeds_gone : (k : Terms) (whole : Bool) (seat : ℕ) (heard : List Noted) (b : Caller) (what : What) (after : Caller) → Proceeds k whole seat heard b what after
     → after.gone ≡ b.gone
 proceeds_gone k whole seat heard b what after (talks there g) = goes_gone k whole seat heard b what after g
-proceeds_gone k whole seat heard b what after (lingers gone silent unknown is same) = ap (λ (x : HouseConnection). x.gone) same
-proceeds_gone k whole seat heard b what after (fades vs gone silent answered is same) = ap (λ (x : HouseConnection). x.gone) same
+proceeds_gone k whole seat heard b what after (lingers gone silent unknown is same) = ap (λ (x : Caller). x.gone) same
+proceeds_gone k whole seat heard b what after (fades vs gone silent answered is same) = ap (λ (x : Caller). x.gone) same
 
 -- one that has ended awaits nothing
-works_quits : (k : Terms) (whole : Bool) (seat : ℕ) (b : HouseConnection) (what : What) (after : HouseConnection) → what ≡ Quit → Works k whole seat b what after → after.talk.pending ≡ []
+works_quits : (k : Terms) (whole : Bool) (seat : ℕ) (b : Caller) (what : What) (after : Caller) → what ≡ Quit → Works k whole seat b what after → after.talk.pending ≡ []
 works_quits k whole seat b what after q w =
     let tells : Tells Quit w.turn = subst (λ (x : What). Tells x w.turn) q w.works.tells in
-    ap (λ (x : HouseConnection). x.talk.pending) w.is ∙ w.works.submits ∙ tells.0
+    ap (λ (x : Caller). x.talk.pending) w.is ∙ w.works.submits ∙ tells.0
 
 not_submit : Submit ≡ Quit → ⊥
 not_submit e = cc
@@ -133,7 +133,7 @@ not_submit e = cc
 not_more : More ≡ Quit → ⊥
 not_more e = cc
 
-proceeds_quits : (k : Terms) (whole : Bool) (seat : ℕ) (heard : List Noted) (b : HouseConnection) (what : What) (after : HouseConnection) → what ≡ Quit → b.gone ≡ false
+proceeds_quits : (k : Terms) (whole : Bool) (seat : ℕ) (heard : List Noted) (b : Caller) (what : What) (after : Caller) → what ≡ Quit → b.gone ≡ false
     → Proceeds k whole seat heard b what after
     → after.talk.pending ≡ []
 proceeds_quits k whole seat heard b what after q there (talks read (works none w)) = works_quits k whole seat b what after q w
@@ -143,8 +143,8 @@ proceeds_quits k whole seat heard b what after q there (talks read (stalls part 
 proceeds_quits k whole seat heard b what after q there (lingers gone silent unknown is same) = absurd (false≢true (sym there ∙ gone))
 proceeds_quits k whole seat heard b what after q there (fades vs gone silent answered is same) = absurd (false≢true (sym there ∙ gone))
 
-pub goes_on_known : (g : Terms) (shut : List Bool) (whole : Bool) (seat : ℕ) (heard : List Noted) (sent : ℕ → List (Entry Job)) (came told : List ℕ) (b : HouseConnection)
-    (o : Option HouseConnection) (printed : List ℕ) (replies : List Reply)
+pub goes_on_known : (g : Terms) (shut : List Bool) (whole : Bool) (seat : ℕ) (heard : List Noted) (sent : ℕ → List (Entry Job)) (came told : List ℕ) (b : Caller)
+    (o : Option Caller) (printed : List ℕ) (replies : List Reply)
     → IsInLine g.host → IsKnown g seat heard sent came told b → ConnectionGoes (with_marks shut g) whole seat heard b o printed → printed ≡ marked_connection (seat + 1) (wire g.host replies)
     → WentOn g seat heard sent (record { came = came; told = told ++ wire g.host replies; gone = b.gone }) b.serial o
 goes_on_known g shut whole seat heard sent came told b o printed replies in_line h c e = record {

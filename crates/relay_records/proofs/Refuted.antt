@@ -12,7 +12,7 @@ use Rattle.relay_replies.specs.rows.HandedRows.{bob, home, message, path_to}
 use Rattle.world.specs.Law.{pairs}
 use Rattle.world.specs.World.{World, empty_world}
 use Rattle.house.specs.Setup.{terms_of}
-use Rattle.house_connection.specs.HouseConnection.{HouseConnection, greeted}
+use Rattle.house_connection.specs.Caller.{Caller, greeted}
 use Rattle.relay_records.specs.Laws.{IsDone}
 use Rattle.relay_records.specs.rows.Rows.{left, opened, setup, start}
 use Rattle.relay_records.specs.Concluded.{StandsAsSent, StandsNowhere}
@@ -139,4 +139,4 @@ not_done h =
 
 -- and one that has left
 done_where_left : IsDone (left (opened start 0 0) 0) 0 0
-done_where_left b e s = absurd (let x : ◌≡◌ {A = Option HouseConnection} None (Some b) = e in cc)
+done_where_left b e s = absurd (let x : ◌≡◌ {A = Option Caller} None (Some b) = e in cc)

@@ -10,7 +10,7 @@ use Rattle.shard_queue.specs.declared.lane.Entry.{Entry as LaneEntry}
 use Rattle.world.specs.World.{World}
 use Rattle.lmtp_machine.specs.declared.reply.Reply.{Reply}
 use Rattle.lmtp_machine.specs.Replies.{wire}
-use Rattle.house_connection.specs.HouseConnection.{HouseConnection, Terms}
+use Rattle.house_connection.specs.Caller.{Caller, Terms}
 use Rattle.house.specs.Printing.{marked_connection}
 use Rattle.house.specs.Scene.{Scene, seat_of}
 use Rattle.house.specs.Setup.{Setup, session_seat}
@@ -187,7 +187,7 @@ more_past k pasts s e piece at bytes vanishes says brings seat n t =
     (brings.gone seat n ∙ ap (λ (x : Bool). x && vanishes) t)
 
 -- one seat, and all others
-pub caller_known : (k : Setup) (pasts : (seat serial : ℕ) → Past) (s : Scene) (e : Event) (piece : Piece) (at : ℕ) (bytes : List ℕ) (vanishes : Bool) (v : World) (o : Option HouseConnection)
+pub caller_known : (k : Setup) (pasts : (seat serial : ℕ) → Past) (s : Scene) (e : Event) (piece : Piece) (at : ℕ) (bytes : List ℕ) (vanishes : Bool) (v : World) (o : Option Caller)
     (next : ℕ → ℕ) → SceneKnown k pasts s → Says k s at piece → Brings s e at bytes vanishes
     → ((seat : ℕ) (r : Noted) → Contains (s.world.heard seat) r → Contains (v.heard seat) r) → ((seat : ℕ) → seat ≢ at → (n : ℕ) → SentGrows n (sent_by s.world seat) (sent_by v seat))
     → ((seat : ℕ) → seat ≢ at → next seat ≡ s.next seat)
@@ -203,7 +203,7 @@ caller_known k pasts s e piece at bytes vanishes v o next h says brings heard se
         (heard seat) (sent seat x) (λ n. other_past k pasts s e piece at bytes vanishes says brings seat n (meant_elsewhere seat n s at x)) (h.seats seat l)))
 
 -- its connection, which has this serial, went on
-pub here_known : (k : Setup) (pasts : (seat serial : ℕ) → Past) (s : Scene) (e : Event) (piece : Piece) (at : ℕ) (bytes : List ℕ) (vanishes : Bool) (v : World) (o : Option HouseConnection)
+pub here_known : (k : Setup) (pasts : (seat serial : ℕ) → Past) (s : Scene) (e : Event) (piece : Piece) (at : ℕ) (bytes : List ℕ) (vanishes : Bool) (v : World) (o : Option Caller)
     (next : ℕ → ℕ) (serial : ℕ) (says : Says k s at piece) → Brings s e at bytes vanishes
     → serial ≡ serial_of (s.next at) (s.caller at) → next at ≡ serial + 1 → ((r : Noted) → Contains (s.world.heard at) r → Contains (v.heard at) r)
     → ((n : ℕ) → n ≢ serial → SentGrows n (sent_by s.world at) (sent_by v at))
@@ -218,13 +218,13 @@ here_known k pasts s e piece at bytes vanishes v o next serial says brings is fo
     (sym (more_past k pasts s e piece at bytes vanishes says brings at serial (meant_here serial s at is))) went)
 
 -- who stands at a seat
-pub at_caller : (k : Setup) (pasts : (seat serial : ℕ) → Past) (s : Scene) (at : ℕ) (o : Option HouseConnection) → SceneKnown k pasts s → at < k.connections → s.caller at ≡ o
+pub at_caller : (k : Setup) (pasts : (seat serial : ℕ) → Past) (s : Scene) (at : ℕ) (o : Option Caller) → SceneKnown k pasts s → at < k.connections → s.caller at ≡ o
     → SeatKnown k at (s.world.heard at) (sent_by s.world at) (s.next at) (pasts at) o
 at_caller k pasts s at o h l there = subst (SeatKnown k at (s.world.heard at) (sent_by s.world at) (s.next at) (pasts at)) there (h.seats at l)
 
 -- the one at a seat went on
-pub stander_known : (k : Setup) (pasts : (seat serial : ℕ) → Past) (s : Scene) (e : Event) (piece : Piece) (at : ℕ) (bytes : List ℕ) (vanishes : Bool) (v : World) (b : HouseConnection)
-    (o : Option HouseConnection) (says : Says k s at piece) → Brings s e at bytes vanishes
+pub stander_known : (k : Setup) (pasts : (seat serial : ℕ) → Past) (s : Scene) (e : Event) (piece : Piece) (at : ℕ) (bytes : List ℕ) (vanishes : Bool) (v : World) (b : Caller)
+    (o : Option Caller) (says : Says k s at piece) → Brings s e at bytes vanishes
     → s.caller at ≡ Some b → ((r : Noted) → Contains (s.world.heard at) r → Contains (v.heard at) r) → ((n : ℕ) → n ≢ b.serial → SentGrows n (sent_by s.world at) (sent_by v at))
     → SeatKnown k at (s.world.heard at) (sent_by s.world at) (s.next at) (pasts at) (Some b)
     → WentOn (own_terms k) at (v.heard at) (sent_by v at)
@@ -235,7 +235,7 @@ stander_known k pasts s e piece at bytes vanishes v b o says brings there heard 
     (λ n l. h.later n (subst (λ (x : ℕ). x ≤ n) (sym h.there.0) l)) went
 
 -- what it came to, by whether its peer is gone
-pub went_gone : (g : Terms) (at : ℕ) (heard : List Noted) (sent : ℕ → List (LaneEntry Job)) (came now told : List ℕ) (gone left : Bool) (serial : ℕ) (o : Option HouseConnection) → came ≡ now
+pub went_gone : (g : Terms) (at : ℕ) (heard : List Noted) (sent : ℕ → List (LaneEntry Job)) (came now told : List ℕ) (gone left : Bool) (serial : ℕ) (o : Option Caller) → came ≡ now
     → gone ≡ left
     → WentOn g at heard sent (record { came = came; told = told; gone = gone }) serial o → WentOn g at heard sent (record { came = now; told = told; gone = left }) serial o
 went_gone g at heard sent came now told gone left serial o e f h =

@@ -27,7 +27,7 @@ use Rattle.lmtp_machine.specs.Dialogue as dialogue
 use Rattle.lmtp_machine.specs.Dialogue.{Phase, Start, Ready, Transaction, Data, Waiting, Ended, Answered, Opened, Setting, Submission, Turn, keys_from, on_event, on_verdicts, verdict_reply}
 use Rattle.lmtp_machine.specs.Kept.{IsMessage}
 use Rattle.house_connection.specs.ConnectionStands.{IsAwaited}
-use Rattle.house_connection.specs.HouseConnection.{GoesOn, HouseConnection, IsAnswered, Proceeds, Terms, Works, answers, copies_of, fades, greeted, keys_of, lingers, meets, more_waits, setting_of, stalls, talks, unread, waits, works}
+use Rattle.house_connection.specs.Caller.{GoesOn, Caller, IsAnswered, Proceeds, Terms, Works, answers, copies_of, fades, greeted, keys_of, lingers, meets, more_waits, setting_of, stalls, talks, unread, waits, works}
 use Rattle.relay_replies.specs.Connections.{HasCome}
 use Rattle.relay_replies.specs.Numbers.{no_submission}
 use Rattle.relay_replies.proofs.Connected.{begins, takes_bytes, tells_verdicts}
@@ -150,7 +150,7 @@ contains_each xs = every_weaker (λ x. Rattle.world.proofs.Mails.IsIn x xs) (Con
 -- ---- a connection
 
 -- The connection at a seat is here, of which these bytes came and these were told. Where its peer is gone, nothing is known of what waited and wasn't said.
-pub record IsKnown (g : Terms) (seat : ℕ) (heard : List Noted) (sent : ℕ → List (Entry Job)) (came told : List ℕ) (b : HouseConnection) : Type 0 where
+pub record IsKnown (g : Terms) (seat : ℕ) (heard : List Noted) (sent : ℕ → List (Entry Job)) (came told : List ℕ) (b : Caller) : Type 0 where
   pub taken : List ℕ
   pub waited : List ℕ
   pub said : List Reply
@@ -173,7 +173,7 @@ pub record IsKnown (g : Terms) (seat : ℕ) (heard : List Noted) (sent : ℕ →
   pub left : Every (IsOwn b.serial (copies_of submitted)) b.to_put
 
 -- more was heard, and others put what they had
-pub known_grows : (g : Terms) (seat : ℕ) (heard more : List Noted) (sent later : ℕ → List (Entry Job)) (came told : List ℕ) (b : HouseConnection)
+pub known_grows : (g : Terms) (seat : ℕ) (heard more : List Noted) (sent later : ℕ → List (Entry Job)) (came told : List ℕ) (b : Caller)
     → ((n : Noted) → Contains heard n → Contains more n) → SentGrows b.serial sent later → IsKnown g seat heard sent came told b → IsKnown g seat more later came told b
 known_grows g seat heard more sent later came told b grows puts h = record {
   taken = h.taken;
@@ -199,7 +199,7 @@ known_grows g seat heard more sent later came told b grows puts h = record {
 }
 
 -- bytes came and wait
-pub more_known : (g : Terms) (seat : ℕ) (heard : List Noted) (sent : ℕ → List (Entry Job)) (came told piece : List ℕ) (b : HouseConnection)
+pub more_known : (g : Terms) (seat : ℕ) (heard : List Noted) (sent : ℕ → List (Entry Job)) (came told piece : List ℕ) (b : Caller)
     → b.gone ≡ false → IsKnown g seat heard sent came told b → IsKnown g seat heard sent (came ++ piece) told (more_waits b piece)
 more_known g seat heard sent came told piece b there h = record {
   taken = h.taken;
@@ -225,7 +225,7 @@ more_known g seat heard sent came told piece b there h = record {
 }
 
 -- the peer is gone
-pub unread_known : (g : Terms) (seat : ℕ) (heard : List Noted) (sent : ℕ → List (Entry Job)) (came told : List ℕ) (b : HouseConnection)
+pub unread_known : (g : Terms) (seat : ℕ) (heard : List Noted) (sent : ℕ → List (Entry Job)) (came told : List ℕ) (b : Caller)
     → IsKnown g seat heard sent came told b → IsKnown g seat heard sent came told (unread b)
 unread_known g seat heard sent came told b h = record {
   taken = h.taken;
@@ -269,8 +269,8 @@ tells_awaited Quit turn h = subst (λ (x : List Submission). IsAwaited x turn.st
     ended : (n : ℕ) → Ended ≡ Waiting n → ⊥
     ended n e = cc
 
-works_known : (g : Terms) (shut : List Bool) (whole : Bool) (seat : ℕ) (heard : List Noted) (sent : ℕ → List (Entry Job)) (came told : List ℕ) (b : HouseConnection) (what : What)
-    (after : HouseConnection)
+works_known : (g : Terms) (shut : List Bool) (whole : Bool) (seat : ℕ) (heard : List Noted) (sent : ℕ → List (Entry Job)) (came told : List ℕ) (b : Caller) (what : What)
+    (after : Caller)
     → b.gone ≡ false → b.talk.pending ≡ [] → IsKnown g seat heard sent came told b → Works (with_marks shut g) whole seat b what after → IsKnown g seat heard sent came told after
 works_known g shut whole seat heard sent came told b what after there none h w =
     let setting : Setting = setting_of g seat b.serial in
@@ -324,7 +324,7 @@ awaited_one heard (s ∷ ss) phase vs a some h =
     let each : HeardFor heard s.keys vs = subst (λ (l : List CopyKey). HeardFor heard l vs) keys h in
     (s, ap (λ (l : List Submission). s ∷ l) a.0, a.1 ∙ ap Waiting (as_many heard s.keys vs each), each)
 
-answers_known : (g : Terms) (shut : List Bool) (seat : ℕ) (heard : List Noted) (sent : ℕ → List (Entry Job)) (came told : List ℕ) (b : HouseConnection) (vs : List Verdict)
+answers_known : (g : Terms) (shut : List Bool) (seat : ℕ) (heard : List Noted) (sent : ℕ → List (Entry Job)) (came told : List ℕ) (b : Caller) (vs : List Verdict)
     → b.gone ≡ false → 0 < length b.talk.pending → IsAnswered heard b vs → IsKnown g seat heard sent came told b
     → IsKnown g seat heard sent came told (meets (with_marks shut g) seat b (Answered vs))
 answers_known g shut seat heard sent came told b vs there some is h =
@@ -363,8 +363,8 @@ answers_known g shut seat heard sent came told b vs there some is h =
 
 -- ---- it goes on
 
-goes_known : (g : Terms) (shut : List Bool) (whole : Bool) (seat : ℕ) (heard : List Noted) (sent : ℕ → List (Entry Job)) (came told : List ℕ) (b : HouseConnection) (what : What)
-    (after : HouseConnection)
+goes_known : (g : Terms) (shut : List Bool) (whole : Bool) (seat : ℕ) (heard : List Noted) (sent : ℕ → List (Entry Job)) (came told : List ℕ) (b : Caller) (what : What)
+    (after : Caller)
     → b.gone ≡ false → IsKnown g seat heard sent came told b → GoesOn (with_marks shut g) whole seat heard b what after → IsKnown g seat heard sent came told after
 goes_known g shut whole seat heard sent came told b what after there h (works none w) = works_known g shut whole seat heard sent came told b what after there none h w
 goes_known g shut whole seat heard sent came told b what after there h (waits some unknown is same) = subst (IsKnown g seat heard sent came told) (sym same) h
@@ -373,8 +373,8 @@ goes_known g shut whole seat heard sent came told b what after there h (answers 
     (answers_known g shut seat heard sent came told b vs there some is h) w
 goes_known g shut whole seat heard sent came told b what after there h (stalls part is same) = subst (IsKnown g seat heard sent came told) (sym same) h
 
-pub proceeds_known : (g : Terms) (shut : List Bool) (whole : Bool) (seat : ℕ) (heard : List Noted) (sent : ℕ → List (Entry Job)) (came told : List ℕ) (b : HouseConnection) (what : What)
-    (after : HouseConnection)
+pub proceeds_known : (g : Terms) (shut : List Bool) (whole : Bool) (seat : ℕ) (heard : List Noted) (sent : ℕ → List (Entry Job)) (came told : List ℕ) (b : Caller) (what : What)
+    (after : Caller)
     → IsKnown g seat heard sent came told b → Proceeds (with_marks shut g) whole seat heard b what after → IsKnown g seat heard sent came told after
 proceeds_known g shut whole seat heard sent came told b what after h (talks there goes) = goes_known g shut whole seat heard sent came told b what after there h goes
 proceeds_known g shut whole seat heard sent came told b what after h (lingers gone silent unknown is same) = subst (IsKnown g seat heard sent came told) (sym same) h
@@ -432,11 +432,11 @@ puts_own seat n copy these sent later puts own t h = by (puts t)
     by (inl same) = subst (Every (IsOneOf n these)) (sym same) h
     by (inr more) = subst (Every (IsOneOf n these)) (sym more) (every_append (IsOneOf n these) (sent t) (Item seat copy ∷ []) h ((λ e. own), tt))
 
-pub own_copy : (g : Terms) (seat : ℕ) (heard : List Noted) (sent : ℕ → List (Entry Job)) (came told : List ℕ) (b : HouseConnection) (copy : Job) (others : List Job) → b.to_put ≡ copy ∷ others
+pub own_copy : (g : Terms) (seat : ℕ) (heard : List Noted) (sent : ℕ → List (Entry Job)) (came told : List ℕ) (b : Caller) (copy : Job) (others : List Job) → b.to_put ≡ copy ∷ others
     → IsKnown g seat heard sent came told b → copy.key.serial ≡ b.serial
 own_copy g seat heard sent came told b copy others front h = (subst (Every (IsOwn b.serial (copies_of h.submitted))) front h.left).0.0
 
-pub put_known : (g : Terms) (seat : ℕ) (heard more : List Noted) (sent later : ℕ → List (Entry Job)) (came told : List ℕ) (b : HouseConnection) (copy : Job) (others : List Job)
+pub put_known : (g : Terms) (seat : ℕ) (heard more : List Noted) (sent later : ℕ → List (Entry Job)) (came told : List ℕ) (b : Caller) (copy : Job) (others : List Job)
     → b.to_put ≡ copy ∷ others
     → ((n : Noted) → Contains heard n → Contains more n) → Puts seat copy sent later → IsKnown g seat heard sent came told b
     → IsKnown g seat more later came told (record { serial = b.serial; gone = b.gone; talk = b.talk; to_put = others })

@@ -7,7 +7,7 @@ use Rattle.delivery_token.specs.declared.Job.{Job}
 use Rattle.delivery_token.specs.declared.log.Noted.{Noted}
 use Rattle.shard_queue.specs.declared.lane.Entry.{Entry}
 use Rattle.world.proofs.Base.{Every}
-use Rattle.house_connection.specs.HouseConnection.{HouseConnection, Terms}
+use Rattle.house_connection.specs.Caller.{Caller, Terms}
 use Rattle.house.specs.Setup.{Setup}
 use Rattle.relay_records.proofs.Printed.{HasEnded, Past, WentOn}
 use Rattle.relay_records.proofs.Seated.{IsKnown, IsOneOf, SentGrows, known_grows}
@@ -22,7 +22,7 @@ no_past = record { came = []; told = []; gone = false }
 
 -- what is known of the connection of a serial that stands there no more, as it was last
 pub record WasKnown (k : Setup) (seat : ℕ) (heard : List Noted) (sent : ℕ → List (Entry Job)) (serial : ℕ) (past : Past) : Type 0 where
-  pub last : HouseConnection
+  pub last : Caller
   pub serial_is : last.serial ≡ serial
   pub known : IsKnown (own_terms k) seat heard sent past.came past.told last
   pub gone_is : last.gone ≡ past.gone
@@ -31,7 +31,7 @@ pub record WasKnown (k : Setup) (seat : ℕ) (heard : List Noted) (sent : ℕ �
 abbrev pub ArePast : Setup → ℕ → List Noted → (ℕ → List (Entry Job)) → (ℕ → Past) → ℕ → Type 0
 ArePast k seat heard sent pasts limit = (n : ℕ) → n < limit → WasKnown k seat heard sent n (pasts n)
 
-abbrev pub StandsThere : Setup → ℕ → List Noted → (ℕ → List (Entry Job)) → (next : ℕ) → (ℕ → Past) → Option HouseConnection → Type 0
+abbrev pub StandsThere : Setup → ℕ → List Noted → (ℕ → List (Entry Job)) → (next : ℕ) → (ℕ → Past) → Option Caller → Type 0
 StandsThere k seat heard sent next pasts None = ArePast k seat heard sent pasts next
 StandsThere k seat heard sent next pasts (Some b) =
     (next ≡ b.serial + 1) × IsKnown (own_terms k) seat heard sent (pasts b.serial).came (pasts b.serial).told b × (b.gone ≡ (pasts b.serial).gone) × ArePast k seat heard sent pasts b.serial
@@ -39,7 +39,7 @@ StandsThere k seat heard sent next pasts (Some b) =
 abbrev pub IsNew : (ℕ → List (Entry Job)) → (ℕ → Past) → ℕ → Type 0
 IsNew sent pasts n = (pasts n ≡ no_past) × ((t : ℕ) → Every (IsOneOf n []) (sent t))
 
-pub record SeatKnown (k : Setup) (seat : ℕ) (heard : List Noted) (sent : ℕ → List (Entry Job)) (next : ℕ) (pasts : ℕ → Past) (o : Option HouseConnection) : Type 0 where
+pub record SeatKnown (k : Setup) (seat : ℕ) (heard : List Noted) (sent : ℕ → List (Entry Job)) (next : ℕ) (pasts : ℕ → Past) (o : Option Caller) : Type 0 where
   pub there : StandsThere k seat heard sent next pasts o
   pub later : (n : ℕ) → next ≤ n → IsNew sent pasts n
 
@@ -60,12 +60,12 @@ new_stays : (sent later : ℕ → List (Entry Job)) (pasts now : ℕ → Past) (
 new_stays sent later pasts now n puts e h = (e ∙ h.0, λ t. puts [] t (h.1 t))
 
 -- nobody does anything at the seat
-pub seat_stays : (k : Setup) (seat : ℕ) (heard more : List Noted) (sent later : ℕ → List (Entry Job)) (next : ℕ) (pasts now : ℕ → Past) (o : Option HouseConnection)
+pub seat_stays : (k : Setup) (seat : ℕ) (heard more : List Noted) (sent later : ℕ → List (Entry Job)) (next : ℕ) (pasts now : ℕ → Past) (o : Option Caller)
     → ((r : Noted) → Contains heard r → Contains more r) → ((n : ℕ) → SentGrows n sent later) → ((n : ℕ) → now n ≡ pasts n)
     → SeatKnown k seat heard sent next pasts o → SeatKnown k seat more later next now o
 seat_stays k seat heard more sent later next pasts now o grows puts e h = record { there = by o h.there; later = λ n l. new_stays sent later pasts now n (puts n) (e n) (h.later n l) }
   where
-    by : (p : Option HouseConnection) → StandsThere k seat heard sent next pasts p → StandsThere k seat more later next now p
+    by : (p : Option Caller) → StandsThere k seat heard sent next pasts p → StandsThere k seat more later next now p
     by None there = past_grows k seat heard more sent later pasts now next grows (λ n l. puts n) (λ n l. e n) there
     by (Some b) there =
         let same : pasts b.serial ≡ now b.serial = sym (e b.serial) in
@@ -79,7 +79,7 @@ seat_stays k seat heard more sent later next pasts now o grows puts e h = record
 -- ---- what a connection does
 
 -- the connection of this serial, the last that was opened there, went on
-pub seat_went : (k : Setup) (seat : ℕ) (heard more : List Noted) (sent later : ℕ → List (Entry Job)) (next : ℕ) (pasts now : ℕ → Past) (o : Option HouseConnection) (serial : ℕ)
+pub seat_went : (k : Setup) (seat : ℕ) (heard more : List Noted) (sent later : ℕ → List (Entry Job)) (next : ℕ) (pasts now : ℕ → Past) (o : Option Caller) (serial : ℕ)
     → ((r : Noted) → Contains heard r → Contains more r) → ((n : ℕ) → n ≢ serial → SentGrows n sent later) → ((n : ℕ) → n ≢ serial → now n ≡ pasts n) → next ≡ serial + 1
     → ArePast k seat heard sent pasts serial → ((n : ℕ) → serial + 1 ≤ n → IsNew sent pasts n) → WentOn (own_terms k) seat more later (now serial) serial o
     → SeatKnown k seat more later next now o
@@ -128,21 +128,21 @@ seat_went k seat heard more sent later next pasts now o serial grows puts same n
 -- ---- who stood there
 
 -- of a connection that was opened: as it is, or was last. Where its peer was never gone, it awaits nothing and has nothing to print, unless it stands there
-pub record Opened (k : Setup) (seat : ℕ) (heard : List Noted) (sent : ℕ → List (Entry Job)) (serial : ℕ) (past : Past) (o : Option HouseConnection) : Type 0 where
-  pub last : HouseConnection
+pub record Opened (k : Setup) (seat : ℕ) (heard : List Noted) (sent : ℕ → List (Entry Job)) (serial : ℕ) (past : Past) (o : Option Caller) : Type 0 where
+  pub last : Caller
   pub serial_is : last.serial ≡ serial
   pub known : IsKnown (own_terms k) seat heard sent past.came past.told last
   pub gone_is : last.gone ≡ past.gone
   pub ended : HasEnded last ⊎ (o ≡ Some last)
 
-pub opened_below : (k : Setup) (seat : ℕ) (heard : List Noted) (sent : ℕ → List (Entry Job)) (next : ℕ) (pasts : ℕ → Past) (o : Option HouseConnection) → SeatKnown k seat heard sent next pasts o
+pub opened_below : (k : Setup) (seat : ℕ) (heard : List Noted) (sent : ℕ → List (Entry Job)) (next : ℕ) (pasts : ℕ → Past) (o : Option Caller) → SeatKnown k seat heard sent next pasts o
     → (n : ℕ) → n < next → Opened k seat heard sent n (pasts n) o
 opened_below k seat heard sent next pasts o h = by o h.there
   where
-    was : (p : Option HouseConnection) (n : ℕ) → WasKnown k seat heard sent n (pasts n) → Opened k seat heard sent n (pasts n) p
+    was : (p : Option Caller) (n : ℕ) → WasKnown k seat heard sent n (pasts n) → Opened k seat heard sent n (pasts n) p
     was p n w = record { last = w.last; serial_is = w.serial_is; known = w.known; gone_is = w.gone_is; ended = inl w.ended }
 
-    by : (p : Option HouseConnection) → StandsThere k seat heard sent next pasts p → (n : ℕ) → n < next → Opened k seat heard sent n (pasts n) p
+    by : (p : Option Caller) → StandsThere k seat heard sent next pasts p → (n : ℕ) → n < next → Opened k seat heard sent n (pasts n) p
     by None there n l = was None n (there n l)
     by (Some b) there n l = each (eqb_tells n b.serial)
       where

@@ -13,7 +13,7 @@ use Rattle.house.proofs.Carried.{speaks_carried}
 use Rattle.house.specs.Printing.{Speaks}
 use Rattle.house.specs.Scene.{LeavesMailbox, Parts, SessionGoes, SessionIdles, SessionTalks, lingers, parts, remains, talks}
 use Rattle.house.specs.Setup.{Setup, session_seat}
-use Rattle.house_session.specs.Seated.{SeatedSession}
+use Rattle.house_session.specs.SeatedVisitor.{SeatedVisitor}
 use Rattle.session_store.specs.Meets.{Meets, IsRefused, IsTurnedAway}
 
 -- ---- steps
@@ -166,7 +166,7 @@ meets_still k n w (LeaveCall remove) (Refused fault) v m = was_refused k n w fau
 
 -- ---- turns
 
-speaks_still : (k : Config) (place : ℕ) (whole : Bool) (seat n : ℕ) (heard : List Noted) (w mid : World) (before after : SeatedSession) (printed : List ℕ)
+speaks_still : (k : Config) (place : ℕ) (whole : Bool) (seat n : ℕ) (heard : List Noted) (w mid : World) (before after : SeatedVisitor) (printed : List ℕ)
     → Speaks (Meets k place) whole seat n heard before w mid after printed → Still w mid
 speaks_still k place whole seat n heard w mid before after printed s =
     (speaks_carried {S = World} {T = Unit {0}} (Meets k place) (λ a call answer b. Unit {0}) (λ v x. Still w v)
@@ -180,20 +180,20 @@ met_still k place w (e ∷ es) v (mid, one, more) = still_then w mid v (meets_st
 pub leaves_still : (k : Setup) (place : ℕ) (w v : World) → LeavesMailbox k place w v → Still w v
 leaves_still k place w v l = meets_still k.config place w (calls.Leave false) l.0 v l.1
 
-parts_still : (k : Setup) (whole : Bool) (place : ℕ) (after : SeatedSession) (w v : World) (o : Option SeatedSession) → Parts k whole place after w v o → Still w v
+parts_still : (k : Setup) (whole : Bool) (place : ℕ) (after : SeatedVisitor) (w v : World) (o : Option SeatedVisitor) → Parts k whole place after w v o → Still w v
 parts_still k whole place after w v o (parts ended said l e) = leaves_still k place w v l
 parts_still k whole place after w v o (remains on e f) = same_world w v e
 
-pub talks_still : (k : Setup) (whole : Bool) (place : ℕ) (heard : List Noted) (w : World) (before : SeatedSession) (v : World) (o : Option SeatedSession) (printed : List ℕ)
+pub talks_still : (k : Setup) (whole : Bool) (place : ℕ) (heard : List Noted) (w : World) (before : SeatedVisitor) (v : World) (o : Option SeatedVisitor) (printed : List ℕ)
     → SessionTalks k whole place heard w before v o printed → Still w v
 talks_still k whole place heard w before v o printed t =
     still_then w t.mid v (speaks_still k.config place whole (session_seat k place) (place + 1) heard w t.mid before t.after printed t.speaks) (parts_still k whole place t.after t.mid v o t.left)
 
-pub goes_still : (k : Setup) (whole : Bool) (place : ℕ) (heard : List Noted) (w : World) (before : SeatedSession) (v : World) (o : Option SeatedSession) (printed : List ℕ)
+pub goes_still : (k : Setup) (whole : Bool) (place : ℕ) (heard : List Noted) (w : World) (before : SeatedVisitor) (v : World) (o : Option SeatedVisitor) (printed : List ℕ)
     → SessionGoes k whole place heard w before v o printed → Still w v
 goes_still k whole place heard w before v o printed (talks there t) = talks_still k whole place heard w before v o printed t
 goes_still k whole place heard w before v o printed (lingers gone l same silent) = same_world w v same
 
-pub idles_still : (k : Setup) (whole : Bool) (place : ℕ) (w : World) (before : SeatedSession) (v : World) (o : Option SeatedSession) (printed : List ℕ)
+pub idles_still : (k : Setup) (whole : Bool) (place : ℕ) (w : World) (before : SeatedVisitor) (v : World) (o : Option SeatedVisitor) (printed : List ℕ)
     → SessionIdles k whole place w before v o printed → Still w v
 idles_still k whole place w before v o printed i = still_then w i.mid v (met_still k.config place w i.idles.turned.events i.mid i.idles.turned.met) (parts_still k whole place _ i.mid v o i.left)

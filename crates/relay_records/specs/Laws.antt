@@ -6,7 +6,7 @@ use Rattle.house.specs.Settings.{config_fault, setup_of}
 use Rattle.house.specs.Setup.{Setup}
 use Rattle.house.specs.declared.config.Config.{Config}
 use Rattle.house.specs.declared.event.Event.{Event}
-use Rattle.house_connection.specs.HouseConnection.{HouseConnection}
+use Rattle.house_connection.specs.Caller.{Caller}
 use Rattle.relay_replies.specs.Laws.{IsInLine}
 use Rattle.exactly_once.specs.Promise.{Entry, ExactlyOnce, IsRecord}
 use Rattle.world.specs.World as world
@@ -17,7 +17,7 @@ use Rattle.relay_records.specs.Record.{came_for, has_vanished, told_to}
 
 -- Nothing more is to be said on a connection: it stands at its seat, awaits no verdicts and has nothing to print, or it stands there no more.
 abbrev pub IsDone : Scene → (seat serial : ℕ) → Type 0
-IsDone s seat serial = (b : HouseConnection) → s.caller seat ≡ Some b → b.serial ≡ serial → (b.talk.pending ≡ []) × (b.talk.unsaid ≡ [])
+IsDone s seat serial = (b : Caller) → s.caller seat ≡ Some b → b.serial ≡ serial → (b.talk.pending ≡ []) × (b.talk.unsaid ≡ [])
 
 -- Of each connection that was opened: a relay that sent what came for it, and perhaps more, and was told a front of what was said to it, may conclude which copies stand. And
 -- there are no copies of other connections.

@@ -20,7 +20,7 @@ use Rattle.house.specs.declared.event.Event.{Event}
 use Rattle.house.specs.declared.event.Event.TheVariants as events
 use Rattle.house.specs.Scene.{Plays, Scene, empty_scene, is_shut_in}
 use Rattle.house.specs.Settled.{is_held}
-use Rattle.house.specs.State.{State}
+use Rattle.house.specs.House.{House}
 use Rattle.house.specs.Settling.{GoesRounds, Happened, Settles, Visits, idle_turns, in_a_row, round}
 use Rattle.std.specs.Prelude.{replicate}
 use Rattle.house.proofs.Settlement.{plays_part, visits_happened}
@@ -215,7 +215,7 @@ script_once k lines t printed s =
 
 -- ---- of a run
 
-pub wrote_all : (k : Setup) (lines : List ScriptLine) (h : State) (old new : Option (List ℕ)) → Writes k lines h old new → WroteOnce k lines old new
+pub wrote_all : (k : Setup) (lines : List ScriptLine) (h : House) (old new : Option (List ℕ)) → Writes k lines h old new → WroteOnce k lines old new
 wrote_all k lines h old new w = record {
   some = lines;
   others = [];
@@ -229,7 +229,7 @@ wrote_all k lines h old new w = record {
   out = subst (Appends old new) (sym (take-length w.printed)) w.out;
 }
 
-pub wrote_first : (k : Setup) (lines : List ScriptLine) (sent : ℕ) (h : State) (old new : Option (List ℕ)) → WritesFirst k lines sent h old new → WroteOnce k lines old new
+pub wrote_first : (k : Setup) (lines : List ScriptLine) (sent : ℕ) (h : House) (old new : Option (List ℕ)) → WritesFirst k lines sent h old new → WroteOnce k lines old new
 wrote_first k lines sent h old new w = record {
   some = w.some;
   others = w.others;

@@ -20,9 +20,9 @@ use Rattle.house.specs.declared.event.HouseFault.{HouseFault}
 use Rattle.house.specs.declared.event.HouseFault.TheVariants as faults
 use Rattle.script.specs.declared.run.TurnFault.{TurnFault}
 use Rattle.script.specs.declared.run.TurnFault.TheVariants as turn_faults
-use Rattle.house_connection.specs.Line.{Line}
-use Rattle.house.specs.State.{State}
-use Rattle.house_connection.specs.HouseConnection.{HouseConnection, Terms}
+use Rattle.house_connection.specs.HouseConnection.{HouseConnection}
+use Rattle.house.specs.House.{House}
+use Rattle.house_connection.specs.Caller.{Caller, Terms}
 use Rattle.house.specs.Setup.{Setup, terms_of}
 use Rattle.house.specs.Scene.{Plays, Scene, empty_scene, most_serials, seat_of}
 use Rattle.house.specs.Stands.{StandsFor, StandsForOne}
@@ -45,19 +45,19 @@ below a zero = inr (omega arith)
 below zero (suc b) = inl (omega arith)
 below (suc a) (suc b) = elim (below a b) [ inl h ↦ inl (omega arith) | inr h ↦ inr (omega arith) ]
 
-no_caller : (k : Terms) (seat : ℕ) (next : CopyKey) (heard : List Noted) (serials : ℕ) (line : Option Line) (o : Option HouseConnection) → line ≡ None → StandsForOne k seat next heard serials line o → o ≡ None
+no_caller : (k : Terms) (seat : ℕ) (next : CopyKey) (heard : List Noted) (serials : ℕ) (line : Option HouseConnection) (o : Option Caller) → line ≡ None → StandsForOne k seat next heard serials line o → o ≡ None
 no_caller k seat next heard serials None None e s = refl
 no_caller k seat next heard serials None (Some b) e s = absurd s
 no_caller k seat next heard serials (Some h) o e s = absurd (let n : Some h ≡ None = e in cc)
 
 -- what a seat of the house is in the scene, where there is such a seat
-pub seat_cases : (k : Setup) (h : State) (s : Scene) (connection : ℕ) → StandsFor k h s → 0 < connection → IsNoConnection k connection ⊎ (seat_of connection < length h.callers)
+pub seat_cases : (k : Setup) (h : House) (s : Scene) (connection : ℕ) → StandsFor k h s → 0 < connection → IsNoConnection k connection ⊎ (seat_of connection < length h.callers)
 seat_cases k h s connection st some = elim (below (seat_of connection) (length h.callers)) [
   | inl l ↦ inr l
   | inr l ↦ inl (inr (let e = st.connections in omega arith))
 ]
 
-pub nobody_there : (k : Setup) (h : State) (s : Scene) (connection : ℕ) → StandsFor k h s → IsNoSeat h connection ⊎ (IsEmptySeat h connection × IsSpent h connection) → NobodyThere k s connection
+pub nobody_there : (k : Setup) (h : House) (s : Scene) (connection : ℕ) → StandsFor k h s → IsNoSeat h connection ⊎ (IsEmptySeat h connection × IsSpent h connection) → NobodyThere k s connection
 nobody_there k h s connection st (inl (inl e)) = inl (inl e)
 nobody_there k h s connection st (inl (inr l)) = inl (inr (let e = st.connections in omega arith))
 nobody_there k h s zero st (inr n) = inl (inl refl)
@@ -67,7 +67,7 @@ nobody_there k h s (suc c) st (inr n) = elim (seat_cases k h s (suc c) st (omega
       inr (no_caller (terms_of k s.shut) (seat_of (suc c)) _ _ _ _ _ n.0 at.who, (let e = at.counted in let m = n.1 in omega (arith, e, m))))
 ]
 
-pub away : (k : Setup) (h : State) (s : Scene) (connection : ℕ) → StandsFor k h s → IsNoSeat h connection ⊎ IsEmptySeat h connection → IsAway k s connection
+pub away : (k : Setup) (h : House) (s : Scene) (connection : ℕ) → StandsFor k h s → IsNoSeat h connection ⊎ IsEmptySeat h connection → IsAway k s connection
 away k h s connection st (inl (inl e)) = inl (inl e)
 away k h s connection st (inl (inr l)) = inl (inr (let e = st.connections in omega arith))
 away k h s zero st (inr n) = inl (inl refl)
@@ -77,13 +77,13 @@ away k h s (suc c) st (inr n) = elim (seat_cases k h s (suc c) st (omega arith))
       inr (no_caller (terms_of k s.shut) (seat_of (suc c)) _ _ _ _ _ n at.who))
 ]
 
-owing_caller : (k : Terms) (seat : ℕ) (next : CopyKey) (heard : List Noted) (serials : ℕ) (line : Option Line) (o : Option HouseConnection) → is_unread line ≡ true → StandsForOne k seat next heard serials line o
-    → (b : HouseConnection) × (o ≡ Some b) × (b.gone ≡ true)
+owing_caller : (k : Terms) (seat : ℕ) (next : CopyKey) (heard : List Noted) (serials : ℕ) (line : Option HouseConnection) (o : Option Caller) → is_unread line ≡ true → StandsForOne k seat next heard serials line o
+    → (b : Caller) × (o ≡ Some b) × (b.gone ≡ true)
 owing_caller k seat next heard serials None o e s = absurd (let x : false ≡ true = e in cc)
 owing_caller k seat next heard serials (Some h) None e s = absurd s
 owing_caller k seat next heard serials (Some h) (Some b) e s = (b, refl, sym s.0.gone ∙ e)
 
-pub owing : (k : Setup) (h : State) (s : Scene) (connection : ℕ) → StandsFor k h s → IsUnread h connection → IsOwing s connection
+pub owing : (k : Setup) (h : House) (s : Scene) (connection : ℕ) → StandsFor k h s → IsUnread h connection → IsOwing s connection
 owing k h s connection st u =
     let l : seat_of connection < length h.callers = let n = u.number in let m = u.seat in omega (arith, n, m) in
     let at = st.each (seat_of connection) (record { seat = 0; serial = 0; message = 0; recipient = 0 }) 0 None l in
@@ -109,7 +109,7 @@ busy_not_wanting f e x = wants_other (ap (λ (g : HouseFault). let r : Result (U
 pub is_busy : (f : HouseFault) → f ≡ faults.Busy → ◌≡◌ {A = Result (Unit {0}) HouseFault} (Err f) (Err faults.Busy)
 is_busy f e = ap (λ (g : HouseFault). let r : Result (Unit {0}) HouseFault = Err g in r) e
 
-pub heard_bytes : (k : Setup) (number : ℕ) (s : Scene) (connection : ℕ) (piece : Bor (List ℕ)) (h : State) (old new : List ℕ)
+pub heard_bytes : (k : Setup) (number : ℕ) (s : Scene) (connection : ℕ) (piece : Bor (List ℕ)) (h : House) (old new : List ℕ)
     → Led k true s (events.Bytes connection piece) h old new → LineDone k number (Sends connection piece.now) s h old new
 heard_bytes k number s connection piece h old new led = record {
   after = led.after;
@@ -119,44 +119,44 @@ heard_bytes k number s connection piece h old new led = record {
   out = led.out;
 }
 
-pub told_nobody : (k : Setup) (number : ℕ) (s : Scene) (connection : ℕ) (bytes : List ℕ) (h : State) (old new : List ℕ)
+pub told_nobody : (k : Setup) (number : ℕ) (s : Scene) (connection : ℕ) (bytes : List ℕ) (h : House) (old new : List ℕ)
     → StandsFor k h s → NobodyThere k s connection → new ≡ old ++ refusal number (codes "Nobody") → LineDone k number (Sends connection bytes) s h old new
 told_nobody k number s connection bytes h old new st nobody e = record { after = s; printed = _; does = sends_to_nobody connection bytes nobody refl refl; stands = st; out = e }
 
-pub told_owing : (k : Setup) (number : ℕ) (s : Scene) (connection : ℕ) (bytes : List ℕ) (h : State) (old new : List ℕ)
+pub told_owing : (k : Setup) (number : ℕ) (s : Scene) (connection : ℕ) (bytes : List ℕ) (h : House) (old new : List ℕ)
     → StandsFor k h s → IsOwing s connection → new ≡ old ++ refusal number (codes "Busy") → LineDone k number (Sends connection bytes) s h old new
 told_owing k number s connection bytes h old new st owes e = record { after = s; printed = _; does = sends_to_owing connection bytes owes refl refl; stands = st; out = e }
 
-pub lost : (k : Setup) (number : ℕ) (s : Scene) (connection : ℕ) (h : State) (old new : List ℕ) → Led k true s (events.Vanish connection) h old new → LineDone k number (Vanishes connection) s h old new
+pub lost : (k : Setup) (number : ℕ) (s : Scene) (connection : ℕ) (h : House) (old new : List ℕ) → Led k true s (events.Vanish connection) h old new → LineDone k number (Vanishes connection) s h old new
 lost k number s connection h old new led = record { after = led.after; printed = led.printed; does = vanishes connection led.plays; stands = led.stands; out = led.out }
 
-pub lost_nobody : (k : Setup) (number : ℕ) (s : Scene) (connection : ℕ) (h : State) (old new : List ℕ)
+pub lost_nobody : (k : Setup) (number : ℕ) (s : Scene) (connection : ℕ) (h : House) (old new : List ℕ)
     → StandsFor k h s → IsAway k s connection → new ≡ old ++ refusal number (codes "Nobody") → LineDone k number (Vanishes connection) s h old new
 lost_nobody k number s connection h old new st nobody e = record { after = s; printed = _; does = vanishes_away connection nobody refl refl; stands = st; out = e }
 
-pub lost_again : (k : Setup) (number : ℕ) (s : Scene) (connection : ℕ) (h : State) (old new : List ℕ)
+pub lost_again : (k : Setup) (number : ℕ) (s : Scene) (connection : ℕ) (h : House) (old new : List ℕ)
     → StandsFor k h s → IsOwing s connection → new ≡ old ++ refusal number (codes "Busy") → LineDone k number (Vanishes connection) s h old new
 lost_again k number s connection h old new st owes e = record { after = s; printed = _; does = vanishes_again connection owes refl refl; stands = st; out = e }
 
-pub held_done : (k : Setup) (number : ℕ) (s : Scene) (held holds : List Bool) (shard : ℕ) (h : State) (old new : List ℕ)
+pub held_done : (k : Setup) (number : ℕ) (s : Scene) (held holds : List Bool) (shard : ℕ) (h : House) (old new : List ℕ)
     → StandsFor k h s → length held ≡ k.config.shards → SetsHeld held number shard true holds old new → LineDone k number (Hold shard) s h old new
 held_done k number s held holds shard h old new st many (sets l e f) = record { after = s; printed = []; does = stands_still shard (omega (arith, l, many)) refl refl; stands = st; out = f ∙ sym (append-nil old) }
 held_done k number s held holds shard h old new st many (sets_nobody l e f) = record { after = s; printed = _; does = stands_nobody shard (omega (arith, l, many)) refl refl; stands = st; out = f }
 
-pub freed_done : (k : Setup) (number : ℕ) (s : Scene) (held holds : List Bool) (shard : ℕ) (h : State) (old new : List ℕ)
+pub freed_done : (k : Setup) (number : ℕ) (s : Scene) (held holds : List Bool) (shard : ℕ) (h : House) (old new : List ℕ)
     → StandsFor k h s → length held ≡ k.config.shards → SetsHeld held number shard false holds old new → LineDone k number (Free shard) s h old new
 freed_done k number s held holds shard h old new st many (sets l e f) = record { after = s; printed = []; does = goes_again shard (omega (arith, l, many)) refl refl; stands = st; out = f ∙ sym (append-nil old) }
 freed_done k number s held holds shard h old new st many (sets_nobody l e f) = record { after = s; printed = _; does = goes_nobody shard (omega (arith, l, many)) refl refl; stands = st; out = f }
 
-pub closed : (k : Setup) (number : ℕ) (s : Scene) (shard : ℕ) (h : State) (old new : List ℕ) → Led k true s (events.Close shard) h old new → LineDone k number (Closes shard) s h old new
+pub closed : (k : Setup) (number : ℕ) (s : Scene) (shard : ℕ) (h : House) (old new : List ℕ) → Led k true s (events.Close shard) h old new → LineDone k number (Closes shard) s h old new
 closed k number s shard h old new led = record { after = led.after; printed = led.printed; does = closes shard led.plays; stands = led.stands; out = led.out }
 
-pub closed_nobody : (k : Setup) (number : ℕ) (s : Scene) (shard : ℕ) (h : State) (old new : List ℕ) → StandsFor k h s → h.directory.shards ≤ shard → new ≡ old ++ refusal number (codes "Nobody") → LineDone k number (Closes shard) s h old new
+pub closed_nobody : (k : Setup) (number : ℕ) (s : Scene) (shard : ℕ) (h : House) (old new : List ℕ) → StandsFor k h s → h.directory.shards ≤ shard → new ≡ old ++ refusal number (codes "Nobody") → LineDone k number (Closes shard) s h old new
 closed_nobody k number s shard h old new st l e =
     let n = ap (λ (d : Directory). d.shards) st.directory ∙ st.shards in
     record { after = s; printed = _; does = closes_nobody shard (omega (arith, l, n)) refl refl; stands = st; out = e }
 
-pub closed_again : (k : Setup) (number : ℕ) (s : Scene) (shard : ℕ) (h : State) (old new : List ℕ) → StandsFor k h s → is_shut h.directory shard ≡ true → new ≡ old ++ refusal number (codes "Busy") → LineDone k number (Closes shard) s h old new
+pub closed_again : (k : Setup) (number : ℕ) (s : Scene) (shard : ℕ) (h : House) (old new : List ℕ) → StandsFor k h s → is_shut h.directory shard ≡ true → new ≡ old ++ refusal number (codes "Busy") → LineDone k number (Closes shard) s h old new
 closed_again k number s shard h old new st shut e = record { after = s; printed = _; does = closes_again shard (sym (ap (λ (d : Directory). is_shut d shard) st.directory) ∙ shut) refl refl; stands = st; out = e }
 
 set_beyond : (held : List Bool) (i : ℕ) (v : Bool) → length held ≤ i → set held i v ≡ held
@@ -170,21 +170,21 @@ pub held_is_set : (held : List Bool) (number shard : ℕ) (is : Bool) (now : Lis
 held_is_set held number shard is now old new (sets l e f) = e
 held_is_set held number shard is now old new (sets_nobody l e f) = e ∙ sym (set_beyond held shard is l)
 
-pub shown_tail : (k : Setup) (number : ℕ) (s : Scene) (word : List ℕ) (h : State) (old new : List ℕ) → StandsFor k h s → PrintsWindow k s word old new → LineDone k number (Tail word) s h old new
+pub shown_tail : (k : Setup) (number : ℕ) (s : Scene) (word : List ℕ) (h : House) (old new : List ℕ) → StandsFor k h s → PrintsWindow k s word old new → LineDone k number (Tail word) s h old new
 shown_tail k number s word h old new st p = record { after = s; printed = _; does = tails word p.mailbox p.named refl refl; stands = st; out = p.out }
 
-pub shown_nobody : (k : Setup) (number : ℕ) (s : Scene) (word : List ℕ) (h : State) (old new : List ℕ) → StandsFor k h s → number_of k.directory word ≡ None
+pub shown_nobody : (k : Setup) (number : ℕ) (s : Scene) (word : List ℕ) (h : House) (old new : List ℕ) → StandsFor k h s → number_of k.directory word ≡ None
     → new ≡ old ++ refusal number (codes "Nobody") → LineDone k number (Tail word) s h old new
 shown_nobody k number s word h old new st none e = record { after = s; printed = _; does = tails_nobody word none refl refl; stands = st; out = e }
 
-pub skipped : (k : Setup) (number : ℕ) (s : Scene) (h : State) (old : List ℕ) → StandsFor k h s → LineDone k number Skip s h old old
+pub skipped : (k : Setup) (number : ℕ) (s : Scene) (h : House) (old : List ℕ) → StandsFor k h s → LineDone k number Skip s h old old
 skipped k number s h old st = record { after = s; printed = []; does = skips refl refl; stands = st; out = sym (append-nil old) }
 
-pub refused : (k : Setup) (number : ℕ) (s : Scene) (h : State) (old new : List ℕ) → StandsFor k h s → new ≡ old ++ refusal number (codes "Line") → LineDone k number Bad s h old new
+pub refused : (k : Setup) (number : ℕ) (s : Scene) (h : House) (old new : List ℕ) → StandsFor k h s → new ≡ old ++ refusal number (codes "Line") → LineDone k number Bad s h old new
 refused k number s h old new st e = record { after = s; printed = _; does = is_bad refl refl; stands = st; out = e }
 
 -- and then the house settles
-pub played : (k : Setup) (number : ℕ) (held holds : List Bool) (line : ScriptLine) (s : Scene) (g h : State) (mid new : List ℕ) → LineDone k number line s g [] mid → holds ≡ held_after held line
+pub played : (k : Setup) (number : ℕ) (held holds : List Bool) (line : ScriptLine) (s : Scene) (g h : House) (mid new : List ℕ) → LineDone k number line s g [] mid → holds ≡ held_after held line
     → ((j : Setup) (t : Scene) → StandsFor j g t → SettledFrom j holds t h mid new) → LinePlayed k number held line s h [] new
 played k number held holds line s g h mid new d same f =
     let t = f k d.after d.stands in
@@ -198,7 +198,7 @@ played k number held holds line s g h mid new d same f =
 
 -- ---- a turn
 
-pub turn_written : (k : Setup) (number : ℕ) (held holds : List Bool) (s : Scene) (input piece text : List ℕ) (h : State) (left old new : Option (List ℕ)) (sent : ℕ)
+pub turn_written : (k : Setup) (number : ℕ) (held holds : List Bool) (s : Scene) (input piece text : List ℕ) (h : House) (left old new : Option (List ℕ)) (sent : ℕ)
     → piece ≡ take_through 10 input → 0 < length piece → left ≡ Some (drop_through 10 input) → LinePlayed k number held (asked (line_of piece)) s h [] text → holds ≡ held_after held (asked (line_of piece))
     → Appends old new text → sent ≡ length text → LineWritten k number held s input h holds left old new sent
 turn_written k number held holds s input piece text h left old new sent e some rest p now a n = record {
@@ -215,7 +215,7 @@ turn_written k number held holds s input piece text h left old new sent e some r
   count = n ∙ ap length p.out;
 }
 
-pub turn_cut : (k : Setup) (number : ℕ) (held : List Bool) (s : Scene) (input piece text : List ℕ) (h : State) (old new : Option (List ℕ)) (sent : ℕ)
+pub turn_cut : (k : Setup) (number : ℕ) (held : List Bool) (s : Scene) (input piece text : List ℕ) (h : House) (old new : Option (List ℕ)) (sent : ℕ)
     → piece ≡ take_through 10 input → 0 < length piece → LinePlayed k number held (asked (line_of piece)) s h [] text
     → Appends old new (take sent text) → sent < length text → LineCut k number held s input h old new sent
 turn_cut k number held s input piece text h old new sent e some p a n = record {
@@ -288,11 +288,11 @@ by_as_many held [] = refl
 by_as_many held (l ∷ ls) = by_as_many (held_after held l) ls ∙ held_as_many held l
 
 -- there is a place for each shard
-pub a_place_each : (k : Setup) (input : List ℕ) (count : ℕ) (h : State) (holds : List Bool) (left old new : Option (List ℕ)) (sent : ℕ) (start : Scene)
+pub a_place_each : (k : Setup) (input : List ℕ) (count : ℕ) (h : House) (holds : List Bool) (left old new : Option (List ℕ)) (sent : ℕ) (start : Scene)
     → HasRun k input count h holds left old new sent start → length holds ≡ k.config.shards
 a_place_each k input count h holds left old new sent start r = ap length r.holds_now ∙ by_as_many (none_held k) r.lines ∙ length-replicate k.config.shards false
 
-pub none_run : (k : Setup) (input : List ℕ) (h : State) (holds : List Bool) (left old : Option (List ℕ)) (start : Scene) → StandsFor k h start → holds ≡ none_held k → left ≡ Some input → HasRun k input 0 h holds left old old 0 start
+pub none_run : (k : Setup) (input : List ℕ) (h : House) (holds : List Bool) (left old : Option (List ℕ)) (start : Scene) → StandsFor k h start → holds ≡ none_held k → left ≡ Some input → HasRun k input 0 h holds left old old 0 start
 none_run k input h holds left old start st none e = record {
   lines = [];
   rest = input;
@@ -308,7 +308,7 @@ none_run k input h holds left old start st none e = record {
   total = refl;
 }
 
-pub run_more : (k : Setup) (input : List ℕ) (count : ℕ) (g h : State) (held holds : List Bool) (before left old mid new : Option (List ℕ)) (sent more : ℕ) (start : Scene)
+pub run_more : (k : Setup) (input : List ℕ) (count : ℕ) (g h : House) (held holds : List Bool) (before left old mid new : Option (List ℕ)) (sent more : ℕ) (start : Scene)
     → (r : HasRun k input count g held before old mid sent start) → (o : Option ℕ) → o ≡ Some more → TurnTells k (count + 1) held r.after r.rest h holds left mid new (Ok o)
     → HasRun k input (count + 1) h holds left old new (sent + more) start
 run_more k input count g h held holds before left old mid new sent more start r o is tells =
@@ -329,7 +329,7 @@ run_more k input count g h held holds before left old mid new sent more start r 
       total = (let a = r.total in let b = w.count in let l = length-append r.printed w.printed in omega arith);
     }
 
-pub run_over : (k : Setup) (input : List ℕ) (count : ℕ) (g h : State) (held holds : List Bool) (before left old mid new : Option (List ℕ)) (sent : ℕ)
+pub run_over : (k : Setup) (input : List ℕ) (count : ℕ) (g h : House) (held holds : List Bool) (before left old mid new : Option (List ℕ)) (sent : ℕ)
     → (r : HasRun k input count g held before old mid sent (empty_scene k)) → (o : Option ℕ) → o ≡ None → TurnTells k (count + 1) held r.after r.rest h holds left mid new (Ok o) → Writes k (script_of input) h old new
 run_over k input count g h held holds before left old mid new sent r o is tells =
     let over : IsOver k r.after r.rest h mid new = subst (λ (x : Option ℕ). TurnTells k (count + 1) held r.after r.rest h holds left mid new (Ok x)) is tells in
@@ -343,7 +343,7 @@ run_over k input count g h held holds before left old mid new sent r o is tells 
       out = subst (λ (x : Option (List ℕ)). Appends old x r.printed) (sym over.silent) r.out;
     }
 
-pub run_stops : (k : Setup) (input : List ℕ) (count : ℕ) (h : State) (held : List Bool) (left old mid new : Option (List ℕ)) (sent : ℕ) (Left : ℕ → List ScriptLine → Scene → Type 0)
+pub run_stops : (k : Setup) (input : List ℕ) (count : ℕ) (h : House) (held : List Bool) (left old mid new : Option (List ℕ)) (sent : ℕ) (Left : ℕ → List ScriptLine → Scene → Type 0)
     → (r : HasRun k input count h held left old mid sent (empty_scene k)) → Left (count + 1) (script_of r.rest) r.after → new ≡ mid → WritesBeginning k (script_of input) Left old new
 run_stops k input count h held left old mid new sent Left r is same = record {
   some = r.lines;
@@ -361,7 +361,7 @@ run_stops k input count h held left old mid new sent Left r is same = record {
 pub run_unbegun : (k : Setup) (lines : List ScriptLine) (old : Option (List ℕ)) (Left : ℕ → List ScriptLine → Scene → Type 0) → Left 1 lines (empty_scene k) → WritesBeginning k lines Left old old
 run_unbegun k lines old Left is = record { some = []; others = lines; split = refl; after = (empty_scene k); printed = []; script = (refl, refl); once = script_once k [] (empty_scene k) [] (refl, refl); left = is; out = Appends-nil old }
 
-pub run_cut : (k : Setup) (input : List ℕ) (count : ℕ) (g h : State) (held holds : List Bool) (before left old mid new : Option (List ℕ)) (sent more : ℕ)
+pub run_cut : (k : Setup) (input : List ℕ) (count : ℕ) (g h : House) (held holds : List Bool) (before left old mid new : Option (List ℕ)) (sent more : ℕ)
     → (r : HasRun k input count g held before old mid sent (empty_scene k)) → (f : TurnFault) → f ≡ turn_faults.Write more → TurnTells k (count + 1) held r.after r.rest h holds left mid new (Err f)
     → WritesFirst k (script_of input) (sent + more) h old new
 run_cut k input count g h held holds before left old mid new sent more r f is tells =
@@ -382,17 +382,17 @@ run_cut k input count g h held holds before left old mid new sent more r f is te
     }
 
 -- a turn failed before it read anything
-pub turn_unread : (k : Setup) (number : ℕ) (held : List Bool) (s : Scene) (input : List ℕ) (h : State) (holds : List Bool) (left old new : Option (List ℕ)) (f : TurnFault)
+pub turn_unread : (k : Setup) (number : ℕ) (held : List Bool) (s : Scene) (input : List ℕ) (h : House) (holds : List Bool) (left old new : Option (List ℕ)) (f : TurnFault)
     → f ≡ turn_faults.Read → TurnTells k number held s input h holds left old new (Err f) → IsUnreadTurn k s h old new
 turn_unread k number held s input h holds left old new f is tells = subst (λ (x : TurnFault). TurnTells k number held s input h holds left old new (Err x)) is tells
 
 -- memory was wanting in a turn
-pub turn_unwritten : (k : Setup) (number : ℕ) (held : List Bool) (s : Scene) (input : List ℕ) (h : State) (holds : List Bool) (left old new : Option (List ℕ)) (f : TurnFault)
+pub turn_unwritten : (k : Setup) (number : ℕ) (held : List Bool) (s : Scene) (input : List ℕ) (h : House) (holds : List Bool) (left old new : Option (List ℕ)) (f : TurnFault)
     → f ≡ turn_faults.NoMemory → TurnTells k number held s input h holds left old new (Err f) → IsUnwritten k number s input h old new
 turn_unwritten k number held s input h holds left old new f is tells = subst (λ (x : TurnFault). TurnTells k number held s input h holds left old new (Err x)) is tells
 
 -- memory was wanting as a line was played
-pub turn_wanting : (k : Setup) (number : ℕ) (s : Scene) (input piece : List ℕ) (h : State) (old new : Option (List ℕ))
+pub turn_wanting : (k : Setup) (number : ℕ) (s : Scene) (input piece : List ℕ) (h : House) (old new : Option (List ℕ))
     → piece ≡ take_through 10 input → 0 < length piece → PlayWanting k number (asked (line_of piece)) s h → new ≡ old → IsUnwritten k number s input h old new
 turn_wanting k number s input piece h old new e some p same = record {
   left = unwritten (asked (line_of piece)) (script_of (drop_through 10 input))
@@ -401,18 +401,18 @@ turn_wanting k number s input piece h old new e some p same = record {
 }
 
 -- memory was wanting as the house settled behind a line
-pub settling_wanting : (k : Setup) (number : ℕ) (line : ScriptLine) (s : Scene) (g h : State) (mid new : List ℕ) → LineDone k number line s g [] mid
+pub settling_wanting : (k : Setup) (number : ℕ) (line : ScriptLine) (s : Scene) (g h : House) (mid new : List ℕ) → LineDone k number line s g [] mid
     → ((j : Setup) (t : Scene) → StandsFor j g t → HappenedFrom j t h mid new) → PlayWanting k number line s h
 settling_wanting k number line s g h mid new d f = let t = f k d.after d.stands in settling d.after d.printed t.events t.after t.printed d.does t.happened t.stands
 
 -- ---- where memory is wanting
 
 -- nothing happened, since the house is as it was
-pub nothing_done : (k : Setup) (line : ScriptLine) (s : Scene) (g h : State) → h ≡ g → StandsFor k g s → LineWanting k line s h
-nothing_done k line s g h e st = undone (subst (λ (x : State). StandsFor k x s) (sym e) st)
+pub nothing_done : (k : Setup) (line : ScriptLine) (s : Scene) (g h : House) → h ≡ g → StandsFor k g s → LineWanting k line s h
+nothing_done k line s g h e st = undone (subst (λ (x : House). StandsFor k x s) (sym e) st)
 
 -- a step of the house failed
-pub step_failed : (k : Setup) (line : ScriptLine) (event : Event) (s : Scene) (g h : State) (old new : List ℕ) (f : HouseFault)
+pub step_failed : (k : Setup) (line : ScriptLine) (event : Event) (s : Scene) (g h : House) (old new : List ℕ) (f : HouseFault)
     → ((t : Scene) (printed : List ℕ) → Plays k false s event t printed → LineBegins k s t printed line)
     → (◌≡◌ {A = Result (Unit {0}) HouseFault} (Err f) (Err faults.NoMemory) → FollowsInPart g event h old new)
     → ((◌≡◌ {A = Result (Unit {0}) HouseFault} (Err f) (Err faults.NoMemory) → ⊥) → (h ≡ g) × (new ≡ old)) → StandsFor k g s → LineWanting k line s h
@@ -456,6 +456,6 @@ if_some {A = A} None P x e h = absurd (none_some e)
     none_some e = cc
 
 -- digits that can't be read are a bad line
-pub digits_refused : (k : Setup) (number : ℕ) (s : Scene) (brings : List ℕ → ScriptLine) (r : Result (List ℕ) FromHexError) (h : State) (old new : List ℕ)
+pub digits_refused : (k : Setup) (number : ℕ) (s : Scene) (brings : List ℕ → ScriptLine) (r : Result (List ℕ) FromHexError) (h : House) (old new : List ℕ)
     → brought brings r ≡ Bad → StandsFor k h s → new ≡ old ++ refusal number (codes "Line") → LineDone k number (brought brings r) s h old new
 digits_refused k number s brings r h old new bad st e = subst (λ (l : ScriptLine). LineDone k number l s h old new) (sym bad) (refused k number s h old new st e)

@@ -4,13 +4,13 @@ use Rattle.std.specs.Prelude.{IsSome, codes}
 use Rattle.std.specs.Borrow.{Bor}
 use Rattle.envelope.specs.Directory.{Directory}
 use Rattle.house_session.specs.Folders.{has_user}
-use Rattle.house_session.specs.Seated.{SeatedSession}
-use Rattle.house_session.specs.Seat.{Seat}
+use Rattle.house_session.specs.SeatedVisitor.{SeatedVisitor}
+use Rattle.house_session.specs.SeatedSession.{SeatedSession}
 use Rattle.delivery_token.specs.declared.CopyKey.{CopyKey}
 use Rattle.delivery_token.specs.declared.log.Noted.{Noted}
 use Rattle.house.specs.Setup.{Setup}
 use Rattle.house.specs.declared.event.Event.TheVariants as events
-use Rattle.house.specs.State.{State}
+use Rattle.house.specs.House.{House}
 use Rattle.house.specs.Scene.{Scene, most_serials, place_of}
 use Rattle.house.specs.Stands.{StandsFor, StandsForVisit}
 use Rattle.house.specs.Steps.{IsFreePlace, IsLeft, IsNoPlace, IsSpentPlace, IsTakenPlace, Led, is_left}
@@ -20,17 +20,17 @@ use Rattle.script.proofs.RunLaws.{below}
 
 -- ---- who visits
 
-no_visitor : (seat : ℕ) (next : CopyKey) (heard : List Noted) (serials : ℕ) (p : Option Seat) (v : Option SeatedSession) → p ≡ None → StandsForVisit seat next heard serials p v → v ≡ None
+no_visitor : (seat : ℕ) (next : CopyKey) (heard : List Noted) (serials : ℕ) (p : Option SeatedSession) (v : Option SeatedVisitor) → p ≡ None → StandsForVisit seat next heard serials p v → v ≡ None
 no_visitor seat next heard serials None None e s = refl
 no_visitor seat next heard serials None (Some v) e s = absurd s
 no_visitor seat next heard serials (Some p) v e s = absurd (let x : Some p ≡ None = e in cc)
 
-some_visitor : (seat : ℕ) (next : CopyKey) (heard : List Noted) (serials : ℕ) (p : Option Seat) (v : Option SeatedSession) → IsSome p → StandsForVisit seat next heard serials p v → (x : SeatedSession) × (v ≡ Some x)
+some_visitor : (seat : ℕ) (next : CopyKey) (heard : List Noted) (serials : ℕ) (p : Option SeatedSession) (v : Option SeatedVisitor) → IsSome p → StandsForVisit seat next heard serials p v → (x : SeatedVisitor) × (v ≡ Some x)
 some_visitor seat next heard serials None v some s = absurd (let e : false ≡ true = some in cc)
 some_visitor seat next heard serials (Some p) None some s = absurd s
 some_visitor seat next heard serials (Some p) (Some v) some s = (v, refl)
 
-gone_visitor : (seat : ℕ) (next : CopyKey) (heard : List Noted) (serials : ℕ) (p : Option Seat) (v : Option SeatedSession) → is_left p ≡ true → StandsForVisit seat next heard serials p v → (x : SeatedSession) × (v ≡ Some x) × (x.gone ≡ true)
+gone_visitor : (seat : ℕ) (next : CopyKey) (heard : List Noted) (serials : ℕ) (p : Option SeatedSession) (v : Option SeatedVisitor) → is_left p ≡ true → StandsForVisit seat next heard serials p v → (x : SeatedVisitor) × (v ≡ Some x) × (x.gone ≡ true)
 gone_visitor seat next heard serials None v gone s = absurd (let e : false ≡ true = gone in cc)
 gone_visitor seat next heard serials (Some p) None gone s = absurd s
 gone_visitor seat next heard serials (Some p) (Some v) gone s = (v, refl, sym s.0.gone ∙ gone)
@@ -39,11 +39,11 @@ gone_visitor seat next heard serials (Some p) (Some v) gone s = (v, refl, sym s.
 any_key : CopyKey
 any_key = record { seat = 0; serial = 0; message = 0; recipient = 0 }
 
-no_session : (k : Setup) (h : State) (s : Scene) (session : ℕ) → StandsFor k h s → IsNoPlace h session → IsNoSession k session
+no_session : (k : Setup) (h : House) (s : Scene) (session : ℕ) → StandsFor k h s → IsNoPlace h session → IsNoSession k session
 no_session k h s session st (inl e) = inl e
 no_session k h s session st (inr l) = inr (let e = st.places in omega (arith, l, e))
 
-pub unvisited : (k : Setup) (h : State) (s : Scene) (session : ℕ) → StandsFor k h s → IsNoPlace h session ⊎ IsFreePlace h session → IsUnvisited k s session
+pub unvisited : (k : Setup) (h : House) (s : Scene) (session : ℕ) → StandsFor k h s → IsNoPlace h session ⊎ IsFreePlace h session → IsUnvisited k s session
 unvisited k h s session st (inl n) = inl (no_session k h s session st n)
 unvisited k h s zero st (inr n) = inl (inl refl)
 unvisited k h s (suc c) st (inr n) = elim (below (place_of (suc c)) (length h.visitors)) [
@@ -51,25 +51,25 @@ unvisited k h s (suc c) st (inr n) = elim (below (place_of (suc c)) (length h.vi
   | inr l ↦ inl (inr (let e = st.places in omega (arith, l, e)))
 ]
 
-pub visited : (k : Setup) (h : State) (s : Scene) (session : ℕ) → StandsFor k h s → IsTakenPlace h session → IsVisited s session
+pub visited : (k : Setup) (h : House) (s : Scene) (session : ℕ) → StandsFor k h s → IsTakenPlace h session → IsVisited s session
 visited k h s session st t =
     let l : place_of session < length h.visitors = let n = t.number in let m = t.place in omega (arith, n, m) in
     some_visitor _ _ _ _ _ (s.visitor (place_of session)) t.who (st.visitors (place_of session) any_key 0 None l).who
 
-pub lingering : (k : Setup) (h : State) (s : Scene) (session : ℕ) → StandsFor k h s → IsLeft h session → IsLingering s session
+pub lingering : (k : Setup) (h : House) (s : Scene) (session : ℕ) → StandsFor k h s → IsLeft h session → IsLingering s session
 lingering k h s session st t =
     let l : place_of session < length h.visitors = let n = t.number in let m = t.place in omega (arith, n, m) in
     gone_visitor _ _ _ _ _ (s.visitor (place_of session)) t.gone (st.visitors (place_of session) any_key 0 None l).who
 
 -- its seat takes no more
-spent : (k : Setup) (h : State) (s : Scene) (session : ℕ) → StandsFor k h s → place_of session < length h.visitors → IsFreePlace h session → IsSpentPlace h session → IsSpentSession s session
+spent : (k : Setup) (h : House) (s : Scene) (session : ℕ) → StandsFor k h s → place_of session < length h.visitors → IsFreePlace h session → IsSpentPlace h session → IsSpentSession s session
 spent k h s session st l free more =
     let at = st.visitors (place_of session) any_key 0 None l in
     (no_visitor _ _ _ _ _ (s.visitor (place_of session)) free at.who, let e = at.counted in omega (arith, e, more))
 
 -- ---- users
 
-pub nowhere : (k : Setup) (h : State) (s : Scene) (session : ℕ) (user : List ℕ) → StandsFor k h s → IsNoPlace h session ⊎ (has_user h.directory user ≡ false ⊎ (IsFreePlace h session × IsSpentPlace h session))
+pub nowhere : (k : Setup) (h : House) (s : Scene) (session : ℕ) (user : List ℕ) → StandsFor k h s → IsNoPlace h session ⊎ (has_user h.directory user ≡ false ⊎ (IsFreePlace h session × IsSpentPlace h session))
     → IsNoSession k session ⊎ (IsUnknown k user ⊎ IsSpentSession s session)
 nowhere k h s session user st (inl n) = inl (no_session k h s session st n)
 nowhere k h s session user st (inr (inl e)) = inr (inl (ap (λ (d : Directory). has_user d user) (sym st.directory) ∙ e))
@@ -79,44 +79,44 @@ nowhere k h s (suc c) user st (inr (inr n)) = elim (below (place_of (suc c)) (le
   | inr l ↦ inl (inr (let e = st.places in omega (arith, l, e)))
 ]
 
-pub known : (k : Setup) (h : State) (s : Scene) (user : List ℕ) → StandsFor k h s → has_user h.directory user ≡ true → IsUnknown k user → ⊥
+pub known : (k : Setup) (h : House) (s : Scene) (user : List ℕ) → StandsFor k h s → has_user h.directory user ≡ true → IsUnknown k user → ⊥
 known k h s user st is e = let f : has_user h.directory user ≡ false = ap (λ (d : Directory). has_user d user) st.directory ∙ e in let g = is in cc
 
 -- ---- a line
 
-pub entered : (k : Setup) (number : ℕ) (s : Scene) (session : ℕ) (user : Bor (List ℕ)) (h : State) (old new : List ℕ)
+pub entered : (k : Setup) (number : ℕ) (s : Scene) (session : ℕ) (user : Bor (List ℕ)) (h : House) (old new : List ℕ)
     → Led k true s (events.Enter session user) h old new → LineDone k number (Enters session user.now) s h old new
 entered k number s session user h old new led = record { after = led.after; printed = led.printed; does = enters session user.now led.plays; stands = led.stands; out = led.out }
 
-pub entered_nowhere : (k : Setup) (number : ℕ) (s : Scene) (session : ℕ) (user : List ℕ) (h : State) (old new : List ℕ)
+pub entered_nowhere : (k : Setup) (number : ℕ) (s : Scene) (session : ℕ) (user : List ℕ) (h : House) (old new : List ℕ)
     → StandsFor k h s → IsNoSession k session ⊎ (IsUnknown k user ⊎ IsSpentSession s session) → new ≡ old ++ refusal number (codes "Nobody") → LineDone k number (Enters session user) s h old new
 entered_nowhere k number s session user h old new st none e = record { after = s; printed = _; does = enters_nowhere session user none refl refl; stands = st; out = e }
 
-pub entered_taken : (k : Setup) (number : ℕ) (s : Scene) (session : ℕ) (user : List ℕ) (h : State) (old new : List ℕ)
+pub entered_taken : (k : Setup) (number : ℕ) (s : Scene) (session : ℕ) (user : List ℕ) (h : House) (old new : List ℕ)
     → StandsFor k h s → (IsUnknown k user → ⊥) → IsVisited s session → new ≡ old ++ refusal number (codes "Busy") → LineDone k number (Enters session user) s h old new
 entered_taken k number s session user h old new st is taken e = record { after = s; printed = _; does = enters_taken session user is taken refl refl; stands = st; out = e }
 
-pub asked_bytes : (k : Setup) (number : ℕ) (s : Scene) (session : ℕ) (piece : Bor (List ℕ)) (h : State) (old new : List ℕ)
+pub asked_bytes : (k : Setup) (number : ℕ) (s : Scene) (session : ℕ) (piece : Bor (List ℕ)) (h : House) (old new : List ℕ)
     → Led k true s (events.Say session piece) h old new → LineDone k number (Asks session piece.now) s h old new
 asked_bytes k number s session piece h old new led = record { after = led.after; printed = led.printed; does = asks session piece.now led.plays; stands = led.stands; out = led.out }
 
-pub asked_nobody : (k : Setup) (number : ℕ) (s : Scene) (session : ℕ) (bytes : List ℕ) (h : State) (old new : List ℕ)
+pub asked_nobody : (k : Setup) (number : ℕ) (s : Scene) (session : ℕ) (bytes : List ℕ) (h : House) (old new : List ℕ)
     → StandsFor k h s → IsUnvisited k s session → new ≡ old ++ refusal number (codes "Nobody") → LineDone k number (Asks session bytes) s h old new
 asked_nobody k number s session bytes h old new st nobody e = record { after = s; printed = _; does = asks_nobody session bytes nobody refl refl; stands = st; out = e }
 
-pub left : (k : Setup) (number : ℕ) (s : Scene) (session : ℕ) (h : State) (old new : List ℕ) → Led k true s (events.Leave session) h old new → LineDone k number (Leaves session) s h old new
+pub left : (k : Setup) (number : ℕ) (s : Scene) (session : ℕ) (h : House) (old new : List ℕ) → Led k true s (events.Leave session) h old new → LineDone k number (Leaves session) s h old new
 left k number s session h old new led = record { after = led.after; printed = led.printed; does = leaves session led.plays; stands = led.stands; out = led.out }
 
-pub left_nobody : (k : Setup) (number : ℕ) (s : Scene) (session : ℕ) (h : State) (old new : List ℕ)
+pub left_nobody : (k : Setup) (number : ℕ) (s : Scene) (session : ℕ) (h : House) (old new : List ℕ)
     → StandsFor k h s → IsUnvisited k s session → new ≡ old ++ refusal number (codes "Nobody") → LineDone k number (Leaves session) s h old new
 left_nobody k number s session h old new st nobody e = record { after = s; printed = _; does = leaves_nobody session nobody refl refl; stands = st; out = e }
 
 -- ---- while its client is gone
 
-pub asked_lingering : (k : Setup) (number : ℕ) (s : Scene) (session : ℕ) (bytes : List ℕ) (h : State) (old new : List ℕ)
+pub asked_lingering : (k : Setup) (number : ℕ) (s : Scene) (session : ℕ) (bytes : List ℕ) (h : House) (old new : List ℕ)
     → StandsFor k h s → IsLingering s session → new ≡ old ++ refusal number (codes "Busy") → LineDone k number (Asks session bytes) s h old new
 asked_lingering k number s session bytes h old new st lingers e = record { after = s; printed = _; does = asks_lingering session bytes lingers refl refl; stands = st; out = e }
 
-pub left_again : (k : Setup) (number : ℕ) (s : Scene) (session : ℕ) (h : State) (old new : List ℕ)
+pub left_again : (k : Setup) (number : ℕ) (s : Scene) (session : ℕ) (h : House) (old new : List ℕ)
     → StandsFor k h s → IsLingering s session → new ≡ old ++ refusal number (codes "Busy") → LineDone k number (Leaves session) s h old new
 left_again k number s session h old new st lingers e = record { after = s; printed = _; does = leaves_again session lingers refl refl; stands = st; out = e }

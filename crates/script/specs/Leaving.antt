@@ -5,14 +5,14 @@ use Rattle.house.specs.Setup.{Setup}
 use Rattle.house.specs.Scene.{BytesPlay, ClosePlay, EnterPlay, LeavePlay, SayPlay, Scene, VanishPlay, empty_scene, place_of, seat_of}
 use Rattle.house.specs.Settling.{Happened}
 use Rattle.house.specs.Stands.{StandsFor}
-use Rattle.house.specs.State.{State}
+use Rattle.house.specs.House.{House}
 use Rattle.house.specs.declared.event.Event.{Event}
 use Rattle.script.specs.Script.{Asks, Closes, Enters, Leaves, LineDoes, Script, ScriptLine, Sends, Vanishes, none_held}
 use Rattle.script.specs.Promise.{DeliversOnce}
 
 -- These bytes were written, they are what a script of these lines prints, and deliver exactly once; the house that is left stands for the scene that it
 -- leads to.
-pub record Writes (k : Setup) (lines : List ScriptLine) (h : State) (old new : Option (List ℕ)) : Type 0 where
+pub record Writes (k : Setup) (lines : List ScriptLine) (h : House) (old new : Option (List ℕ)) : Type 0 where
   pub after : Scene
   pub printed : List ℕ
   pub script : Script k 1 (none_held k) lines (empty_scene k) after printed
@@ -21,7 +21,7 @@ pub record Writes (k : Setup) (lines : List ScriptLine) (h : State) (old new : O
   pub out : Appends old new printed
 
 -- Of what some of the first lines print the first `sent` bytes were written, and not all. The house stands for the scene that these lines lead to.
-pub record WritesFirst (k : Setup) (lines : List ScriptLine) (sent : ℕ) (h : State) (old new : Option (List ℕ)) : Type 0 where
+pub record WritesFirst (k : Setup) (lines : List ScriptLine) (sent : ℕ) (h : House) (old new : Option (List ℕ)) : Type 0 where
   pub some : List ScriptLine
   pub others : List ScriptLine
   pub split : lines ≡ some ++ others
@@ -46,7 +46,7 @@ pub record WritesBeginning (k : Setup) (lines : List ScriptLine) (Left : ℕ →
   pub out : Appends old new printed
 
 -- nothing was done since
-abbrev pub IsLeft : Setup → State → ℕ → List ScriptLine → Scene → Type 0
+abbrev pub IsLeft : Setup → House → ℕ → List ScriptLine → Scene → Type 0
 IsLeft k h number others s = StandsFor k h s
 
 -- the event that a line asks for happened in part, and printed this
@@ -60,17 +60,17 @@ LineBegins k s t printed (Closes shard) = ClosePlay k s shard t printed
 LineBegins k s t printed _ = ⊥
 
 -- Memory was wanting as a line was done: nothing happened, or its event did in part.
-pub data LineWanting (k : Setup) (line : ScriptLine) (s : Scene) (h : State) : Type 0 where
+pub data LineWanting (k : Setup) (line : ScriptLine) (s : Scene) (h : House) : Type 0 where
   undone : StandsFor k h s → LineWanting k line s h
   begun : (after : Scene) (unsaid : List ℕ) → LineBegins k s after unsaid line → StandsFor k h after → LineWanting k line s h
 
 -- The same, or the line was done, and memory was wanting as the house settled.
-pub data PlayWanting (k : Setup) (number : ℕ) (line : ScriptLine) (s : Scene) (h : State) : Type 0 where
+pub data PlayWanting (k : Setup) (number : ℕ) (line : ScriptLine) (s : Scene) (h : House) : Type 0 where
   doing : LineWanting k line s h → PlayWanting k number line s h
   settling : (between : Scene) (one : List ℕ) (events : List Event) (after : Scene) (two : List ℕ)
       → LineDoes k number s between one line → Happened k events between after two → StandsFor k h after → PlayWanting k number line s h
 
 -- Memory was wanting before the next line was read, or as it was played. What it printed isn't written.
-pub data IsLeftWanting (k : Setup) (h : State) (number : ℕ) (others : List ScriptLine) (s : Scene) : Type 0 where
+pub data IsLeftWanting (k : Setup) (h : House) (number : ℕ) (others : List ScriptLine) (s : Scene) : Type 0 where
   unread : StandsFor k h s → IsLeftWanting k h number others s
   unwritten : (line : ScriptLine) (more : List ScriptLine) → others ≡ line ∷ more → PlayWanting k number line s h → IsLeftWanting k h number others s

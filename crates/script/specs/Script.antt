@@ -7,14 +7,14 @@ use Rattle.hex.specs.Hex.{decode_of}
 use Rattle.hex.specs.declared.error.FromHexError.{FromHexError}
 use Rattle.envelope.specs.Names.{number_of}
 use Rattle.line_io.specs.Wire.{crlf}
-use Rattle.house_connection.specs.HouseConnection.{HouseConnection}
+use Rattle.house_connection.specs.Caller.{Caller}
 use Rattle.house.specs.Setup.{Setup}
 use Rattle.house.specs.Scene.{BytesPlay, ClosePlay, EnterPlay, LeavePlay, SayPlay, Scene, VanishPlay, is_shut_in, most_serials, place_of, seat_of}
 use Rattle.house.specs.Settled.{is_held}
 use Rattle.house.specs.Settling.{Settles}
 use Rattle.house.specs.Window.{window_text}
 use Rattle.house_session.specs.Folders.{has_user}
-use Rattle.house_session.specs.Seated.{SeatedSession}
+use Rattle.house_session.specs.SeatedVisitor.{SeatedVisitor}
 use Rattle.script.specs.declared.line.ScriptLine as read
 use Rattle.script.specs.declared.line.ScriptLine.TheVariants as reads
 
@@ -214,7 +214,7 @@ NobodyThere k s connection = IsNoConnection k connection
 
 -- the seat still waits for the verdicts of a connection whose peer is gone
 abbrev pub IsOwing : Scene → ℕ → Type 0
-IsOwing s connection = (b : HouseConnection) × (s.caller (seat_of connection) ≡ Some b) × (b.gone ≡ true)
+IsOwing s connection = (b : Caller) × (s.caller (seat_of connection) ≡ Some b) × (b.gone ≡ true)
 
 -- there is no such session
 abbrev pub IsNoSession : Setup → ℕ → Type 0
@@ -226,11 +226,11 @@ IsUnvisited k s session = IsNoSession k session ⊎ (s.visitor (place_of session
 
 -- somebody is at the session's place
 abbrev pub IsVisited : Scene → ℕ → Type 0
-IsVisited s session = (v : SeatedSession) × (s.visitor (place_of session) ≡ Some v)
+IsVisited s session = (v : SeatedVisitor) × (s.visitor (place_of session) ≡ Some v)
 
 -- its client is gone, and it still waits for the verdict on a message
 abbrev pub IsLingering : Scene → ℕ → Type 0
-IsLingering s session = (v : SeatedSession) × (s.visitor (place_of session) ≡ Some v) × (v.gone ≡ true)
+IsLingering s session = (v : SeatedVisitor) × (s.visitor (place_of session) ≡ Some v) × (v.gone ≡ true)
 
 -- nobody is at its place, and the seat takes no more: its serials are spent
 abbrev pub IsSpentSession : Scene → ℕ → Type 0

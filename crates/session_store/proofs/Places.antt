@@ -7,7 +7,7 @@ use Rattle.shard_queue.proofs.AtLaws.{at_cases}
 use Rattle.shard_queue.specs.At.{set_at}
 use Rattle.world.specs.World as ev
 use Rattle.world.specs.World.{Config, World, Session, Event, Step, Steps, IsWorld, empty_world, MailStep, LeaveStep, PutStep, EndStep, TakeStep, DeliverStep, AnswerStep, HearStep, EnterStep, put_joins, put_full, put_no_memory, put_shut, end_joins, end_full, takes, take_empty, delivers, deliver_spent, deliver_full, deliver_no_memory, answers, answer_full, hears_one, enters, enter_spent, enter_no_memory, mails, mail_lapped, mail_spent, mail_no_memory, leaves, leave_spent}
-use Rattle.delivery_core.specs.Held.{Held, client_of}
+use Rattle.delivery_core.specs.DeliveryCore.{DeliveryCore, client_of}
 use Rattle.delivery_core.specs.Stands.{StandsFor, StandsForPlace}
 
 -- ---- no world has a session beyond the places that there are
@@ -70,7 +70,7 @@ none_here : (x : Option Session) → StandsForPlace None x → x ≡ None
 none_here None h = refl
 none_here (Some s) h = absurd h
 
-pub no_session : (k : Config) (w : World) (old : Held) (n : ℕ) → StandsFor k old w → client_of old n ≡ None → w.session n ≡ None
+pub no_session : (k : Config) (w : World) (old : DeliveryCore) (n : ℕ) → StandsFor k old w → client_of old n ≡ None → w.session n ≡ None
 no_session k w old n S gone = go (cases_lt n (length old.clients))
   where
     go : (n < length old.clients) ⊎ (length old.clients ≤ n) → w.session n ≡ None

@@ -5,7 +5,7 @@ use Rattle.imap_session.specs.Exchange.{Event}
 use Rattle.imap_session.specs.Store.{Met}
 use Rattle.world.specs.World.{Config, World}
 use Rattle.delivery_core.specs.Changes.{SameCounts, SameDelivery}
-use Rattle.delivery_core.specs.Held.{Held}
+use Rattle.delivery_core.specs.DeliveryCore.{DeliveryCore}
 use Rattle.delivery_core.specs.Stands.{StandsFor}
 use Rattle.session_store.specs.declared.desk.Desk.{Desk}
 use Rattle.session_store.specs.Desk.{Serves}
@@ -24,7 +24,7 @@ carries k n old new call answer w served is =
 
 -- ---- over several calls
 
-delivery_then : (a b c : Held) → SameDelivery a b → SameDelivery b c → SameDelivery a c
+delivery_then : (a b c : DeliveryCore) → SameDelivery a b → SameDelivery b c → SameDelivery a c
 delivery_then a b c p q = record {
   lanes = q.lanes ∙ p.lanes;
   hands = q.hands ∙ p.hands;
@@ -33,7 +33,7 @@ delivery_then a b c p q = record {
   next = q.next ∙ p.next;
 }
 
-counts_then : (a b c : Held) → SameCounts a b → SameCounts b c → SameCounts a c
+counts_then : (a b c : DeliveryCore) → SameCounts a b → SameCounts b c → SameCounts a c
 counts_then a b c p q = record {
   lanes = q.lanes ∙ p.lanes;
   hands = q.hands ∙ p.hands;

@@ -8,7 +8,7 @@ use Rattle.std.proofs.lemmas.Bool.{cases_lt}
 use Rattle.change_ring.specs.Log.{rows_of, view_at}
 use Rattle.change_ring.specs.Logged.{flags_logged, removals, removals_if, seen_logged}
 use Rattle.mailbox.specs.Events.{in_set}
-use Rattle.mailbox.specs.Mail.{Mail}
+use Rattle.mailbox.specs.Mailbox.{Mailbox}
 use Rattle.mailbox.specs.declared.clients.MailFault.{MailFault}
 use Rattle.mailbox.specs.declared.clients.MailFault.TheVariants.{Stranger, Lapped, Spent, NoMemory}
 use Rattle.mailbox.specs.declared.clients.Opening.{Opening}
@@ -19,7 +19,7 @@ use Rattle.world.specs.World.{Config, World, Box, Session, Event, Step, Allowed,
 use Rattle.delivery_core.specs.Changes.{SameCounts, SameDelivery}
 use Rattle.delivery_core.specs.Clients.{Alters, Does, Done, Enters, Expunges, Feeds, IsStatus, Leaves, Makes, Opens, Reads, Refuses, Sees}
 use Rattle.delivery_core.specs.declared.client.Client.{Client}
-use Rattle.delivery_core.specs.Held.{Held, behind, client_of, pending_for, view_of}
+use Rattle.delivery_core.specs.DeliveryCore.{DeliveryCore, behind, client_of, pending_for, view_of}
 use Rattle.delivery_core.specs.Stands.{StandsFor}
 use Rattle.delivery_core.proofs.Looks.{pending_seen, view_seen}
 use Rattle.delivery_core.proofs.Mailed.{session_at, there_at}
@@ -32,15 +32,15 @@ use Rattle.session_store.specs.Meets.{IsDone, IsRefused, IsTurnedAway, Mails, Sh
 use Rattle.session_store.proofs.Places.{no_session}
 
 -- the core that serves this session
-abbrev pub serving : Held → ℕ → Desk
+abbrev pub serving : DeliveryCore → ℕ → Desk
 serving core n = record { core = core; session = n }
 
 -- ---- calls that change nothing
 
-pub same_delivery : (h : Held) → SameDelivery h h
+pub same_delivery : (h : DeliveryCore) → SameDelivery h h
 same_delivery h = record { lanes = refl; hands = refl; replies = refl; heard = refl; next = refl }
 
-pub same_counts : (h : Held) → SameCounts h h
+pub same_counts : (h : DeliveryCore) → SameCounts h h
 same_counts h = record { lanes = refl; hands = refl; replies = refl; heard = refl; boxes = refl; next = refl; clients = refl }
 
 -- ---- who is no stranger
@@ -53,12 +53,12 @@ client_is : (x : Option Client) → IsSome x → (c : Client) × (x ≡ Some c)
 client_is None h = cc
 client_is (Some c) h = (c, refl)
 
-served : {A : Type 0} (old : Held) (n : ℕ) (r : Result A MailFault) (x : A) → r ≡ Ok x → (r ≡ Err Stranger) ↔ (client_of old n ≡ None) → IsSome (client_of old n)
+served : {A : Type 0} (old : DeliveryCore) (n : ℕ) (r : Result A MailFault) (x : A) → r ≡ Ok x → (r ≡ Err Stranger) ↔ (client_of old n ≡ None) → IsSome (client_of old n)
 served old n r x e strange = some_client (client_of old n) (λ gone. let f = strange.1 gone in cc)
 
 -- ---- what an event of the core is in a world
 
-mails_of : (k : Config) (old new : Held) (n : ℕ) (e : Event) (P : Box → Session → Type 0) → Does k old e n P new → (w : World) → StandsFor k old w
+mails_of : (k : Config) (old new : DeliveryCore) (n : ℕ) (e : Event) (P : Box → Session → Type 0) → Does k old e n P new → (w : World) → StandsFor k old w
     → (v : World) × Mails k n w e P v × StandsFor k new v
 mails_of k old new n e P does w S = let d = does w S in (d.0, (d.1, d.3), d.2)
 
@@ -70,7 +70,7 @@ at_session w n t is P (s, e, p) = subst P same p
     same = cc
 
 -- what an event of the core that was not refused is in a world
-done_in : (k : Config) (old new : Held) (n : ℕ) (e : Event) (shown : Box → Session → List Change) (changes : Box → List Change) (P : Box → Session → Type 0) → Does k old e n P new → Makes k old n shown changes new
+done_in : (k : Config) (old new : DeliveryCore) (n : ℕ) (e : Event) (shown : Box → Session → List Change) (changes : Box → List Change) (P : Box → Session → Type 0) → Does k old e n P new → Makes k old n shown changes new
     → ((w v : World) (s : Session) → w.session n ≡ Some s → Done k w n s (shown (w.box s.mailbox) s) (changes (w.box s.mailbox)) v → Step k w e v) → (w : World) → StandsFor k old w
     → (v : World) × IsDone k n w e shown changes P v × StandsFor k new v
 done_in k old new n e shown changes P does makes as_step w S =
@@ -78,7 +78,7 @@ done_in k old new n e shown changes P does makes as_step w S =
     let m = makes w S in
     (m.0, (as_step w m.0 m.2.0 m.2.1 m.2.2, (m.2.0, m.2.1, (m.2.2, at_session w n m.2.0 m.2.1 (λ s. P (w.box s.mailbox) s) d.3))), m.1)
 
-refused_for : (k : Config) (old new : Held) (n : ℕ) (e : Event) (P : Box → Session → Type 0) (fault : MailFault) → new ≡ old
+refused_for : (k : Config) (old new : DeliveryCore) (n : ℕ) (e : Event) (P : Box → Session → Type 0) (fault : MailFault) → new ≡ old
     → (fault ≡ Stranger → client_of old n ≡ None) → (client_of old n ≡ None → fault ≡ Stranger) → (IsSome (client_of old n) → Does k old e n P new)
     → ((w : World) (s : Session) → w.session n ≡ Some s → P (w.box s.mailbox) s → Step k w e w) → (w : World) → StandsFor k old w
     → (v : World) × IsRefused n w fault (Mails k n w e P v) v × StandsFor k new v
@@ -116,7 +116,7 @@ same_fault r f g a b = cc
 
 -- ---- Read, Store, Leave
 
-pub reads : (old new : Held) (n uid : ℕ) (mark : Bool) (result : Result (Option Row) MailFault) → (result ≡ Err Stranger) ↔ (client_of old n ≡ None)
+pub reads : (old new : DeliveryCore) (n uid : ℕ) (mark : Bool) (result : Result (Option Row) MailFault) → (result ≡ Err Stranger) ↔ (client_of old n ≡ None)
     → (IsSome (client_of old n) → (k : Config) → Does k old (world.Read n uid mark) n (Reads mark uid result) new)
     → OnOk result ((k : Config) → Makes k old n (λ b s. []) (λ b. seen_logged mark (rows_of b.log) uid) new)
     → view_of new n ≡ view_of old n → SameDelivery old new → SameCounts old new → OnErr result (new ≡ old)
@@ -138,7 +138,7 @@ reads old new n uid mark (Err fault) strange event done view rest counts refused
   behind = tt;
 }
 
-pub alters : (old new : Held) (n uid : ℕ) (op : FlagOp) (result : Result (Option Flags) MailFault) → (result ≡ Err Stranger) ↔ (client_of old n ≡ None) → (result ≡ Err NoMemory → ⊥)
+pub alters : (old new : DeliveryCore) (n uid : ℕ) (op : FlagOp) (result : Result (Option Flags) MailFault) → (result ≡ Err Stranger) ↔ (client_of old n ≡ None) → (result ≡ Err NoMemory → ⊥)
     → (IsSome (client_of old n) → (k : Config) → Does k old (world.Store n uid op) n (Alters uid op result) new)
     → OnOk result ((k : Config) → Makes k old n (λ b s. []) (λ b. flags_logged (rows_of b.log) uid op) new)
     → view_of new n ≡ view_of old n → SameDelivery old new → SameCounts old new → OnErr result (new ≡ old)
@@ -160,7 +160,7 @@ alters old new n uid op (Err fault) strange memory event done view rest counts r
   behind = tt;
 }
 
-pub leaves : (old new : Held) (n : ℕ) (remove : Bool) (result : Result ℕ MailFault) → (result ≡ Err Stranger) ↔ (client_of old n ≡ None)
+pub leaves : (old new : DeliveryCore) (n : ℕ) (remove : Bool) (result : Result ℕ MailFault) → (result ≡ Err Stranger) ↔ (client_of old n ≡ None)
     → (IsSome (client_of old n) → (k : Config) → Does k old (world.Leave n remove) n (Leaves remove result) new)
     → OnOk result (client_of new n ≡ None) → SameDelivery old new → SameCounts old new → OnErr result (new ≡ old)
     → Serves (serving old n) (Leave remove) (answer Left result) (serving new n)
@@ -185,12 +185,12 @@ leaves old new n remove (Err fault) strange event left rest counts refused = rec
 
 -- ---- Enter
 
-mail_at : (boxes : List Mail) (i : ℕ) → i < length boxes → (b : Mail) × (b ≡ get_or boxes i b)
+mail_at : (boxes : List Mailbox) (i : ℕ) → i < length boxes → (b : Mailbox) × (b ≡ get_or boxes i b)
 mail_at [] i l = absurd (omega arith)
 mail_at (b ∷ boxes) zero l = (b, refl)
 mail_at (b ∷ boxes) (suc i) l = mail_at boxes i (omega arith)
 
-validity_here : (k : Config) (w : World) (old : Held) (m u : ℕ) → StandsFor k old w → m < length old.boxes → ((d : Mail) → u ≡ (slice_index_or old.boxes m d).uidvalidity) → u ≡ k.uidvalidity
+validity_here : (k : Config) (w : World) (old : DeliveryCore) (m u : ℕ) → StandsFor k old w → m < length old.boxes → ((d : Mailbox) → u ≡ (slice_index_or old.boxes m d).uidvalidity) → u ≡ k.uidvalidity
 validity_here k w old m u S l same = let b = mail_at old.boxes m l in same b.0 ∙ (S.boxes m b.0 l).uidvalidity
 
 mailbox_there : (k : Config) (w v : World) (n m : ℕ) → EnterStep k w n m v → m < k.mailboxes
@@ -210,7 +210,7 @@ still k w v n m (enters a b c d e) = enter_no_memory a b c d refl
 still k w v n m (enter_spent a b c d e) = enter_spent a b c d refl
 still k w v n m (enter_no_memory a b c d e) = enter_no_memory a b c d refl
 
-not_allowed : (k : Config) (w : World) (old : Held) (n m : ℕ) → StandsFor k old w → (length old.clients ≤ n) ⊎ (IsSome (client_of old n) ⊎ (length old.boxes ≤ m)) → Allowed k w (world.Enter n m) → ⊥
+not_allowed : (k : Config) (w : World) (old : DeliveryCore) (n m : ℕ) → StandsFor k old w → (length old.clients ≤ n) ⊎ (IsSome (client_of old n) ⊎ (length old.boxes ≤ m)) → Allowed k w (world.Enter n m) → ⊥
 not_allowed k w old n m S (inl few) (a, b, c) = absurd (omega (arith, few, a, S.sessions))
 not_allowed k w old n m S (inr (inl some)) (a, b, c) =
     let one = client_is (client_of old n) some in
@@ -223,16 +223,16 @@ client_in : (x : Option Client) (m : ℕ) → option_map (λ (c : Client). c.mai
 client_in None m e = cc
 client_in (Some c) m e = (c, refl, cc)
 
-selected : (k : Config) (v : World) (new : Held) (n m : ℕ) → StandsFor k new v → option_map (λ (c : Client). c.mailbox) (client_of new n) ≡ Some m → Selected v n (λ s. s.mailbox ≡ m)
+selected : (k : Config) (v : World) (new : DeliveryCore) (n m : ℕ) → StandsFor k new v → option_map (λ (c : Client). c.mailbox) (client_of new n) ≡ Some m → Selected v n (λ s. s.mailbox ≡ m)
 selected k v new n m S entered =
     let c = client_in (client_of new n) m entered in
     let s = session_at k v new n c.0 S c.1 in
     (s.0, s.1, sym s.2.mailbox ∙ c.2)
 
-pub opens : (old new : Held) (n m : ℕ) (result : Result Opening MailFault)
+pub opens : (old new : DeliveryCore) (n m : ℕ) (result : Result Opening MailFault)
     → (result ≡ Err Stranger) ↔ ((length old.clients ≤ n) ⊎ (IsSome (client_of old n) ⊎ (length old.boxes ≤ m))) → (result ≡ Err Lapped → ⊥)
     → ((result ≡ Err Stranger → ⊥) → (k : Config) → Enters k old n m result new)
-    → OnOk result (option_map (λ (c : Client). c.mailbox) (client_of new n) ≡ Some m) → IfOk result (λ opening. (d : Mail) → opening.uidvalidity ≡ (slice_index_or old.boxes m d).uidvalidity)
+    → OnOk result (option_map (λ (c : Client). c.mailbox) (client_of new n) ≡ Some m) → IfOk result (λ opening. (d : Mailbox) → opening.uidvalidity ≡ (slice_index_or old.boxes m d).uidvalidity)
     → SameDelivery old new → SameCounts old new → OnErr result (new ≡ old)
     → Serves (serving old n) (Enter m) (answer Entered result) (serving new n)
 opens old new n m (Ok opening) strange lapsed event entered validity rest counts refused = record {
@@ -262,7 +262,7 @@ opens old new n m (Err fault) strange lapsed event entered validity rest counts 
 
 -- ---- Look, Count
 
-pub looked : (core : Held) (n : ℕ) (view copied : List ℕ) → copied ≡ view → view ≡ view_of core n
+pub looked : (core : DeliveryCore) (n : ℕ) (view copied : List ℕ) → copied ≡ view → view ≡ view_of core n
     → ((k : Config) (w : World) → StandsFor k core w → Selected w n (λ s. view ≡ view_at (w.box s.mailbox).log s.cursor))
     → Serves (serving core n) Look (Looked copied) (serving core n)
 looked core n view copied same is log = record {
@@ -274,7 +274,7 @@ looked core n view copied same is log = record {
   behind = tt;
 }
 
-pub not_looked : (core : Held) (n : ℕ) (fault : MailFault) → fault ≡ Stranger → client_of core n ≡ None → Serves (serving core n) Look (Refused fault) (serving core n)
+pub not_looked : (core : DeliveryCore) (n : ℕ) (fault : MailFault) → fault ≡ Stranger → client_of core n ≡ None → Serves (serving core n) Look (Refused fault) (serving core n)
 not_looked core n fault is gone = subst (λ (f : MailFault). Serves (serving core n) Look (Refused f) (serving core n)) (sym is) (record {
   same = refl;
   meets = λ k w S. (w, (refl, no_session k w core n S gone), S);
@@ -284,8 +284,8 @@ not_looked core n fault is gone = subst (λ (f : MailFault). Serves (serving cor
   behind = tt;
 })
 
-pub counted : (core : Held) (n m : ℕ) (status : Status) → m < length core.boxes → ((k : Config) (w : World) → StandsFor k core w → IsStatus k (w.box m) status)
-    → ((d : Mail) → status.uidvalidity ≡ (slice_index_or core.boxes m d).uidvalidity)
+pub counted : (core : DeliveryCore) (n m : ℕ) (status : Status) → m < length core.boxes → ((k : Config) (w : World) → StandsFor k core w → IsStatus k (w.box m) status)
+    → ((d : Mailbox) → status.uidvalidity ≡ (slice_index_or core.boxes m d).uidvalidity)
     → Serves (serving core n) (Count m) (Counted status) (serving core n)
 counted core n m status l is validity = record {
   same = refl;
@@ -296,7 +296,7 @@ counted core n m status l is validity = record {
   behind = tt;
 }
 
-pub not_counted : (core : Held) (n m : ℕ) → (m < length core.boxes → ⊥) → Serves (serving core n) (Count m) (Refused Stranger) (serving core n)
+pub not_counted : (core : DeliveryCore) (n m : ℕ) → (m < length core.boxes → ⊥) → Serves (serving core n) (Count m) (Refused Stranger) (serving core n)
 not_counted core n m l = record {
   same = refl;
   meets = λ k w S. (w, (refl, beyond k w S), S);
@@ -318,7 +318,7 @@ take_self (suc l) [] = refl
 take_self (suc l) (x ∷ xs) = ap (λ ys. x ∷ ys) (take_self l xs)
 
 -- what the core has of a session is what its world has
-seen : (k : Config) (w : World) (old : Held) (n : ℕ) (s : Session) → StandsFor k old w → IsSome (client_of old n) → w.session n ≡ Some s → (w.box s.mailbox).base ≤ s.cursor
+seen : (k : Config) (w : World) (old : DeliveryCore) (n : ℕ) (s : Session) → StandsFor k old w → IsSome (client_of old n) → w.session n ≡ Some s → (w.box s.mailbox).base ≤ s.cursor
     → (view_of old n ≡ view_at (w.box s.mailbox).log s.cursor) × (pending_for old n ≡ pending (w.box s.mailbox) s)
 seen k w old n s S some is low =
     let c = client_is (client_of old n) some in
@@ -336,7 +336,7 @@ seen k w old n s S some is low =
     here : (P : Session → Type 0) → Selected w n (λ t. (w.box t.mailbox).base ≤ t.cursor → P t) → P s
     here P (t, e, shown) = subst (λ (x : Session). (w.box x.mailbox).base ≤ x.cursor → P x) (same t e) shown low
 
-pub feeds : (old new : Held) (n limit : ℕ) (before after : List ℕ) (result : Result ℕ MailFault) → (result ≡ Err Stranger) ↔ (client_of old n ≡ None)
+pub feeds : (old new : DeliveryCore) (n limit : ℕ) (before after : List ℕ) (result : Result ℕ MailFault) → (result ≡ Err Stranger) ↔ (client_of old n ≡ None)
     → (IsSome (client_of old n) → (k : Config) → Does k old (world.Feed n limit) n (Feeds limit before after result) new)
     → OnOk result ((k : Config) → Makes k old n (λ b s. take limit (pending b s)) (λ b. []) new)
     → IfOk result (λ count. Sees old new n (take count (pending_for old n)) before after)
@@ -383,7 +383,7 @@ feeds old new n limit before after (Err fault) strange event done sees counted l
   refused.1,
 )
 
-pub expunges : (old new : Held) (n : ℕ) (uids : Option (List ℕ)) (before after : List ℕ) (result : Result ℕ MailFault) → (result ≡ Err Stranger) ↔ (client_of old n ≡ None)
+pub expunges : (old new : DeliveryCore) (n : ℕ) (uids : Option (List ℕ)) (before after : List ℕ) (result : Result ℕ MailFault) → (result ≡ Err Stranger) ↔ (client_of old n ≡ None)
     → (IsSome (client_of old n) → (k : Config) → Does k old (world.Expunge n (in_set uids)) n (Expunges (in_set uids) before after result) new)
     → OnOk result ((k : Config) → Makes k old n (λ b s. pending b s) (λ b. removals (in_set uids) (rows_of b.log)) new)
     → OnOk result (Sees old new n (pending_for old n) before after)

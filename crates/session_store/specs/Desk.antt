@@ -2,7 +2,7 @@
 use Rattle.std.specs.Prelude.{◌≡◌, ℕ, ◌+◌, length, min, IsSome}
 use Rattle.world.specs.World.{Config, World}
 use Rattle.delivery_core.specs.Changes.{SameCounts, SameDelivery}
-use Rattle.delivery_core.specs.Held.{Held, behind, client_of, view_of}
+use Rattle.delivery_core.specs.DeliveryCore.{DeliveryCore, behind, client_of, view_of}
 use Rattle.delivery_core.specs.Stands.{StandsFor}
 use Rattle.imap_session.specs.Exchange.{Call, Answer, Feed, Fed}
 use Rattle.imap_session.specs.Store.{ViewAfter}
@@ -11,7 +11,7 @@ use Rattle.session_store.specs.Meets.{Meets}
 
 -- A Feed that showed changes: session n had entered a mailbox, it was shown as many as it was behind the log, at most so many, and it is behind
 -- by so many fewer.
-abbrev pub CatchesUp : ℕ → Held → Call → Answer → Held → Type 0
+abbrev pub CatchesUp : ℕ → DeliveryCore → Call → Answer → DeliveryCore → Type 0
 CatchesUp n old (Feed limit) (Fed view changes) new = IsSome (client_of old n) × (length changes ≡ min limit (behind old n)) × (behind new n + length changes ≡ behind old n)
 CatchesUp n old call answer new = Unit {0}
 

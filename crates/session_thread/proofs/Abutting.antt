@@ -2,39 +2,39 @@
 use Rattle.std.proofs.Common.{◌≡◌, ℕ, ◌+◌, ◌-◌, Bool, true, false, ◌&&◌, List, [], ◌∷◌, length, length-drop, arith, refl, sym, ap, ◌∙◌, subst, Option, Some}
 use Rattle.std.specs.List.{list_all}
 use Rattle.change_ring.specs.declared.change.Change.{Change}
-use Rattle.cursor_set.specs.Cursors.{Seat}
-use Rattle.mailbox.specs.Mail.{Mail}
+use Rattle.cursor_set.specs.Cursors.{CursorSeat}
+use Rattle.mailbox.specs.Mailbox.{Mailbox}
 use Rattle.mailbox_holds.specs.Holds.{Expunges}
 use Rattle.imap_session.specs.Exchange.{Call, Answer, Enter, Look, Read, Count, Alter, Expunge, Feed, Leave, Entered, Looked, Found, Counted, Altered, Expunged, Fed, Left, Refused, Starved, Event}
 use Rattle.session_thread.specs.declared.desk.Entry.{Entry}
-use Rattle.session_thread.specs.Locks.{Holds, In, Place}
+use Rattle.session_thread.specs.Locks.{Holds, In, LockedDesk}
 use Rattle.session_thread.specs.Locks.{seated_at}
 use Rattle.session_thread.specs.Abut.{Abut, BeginsAt, Joins, shown_by, shown_by_all, stays}
 
 -- the session is in the same mailbox, and was shown so many changes more
-abbrev pub On : Entry → ℕ → Place → Type 0
+abbrev pub On : Entry → ℕ → LockedDesk → Type 0
 On here n place = In place (λ there. (there.mailbox ≡ here.mailbox) × (there.start ≡ here.start) × (there.seat ≡ record here.seat { at = here.seat.at + n }))
 
-same_seat : (seat : Seat) → seat ≡ record seat { at = seat.at + 0 }
-same_seat seat = ap (λ (n : ℕ). let s : Seat = record { number = seat.number; slot = seat.slot; serial = seat.serial; at = n } in s) (omega arith)
+same_seat : (seat : CursorSeat) → seat ≡ record seat { at = seat.at + 0 }
+same_seat seat = ap (λ (n : ℕ). let s : CursorSeat = record { number = seat.number; slot = seat.slot; serial = seat.serial; at = n } in s) (omega arith)
 
-rests : (here : Entry) (old new : Place) → old.entered ≡ Some here → new ≡ old → On here 0 new
-rests here old new there same = (here, ap (λ (p : Place). p.entered) same ∙ there, (refl, refl, same_seat here.seat))
+rests : (here : Entry) (old new : LockedDesk) → old.entered ≡ Some here → new ≡ old → On here 0 new
+rests here old new there same = (here, ap (λ (p : LockedDesk). p.entered) same ∙ there, (refl, refl, same_seat here.seat))
 
 same_entry : {a b : Entry} → Some a ≡ Some b → a ≡ b
 same_entry e = cc
 
-moves : (here was : Entry) (old new : Place) (next : Seat) (n : ℕ) → old.entered ≡ Some here → old.entered ≡ Some was → next ≡ record was.seat { at = was.seat.at + n } → new ≡ seated_at old was next → On here n new
+moves : (here was : Entry) (old new : LockedDesk) (next : CursorSeat) (n : ℕ) → old.entered ≡ Some here → old.entered ≡ Some was → next ≡ record was.seat { at = was.seat.at + n } → new ≡ seated_at old was next → On here n new
 moves here was old new next n there also goes is =
     let same : was ≡ here = same_entry (sym also ∙ there) in
-    subst (λ (e : Entry). On e n new) same (record { mailbox = was.mailbox; start = was.start; seat = next }, ap (λ (p : Place). p.entered) is, (refl, refl, goes))
+    subst (λ (e : Entry). On e n new) same (record { mailbox = was.mailbox; start = was.start; seat = next }, ap (λ (p : LockedDesk). p.entered) is, (refl, refl, goes))
 
-all_shown : (found left : Mail) (seat next : Seat) (uids : Option (List ℕ)) (view : List ℕ) (changes : List Change) (gone : ℕ) → Expunges found seat uids view changes gone left next → next ≡ record seat { at = seat.at + length changes }
+all_shown : (found left : Mailbox) (seat next : CursorSeat) (uids : Option (List ℕ)) (view : List ℕ) (changes : List Change) (gone : ℕ) → Expunges found seat uids view changes gone left next → next ≡ record seat { at = seat.at + length changes }
 all_shown found left seat next uids view changes gone e =
-    e.goes_on ∙ ap (λ (n : ℕ). let s : Seat = record { number = seat.number; slot = seat.slot; serial = seat.serial; at = n } in s)
+    e.goes_on ∙ ap (λ (n : ℕ). let s : CursorSeat = record { number = seat.number; slot = seat.slot; serial = seat.serial; at = n } in s)
     (omega (arith, length-drop (seat.at - found.window.base) found.window.changes, ap (length {A = Change}) e.shown, e.current, e.seated.within))
 
-step_on : (here : Entry) (old new : Place) (call : Call) (answer : Answer) → old.entered ≡ Some here → stays answer ≡ true → Holds old call answer new → On here (shown_by answer) new
+step_on : (here : Entry) (old new : LockedDesk) (call : Call) (answer : Answer) → old.entered ≡ Some here → stays answer ≡ true → Holds old call answer new → On here (shown_by answer) new
 step_on here old new (Enter m) (Entered opening) there s h = cc
 step_on here old new (Enter m) (Looked view) there s h = elim h [ ]
 step_on here old new (Enter m) (Found row) there s h = elim h [ ]
@@ -118,7 +118,7 @@ step_on here old new (Leave remove) (Starved n) there s h = elim h [ ]
 
 -- ---- where a piece begins
 
-begins : (here : Entry) (old new : Place) (call : Call) (answer : Answer) → old.entered ≡ Some here → Holds old call answer new → BeginsAt here.seat.at answer
+begins : (here : Entry) (old new : LockedDesk) (call : Call) (answer : Answer) → old.entered ≡ Some here → Holds old call answer new → BeginsAt here.seat.at answer
 begins here old new call (Entered opening) there h = tt
 begins here old new call (Looked view) there h = tt
 begins here old new call (Found row) there h = tt
@@ -154,15 +154,15 @@ both : (a b : Bool) → (a && b) ≡ true → (a ≡ true) × (b ≡ true)
 both true b e = (refl, e)
 both false b e = cc
 
-joined : (here mid : Entry) (n m : ℕ) (place : Place) → mid.mailbox ≡ here.mailbox → mid.start ≡ here.start → mid.seat ≡ record here.seat { at = here.seat.at + n } → On mid m place → On here (n + m) place
+joined : (here mid : Entry) (n m : ℕ) (place : LockedDesk) → mid.mailbox ≡ here.mailbox → mid.start ≡ here.start → mid.seat ≡ record here.seat { at = here.seat.at + n } → On mid m place → On here (n + m) place
 joined here mid n m place mailbox start seat h = (
   h.0,
   h.1,
   (
     h.2.0 ∙ mailbox,
     h.2.1 ∙ start,
-    h.2.2 ∙ ap (λ (s : Seat). let z : Seat = record { number = s.number; slot = s.slot; serial = s.serial; at = s.at + m } in z) seat
-        ∙ ap (λ (k : ℕ). let z : Seat = record { number = here.seat.number; slot = here.seat.slot; serial = here.seat.serial; at = k } in z) (omega arith),
+    h.2.2 ∙ ap (λ (s : CursorSeat). let z : CursorSeat = record { number = s.number; slot = s.slot; serial = s.serial; at = s.at + m } in z) seat
+        ∙ ap (λ (k : ℕ). let z : CursorSeat = record { number = here.seat.number; slot = here.seat.slot; serial = here.seat.serial; at = k } in z) (omega arith),
   ),
 )
 
@@ -172,6 +172,6 @@ abut old new (event ∷ events) here met all there =
     let t = both (stays event.answer) (list_all (λ (e : Event). stays e.answer) events) all in
     let m : On here (shown_by event.answer) met.0 = step_on here old met.0 event.call event.answer there t.0 met.1 in
     let r = abut met.0 new events m.0 met.2 t.1 m.1 in (
-      (begins here old met.0 event.call event.answer there met.1, subst (λ (s : Seat). Joins s.at events) m.2.2 r.0),
+      (begins here old met.0 event.call event.answer there met.1, subst (λ (s : CursorSeat). Joins s.at events) m.2.2 r.0),
       joined here m.0 (shown_by event.answer) (shown_by_all events) new m.2.0 m.2.1 m.2.2 r.1,
     )

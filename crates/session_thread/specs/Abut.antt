@@ -3,11 +3,11 @@ use Rattle.std.specs.Prelude.{◌≡◌, ℕ, ◌+◌, ◌≤◌, Bool, true, fa
 use Rattle.std.specs.List.{list_all}
 use Rattle.change_ring.specs.Window.{changes_from, total}
 use Rattle.cursor_set.specs.Cursors.{next_changes}
-use Rattle.mailbox.specs.Mail.{Mail}
+use Rattle.mailbox.specs.Mailbox.{Mailbox}
 use Rattle.imap_session.specs.Exchange.{Answer, Entered, Expunged, Fed, Left, Event}
 use Rattle.imap_session.specs.Store.{Met}
 use Rattle.session_thread.specs.declared.desk.Entry.{Entry}
-use Rattle.session_thread.specs.Locks.{Holds, In, Place}
+use Rattle.session_thread.specs.Locks.{Holds, In, LockedDesk}
 
 -- how many changes an answer showed
 abbrev pub shown_by : Answer → ℕ
@@ -28,8 +28,8 @@ stays answer = true
 -- The changes that an answer showed begin at this number of the log of the mailbox that was found, which is at least as long and still had them;
 -- an EXPUNGE showed all from there on.
 abbrev pub BeginsAt : ℕ → Answer → Type 0
-BeginsAt at (Fed view changes) = (found : Mail) × (at ≤ total found.window) × (found.window.base ≤ at) × (changes ≡ next_changes found.window at (length changes))
-BeginsAt at (Expunged view changes gone) = (found : Mail) × (at ≤ total found.window) × (found.window.base ≤ at) × (changes ≡ changes_from at found.window)
+BeginsAt at (Fed view changes) = (found : Mailbox) × (at ≤ total found.window) × (found.window.base ≤ at) × (changes ≡ next_changes found.window at (length changes))
+BeginsAt at (Expunged view changes gone) = (found : Mailbox) × (at ≤ total found.window) × (found.window.base ≤ at) × (changes ≡ changes_from at found.window)
 BeginsAt at answer = Unit {0}
 
 -- Each piece begins at the number at which the one before ended, and the first at this.
@@ -40,5 +40,5 @@ Joins at (event ∷ events) = BeginsAt at event.answer × Joins (at + shown_by e
 -- While a session stays in its mailbox, the pieces that it is shown abut: they begin where its seat stood, and the seat is the one that was made as
 -- it entered, and has gone on by as many changes as were shown.
 abbrev pub Abut : Type 0
-Abut = (old new : Place) (events : List Event) (here : Entry) → Met Holds old events new → list_all (λ (e : Event). stays e.answer) events ≡ true → old.entered ≡ Some here
+Abut = (old new : LockedDesk) (events : List Event) (here : Entry) → Met Holds old events new → list_all (λ (e : Event). stays e.answer) events ≡ true → old.entered ≡ Some here
     → Joins here.seat.at events × In new (λ there. (there.mailbox ≡ here.mailbox) × (there.start ≡ here.start) × (there.seat ≡ record here.seat { at = here.seat.at + shown_by_all events }))

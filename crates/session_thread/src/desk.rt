@@ -72,9 +72,9 @@ pub struct LockedDesk<'a, R: Wait, G: Gate> {
 
 impl<'a, R: Wait, G: Gate> Model for LockedDesk<'a, R, G> {
     ghost use Rattle.std.specs.Prelude.{◌<◌, length, IfSome};
-    ghost use Rattle.session_thread.specs.Locks.{Place};
+    ghost use Rattle.session_thread.specs.Locks.{LockedDesk};
 
-    ghost Value = { Place };
+    ghost Value = { LockedDesk };
 
     ghost view = { λ d. record { mailboxes = length d.mailboxes.now; entered = d.entered } };
 

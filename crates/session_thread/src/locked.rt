@@ -5,7 +5,7 @@ ghost use Rattle.std.specs.Prelude.{◌≡◌, ◌≢◌, ◌≤◌, ◌⊎◌, 
 ghost use Rattle.imap_grammar.specs.Sets.{messages_in};
 ghost use Rattle.std.specs.Option.{option_copied};
 ghost use Rattle.std.specs.Vec.{vec_capacity};
-ghost use Rattle.mailbox.specs.Mail.{Mail};
+ghost use Rattle.mailbox.specs.Mailbox.{Mailbox};
 ghost use Rattle.mailbox_holds.specs.Holds.{Counts, DoesAlter, DoesEnter, DoesExpunge, DoesFeed, DoesLeave, DoesLook, DoesRead};
 ghost use Rattle.session_thread.specs.Locks.{UnderLock};
 
@@ -35,9 +35,9 @@ pub(crate) fn choose<R: Wait>(
     set: &SeqSet<'_>,
     by_uid: bool,
 ) -> Result<Option<Vec<Named>>, MailFault>
-    ensures chosen { IfOk result (λ chosen. (view : List ℕ) × (found : Mail) × DoesLook found seat.now (Ok view)
+    ensures chosen { IfOk result (λ chosen. (view : List ℕ) × (found : Mailbox) × DoesLook found seat.now (Ok view)
         × (option_map (λ named. named.items) chosen ≡ messages_in by_uid set.now view)) }
-    ensures not { IfErr result (λ fault. (found : Mail) × DoesLook found seat.now (Err fault)) }
+    ensures not { IfErr result (λ fault. (found : Mailbox) × DoesLook found seat.now (Err fault)) }
     ensures faults { IfErr result (λ f. (f ≡ MailFault.Stranger) ⊎ (f ≡ MailFault.NoMemory)) }
 {
     let held = lock.lock(rt);
@@ -65,7 +65,7 @@ pub(crate) fn read<R: Wait>(
 }
 
 pub(crate) fn count<R: Wait>(rt: &R, lock: &Mutex<Mailbox>) -> Status
-    ensures { (found : Mail) × Counts found result }
+    ensures { (found : Mailbox) × Counts found result }
 {
     let held = lock.lock(rt);
     holds::count(&held)

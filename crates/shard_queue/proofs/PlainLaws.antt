@@ -8,7 +8,7 @@ use Rattle.shard_queue.specs.declared.lane.Taken.{Taken}
 use Rattle.shard_queue.specs.declared.lane.Taken.TheVariants as took_one
 use Rattle.shard_queue.specs.Lane.{Lane, empty_lane, has_end, put, took, Puts, Takes}
 use Rattle.shard_queue.specs.Plain.{Makes, MayPutMore, StandsForLane, before_taking, taken_entry}
-use Rattle.shard_queue.specs.Waits.{Waits}
+use Rattle.shard_queue.specs.PlainLane.{PlainLane}
 use Rattle.shard_queue.proofs.AtLaws.{at_cases}
 
 live_more : {A : Type 0} (es : List (Entry A)) (s : ℕ) (x : A) → has_end (es ++ Item s x ∷ []) ≡ has_end es
@@ -17,7 +17,7 @@ live_more (Item p y ∷ es) s x = live_more es s x
 live_more (End p ∷ es) s x = refl
 
 -- a lane that took an item
-pub lane_put : {A : Type 0} (n room s : ℕ) (x : A) (l l2 : Waits A) (w : Lane A) → StandsForLane n room l w → l2 ≡ record { capacity = l.capacity; live = l.live; waiting = l.waiting ++ Item s x ∷ [] } → StandsForLane n room l2 (put w (Item s x))
+pub lane_put : {A : Type 0} (n room s : ℕ) (x : A) (l l2 : PlainLane A) (w : Lane A) → StandsForLane n room l w → l2 ≡ record { capacity = l.capacity; live = l.live; waiting = l.waiting ++ Item s x ∷ [] } → StandsForLane n room l2 (put w (Item s x))
 lane_put n room s x l l2 w S e = rw e (record {
   capacity = S.capacity;
   producers = S.producers;
@@ -32,7 +32,7 @@ end_last (Item q x ∷ es) p = end_last es p
 end_last (End q ∷ es) p = refl
 
 -- a lane that took an end
-pub lane_end : {A : Type 0} (n room p : ℕ) (l l2 : Waits A) (w : Lane A) → StandsForLane n room l w → l2 ≡ record { capacity = l.capacity; live = set l.live p false; waiting = l.waiting ++ End p ∷ [] } → StandsForLane n room l2 (put w (End p))
+pub lane_end : {A : Type 0} (n room p : ℕ) (l l2 : PlainLane A) (w : Lane A) → StandsForLane n room l w → l2 ≡ record { capacity = l.capacity; live = set l.live p false; waiting = l.waiting ++ End p ∷ [] } → StandsForLane n room l2 (put w (End p))
 lane_end n room p l l2 w S e = rw e (record {
   capacity = S.capacity;
   producers = length-set l.live p false ∙ S.producers;
@@ -45,7 +45,7 @@ lane_end n room p l l2 w S e = rw e (record {
 })
 
 -- a lane whose first entry was taken
-pub lane_took : {A : Type 0} (n room : ℕ) (e : Entry A) (l l2 : Waits A) (w : Lane A) → StandsForLane n room l w → l ≡ record { capacity = l2.capacity; live = l2.live; waiting = e ∷ l2.waiting } → StandsForLane n room l2 (took w e l2.waiting)
+pub lane_took : {A : Type 0} (n room : ℕ) (e : Entry A) (l l2 : PlainLane A) (w : Lane A) → StandsForLane n room l w → l ≡ record { capacity = l2.capacity; live = l2.live; waiting = e ∷ l2.waiting } → StandsForLane n room l2 (took w e l2.waiting)
 lane_took n room e l l2 w S front = record {
   capacity = sym (ap (λ x. x.capacity) front) ∙ S.capacity;
   producers = sym (ap (λ x. length x.live) front) ∙ S.producers;
@@ -58,7 +58,7 @@ all_live zero p d h = absurd (omega (arith, h))
 all_live (suc n) zero d h = refl
 all_live (suc n) (suc p) d h = all_live n p d (omega (arith, h))
 
-pub lane_new : {A : Type 0} (room producers : ℕ) (l : Waits A) → l ≡ record { capacity = room; live = replicate producers true; waiting = [] } → StandsForLane producers room l empty_lane
+pub lane_new : {A : Type 0} (room producers : ℕ) (l : PlainLane A) → l ≡ record { capacity = room; live = replicate producers true; waiting = [] } → StandsForLane producers room l empty_lane
 lane_new room producers l is = rw is (record {
   capacity = refl;
   producers = length-replicate producers true;
@@ -68,7 +68,7 @@ lane_new room producers l is = rw is (record {
 
 -- ---- as moves
 
-may_still : {A : Type 0} (n room p : ℕ) (l : Waits A) (w : Lane A) → StandsForLane n room l w → MayPutMore l.live p → (p < n) × (has_end (w.sent p) ≡ false)
+may_still : {A : Type 0} (n room p : ℕ) (l : PlainLane A) (w : Lane A) → StandsForLane n room l w → MayPutMore l.live p → (p < n) × (has_end (w.sent p) ≡ false)
 may_still n room p l w S may = (omega (arith, S.producers, within l.live p may), S.live p false (within l.live p may) ∙ ap not may)
   where
     within : (xs : List Bool) (q : ℕ) → get_or xs q false ≡ true → q < length xs
@@ -76,17 +76,17 @@ may_still n room p l w S may = (omega (arith, S.producers, within l.live p may),
     within (x ∷ xs) zero h = omega arith
     within (x ∷ xs) (suc q) h = let lt = within xs q h in omega (arith, lt)
 
-pub put_makes : {A : Type 0} (p : ℕ) (x : A) (l l2 : Waits A) → MayPutMore l.live p → length l.waiting < l.capacity → l2 ≡ record { capacity = l.capacity; live = l.live; waiting = l.waiting ++ Item p x ∷ [] } → Makes l (Puts (Item p x)) l2
+pub put_makes : {A : Type 0} (p : ℕ) (x : A) (l l2 : PlainLane A) → MayPutMore l.live p → length l.waiting < l.capacity → l2 ≡ record { capacity = l.capacity; live = l.live; waiting = l.waiting ++ Item p x ∷ [] } → Makes l (Puts (Item p x)) l2
 put_makes p x l l2 may room is n most w S =
     let m = may_still n most p l w S may in
     (put w (Item p x), (m.0, m.1, omega (arith, room, S.capacity, ap length S.waiting), refl), lane_put n most p x l l2 w S is)
 
-pub end_makes : {A : Type 0} (p : ℕ) (l l2 : Waits A) → MayPutMore l.live p → length l.waiting < l.capacity → l2 ≡ record { capacity = l.capacity; live = set l.live p false; waiting = l.waiting ++ End p ∷ [] } → Makes l (Puts (End p)) l2
+pub end_makes : {A : Type 0} (p : ℕ) (l l2 : PlainLane A) → MayPutMore l.live p → length l.waiting < l.capacity → l2 ≡ record { capacity = l.capacity; live = set l.live p false; waiting = l.waiting ++ End p ∷ [] } → Makes l (Puts (End p)) l2
 end_makes p l l2 may room is n most w S =
     let m = may_still n most p l w S may in
     (put w (End p), (m.0, m.1, omega (arith, room, S.capacity, ap length S.waiting), refl), lane_end n most p l l2 w S is)
 
-pub take_makes : {A : Type 0} (t : Taken A) (l l2 : Waits A) → l ≡ record { capacity = l2.capacity; live = l2.live; waiting = before_taking t l2.waiting } → taken_entry t ≢ None → Makes l Takes l2
+pub take_makes : {A : Type 0} (t : Taken A) (l l2 : PlainLane A) → l ≡ record { capacity = l2.capacity; live = l2.live; waiting = before_taking t l2.waiting } → taken_entry t ≢ None → Makes l Takes l2
 take_makes (took_one.Item p x) l l2 is some n most w S = (took w (Item p x) l2.waiting, (Item p x, l2.waiting, sym S.waiting ∙ ap (λ v. v.waiting) is, refl), lane_took n most (Item p x) l l2 w S is)
 take_makes (took_one.End p) l l2 is some n most w S = (took w (End p) l2.waiting, (End p, l2.waiting, sym S.waiting ∙ ap (λ v. v.waiting) is, refl), lane_took n most (End p) l l2 w S is)
 take_makes took_one.Empty l l2 is some n most w S = absurd (some refl)

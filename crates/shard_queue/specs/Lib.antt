@@ -1,6 +1,6 @@
 pub mod At
 pub mod Lane
-pub mod Waits
+pub mod PlainLane
 pub mod Plain
 pub mod Shared
 pub mod Closing

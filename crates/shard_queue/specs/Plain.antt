@@ -5,7 +5,7 @@ use Rattle.shard_queue.specs.declared.lane.Entry.TheVariants as entries
 use Rattle.shard_queue.specs.declared.lane.Taken.{Taken}
 use Rattle.shard_queue.specs.declared.lane.Taken.TheVariants.{Item, End, Empty}
 use Rattle.shard_queue.specs.Lane.{Lane, Move, Moves, has_end}
-use Rattle.shard_queue.specs.Waits.{Waits}
+use Rattle.shard_queue.specs.PlainLane.{PlainLane}
 
 -- p is a producer that has not ended
 abbrev pub MayPutMore : List Bool → ℕ → Type 0
@@ -31,12 +31,12 @@ starts_with_item (entries.End p ∷ es) = false
 
 -- A lane on one thread, of so many producers and with so much room, stands for a lane by its history: the same waits, and those may put more that
 -- have not sent their end.
-pub record StandsForLane {A : Type 0} (count room : ℕ) (l : Waits A) (w : Lane A) : Type 0 where
+pub record StandsForLane {A : Type 0} (count room : ℕ) (l : PlainLane A) (w : Lane A) : Type 0 where
   pub capacity : l.capacity ≡ room
   pub producers : length l.live ≡ count
   pub waiting : l.waiting ≡ w.waiting
   pub live : (p : ℕ) (d : Bool) → p < length l.live → has_end (w.sent p) ≡ not (slice_index_or l.live p d)
 
 -- Each lane for which the old one stood is led by this move, which is legal there, to one for which the new one stands.
-abbrev pub Makes : {A : Type 0} → Waits A → Move A → Waits A → Type 0
+abbrev pub Makes : {A : Type 0} → PlainLane A → Move A → PlainLane A → Type 0
 Makes {A} old move new = (count room : ℕ) (w : Lane A) → StandsForLane count room old w → (v : Lane A) × Moves count room w move v × StandsForLane count room new v

@@ -24,9 +24,9 @@ pub struct PlainLane<T> {
 impl<T> Model for PlainLane<T> {
     ghost use Rattle.std.specs.Prelude.{◌≤◌};
     ghost use Rattle.std.specs.VecDeque.{deque_len, deque_capacity};
-    ghost use Rattle.shard_queue.specs.Waits.{Waits};
+    ghost use Rattle.shard_queue.specs.PlainLane.{PlainLane};
 
-    ghost Value = { Waits T };
+    ghost Value = { PlainLane T };
 
     ghost view = { λ l. record { capacity = l.capacity; live = l.live.items; waiting = l.entries.items } };
 

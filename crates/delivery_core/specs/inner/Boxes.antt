@@ -7,7 +7,7 @@ use Rattle.delivery_token.specs.declared.Refusal.{Refusal}
 use Rattle.delivery_token.specs.declared.Refusal.TheVariants.{MailboxFull, NoMemory, UidSpent}
 use Rattle.change_ring.specs.Log.{rows_of}
 use Rattle.change_ring.specs.Logged.{arrival}
-use Rattle.mailbox.specs.Mail.{Mail}
+use Rattle.mailbox.specs.Mailbox.{Mailbox}
 use Rattle.mailbox.specs.declared.mailbox.Receipt.{Receipt}
 use Rattle.world.specs.World.{Config, Box, HasUid, IsSpent, is_full, Logs, next_uid}
 use Rattle.delivery_core.specs.Stands.{StandsForBox}
@@ -18,7 +18,7 @@ verdict_of (Ok receipt) = Stored receipt.uid
 verdict_of (Err why) = Refused why
 
 -- From this box a mailbox took the copy, or refused it, and stands for the box that the world allows.
-pub data BoxDelivers (k : Config) (w : Box) (c : Job) (verdict : Verdict) (new : Mail) : Type 0 where
+pub data BoxDelivers (k : Config) (w : Box) (c : Job) (verdict : Verdict) (new : Mailbox) : Type 0 where
   stores : (u : Box) → HasUid k c.flags w → length (rows_of w.log) < k.messages
       → Logs k w (arrival (next_uid k w) c.flags) ((c, next_uid k w) ∷ []) u → verdict ≡ Stored (next_uid k w) → StandsForBox k new u → BoxDelivers k w c verdict new
   has_no_uid : IsSpent k c.flags w → verdict ≡ Refused UidSpent → StandsForBox k new w → BoxDelivers k w c verdict new

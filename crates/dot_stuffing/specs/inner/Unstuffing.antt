@@ -5,7 +5,7 @@ use Rattle.dot_stuffing.specs.declared.place.Place.{Place}
 use Rattle.dot_stuffing.specs.declared.place.Place.TheVariants.{Start, Inside, Cr}
 use Rattle.dot_stuffing.specs.declared.place.Next.{Next}
 use Rattle.dot_stuffing.specs.declared.place.Next.TheVariants.{Silent, Adds, AddsBoth, Ends}
-use Rattle.dot_stuffing.specs.Unstuffing.{text_so_far, IsOpenAt, Collected}
+use Rattle.dot_stuffing.specs.Unstuffing.{text_so_far, IsOpenAt, Collector}
 
 -- the place after a byte of the text
 abbrev pub after : ℕ → Place
@@ -24,7 +24,7 @@ Leads place byte (AddsBoth next) wire =
 Leads place byte Ends wire = Plain (wire ++ byte ∷ []) (text_so_far place wire)
 
 -- the same but for NULs: as many bytes came, and these are kept
-pub record Keeps (c : Collected) (text : List ℕ) : Type 0 where
+pub record Keeps (c : Collector) (text : List ℕ) : Type 0 where
   pub big : c.is_big ≡ true → c.max < length text
   pub not_big : c.is_big ≡ false → (c.count ≡ length text) × (length text ≤ c.max)
   pub bytes : c.is_big ≡ false → c.no_memory ≡ false → c.bytes ≡ text

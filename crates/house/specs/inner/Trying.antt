@@ -10,7 +10,7 @@ use Rattle.house.specs.Scene.{HasNothing, Scene}
 use Rattle.house.specs.Settling.{InTurn, Tries, Visit, Visits, ends_on}
 use Rattle.house.specs.Settled.{HappenedFrom}
 use Rattle.house.specs.Stands.{StandsFor}
-use Rattle.house.specs.State.{State}
+use Rattle.house.specs.House.{House}
 
 -- what the house does by itself in a round: not what a peer or an operator does, and no turn of a session that idles
 abbrev pub IsOwn : Event → Type 0
@@ -71,7 +71,7 @@ serve shard true = []
 serve shard false = (Take shard ∷ Deliver shard ∷ Answer shard ∷ []) ∷ []
 
 -- some way leads from the scene to one for which the house stands, and what was appended is what it prints
-pub record Went (P : Setup → Scene → Scene → List ℕ → Type 0) (k : Setup) (s : Scene) (h : State) (old new : List ℕ) : Type 0 where
+pub record Went (P : Setup → Scene → Scene → List ℕ → Type 0) (k : Setup) (s : Scene) (h : House) (old new : List ℕ) : Type 0 where
   pub after : Scene
   pub printed : List ℕ
   pub goes : P k s after printed
@@ -79,48 +79,48 @@ pub record Went (P : Setup → Scene → Scene → List ℕ → Type 0) (k : Set
   pub out : new ≡ old ++ printed
 
 -- the same for each scene for which the house stood
-abbrev pub Goes : (Setup → Type 0) → (Setup → Scene → Scene → List ℕ → Type 0) → State → List ℕ → State → List ℕ → Type 0
+abbrev pub Goes : (Setup → Type 0) → (Setup → Scene → Scene → List ℕ → Type 0) → House → List ℕ → House → List ℕ → Type 0
 Goes Q P before old h new = (k : Setup) (s : Scene) → Q k → StandsFor k before s → Went P k s h old new
 
 -- something happened, and less is left to do
-pub record Moved (Q : Setup → Type 0) (P : Setup → Scene → Scene → List ℕ → Type 0) (before : State) (old : List ℕ) (h : State) (new : List ℕ) : Type 0 where
+pub record Moved (Q : Setup → Type 0) (P : Setup → Scene → Scene → List ℕ → Type 0) (before : House) (old : List ℕ) (h : House) (new : List ℕ) : Type 0 where
   pub went : (k : Setup) (s : Scene) → Q k → StandsFor k before s → Went P k s h old new
   pub less : effort h < effort before
 
 -- nothing was there to do
-pub record Rests (Q : Setup → Type 0) (I : Setup → Scene → Type 0) (before : State) (old : List ℕ) (h : State) (new : List ℕ) : Type 0 where
+pub record Rests (Q : Setup → Type 0) (I : Setup → Scene → Type 0) (before : House) (old : List ℕ) (h : House) (new : List ℕ) : Type 0 where
   pub same : h ≡ before
   pub silent : new ≡ old
   pub changes_nothing : (k : Setup) (s : Scene) → Q k → StandsFor k before s → I k s
 
 -- memory was wanting: what happened by then stands
-pub record Wants (Q : Setup → Type 0) (before : State) (old : List ℕ) (h : State) (new : List ℕ) : Type 0 where
+pub record Wants (Q : Setup → Type 0) (before : House) (old : List ℕ) (h : House) (new : List ℕ) : Type 0 where
   pub happened : (k : Setup) (s : Scene) → Q k → StandsFor k before s → HappenedFrom k s h old new
 
 -- what came of trying: whether something happened
-abbrev pub Did : (Setup → Type 0) → (Setup → Scene → Scene → List ℕ → Type 0) → (Setup → Scene → Type 0) → State → List ℕ → State → List ℕ → Bool → Type 0
+abbrev pub Did : (Setup → Type 0) → (Setup → Scene → Scene → List ℕ → Type 0) → (Setup → Scene → Type 0) → House → List ℕ → House → List ℕ → Bool → Type 0
 Did Q P I before old h new true = Moved Q P before old h new
 Did Q P I before old h new false = Rests Q I before old h new
 
-abbrev pub Came : {E : Type 0} → (Setup → Type 0) → (Setup → Scene → Scene → List ℕ → Type 0) → (Setup → Scene → Type 0) → State → List ℕ → State → List ℕ → Result Bool E → Type 0
+abbrev pub Came : {E : Type 0} → (Setup → Type 0) → (Setup → Scene → Scene → List ℕ → Type 0) → (Setup → Scene → Type 0) → House → List ℕ → House → List ℕ → Result Bool E → Type 0
 Came Q P I before old h new (Ok moved) = Did Q P I before old h new moved
 Came Q P I before old h new (Err e) = Wants Q before old h new
 
 -- what came of trying an event, some events in turn, and a visit
-abbrev pub CameOne : {E : Type 0} → Event → State → List ℕ → State → List ℕ → Result Bool E → Type 0
+abbrev pub CameOne : {E : Type 0} → Event → House → List ℕ → House → List ℕ → Result Bool E → Type 0
 CameOne event before old h new r = Came (λ k. IsAmong k event) (λ k s t printed. Tries k s event t printed) (λ k s. HasNothing k s event) before old h new r
 
-abbrev pub CameInTurn : {E : Type 0} → List Event → State → List ℕ → State → List ℕ → Result Bool E → Type 0
+abbrev pub CameInTurn : {E : Type 0} → List Event → House → List ℕ → House → List ℕ → Result Bool E → Type 0
 CameInTurn group before old h new r = Came (λ k. All (IsAmong k) group) (λ k s t printed. InTurn k group s t printed) (λ k s. All (HasNothing k s) group) before old h new r
 
-abbrev pub CameVisit : {E : Type 0} → List Event → State → List ℕ → State → List ℕ → Result Bool E → Type 0
+abbrev pub CameVisit : {E : Type 0} → List Event → House → List ℕ → House → List ℕ → Result Bool E → Type 0
 CameVisit group before old h new r = Came (λ k. All (IsAmong k) group) (λ k s t printed. Visit k group s t printed) (λ k s. All (HasNothing k s) group) before old h new r
 
 -- what came of visits one after another
-abbrev pub DidVisits : (Setup → Type 0) → (Setup → List (List Event)) → State → List ℕ → State → List ℕ → Bool → Type 0
+abbrev pub DidVisits : (Setup → Type 0) → (Setup → List (List Event)) → House → List ℕ → House → List ℕ → Bool → Type 0
 DidVisits Q groups before old h new moved =
     Did Q (λ k s t printed. Visits k (groups k) s t printed) (λ k s. All (λ group. All (HasNothing k s) group) (groups k)) before old h new moved
 
-abbrev pub CameVisits : {E : Type 0} → (Setup → Type 0) → (Setup → List (List Event)) → State → List ℕ → State → List ℕ → Result Bool E → Type 0
+abbrev pub CameVisits : {E : Type 0} → (Setup → Type 0) → (Setup → List (List Event)) → House → List ℕ → House → List ℕ → Result Bool E → Type 0
 CameVisits Q groups before old h new (Ok moved) = DidVisits Q groups before old h new moved
 CameVisits Q groups before old h new (Err e) = Wants Q before old h new

@@ -4,11 +4,11 @@ use Rattle.delivery_token.specs.declared.CopyKey.{CopyKey}
 use Rattle.delivery_token.specs.declared.Verdict.{Verdict}
 use Rattle.delivery_token.specs.declared.log.Noted.{Noted}
 use Rattle.lmtp_machine.specs.Dialogue as dialogue
-use Rattle.house_connection.specs.Line.{Line}
-use Rattle.house_connection.specs.HouseConnection.{HouseConnection, IsAnswered, Terms, meets}
+use Rattle.house_connection.specs.HouseConnection.{HouseConnection}
+use Rattle.house_connection.specs.Caller.{Caller, IsAnswered, Terms, meets}
 use Rattle.house_connection.specs.ConnectionStands.{StandsForConnection}
 
 -- the verdicts were said, and nothing is awaited any more
-pub record SaidVerdicts (k : Terms) (seat : ℕ) (next : CopyKey) (heard : List Noted) (b : HouseConnection) (verdicts : List Verdict) (h : Line) : Type 0 where
+pub record SaidVerdicts (k : Terms) (seat : ℕ) (next : CopyKey) (heard : List Noted) (b : Caller) (verdicts : List Verdict) (h : HouseConnection) : Type 0 where
   pub answered : IsAnswered heard b verdicts
   pub stands : StandsForConnection k seat next heard h (meets k seat b (dialogue.Answered verdicts))

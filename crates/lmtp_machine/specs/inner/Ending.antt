@@ -9,7 +9,7 @@ use Rattle.lmtp_machine.specs.declared.connection.What.TheVariants.{More, Quit}
 use Rattle.lmtp_machine.specs.Replies.{wire}
 use Rattle.lmtp_machine.specs.Standing.{standing_of}
 use Rattle.lmtp_machine.specs.Dialogue.{Turn}
-use Rattle.lmtp_machine.specs.Machine.{Machine}
+use Rattle.lmtp_machine.specs.LmtpMachine.{LmtpMachine}
 use Rattle.lmtp_machine.specs.Calls.{Tells}
 
 -- what a command line came to, by where the connection is after it
@@ -32,7 +32,7 @@ IsBetween stages.Waiting = Unit {0}
 IsBetween stages.Ended = ⊥
 
 -- The turn was done: the connection stands where it leads, and said and submitted what it says.
-pub record Does (before : Machine) (turn : Turn) (after : Machine) (what : What) (old new : List ℕ) : Type 0 where
+pub record Does (before : LmtpMachine) (turn : Turn) (after : LmtpMachine) (what : What) (old new : List ℕ) : Type 0 where
   pub cutter : after.cutter ≡ before.cutter
   pub unstuffer : after.unstuffer ≡ before.unstuffer
   pub stage : IsBetween after.commands.stage

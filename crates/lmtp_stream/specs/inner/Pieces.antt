@@ -7,7 +7,7 @@ use Rattle.envelope.specs.Directory.{Directory}
 use Rattle.lmtp_machine.specs.declared.reply.Reply.{Reply}
 use Rattle.lmtp_machine.specs.Conversation.{Conversation}
 use Rattle.lmtp_machine.specs.Dialogue.{Setting}
-use Rattle.lmtp_machine.specs.Machine.{Machine}
+use Rattle.lmtp_machine.specs.LmtpMachine.{LmtpMachine}
 use Rattle.lmtp_machine.specs.Replies.{wire}
 use Rattle.shard_queue.specs.declared.lane.Entry.{Entry}
 use Rattle.lane_work.specs.Talk.{Judged, HasTaken}
@@ -18,7 +18,7 @@ use Rattle.lmtp_stream.specs.declared.piece.Next.{Next}
 use Rattle.lmtp_stream.specs.declared.piece.Next.TheVariants as nexts
 
 -- Of this piece, behind the bytes that came before it, the connection has taken the front: all of it, where the next bytes may be read and the dialogue hasn't ended.
-pub record TookPiece (directory : Directory) (rooms : List Room) (seat : ℕ) (done : List Judged) (bytes piece : List ℕ) (next : Next) (m : Machine) (out : List ℕ) (keeps : List (Job × Verdict) → Type 0) (heard : List (Entry Noted)) (sent : List (List (Entry Job))) : Type 0 where
+pub record TookPiece (directory : Directory) (rooms : List Room) (seat : ℕ) (done : List Judged) (bytes piece : List ℕ) (next : Next) (m : LmtpMachine) (out : List ℕ) (keeps : List (Job × Verdict) → Type 0) (heard : List (Entry Noted)) (sent : List (List (Entry Job))) : Type 0 where
   pub taken : List ℕ
   pub left : List ℕ
   pub over : Bool

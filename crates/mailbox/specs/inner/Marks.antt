@@ -4,7 +4,7 @@ use Rattle.change_ring.specs.declared.change.Change.{Change}
 use Rattle.change_ring.specs.declared.change.Change.TheVariants.{Gone}
 use Rattle.change_ring.specs.Log.{without}
 use Rattle.mailbox.specs.inner.Letters.{without_message}
-use Rattle.mailbox.specs.Mail.{Message, uids_of}
+use Rattle.mailbox.specs.Mailbox.{Message, uids_of}
 use Rattle.mailbox.specs.declared.messages.Messages.TheInside.{Inside}
 
 -- the UIDs of those with \Deleted

@@ -2,7 +2,7 @@
 use Rattle.std.specs.Prelude.{◌≡◌, ℕ, ◌⊎◌, Bool, true, List, Option, Some, None, Result, Ok, Err, OnOk, take}
 use Rattle.std.specs.Io.KnownBytes.{Appends}
 use Rattle.house.specs.Settings.{config_fault, setup_of}
-use Rattle.house.specs.State.{State}
+use Rattle.house.specs.House.{House}
 use Rattle.house.specs.declared.config.Config.{Config}
 use Rattle.house.specs.declared.config.ConfigFault.{ConfigFault}
 use Rattle.post_house.specs.Asking.{IsAskedInRange}
@@ -23,15 +23,15 @@ use Rattle.serving.specs.declared.fault.ServeFault.TheVariants as serve_faults
 -- The input failed: what some of the first lines print was written. Or the output failed: not all of that.
 abbrev pub StoppedByDevice : Config → List ScriptLine → (failed : Bool) → (old new : Option (List ℕ)) → Type 0
 StoppedByDevice config lines failed old new =
-    ((h : State) × WritesBeginning (setup_of config) lines (IsLeft (setup_of config) h) old new)
-    ⊎ ((h : State) × (sent : ℕ) × WritesFirst (setup_of config) lines sent h old new × (failed ≡ true))
+    ((h : House) × WritesBeginning (setup_of config) lines (IsLeft (setup_of config) h) old new)
+    ⊎ ((h : House) × (sent : ℕ) × WritesFirst (setup_of config) lines sent h old new × (failed ≡ true))
 
 -- What was written of these lines with these settings, by how it went. `failed` says that the output failed.
 abbrev pub Played : Config → List ScriptLine → (failed : Bool) → Result (Unit {0}) Failure → (old new : Option (List ℕ)) → Type 0
-Played config lines failed (Ok done) old new = (h : State) × Writes (setup_of config) lines h old new
+Played config lines failed (Ok done) old new = (h : House) × Writes (setup_of config) lines h old new
 Played config lines failed (Err (failures.Config fault)) old new = new ≡ old
 Played config lines failed (Err failures.Device) old new = StoppedByDevice config lines failed old new
-Played config lines failed (Err failures.NoMemory) old new = (new ≡ old) ⊎ ((h : State) × WritesBeginning (setup_of config) lines (IsLeftWanting (setup_of config) h) old new)
+Played config lines failed (Err failures.NoMemory) old new = (new ≡ old) ⊎ ((h : House) × WritesBeginning (setup_of config) lines (IsLeftWanting (setup_of config) h) old new)
 Played config lines failed (Err failures.Torn) old new = ⊥
 
 -- These bytes were played as a script with these settings, and ended with this status; what was written delivers exactly once.

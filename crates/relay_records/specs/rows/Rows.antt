@@ -6,7 +6,7 @@ use Rattle.delivery_token.specs.declared.Verdict.TheVariants.{Stored}
 use Rattle.house.specs.Scene.{Scene, empty_scene}
 use Rattle.house.specs.Setup.{Setup, terms_of}
 use Rattle.house.specs.declared.event.Event.TheVariants.{Bytes, Hear, Put, Vanish}
-use Rattle.house_connection.specs.HouseConnection.{greeted}
+use Rattle.house_connection.specs.Caller.{greeted}
 use Rattle.lmtp_machine.specs.declared.reply.Reply.TheVariants.{Delivered, Extensions, Greeting, Okay}
 use Rattle.relay_replies.specs.Fates.{Awaited, TurnedAway}
 use Rattle.relay_replies.specs.rows.HandedRows.{home, the_submission}

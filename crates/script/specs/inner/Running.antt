@@ -1,7 +1,7 @@
 -- What the parts of a run promise: of one line, and of one turn of the run.
 use Rattle.std.specs.Prelude.{◌≡◌, ℕ, ◌<◌, ◌≤◌, ◌⊎◌, Bool, List, [], ◌∷◌, ◌++◌, codes, length, slice_set, take, Option, Some, None, Result, Ok, Err}
 use Rattle.std.specs.Io.KnownBytes.{Appends}
-use Rattle.house.specs.State.{State}
+use Rattle.house.specs.House.{House}
 use Rattle.house.specs.Setup.{Setup}
 use Rattle.house.specs.Scene.{Scene}
 use Rattle.script.specs.Script.{LineDoes, LinePlays, Script, ScriptLine, held_after, none_held, refusal, script_of}
@@ -11,7 +11,7 @@ use Rattle.script.specs.declared.run.TurnFault.{TurnFault}
 use Rattle.script.specs.declared.run.TurnFault.TheVariants as faults
 
 -- the line was done, the house stands for what it leads to, and this was printed
-pub record LineDone (k : Setup) (number : ℕ) (line : ScriptLine) (s : Scene) (h : State) (old new : List ℕ) : Type 0 where
+pub record LineDone (k : Setup) (number : ℕ) (line : ScriptLine) (s : Scene) (h : House) (old new : List ℕ) : Type 0 where
   pub after : Scene
   pub printed : List ℕ
   pub does : LineDoes k number s after printed line
@@ -19,7 +19,7 @@ pub record LineDone (k : Setup) (number : ℕ) (line : ScriptLine) (s : Scene) (
   pub out : new ≡ old ++ printed
 
 -- and then the house settled
-pub record LinePlayed (k : Setup) (number : ℕ) (held : List Bool) (line : ScriptLine) (s : Scene) (h : State) (old new : List ℕ) : Type 0 where
+pub record LinePlayed (k : Setup) (number : ℕ) (held : List Bool) (line : ScriptLine) (s : Scene) (h : House) (old new : List ℕ) : Type 0 where
   pub after : Scene
   pub printed : List ℕ
   pub plays : LinePlays k number held line s after printed
@@ -27,7 +27,7 @@ pub record LinePlayed (k : Setup) (number : ℕ) (held : List Bool) (line : Scri
   pub out : new ≡ old ++ printed
 
 -- A turn: the first line of the input was read and played, and what it printed was written.
-pub record LineWritten (k : Setup) (number : ℕ) (held : List Bool) (s : Scene) (input : List ℕ) (h : State) (holds : List Bool) (left old new : Option (List ℕ)) (sent : ℕ) : Type 0 where
+pub record LineWritten (k : Setup) (number : ℕ) (held : List Bool) (s : Scene) (input : List ℕ) (h : House) (holds : List Bool) (left old new : Option (List ℕ)) (sent : ℕ) : Type 0 where
   pub line : ScriptLine
   pub rest : List ℕ
   pub remaining : left ≡ Some rest
@@ -41,7 +41,7 @@ pub record LineWritten (k : Setup) (number : ℕ) (held : List Bool) (s : Scene)
   pub count : sent ≡ length printed
 
 -- of what it printed only the first bytes were written
-pub record LineCut (k : Setup) (number : ℕ) (held : List Bool) (s : Scene) (input : List ℕ) (h : State) (old new : Option (List ℕ)) (sent : ℕ) : Type 0 where
+pub record LineCut (k : Setup) (number : ℕ) (held : List Bool) (s : Scene) (input : List ℕ) (h : House) (old new : Option (List ℕ)) (sent : ℕ) : Type 0 where
   pub line : ScriptLine
   pub others : List ScriptLine
   pub first : script_of input ≡ line ∷ others
@@ -53,23 +53,23 @@ pub record LineCut (k : Setup) (number : ℕ) (held : List Bool) (s : Scene) (in
   pub out : Appends old new (take sent printed)
 
 -- the input was at its end, nothing was written, and the house stands for the scene that it stood for
-pub record IsOver (k : Setup) (s : Scene) (input : List ℕ) (h : State) (old new : Option (List ℕ)) : Type 0 where
+pub record IsOver (k : Setup) (s : Scene) (input : List ℕ) (h : House) (old new : Option (List ℕ)) : Type 0 where
   pub ended : input ≡ []
   pub stands : StandsFor k h s
   pub silent : new ≡ old
 
 -- the reader failed, and nothing was done or written
-pub record IsUnread (k : Setup) (s : Scene) (h : State) (old new : Option (List ℕ)) : Type 0 where
+pub record IsUnread (k : Setup) (s : Scene) (h : House) (old new : Option (List ℕ)) : Type 0 where
   pub stands : StandsFor k h s
   pub silent : new ≡ old
 
 -- memory was wanting, and nothing was written
-pub record IsUnwritten (k : Setup) (number : ℕ) (s : Scene) (input : List ℕ) (h : State) (old new : Option (List ℕ)) : Type 0 where
+pub record IsUnwritten (k : Setup) (number : ℕ) (s : Scene) (input : List ℕ) (h : House) (old new : Option (List ℕ)) : Type 0 where
   pub left : IsLeftWanting k h number (script_of input) s
   pub silent : new ≡ old
 
 -- what a turn says by its answer
-abbrev pub TurnTells : Setup → ℕ → (held : List Bool) → Scene → List ℕ → State → (holds : List Bool) → (left old new : Option (List ℕ)) → Result (Option ℕ) TurnFault → Type 0
+abbrev pub TurnTells : Setup → ℕ → (held : List Bool) → Scene → List ℕ → House → (holds : List Bool) → (left old new : Option (List ℕ)) → Result (Option ℕ) TurnFault → Type 0
 TurnTells k number held s input h holds left old new (Ok None) = IsOver k s input h old new
 TurnTells k number held s input h holds left old new (Ok (Some sent)) = LineWritten k number held s input h holds left old new sent
 TurnTells k number held s input h holds left old new (Err (faults.Write sent)) = LineCut k number held s input h old new sent
@@ -82,7 +82,7 @@ held_by held [] = held
 held_by held (line ∷ lines) = held_by (held_after held line) lines
 
 -- The run so far: of the script these lines were played, and what they printed was written.
-pub record HasRun (k : Setup) (input : List ℕ) (count : ℕ) (h : State) (holds : List Bool) (left old new : Option (List ℕ)) (sent : ℕ) (start : Scene) : Type 0 where
+pub record HasRun (k : Setup) (input : List ℕ) (count : ℕ) (h : House) (holds : List Bool) (left old new : Option (List ℕ)) (sent : ℕ) (start : Scene) : Type 0 where
   pub lines : List ScriptLine
   pub rest : List ℕ
   pub remaining : left ≡ Some rest

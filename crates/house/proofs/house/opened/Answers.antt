@@ -1,11 +1,11 @@
 use Rattle.std.proofs.Common.{sym, subst}
-use Rattle.house_connection.specs.Line.{Line}
+use Rattle.house_connection.specs.HouseConnection.{HouseConnection}
 use Rattle.house_connection.specs.ConnectionStands.{StandsForConnection}
-use Rattle.house_connection.specs.HouseConnection.{greeted, more_waits}
+use Rattle.house_connection.specs.Caller.{greeted, more_waits}
 use Rattle.house_connection.proofs.Arrivals.{more_stands}
 use Rattle.house.proofs.house.opened.Goals as goal
 
 pub returns : goal.returns
 returns c k next heard host most a =
-    subst (λ (h : Line). StandsForConnection k c.args.seat next heard h (more_waits (greeted k c.args.seat c.args.serial) c.args.piece.now)) (sym c.in-Ok-append.ensures.ok)
+    subst (λ (h : HouseConnection). StandsForConnection k c.args.seat next heard h (more_waits (greeted k c.args.seat c.args.serial) c.args.piece.now)) (sym c.in-Ok-append.ensures.ok)
     (more_stands k c.args.seat next heard c.in-Ok.caller (greeted k c.args.seat c.args.serial) c.args.piece.now (c.in-Ok.ensures k next heard host most a))

@@ -2,7 +2,7 @@ use Rattle.std.proofs.Common.{◌≡◌, ◌∙◌, ◌+◌, ap, subst, take, re
 use Rattle.lmtp_machine.specs.Calls.{Awaits, Tells}
 use Rattle.lmtp_machine.specs.inner.Calls.{Taken}
 use Rattle.lmtp_machine.specs.Dialogue.{Phase, Start, Ready, Transaction, Data, Waiting, Ended, turn}
-use Rattle.lmtp_machine.specs.Machine.{StandsFor}
+use Rattle.lmtp_machine.specs.LmtpMachine.{StandsFor}
 use Rattle.lmtp_machine.specs.declared.connection.What.{What}
 use Rattle.lmtp_machine.specs.declared.connection.What.TheVariants.{More, Quit}
 use Rattle.lmtp_machine.proofs.Calls.{nothing_taken, taken_more, the_rest}

@@ -2,7 +2,7 @@ use Rattle.std.proofs.Common.{◌≡◌, ◌-◌, ◌≤◌, take, length, []}
 use Rattle.lmtp_machine.specs.Conversation.{Conversation}
 use Rattle.lmtp_machine.specs.declared.connection.What.{What}
 use Rattle.lmtp_machine.specs.inner.Calls.{Taken}
-use Rattle.lmtp_machine.specs.Machine.{StandsFor}
+use Rattle.lmtp_machine.specs.LmtpMachine.{StandsFor}
 use Rattle.house_connection.specs.ConnectionStands.{IsAwaited}
 use Rattle.house_connection.proofs.connection.take_all.Given as goal
 

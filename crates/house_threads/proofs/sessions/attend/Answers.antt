@@ -1,6 +1,6 @@
 use Rattle.std.proofs.Common.{rules, ◌≡◌, ◌∙◌, ℕ, List, [], ◌∷◌, Vec, ap, sym, subst, map}
 use Rattle.std.specs.Global.{Global}
-use Rattle.delivery_token.specs.Book.{Book}
+use Rattle.delivery_token.specs.WorkerLog.{WorkerLog}
 use Rattle.lane_work.specs.Copies.{rooms_of}
 use Rattle.lane_work.specs.Seats.{AreEnded}
 use Rattle.lane_work.proofs.ServedLaws.{books_begin}
@@ -24,12 +24,12 @@ returns g c =
     let begun = books_begin directory (rooms_of office.lanes.items) seat c.new.result.notes (received c.args.post.desk.receiver) c.args.post.desk.seats.items c.new.ensures.notes c.requires.post.fresh in (
       subst (λ (n : ℕ). AreEnded office.lanes.items n left.ended.items) own end.ended,
       end.receiver,
-      ap (λ (b : Book). b.seat) end.kept.0 ∙ life.book ∙ c.new.ensures.seat,
+      ap (λ (b : WorkerLog). b.seat) end.kept.0 ∙ life.book ∙ c.new.ensures.seat,
       λ whole.
           let lived = life.whole (end.whole whole) in
           let named = user_named directory.homes c.in-Some.inbox c.args.visit.now.user c.user_of-user.result.now (search rules) c.in-Some.ensures.inbox.1 c.user_of-user.ensures in
           let said_alone = ap (λ (v : Vec (Vec ℕ Global) Global). map (λ b. b.items) v.items) end.kept.1 ∙ lived.2.2 in
           session_account floor now.office.now now.desk seat now.serial c.args.visit.now c.user_of-user.result.now c.new-locked.result lived.0 lived.2.0 (map (λ b. b.items) left.replies.items) now.book.notes left.log.notes
-          (received left.receiver) (map said left.ended.items) life.same.0 own life.serial (ap (λ (b : Book). b.notes) end.kept.0) named (search rules) lived.2.1 said_alone
+          (received left.receiver) (map said left.ended.items) life.same.0 own life.serial (ap (λ (b : WorkerLog). b.notes) end.kept.0) named (search rules) lived.2.1 said_alone
           (lived.1 [] begun) end.grew end.said,
     )

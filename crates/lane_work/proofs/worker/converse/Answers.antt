@@ -4,7 +4,7 @@ use Rattle.lmtp_machine.specs.Calls.{Happens}
 use Rattle.lmtp_machine.specs.Conversation.{Conversation}
 use Rattle.lmtp_machine.specs.Dialogue as on
 use Rattle.lmtp_machine.specs.Dialogue.{Setting}
-use Rattle.lmtp_machine.specs.Machine.{StandsFor}
+use Rattle.lmtp_machine.specs.LmtpMachine.{StandsFor}
 use Rattle.shard_queue.specs.Reply.{received}
 use Rattle.lane_work.specs.Seats.{put_by}
 use Rattle.lane_work.specs.Copies.{rooms_of}

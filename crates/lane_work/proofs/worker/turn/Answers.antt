@@ -10,7 +10,7 @@ use Rattle.envelope.specs.Directory.{Directory}
 use Rattle.lmtp_machine.specs.Calls.{Happens}
 use Rattle.lmtp_machine.specs.Conversation.{Conversation}
 use Rattle.lmtp_machine.specs.Dialogue as on
-use Rattle.lmtp_machine.specs.Machine.{StandsFor}
+use Rattle.lmtp_machine.specs.LmtpMachine.{StandsFor}
 use Rattle.lane_work.specs.Copies.{rooms_of}
 use Rattle.lane_work.proofs.ClosedLaws.{open_to}
 use Rattle.lane_work.proofs.TalkLaws.{stands_on, stands_judged, follows_behind, happens_behind}

@@ -1,6 +1,6 @@
 use Rattle.std.proofs.Common.{◌∙◌, ap, sym, subst, map, ℕ, Vec}
 use Rattle.std.specs.Global.{Global}
-use Rattle.delivery_token.specs.Book.{Book}
+use Rattle.delivery_token.specs.WorkerLog.{WorkerLog}
 use Rattle.shard_queue.specs.Reply.{received}
 use Rattle.shard_queue.specs.Seats.{said}
 use Rattle.lane_work.specs.Seats.{put_by}
@@ -25,10 +25,10 @@ returns-clause-worked g c =
     let after = map said c.finish.result.ended.items in (
       subst (λ n. AreEnded c.args.office.now.lanes.items n c.finish.result.ended.items) number f.ended,
       f.receiver,
-      ap (λ (l : Book). l.seat) f.kept.0 ∙ c.go_through-fate.ensures.seat ∙ c.new-log.ensures.seat,
+      ap (λ (l : WorkerLog). l.seat) f.kept.0 ∙ c.go_through-fate.ensures.seat ∙ c.new-log.ensures.seat,
       λ whole.
           let account = account_of (premises_of c.args.office.now) c.args.desk.number (map (λ b. b.items) c.args.connections.now) (map (λ b. b.items) c.go_through-fate.new.replies.items)
           c.go_through-fate.new.log.notes (received c.go_through-fate.new.desk.receiver) (received c.finish.result.receiver) before after f.grew (subst (λ n. HaveEnded n before after) number f.said) (c.go_through-fate.ensures.whole (f.whole whole)) in
-          subst (λ (l : Book). Account (premises_of c.args.office.now) c.args.desk.number (map (λ b. b.items) c.args.connections.now) (map (λ b. b.items) c.finish.result.replies.items) l.notes (received c.finish.result.receiver) after) (sym f.kept.0)
+          subst (λ (l : WorkerLog). Account (premises_of c.args.office.now) c.args.desk.number (map (λ b. b.items) c.args.connections.now) (map (λ b. b.items) c.finish.result.replies.items) l.notes (received c.finish.result.receiver) after) (sym f.kept.0)
           (subst (λ (r : Vec (Vec ℕ Global) Global). Account (premises_of c.args.office.now) c.args.desk.number (map (λ b. b.items) c.args.connections.now) (map (λ b. b.items) r.items) c.go_through-fate.new.log.notes (received c.finish.result.receiver) after) (sym f.kept.1) account),
     )

@@ -1,7 +1,7 @@
 use Rattle.std.proofs.Common.{◌++◌, ◌∷◌, [], ℕ, List, subst, sym}
 use Rattle.std.specs.List.Sorted.{IsStrictlyIncreasing}
 use Rattle.mailbox.specs.inner.Letters.{messages_of}
-use Rattle.mailbox.specs.Mail.{uids_of}
+use Rattle.mailbox.specs.Mailbox.{uids_of}
 use Rattle.mailbox.proofs.LetterLaws.{messages_rise, rising_more}
 use Rattle.mailbox.proofs.letters.make_way.Goals as goal
 

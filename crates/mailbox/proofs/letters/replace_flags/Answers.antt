@@ -3,7 +3,7 @@ use Rattle.std.specs.Prelude.{option_map, is_some}
 use Rattle.change_ring.specs.declared.change.Flags.{Flags}
 use Rattle.mailbox.specs.declared.letters.Letter.{Letter}
 use Rattle.mailbox.specs.inner.Letters.{messages_of, message_of}
-use Rattle.mailbox.specs.Mail.{Message, message_with}
+use Rattle.mailbox.specs.Mailbox.{Message, message_with}
 use Rattle.mailbox.proofs.LetterLaws.{IsAt, at_place, placed, reflagged_none, text_gone}
 use Rattle.mailbox.proofs.letters.replace_flags.Goals as goal
 

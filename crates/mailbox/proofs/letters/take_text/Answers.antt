@@ -2,7 +2,7 @@ use Rattle.std.proofs.Common.{◌≡◌, ◌∙◌, List, Option, None, ap, sym,
 use Rattle.std.specs.Prelude.{option_map, slice_set}
 use Rattle.mailbox.specs.declared.letters.Letter.{Letter}
 use Rattle.mailbox.specs.inner.Letters.{messages_of, message_of, without_message}
-use Rattle.mailbox.specs.Mail.{message_with}
+use Rattle.mailbox.specs.Mailbox.{message_with}
 use Rattle.mailbox.proofs.LetterLaws.{IsAt, at_place, placed, without_none}
 use Rattle.mailbox.proofs.letters.take_text.Goals as goal
 

@@ -1,6 +1,6 @@
 use Rattle.std.proofs.Common.{◌≡◌, ◌+◌, ◌≤◌, ◌++◌, length, drop, vec_len, vec_capacity}
 use Rattle.mailbox.specs.inner.Letters.{messages_of}
-use Rattle.mailbox.specs.Mail.{texts_of}
+use Rattle.mailbox.specs.Mailbox.{texts_of}
 use Rattle.mailbox.proofs.letters.texts_in.Given as goal
 
 -- what is told so far, with what is left to tell, is all

@@ -1,7 +1,7 @@
 use Rattle.std.proofs.Common.{◌∙◌, ◌++◌, ℕ, List, ap, sym, subst}
 use Rattle.std.specs.Prelude.{codes}
 use Rattle.std.proofs.lemmas.Result.{on_ok_weaker}
-use Rattle.house.specs.State.{State}
+use Rattle.house.specs.House.{House}
 use Rattle.house.specs.Stands.{StandsFor}
 use Rattle.script.specs.Script.{Asks, refusal}
 use Rattle.script.proofs.RunLaws.{step_failed, busy_not_wanting, is_busy, is_nobody, not_wanting}
@@ -18,7 +18,7 @@ returns-in-Err-Nobody-clause-done c =
     let same = e.refused (not_wanting c.in-Err-Nobody.field-0 c.in-Err-Nobody.field-0-is) in
     on_ok_weaker c.refuse.result
     (λ printed k s st. asked_nobody k c.args.number s c.args.session c.args.bytes.now c.step.new.self c.args.out.now.items c.refuse.new.out.items
-    (subst (λ (h : State). StandsFor k h s) (sym same.0) st)
+    (subst (λ (h : House). StandsFor k h s) (sym same.0) st)
     (unvisited k c.args.house.now s c.args.session st (e.nobody.0 (is_nobody c.in-Err-Nobody.field-0 c.in-Err-Nobody.field-0-is)))
     (printed ∙ ap (λ (x : List ℕ). x ++ refusal c.args.number (codes "Nobody")) same.1))
     c.refuse.ensures.ok
@@ -29,7 +29,7 @@ returns-in-Err-Busy-clause-done c =
     let same = e.refused (busy_not_wanting c.in-Err-Busy.field-0 c.in-Err-Busy.field-0-is) in
     on_ok_weaker c.refuse-in-Err-Busy.result
     (λ printed k s st. asked_lingering k c.args.number s c.args.session c.args.bytes.now c.step.new.self c.args.out.now.items c.refuse-in-Err-Busy.new.out.items
-    (subst (λ (h : State). StandsFor k h s) (sym same.0) st)
+    (subst (λ (h : House). StandsFor k h s) (sym same.0) st)
     (lingering k c.args.house.now s c.args.session st (e.busy.0 (is_busy c.in-Err-Busy.field-0 c.in-Err-Busy.field-0-is)))
     (printed ∙ ap (λ (x : List ℕ). x ++ refusal c.args.number (codes "Busy")) same.1))
     c.refuse-in-Err-Busy.ensures.ok

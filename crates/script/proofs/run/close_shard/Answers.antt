@@ -3,7 +3,7 @@ use Rattle.std.specs.Prelude.{codes}
 use Rattle.std.specs.Str.Parse.{digits_value}
 use Rattle.std.proofs.lemmas.Result.{on_ok_weaker}
 use Rattle.envelope.specs.Directory.{is_shut}
-use Rattle.house.specs.State.{State}
+use Rattle.house.specs.House.{House}
 use Rattle.house.specs.Stands.{StandsFor}
 use Rattle.script.specs.Script.{Closes, refusal}
 use Rattle.script.specs.inner.Running.{LineDone}
@@ -36,7 +36,7 @@ returns-in-Err-Busy-clause-done c =
     (the_number c.clipped_number-shard.result (digits_value 10 c.args.digits.now) c.args.house.now.directory.shards c.clipped_number-shard.ensures
     (let a = c.if-shard-from.false in let b = c.shards.ensures in let d = c.from.ensures in omega (arith, a, b, d)) (let b = c.shards.ensures in omega (arith, b)))
     (closed_again k c.args.number s c.clipped_number-shard.result c.step.new.self c.args.out.now.items c.refuse-in-Err-Busy.new.out.items
-    (subst (λ (h : State). StandsFor k h s) (sym same.0) st)
-    (subst (λ (h : State). is_shut h.directory c.clipped_number-shard.result ≡ true) (sym same.0) busy.1)
+    (subst (λ (h : House). StandsFor k h s) (sym same.0) st)
+    (subst (λ (h : House). is_shut h.directory c.clipped_number-shard.result ≡ true) (sym same.0) busy.1)
     (printed ∙ ap (λ (x : List ℕ). x ++ refusal c.args.number (codes "Busy")) same.1)))
     c.refuse-in-Err-Busy.ensures.ok

@@ -1,7 +1,7 @@
 use Rattle.std.proofs.Common.{◌∙◌, ◌++◌, ℕ, List, ap, sym, subst}
 use Rattle.std.specs.Prelude.{codes}
 use Rattle.std.proofs.lemmas.Result.{on_ok_weaker}
-use Rattle.house.specs.State.{State}
+use Rattle.house.specs.House.{House}
 use Rattle.house.specs.Stands.{StandsFor}
 use Rattle.script.specs.Script.{Enters, refusal}
 use Rattle.script.proofs.RunLaws.{step_failed, busy_not_wanting, is_busy, is_nobody, not_wanting}
@@ -18,7 +18,7 @@ returns-in-Err-Nobody-clause-done c =
     let same = e.refused (not_wanting c.in-Err-Nobody.field-0 c.in-Err-Nobody.field-0-is) in
     on_ok_weaker c.refuse.result
     (λ printed k s st. entered_nowhere k c.args.number s c.args.session c.args.user.now c.step.new.self c.args.out.now.items c.refuse.new.out.items
-    (subst (λ (h : State). StandsFor k h s) (sym same.0) st)
+    (subst (λ (h : House). StandsFor k h s) (sym same.0) st)
     (nowhere k c.args.house.now s c.args.session c.args.user.now st (e.nobody.0 (is_nobody c.in-Err-Nobody.field-0 c.in-Err-Nobody.field-0-is)))
     (printed ∙ ap (λ (x : List ℕ). x ++ refusal c.args.number (codes "Nobody")) same.1))
     c.refuse.ensures.ok
@@ -30,7 +30,7 @@ returns-in-Err-Busy-clause-done c =
     let busy = e.busy.0 (is_busy c.in-Err-Busy.field-0 c.in-Err-Busy.field-0-is) in
     on_ok_weaker c.refuse-in-Err-Busy.result
     (λ printed k s st. entered_taken k c.args.number s c.args.session c.args.user.now c.step.new.self c.args.out.now.items c.refuse-in-Err-Busy.new.out.items
-    (subst (λ (h : State). StandsFor k h s) (sym same.0) st)
+    (subst (λ (h : House). StandsFor k h s) (sym same.0) st)
     (known k c.args.house.now s c.args.user.now st busy.0)
     (visited k c.args.house.now s c.args.session st busy.1)
     (printed ∙ ap (λ (x : List ℕ). x ++ refusal c.args.number (codes "Busy")) same.1))

@@ -2,14 +2,14 @@ use Rattle.lane_seats.proofs.SenderRowLaws.{ended_hand_length}
 use Rattle.std.proofs.Common.{◌≡◌, ◌∙◌, length, [], Some, ap, false, refl, slice_get, subst, sym}
 use Rattle.lane_work.specs.Consuming.{IsConsumed}
 use Rattle.lane_work.specs.Seats.{AreSendersEnded}
-use Rattle.clerks.specs.Service.{Service}
+use Rattle.clerks.specs.Clerk.{Clerk}
 use Rattle.clerks.proofs.KeepLaws.{leaves}
 use Rattle.clerks.proofs.clerk.Clerk.into_consumed.Goals as goal
 
 pub returns-clause-consumed : goal.returns-clause-consumed
 returns-clause-consumed g c lanes is lane here =
     let stall = c.self.inside.stall in
-    let shard : stall.shard ≡ c.args.self.shard = ap (λ (s : Service). s.shard) c.self.view_is in
+    let shard : stall.shard ≡ c.args.self.shard = ap (λ (s : Clerk). s.shard) c.self.view_is in
     let ended = c.end_senders-senders.result.items in
     subst (λ n. IsConsumed lane c.args.depot.now n [] (record { seat = stall.seat; senders = c.end_senders-senders.result; copies = c.new.result; kept = false; torn = c.self.inside.torn })) shard
     (leaves lane lanes c.args.depot.now stall c.self.inside.torn (record { seat = stall.seat; senders = c.end_senders-senders.result; copies = c.new.result; kept = false; torn = c.self.inside.torn })

@@ -6,7 +6,7 @@ use Rattle.lane_work.specs.Answering.{is_nobodys}
 use Rattle.lane_work.specs.Ends.{ends_in}
 use Rattle.lane_work.proofs.AnswerLaws.{torn_end}
 use Rattle.clerks.specs.Keeping.{counted}
-use Rattle.clerks.specs.Service.{Service}
+use Rattle.clerks.specs.Clerk.{Clerk}
 use Rattle.clerks.proofs.KeepLaws.{ends_copy, ends_end, keeps_next, lane_at, one_inside, torn_copy}
 use Rattle.clerks.proofs.clerk.Clerk.step.Goals as goal
 
@@ -61,12 +61,12 @@ invariant_of-self-in-Empty g c =
 pub returns-in-Copy-clause-took : goal.returns-in-Copy-clause-took
 returns-in-Copy-clause-took g c =
     let turned = c.in-Copy.ensures.turned in
-    (Item turned.0 turned.1 ∷ [], turned.2 ∙ ap (λ (s : Service). s.took ++ Item turned.0 turned.1 ∷ []) c.self.view_is)
+    (Item turned.0 turned.1 ∷ [], turned.2 ∙ ap (λ (s : Clerk). s.took ++ Item turned.0 turned.1 ∷ []) c.self.view_is)
 
 pub returns-in-End-clause-took : goal.returns-in-End-clause-took
 returns-in-End-clause-took g c =
     let turned = c.in-End.ensures.turned in
-    (End turned.0 ∷ [], turned.1 ∙ ap (λ (s : Service). s.took ++ End turned.0 ∷ []) c.self.view_is)
+    (End turned.0 ∷ [], turned.1 ∙ ap (λ (s : Clerk). s.took ++ End turned.0 ∷ []) c.self.view_is)
 
 pub returns-in-Empty-clause-empty : goal.returns-in-Empty-clause-empty
 returns-in-Empty-clause-empty g c now lane is =

@@ -1,5 +1,5 @@
 use Rattle.std.proofs.Common.{◌∙◌, sym, refl, ap, subst, arith, set, length-set}
-use Rattle.delivery_core.specs.Held.{Held}
+use Rattle.delivery_core.specs.DeliveryCore.{DeliveryCore}
 use Rattle.delivery_core.specs.Stands.{StandsFor}
 use Rattle.delivery_core.proofs.Boxes.{kept_set, same_boxes}
 use Rattle.delivery_core.proofs.SeatedLaws.{cursors_same}
@@ -9,13 +9,13 @@ use Rattle.delivery_core.proofs.steps.DeliveryCore.deliver.Goals as goal
 
 pub returns-then-place-len-clause-changes_nothing : goal.returns-then-place-len-clause-changes_nothing
 returns-then-place-len-clause-changes_nothing c e k w v S step =
-    let there = job_place k w _ c.from-at.result c.in-Taken.job (subst (λ (h : Held). StandsFor k h w) (sym c.self.view_is) S) (omega (arith, c.len.ensures, c.if-at-len.false, c.self.invariant.0)) (rw c.in-Taken.is at c.index.ensures) in
+    let there = job_place k w _ c.from-at.result c.in-Taken.job (subst (λ (h : DeliveryCore). StandsFor k h w) (sym c.self.view_is) S) (omega (arith, c.len.ensures, c.if-at-len.false, c.self.invariant.0)) (rw c.in-Taken.is at c.index.ensures) in
     absurd (omega (arith, there, c.len-2.ensures, c.if-place-len.true, c.from-place.ensures))
 
 pub returns-clause-follows : goal.returns-clause-follows
 returns-clause-follows c k w S =
     rw (← c.from-at.ensures) (deliver_follows k w _ _ c.from-at.result c.in-Taken.job c.deliver_to-verdict.result c.index_mut.result.now c.deliver_to-verdict.new.mailbox
-    (subst (λ (h : Held). StandsFor k h w) (sym c.self.view_is) S) (omega (arith, c.len.ensures, c.if-at-len.false, c.self.invariant.0))
+    (subst (λ (h : DeliveryCore). StandsFor k h w) (sym c.self.view_is) S) (omega (arith, c.len.ensures, c.if-at-len.false, c.self.invariant.0))
     (rw c.in-Taken.is at c.index.ensures) (rw c.from-place.ensures at c.index_mut.ensures.value)
     (c.deliver_to-verdict.ensures.delivers k) refl (ap (λ i. set c.self.inside.boxes.items i c.deliver_to-verdict.new.mailbox) c.from-place.ensures) refl refl refl refl refl c.deliver_to-verdict.ensures.cursors)
 

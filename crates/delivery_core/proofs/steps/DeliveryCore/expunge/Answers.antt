@@ -1,7 +1,7 @@
 use Rattle.std.proofs.Common.{◌∙◌, ap, arith, subst, sym}
 use Rattle.std.specs.Prelude.{option_map, slice_index_or}
 use Rattle.mailbox.specs.Events.{in_set}
-use Rattle.delivery_core.specs.Held.{Held}
+use Rattle.delivery_core.specs.DeliveryCore.{DeliveryCore}
 use Rattle.delivery_core.specs.Stands.{StandsFor}
 use Rattle.delivery_core.proofs.Calls.{not_strange}
 use Rattle.delivery_core.proofs.Boxes.{history_stays, kept_set, rest_ok, same_ok}
@@ -43,7 +43,7 @@ returns-clause-event c there k w S =
     let e = c.expunge-gone.ensures in
     let here = client_here i.clients.items c.from-place.result c.args.session c.index_mut.result.now c.in-Some.client c.from-place.ensures (omega (arith, c.if-place-len.false, c.len.ensures)) c.index_mut.ensures.value (sym c.take.ensures.value ∙ c.in-Some.is) in
     expunge_follows k w _ c.args.session c.from-place.result c.from.result c.in-Some.client c.index_mut-mailbox.result.now c.expunge-gone.new.self c.expunge-gone.new.seat c.take.new.self (in_set (option_map (λ uids. uids.now) c.args.uids)) c.args.out.now.items c.expunge-gone.new.out.items c.expunge-gone.new.self.cursors c.expunge-gone.result
-    (subst (λ (h : Held). StandsFor k h w) (sym c.self.view_is) S) here c.from-place.ensures c.from.ensures c.index_mut-mailbox.ensures.value e.stranger e.lapped e.spent e.err e.shown e.seat e.within e.moved e.next e.logged e.window e.messages e.rest e.count
+    (subst (λ (h : DeliveryCore). StandsFor k h w) (sym c.self.view_is) S) here c.from-place.ensures c.from.ensures c.index_mut-mailbox.ensures.value e.stranger e.lapped e.spent e.err e.shown e.seat e.within e.moved e.next e.logged e.window e.messages e.rest e.count
 
 pub returns-clause-refused : goal.returns-clause-refused
 returns-clause-refused c =
@@ -57,7 +57,7 @@ returns-clause-shown c =
     let i = c.self.inside in
     let e = c.expunge-gone.ensures in
     let here = client_here i.clients.items c.from-place.result c.args.session c.index_mut.result.now c.in-Some.client c.from-place.ensures (omega (arith, c.if-place-len.false, c.len.ensures)) c.index_mut.ensures.value (sym c.take.ensures.value ∙ c.in-Some.is) in
-    let h : Held = record { lanes = i.lanes.items; hands = i.hands.items; replies = i.replies.items; heard = i.heard.items; boxes = i.boxes.items; next = i.next.items; clients = i.clients.items } in
+    let h : DeliveryCore = record { lanes = i.lanes.items; hands = i.hands.items; replies = i.replies.items; heard = i.heard.items; boxes = i.boxes.items; next = i.next.items; clients = i.clients.items } in
     rw (← c.self.view_is) (expunge_saw h c.args.session c.from-place.result c.from.result c.in-Some.client c.index_mut-mailbox.result.now c.expunge-gone.new.self c.expunge-gone.new.seat c.take.new.self c.args.out.now.items c.expunge-gone.new.out.items c.expunge-gone.result c.self.invariant.3 here
     c.from-place.ensures c.from.ensures c.index_mut-mailbox.ensures.value e.lapped e.seat e.within e.moved e.written)
 
@@ -75,7 +75,7 @@ returns-clause-memory c =
     let i = c.self.inside in
     let e = c.expunge-gone.ensures in
     let here = client_here i.clients.items c.from-place.result c.args.session c.index_mut.result.now c.in-Some.client c.from-place.ensures (omega (arith, c.if-place-len.false, c.len.ensures)) c.index_mut.ensures.value (sym c.take.ensures.value ∙ c.in-Some.is) in
-    let h : Held = record { lanes = i.lanes.items; hands = i.hands.items; replies = i.replies.items; heard = i.heard.items; boxes = i.boxes.items; next = i.next.items; clients = i.clients.items } in
+    let h : DeliveryCore = record { lanes = i.lanes.items; hands = i.hands.items; replies = i.replies.items; heard = i.heard.items; boxes = i.boxes.items; next = i.next.items; clients = i.clients.items } in
     rw (← c.self.view_is) (expunge_memory h c.args.session c.from.result c.in-Some.client c.index_mut-mailbox.result.now c.expunge-gone.result c.self.invariant.3 here c.from.ensures c.index_mut-mailbox.ensures.value e.lapped e.memory)
 
 pub returns-clause-done : goal.returns-clause-done
@@ -83,6 +83,6 @@ returns-clause-done c =
     let i = c.self.inside in
     let e = c.expunge-gone.ensures in
     let here = client_here i.clients.items c.from-place.result c.args.session c.index_mut.result.now c.in-Some.client c.from-place.ensures (omega (arith, c.if-place-len.false, c.len.ensures)) c.index_mut.ensures.value (sym c.take.ensures.value ∙ c.in-Some.is) in
-    let h : Held = record { lanes = i.lanes.items; hands = i.hands.items; replies = i.replies.items; heard = i.heard.items; boxes = i.boxes.items; next = i.next.items; clients = i.clients.items } in
+    let h : DeliveryCore = record { lanes = i.lanes.items; hands = i.hands.items; replies = i.replies.items; heard = i.heard.items; boxes = i.boxes.items; next = i.next.items; clients = i.clients.items } in
     rw (← c.self.view_is) (expunge_done h c.args.session c.from-place.result c.from.result c.in-Some.client c.index_mut-mailbox.result.now c.expunge-gone.new.self c.expunge-gone.new.seat c.take.new.self (in_set (option_map (λ uids. uids.now) c.args.uids)) c.args.out.now.items
     c.expunge-gone.new.out.items c.expunge-gone.new.self.cursors c.expunge-gone.result c.self.invariant.3 here c.from-place.ensures c.from.ensures c.index_mut-mailbox.ensures.value e.stranger e.lapped e.spent e.err e.shown e.seat e.within e.moved e.next e.logged e.window e.messages e.rest e.count)

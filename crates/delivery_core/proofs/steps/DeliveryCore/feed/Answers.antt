@@ -1,8 +1,8 @@
 use Rattle.std.proofs.Common.{◌∙◌, ap, arith, subst, sym}
 use Rattle.std.specs.Prelude.{slice_index_or}
-use Rattle.mailbox.specs.Mail.{Mail}
+use Rattle.mailbox.specs.Mailbox.{Mailbox}
 use Rattle.delivery_core.specs.inner.Clients.{answer_of}
-use Rattle.delivery_core.specs.Held.{Held}
+use Rattle.delivery_core.specs.DeliveryCore.{DeliveryCore}
 use Rattle.delivery_core.specs.Stands.{StandsFor}
 use Rattle.delivery_core.proofs.Calls.{not_strange}
 use Rattle.delivery_core.proofs.Behind.{feed_less}
@@ -30,7 +30,7 @@ invariant_of-self-2 c =
       c.self.invariant.1,
       c.self.invariant.2,
       moved_seated i.boxes.items i.clients.items c.args.session c.from-place.result c.from.result c.in-Some.client b c.feed-fed.new.self c.feed-fed.new.seat c.take.new.self c.self.invariant.3 here c.from-place.ensures c.from.ensures there moves,
-      kept_set i.boxes.items c.from.result b c.feed-fed.new.self c.self.invariant.4 there (ap (λ (z : Mail). z.history) e.rest),
+      kept_set i.boxes.items c.from.result b c.feed-fed.new.self c.self.invariant.4 there (ap (λ (z : Mailbox). z.history) e.rest),
     )
 
 pub returns-clause-spent : goal.returns-clause-spent
@@ -49,7 +49,7 @@ returns-clause-event c there k w S =
     let e = c.feed-fed.ensures in
     let here = client_here i.clients.items c.from-place.result c.args.session c.index_mut.result.now c.in-Some.client c.from-place.ensures (omega (arith, c.if-place-len.false, c.len.ensures)) c.index_mut.ensures.value (sym c.take.ensures.value ∙ c.in-Some.is) in
     feed_follows k w _ c.args.session c.from-place.result c.from.result c.in-Some.client c.index_mut-mailbox.result.now c.feed-fed.new.self c.feed-fed.new.seat c.take.new.self c.args.limit c.args.out.now.items c.feed-fed.new.out.items c.feed-fed.result c.answer_of.result
-    (subst (λ (h : Held). StandsFor k h w) (sym c.self.view_is) S) here c.from-place.ensures c.from.ensures c.index_mut-mailbox.ensures.value c.answer_of.ensures e.stranger e.lapped e.err e.count e.shown e.seat e.logged e.rest e.moved e.next
+    (subst (λ (h : DeliveryCore). StandsFor k h w) (sym c.self.view_is) S) here c.from-place.ensures c.from.ensures c.index_mut-mailbox.ensures.value c.answer_of.ensures e.stranger e.lapped e.err e.count e.shown e.seat e.logged e.rest e.moved e.next
 
 pub returns-clause-refused : goal.returns-clause-refused
 returns-clause-refused c =
@@ -63,7 +63,7 @@ returns-clause-shown c =
     let i = c.self.inside in
     let e = c.feed-fed.ensures in
     let here = client_here i.clients.items c.from-place.result c.args.session c.index_mut.result.now c.in-Some.client c.from-place.ensures (omega (arith, c.if-place-len.false, c.len.ensures)) c.index_mut.ensures.value (sym c.take.ensures.value ∙ c.in-Some.is) in
-    let h : Held = record { lanes = i.lanes.items; hands = i.hands.items; replies = i.replies.items; heard = i.heard.items; boxes = i.boxes.items; next = i.next.items; clients = i.clients.items } in
+    let h : DeliveryCore = record { lanes = i.lanes.items; hands = i.hands.items; replies = i.replies.items; heard = i.heard.items; boxes = i.boxes.items; next = i.next.items; clients = i.clients.items } in
     rw (← c.self.view_is) (feed_saw h c.args.session c.from-place.result c.from.result c.in-Some.client c.index_mut-mailbox.result.now c.feed-fed.new.self c.feed-fed.new.seat c.take.new.self c.args.limit c.args.out.now.items c.feed-fed.new.out.items c.feed-fed.result c.answer_of.result c.self.invariant.3 here
     c.from-place.ensures c.from.ensures c.index_mut-mailbox.ensures.value c.answer_of.ensures e.lapped e.count e.seat e.moved e.written)
 
@@ -72,7 +72,7 @@ returns-clause-count c =
     let i = c.self.inside in
     let e = c.feed-fed.ensures in
     let here = client_here i.clients.items c.from-place.result c.args.session c.index_mut.result.now c.in-Some.client c.from-place.ensures (omega (arith, c.if-place-len.false, c.len.ensures)) c.index_mut.ensures.value (sym c.take.ensures.value ∙ c.in-Some.is) in
-    let h : Held = record { lanes = i.lanes.items; hands = i.hands.items; replies = i.replies.items; heard = i.heard.items; boxes = i.boxes.items; next = i.next.items; clients = i.clients.items } in
+    let h : DeliveryCore = record { lanes = i.lanes.items; hands = i.hands.items; replies = i.replies.items; heard = i.heard.items; boxes = i.boxes.items; next = i.next.items; clients = i.clients.items } in
     rw (← c.self.view_is) (feed_count h c.args.session c.from.result c.in-Some.client c.index_mut-mailbox.result.now c.args.limit c.feed-fed.result c.answer_of.result c.self.invariant.3 here c.from.ensures c.index_mut-mailbox.ensures.value c.answer_of.ensures e.lapped e.count)
 
 pub returns-clause-same : goal.returns-clause-same
@@ -89,7 +89,7 @@ returns-clause-memory c =
     let i = c.self.inside in
     let e = c.feed-fed.ensures in
     let here = client_here i.clients.items c.from-place.result c.args.session c.index_mut.result.now c.in-Some.client c.from-place.ensures (omega (arith, c.if-place-len.false, c.len.ensures)) c.index_mut.ensures.value (sym c.take.ensures.value ∙ c.in-Some.is) in
-    let h : Held = record { lanes = i.lanes.items; hands = i.hands.items; replies = i.replies.items; heard = i.heard.items; boxes = i.boxes.items; next = i.next.items; clients = i.clients.items } in
+    let h : DeliveryCore = record { lanes = i.lanes.items; hands = i.hands.items; replies = i.replies.items; heard = i.heard.items; boxes = i.boxes.items; next = i.next.items; clients = i.clients.items } in
     rw (← c.self.view_is) (feed_memory h c.args.session c.from.result c.in-Some.client c.index_mut-mailbox.result.now c.args.limit c.feed-fed.result c.answer_of.result c.self.invariant.3 here c.from.ensures c.index_mut-mailbox.ensures.value c.answer_of.ensures e.lapped e.memory)
 
 pub returns-clause-done : goal.returns-clause-done
@@ -97,7 +97,7 @@ returns-clause-done c =
     let i = c.self.inside in
     let e = c.feed-fed.ensures in
     let here = client_here i.clients.items c.from-place.result c.args.session c.index_mut.result.now c.in-Some.client c.from-place.ensures (omega (arith, c.if-place-len.false, c.len.ensures)) c.index_mut.ensures.value (sym c.take.ensures.value ∙ c.in-Some.is) in
-    let h : Held = record { lanes = i.lanes.items; hands = i.hands.items; replies = i.replies.items; heard = i.heard.items; boxes = i.boxes.items; next = i.next.items; clients = i.clients.items } in
+    let h : DeliveryCore = record { lanes = i.lanes.items; hands = i.hands.items; replies = i.replies.items; heard = i.heard.items; boxes = i.boxes.items; next = i.next.items; clients = i.clients.items } in
     rw (← c.self.view_is) (by_answer _ c.feed-fed.result c.answer_of.result c.answer_of.ensures
     (feed_done h c.args.session c.from-place.result c.from.result c.in-Some.client c.index_mut-mailbox.result.now c.feed-fed.new.self c.feed-fed.new.seat c.take.new.self c.args.limit c.args.out.now.items c.feed-fed.new.out.items c.feed-fed.result c.self.invariant.3 here
     c.from-place.ensures c.from.ensures c.index_mut-mailbox.ensures.value e.stranger e.lapped e.err e.count e.shown e.seat e.logged e.rest e.moved e.next))
@@ -107,6 +107,6 @@ returns-clause-less c =
     let i = c.self.inside in
     let e = c.feed-fed.ensures in
     let here = client_here i.clients.items c.from-place.result c.args.session c.index_mut.result.now c.in-Some.client c.from-place.ensures (omega (arith, c.if-place-len.false, c.len.ensures)) c.index_mut.ensures.value (sym c.take.ensures.value ∙ c.in-Some.is) in
-    let h : Held = record { lanes = i.lanes.items; hands = i.hands.items; replies = i.replies.items; heard = i.heard.items; boxes = i.boxes.items; next = i.next.items; clients = i.clients.items } in
+    let h : DeliveryCore = record { lanes = i.lanes.items; hands = i.hands.items; replies = i.replies.items; heard = i.heard.items; boxes = i.boxes.items; next = i.next.items; clients = i.clients.items } in
     rw (← c.self.view_is) (feed_less h c.args.session c.from-place.result c.from.result c.in-Some.client c.index_mut-mailbox.result.now c.feed-fed.new.self c.feed-fed.new.seat c.take.new.self c.args.limit c.feed-fed.result c.answer_of.result c.self.invariant.3 here
     c.from-place.ensures c.from.ensures c.index_mut-mailbox.ensures.value c.answer_of.ensures e.count e.seat e.rest)

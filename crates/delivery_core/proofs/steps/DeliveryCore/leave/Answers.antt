@@ -1,9 +1,9 @@
 use Rattle.std.proofs.Common.{◌≡◌, ◌∙◌, ap, arith, subst, sym}
 use Rattle.std.specs.Prelude.{slice_index_or}
 use Rattle.mailbox.specs.declared.clients.MailFault.TheVariants.{Spent}
-use Rattle.mailbox.specs.Mail.{Mail}
-use Rattle.delivery_core.specs.Held.{Held}
-use Rattle.delivery_core.specs.inner.Held.{AreKept}
+use Rattle.mailbox.specs.Mailbox.{Mailbox}
+use Rattle.delivery_core.specs.DeliveryCore.{DeliveryCore}
+use Rattle.delivery_core.specs.inner.DeliveryCore.{AreKept}
 use Rattle.delivery_core.specs.Seated.{AreSeated, cursors_of}
 use Rattle.delivery_core.specs.Stands.{StandsFor}
 use Rattle.delivery_core.proofs.Gone.{leave_fault, leave_follows, leave_refused, leave_seated, leave_stays, left_only}
@@ -26,7 +26,7 @@ invariant_of-self-in-Ok c =
       c.self.invariant.2,
       leave_seated i.boxes.items i.clients.items c.args.session c.from-place.result c.from.result c.in-Some.client c.index_mut-mailbox.result.now c.close_cursor.new.self c.take.new.self c.self.invariant.3 here c.from-place.ensures c.from.ensures c.index_mut-mailbox.ensures.value
           c.take.ensures.after c.in-Ok.ensures.closed,
-      kept_set i.boxes.items c.from.result c.index_mut-mailbox.result.now c.close_cursor.new.self c.self.invariant.4 c.index_mut-mailbox.ensures.value (ap (λ (z : Mail). z.history) c.in-Ok.ensures.rest),
+      kept_set i.boxes.items c.from.result c.index_mut-mailbox.result.now c.close_cursor.new.self c.self.invariant.4 c.index_mut-mailbox.ensures.value (ap (λ (z : Mailbox). z.history) c.in-Ok.ensures.rest),
     )
 
 pub returns-in-Ok-clause-event : goal.returns-in-Ok-clause-event
@@ -35,16 +35,16 @@ returns-in-Ok-clause-event c there k w S =
     let e = c.in-Ok.ensures in
     let here = client_here i.clients.items c.from-place.result c.args.session c.index_mut.result.now c.in-Some.client c.from-place.ensures (omega (arith, c.if-place-len.false, c.len.ensures)) c.index_mut.ensures.value (sym c.take.ensures.value ∙ c.in-Some.is) in
     leave_follows k w _ c.args.session c.from-place.result c.from.result c.in-Some.client c.index_mut-mailbox.result.now c.close_cursor.new.self c.take.new.self c.args.remove c.in-Ok.count
-    (subst (λ (h : Held). StandsFor k h w) (sym c.self.view_is) S) here c.from-place.ensures c.from.ensures c.index_mut-mailbox.ensures.value c.take.ensures.after e.spent e.logged e.window e.messages e.closed e.next e.rest e.count
+    (subst (λ (h : DeliveryCore). StandsFor k h w) (sym c.self.view_is) S) here c.from-place.ensures c.from.ensures c.index_mut-mailbox.ensures.value c.take.ensures.after e.spent e.logged e.window e.messages e.closed e.next e.rest e.count
 
 pub invariant_of-self-2 : goal.invariant_of-self-2
 invariant_of-self-2 c =
     let i = c.self.inside in
     let e = c.in-Err.ensures in
     let here = client_here i.clients.items c.from-place.result c.args.session c.index_mut.result.now c.in-Some.client c.from-place.ensures (omega (arith, c.if-place-len.false, c.len.ensures)) c.index_mut.ensures.value (sym c.take.ensures.value ∙ c.in-Some.is) in
-    let h : Held = record { lanes = i.lanes.items; hands = i.hands.items; replies = i.replies.items; heard = i.heard.items; boxes = i.boxes.items; next = i.next.items; clients = i.clients.items } in
+    let h : DeliveryCore = record { lanes = i.lanes.items; hands = i.hands.items; replies = i.replies.items; heard = i.heard.items; boxes = i.boxes.items; next = i.next.items; clients = i.clients.items } in
     let same = nothing_moved h c.args.session c.from-place.result c.from.result c.in-Some.client c.index_mut-mailbox.result.now c.close_cursor.new.self c.in-Err.refused.0 c.take.new.self c.self.invariant.3 here c.from-place.ensures c.from.ensures c.index_mut-mailbox.ensures.value e.only.2 e.only.0 in
-    (c.self.invariant.0, c.self.invariant.1, c.self.invariant.2, subst (λ (x : Held). AreSeated (cursors_of x.boxes) x.clients) (sym same) c.self.invariant.3, subst (λ (x : Held). AreKept x.boxes) (sym same) c.self.invariant.4)
+    (c.self.invariant.0, c.self.invariant.1, c.self.invariant.2, subst (λ (x : DeliveryCore). AreSeated (cursors_of x.boxes) x.clients) (sym same) c.self.invariant.3, subst (λ (x : DeliveryCore). AreKept x.boxes) (sym same) c.self.invariant.4)
 
 pub returns-clause-refused : goal.returns-clause-refused
 returns-clause-refused c =
@@ -67,12 +67,12 @@ returns-clause-event c there k w S =
     let i = c.self.inside in
     let e = c.in-Err.ensures in
     let here = client_here i.clients.items c.from-place.result c.args.session c.index_mut.result.now c.in-Some.client c.from-place.ensures (omega (arith, c.if-place-len.false, c.len.ensures)) c.index_mut.ensures.value (sym c.take.ensures.value ∙ c.in-Some.is) in
-    let h : Held = record { lanes = i.lanes.items; hands = i.hands.items; replies = i.replies.items; heard = i.heard.items; boxes = i.boxes.items; next = i.next.items; clients = i.clients.items } in
+    let h : DeliveryCore = record { lanes = i.lanes.items; hands = i.hands.items; replies = i.replies.items; heard = i.heard.items; boxes = i.boxes.items; next = i.next.items; clients = i.clients.items } in
     let some = known_at i.boxes.items i.clients.items c.args.session c.in-Some.client c.index_mut-mailbox.result.now c.self.invariant.3 here (c.index_mut-mailbox.ensures.value ∙ ap (λ j. slice_index_or i.boxes.items j c.index_mut-mailbox.result.now) c.from.ensures) in
     let spent : c.in-Err.refused.1 ≡ Spent = leave_fault c.index_mut-mailbox.result.now c.in-Some.client.seat c.in-Err.refused some e.stranger e.only.0 e.only.1 in
     let same = nothing_moved h c.args.session c.from-place.result c.from.result c.in-Some.client c.index_mut-mailbox.result.now c.close_cursor.new.self c.in-Err.refused.0 c.take.new.self c.self.invariant.3 here c.from-place.ensures c.from.ensures c.index_mut-mailbox.ensures.value e.only.2 e.only.0 in
     leave_stays k w h _ c.args.session c.args.remove c.in-Err.refused.1 same
-    (leave_refused k w h c.args.session c.from.result c.in-Some.client c.index_mut-mailbox.result.now c.in-Err.refused c.args.remove (subst (λ (x : Held). StandsFor k x w) (sym c.self.view_is) S) here c.from.ensures c.index_mut-mailbox.ensures.value e.only.0 spent e.spent)
+    (leave_refused k w h c.args.session c.from.result c.in-Some.client c.index_mut-mailbox.result.now c.in-Err.refused c.args.remove (subst (λ (x : DeliveryCore). StandsFor k x w) (sym c.self.view_is) S) here c.from.ensures c.index_mut-mailbox.ensures.value e.only.0 spent e.spent)
 
 pub returns-in-Ok-clause-same : goal.returns-in-Ok-clause-same
 returns-in-Ok-clause-same c =

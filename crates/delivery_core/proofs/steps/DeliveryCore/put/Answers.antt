@@ -1,5 +1,5 @@
 use Rattle.std.proofs.Common.{◌≡◌, ◌∙◌, sym, refl, ap, subst, arith, set, ◌<◌, ◌%◌, ℕ, length}
-use Rattle.delivery_core.specs.Held.{Held}
+use Rattle.delivery_core.specs.DeliveryCore.{DeliveryCore}
 use Rattle.delivery_token.specs.Keys.{past}
 use Rattle.delivery_core.specs.Stands.{StandsFor}
 use Rattle.delivery_core.proofs.Notes.{hears_none, hears_more, put_load}
@@ -15,7 +15,7 @@ returns-clause-follows c k w S =
     let ins : c.args.mailbox % length i.lanes.items < length i.lanes.items = omega arith in
     rw (← c.self.view_is) (refused_follows k w _ _ (c.args.mailbox % length i.lanes.items) (record { key = c.args.key; mailbox = c.args.mailbox; text = c.args.text.now; flags = c.args.flags }) c.in-Some.why l c.put_in.new.lane
     c.index_mut.result.now c.reserve.new.self c.index_mut-book.result.now c.note.new.self
-    (subst (λ (h : Held). StandsFor k h w) (sym c.self.view_is) S) ins (rw sh at c.index_mut-lane.ensures.value)
+    (subst (λ (h : DeliveryCore). StandsFor k h w) (sym c.self.view_is) S) ins (rw sh at c.index_mut-lane.ensures.value)
     (rw (← c.self.view_is) at c.requires.seat) (rw (← c.self.view_is) at c.requires.next) (rw (← c.self.view_is) at c.requires.mailbox) refl
     (rw c.from-seat.ensures at c.index_mut.ensures.value) c.reserve.ensures.notes (rw c.from-seat.ensures at c.index_mut-book.ensures.value) c.note.ensures.notes
     (rw c.in-Some.is at c.put_in.ensures)
@@ -30,7 +30,7 @@ returns-in_default-clause-follows c k w S =
     let ins : c.args.mailbox % length i.lanes.items < length i.lanes.items = omega arith in
     rw (← c.self.view_is) (put_follows k w _ _ (c.args.mailbox % length i.lanes.items) (record { key = c.args.key; mailbox = c.args.mailbox; text = c.args.text.now; flags = c.args.flags }) l c.put_in.new.lane
     c.index_mut.result.now c.reserve.new.self
-    (subst (λ (h : Held). StandsFor k h w) (sym c.self.view_is) S) ins (rw sh at c.index_mut-lane.ensures.value)
+    (subst (λ (h : DeliveryCore). StandsFor k h w) (sym c.self.view_is) S) ins (rw sh at c.index_mut-lane.ensures.value)
     (rw (← c.self.view_is) at c.requires.seat) (rw (← c.self.view_is) at c.requires.next) (rw (← c.self.view_is) at c.requires.mailbox) refl
     (rw c.from-seat.ensures at c.index_mut.ensures.value) c.reserve.ensures.notes
     (rw c.in_default.is at c.put_in.ensures)
@@ -62,7 +62,7 @@ returns-clause-heard c =
 pub returns-clause-shut : goal.returns-clause-shut
 returns-clause-shut c =
     let i = c.self.inside in
-    let h : Held = record { lanes = i.lanes.items; hands = i.hands.items; replies = i.replies.items; heard = i.heard.items; boxes = i.boxes.items; next = i.next.items; clients = i.clients.items } in
+    let h : DeliveryCore = record { lanes = i.lanes.items; hands = i.hands.items; replies = i.replies.items; heard = i.heard.items; boxes = i.boxes.items; next = i.next.items; clients = i.clients.items } in
     let shards : 0 < length i.lanes.items = rw (← c.self.view_is) at c.requires.shards in
     let sh : c.from.result % c.len.result ≡ c.args.mailbox % length i.lanes.items = ap (λ (m : ℕ). m % c.len.result) c.from.ensures ∙ ap (λ (n : ℕ). c.args.mailbox % n) (omega (arith, c.len.ensures)) in
     let ins : c.args.mailbox % length i.lanes.items < length i.lanes.items = omega arith in
@@ -72,7 +72,7 @@ returns-clause-shut c =
 pub returns-in_default-clause-shut : goal.returns-in_default-clause-shut
 returns-in_default-clause-shut c =
     let i = c.self.inside in
-    let h : Held = record { lanes = i.lanes.items; hands = i.hands.items; replies = i.replies.items; heard = i.heard.items; boxes = i.boxes.items; next = i.next.items; clients = i.clients.items } in
+    let h : DeliveryCore = record { lanes = i.lanes.items; hands = i.hands.items; replies = i.replies.items; heard = i.heard.items; boxes = i.boxes.items; next = i.next.items; clients = i.clients.items } in
     let shards : 0 < length i.lanes.items = rw (← c.self.view_is) at c.requires.shards in
     let sh : c.from.result % c.len.result ≡ c.args.mailbox % length i.lanes.items = ap (λ (m : ℕ). m % c.len.result) c.from.ensures ∙ ap (λ (n : ℕ). c.args.mailbox % n) (omega (arith, c.len.ensures)) in
     let ins : c.args.mailbox % length i.lanes.items < length i.lanes.items = omega arith in

@@ -1,6 +1,6 @@
 use Rattle.std.proofs.Common.{◌∙◌, ap, arith, set, subst, sym}
-use Rattle.mailbox.specs.Mail.{Mail}
-use Rattle.delivery_core.specs.Held.{Held, view_of}
+use Rattle.mailbox.specs.Mailbox.{Mailbox}
+use Rattle.delivery_core.specs.DeliveryCore.{DeliveryCore, view_of}
 use Rattle.delivery_core.specs.Stands.{StandsFor}
 use Rattle.delivery_core.proofs.Calls.{not_strange, read_done, read_follows}
 use Rattle.delivery_core.proofs.Looks.{same_view}
@@ -23,8 +23,8 @@ invariant_of-self c =
       c.self.invariant.1,
       c.self.invariant.2,
       still_seated i.boxes.items i.clients.items c.args.session c.from.result c.in-Some.client c.index_mut-mailbox.result.now c.read.new.self c.self.invariant.3 here c.from.ensures c.index_mut-mailbox.ensures.value
-          (ap (λ (m : Mail). m.cursors) c.read.ensures.rest),
-      kept_set i.boxes.items c.from.result c.index_mut-mailbox.result.now c.read.new.self c.self.invariant.4 c.index_mut-mailbox.ensures.value (ap (λ (m : Mail). m.history) c.read.ensures.rest),
+          (ap (λ (m : Mailbox). m.cursors) c.read.ensures.rest),
+      kept_set i.boxes.items c.from.result c.index_mut-mailbox.result.now c.read.new.self c.self.invariant.4 c.index_mut-mailbox.ensures.value (ap (λ (m : Mailbox). m.history) c.read.ensures.rest),
     )
 
 pub returns-clause-stranger : goal.returns-clause-stranger
@@ -38,17 +38,17 @@ returns-clause-event c there k w S =
     let i = c.self.inside in
     let e = c.read.ensures in
     let here = client_here i.clients.items c.from-place.result c.args.session c.index.result.now c.in-Some.client c.from-place.ensures (omega (arith, c.if-place-len.false, c.len.ensures)) c.index.ensures c.in-Some.is in
-    read_follows k w _ c.args.session c.from.result c.in-Some.client c.index_mut-mailbox.result.now c.read.new.self c.args.uid c.args.mark_seen c.read.result (subst (λ (h : Held). StandsFor k h w) (sym c.self.view_is) S)
+    read_follows k w _ c.args.session c.from.result c.in-Some.client c.index_mut-mailbox.result.now c.read.new.self c.args.uid c.args.mark_seen c.read.result (subst (λ (h : DeliveryCore). StandsFor k h w) (sym c.self.view_is) S)
     here c.from.ensures c.index_mut-mailbox.ensures.value e.stranger e.lapped e.spent e.err e.logged e.window e.messages e.rest e.row
 
 pub returns-clause-view : goal.returns-clause-view
 returns-clause-view c =
     let i = c.self.inside in
     let here = client_here i.clients.items c.from-place.result c.args.session c.index.result.now c.in-Some.client c.from-place.ensures (omega (arith, c.if-place-len.false, c.len.ensures)) c.index.ensures c.in-Some.is in
-    let h : Held = record { lanes = i.lanes.items; hands = i.hands.items; replies = i.replies.items; heard = i.heard.items; boxes = i.boxes.items; next = i.next.items; clients = i.clients.items } in
+    let h : DeliveryCore = record { lanes = i.lanes.items; hands = i.hands.items; replies = i.replies.items; heard = i.heard.items; boxes = i.boxes.items; next = i.next.items; clients = i.clients.items } in
     same_view h (set i.boxes.items c.from.result c.read.new.self) c.args.session (cursors_same i.boxes.items c.from.result c.index_mut-mailbox.result.now c.read.new.self
-    (mailbox_within i.boxes.items i.clients.items c.args.session c.from.result c.in-Some.client c.self.invariant.3 here c.from.ensures) c.index_mut-mailbox.ensures.value (ap (λ (m : Mail). m.cursors) c.read.ensures.rest))
-    ∙ ap (λ (x : Held). view_of x c.args.session) c.self.view_is
+    (mailbox_within i.boxes.items i.clients.items c.args.session c.from.result c.in-Some.client c.self.invariant.3 here c.from.ensures) c.index_mut-mailbox.ensures.value (ap (λ (m : Mailbox). m.cursors) c.read.ensures.rest))
+    ∙ ap (λ (x : DeliveryCore). view_of x c.args.session) c.self.view_is
 
 pub returns-clause-same : goal.returns-clause-same
 returns-clause-same c =
@@ -64,6 +64,6 @@ returns-clause-done c =
     let i = c.self.inside in
     let e = c.read.ensures in
     let here = client_here i.clients.items c.from-place.result c.args.session c.index.result.now c.in-Some.client c.from-place.ensures (omega (arith, c.if-place-len.false, c.len.ensures)) c.index.ensures c.in-Some.is in
-    let h : Held = record { lanes = i.lanes.items; hands = i.hands.items; replies = i.replies.items; heard = i.heard.items; boxes = i.boxes.items; next = i.next.items; clients = i.clients.items } in
+    let h : DeliveryCore = record { lanes = i.lanes.items; hands = i.hands.items; replies = i.replies.items; heard = i.heard.items; boxes = i.boxes.items; next = i.next.items; clients = i.clients.items } in
     rw (← c.self.view_is) (read_done h c.args.session c.from.result c.in-Some.client c.index_mut-mailbox.result.now c.read.new.self c.args.uid c.args.mark_seen c.read.result c.self.invariant.3 here c.from.ensures c.index_mut-mailbox.ensures.value
     e.stranger e.lapped e.spent e.err e.logged e.window e.messages e.rest)

@@ -1,6 +1,6 @@
 use Rattle.std.proofs.Common.{◌∙◌, ap, arith, refl, subst, sym}
 use Rattle.std.specs.Prelude.{slice_index_or}
-use Rattle.delivery_core.specs.Held.{Held, view_of}
+use Rattle.delivery_core.specs.DeliveryCore.{DeliveryCore, view_of}
 use Rattle.delivery_core.specs.Stands.{StandsFor}
 use Rattle.delivery_core.proofs.Looks.{no_stranger_here, view_log, view_shown}
 use Rattle.delivery_core.proofs.Mailed.{client_here, known_at, mailbox_within}
@@ -22,13 +22,13 @@ returns-in_default-view-clause-stranger c =
 pub returns-clause-shown : goal.returns-clause-shown
 returns-clause-shown c =
     let i = c.self.inside in
-    let h : Held = record { lanes = i.lanes.items; hands = i.hands.items; replies = i.replies.items; heard = i.heard.items; boxes = i.boxes.items; next = i.next.items; clients = i.clients.items } in
+    let h : DeliveryCore = record { lanes = i.lanes.items; hands = i.hands.items; replies = i.replies.items; heard = i.heard.items; boxes = i.boxes.items; next = i.next.items; clients = i.clients.items } in
     let here = client_here i.clients.items c.from-place.result c.args.session c.index.result.now c.in-Some.client c.from-place.ensures (omega (arith, c.if-place-len.false, c.len.ensures)) c.index.ensures c.in-Some.is in
-    view_shown h c.args.session c.from.result c.in-Some.client c.index-2.result.now c.in-Ok.view c.self.invariant.3 here c.from.ensures c.index-2.ensures c.in-Ok.ensures.shown ∙ ap (λ (x : Held). view_of x c.args.session) c.self.view_is
+    view_shown h c.args.session c.from.result c.in-Some.client c.index-2.result.now c.in-Ok.view c.self.invariant.3 here c.from.ensures c.index-2.ensures c.in-Ok.ensures.shown ∙ ap (λ (x : DeliveryCore). view_of x c.args.session) c.self.view_is
 
 pub returns-clause-log : goal.returns-clause-log
 returns-clause-log c k w S =
     let i = c.self.inside in
-    let h : Held = record { lanes = i.lanes.items; hands = i.hands.items; replies = i.replies.items; heard = i.heard.items; boxes = i.boxes.items; next = i.next.items; clients = i.clients.items } in
+    let h : DeliveryCore = record { lanes = i.lanes.items; hands = i.hands.items; replies = i.replies.items; heard = i.heard.items; boxes = i.boxes.items; next = i.next.items; clients = i.clients.items } in
     let here = client_here i.clients.items c.from-place.result c.args.session c.index.result.now c.in-Some.client c.from-place.ensures (omega (arith, c.if-place-len.false, c.len.ensures)) c.index.ensures c.in-Some.is in
-    view_log k w h c.args.session c.from.result c.in-Some.client c.index-2.result.now c.in-Ok.view (subst (λ (x : Held). StandsFor k x w) (sym c.self.view_is) S) here c.from.ensures c.index-2.ensures c.in-Ok.ensures.shown
+    view_log k w h c.args.session c.from.result c.in-Some.client c.index-2.result.now c.in-Ok.view (subst (λ (x : DeliveryCore). StandsFor k x w) (sym c.self.view_is) S) here c.from.ensures c.index-2.ensures c.in-Ok.ensures.shown

@@ -1,5 +1,5 @@
 use Rattle.std.proofs.Common.{◌≡◌, sym, subst}
-use Rattle.dot_stuffing.specs.Unstuffing.{IsBehind, Unstuffing}
+use Rattle.dot_stuffing.specs.Unstuffing.{IsBehind, Unstuffer}
 use Rattle.dot_stuffing.proofs.Runs.{place_at_end, stands_run}
 use Rattle.dot_stuffing.specs.declared.place.Place.TheVariants.{Inside}
 use Rattle.dot_stuffing.proofs.unstuffer.Unstuffer.take_run.Goals as goal
@@ -12,4 +12,4 @@ returns-clause-stands c wire s =
     c.before_dot-len.ensures.within c.before_dot-len.ensures.none c.add_run.ensures.collects
 
 pub returns-clause-behind : goal.returns-clause-behind
-returns-clause-behind c front h = c.add_run.ensures.behind front (subst (λ (u : Unstuffing). IsBehind u.collected front) (sym c.self.view_is) h)
+returns-clause-behind c front h = c.add_run.ensures.behind front (subst (λ (u : Unstuffer). IsBehind u.collected front) (sym c.self.view_is) h)

@@ -2,9 +2,9 @@ use Rattle.std.proofs.Common.{◌≡◌, ◌+◌, ◌-◌, ◌<◌, ◌∙◌, a
 use Rattle.delivery_core.proofs.Follow.{get_or-any}
 use Rattle.imap_session.specs.Exchange.{Folder}
 use Rattle.house_session.specs.Folders.{has_user}
-use Rattle.house_session.specs.Seat.{Seat, StandsForSeated}
-use Rattle.house_session.specs.Seated.{seated_greeted}
-use Rattle.house.specs.State.{State}
+use Rattle.house_session.specs.SeatedSession.{SeatedSession, StandsForSeated}
+use Rattle.house_session.specs.SeatedVisitor.{seated_greeted}
+use Rattle.house.specs.House.{House}
 use Rattle.house.specs.Setup.{session_seat}
 use Rattle.house.specs.Scene.{EnterPlay, most_serials}
 use Rattle.house.specs.Stands.{StandsFor}
@@ -15,17 +15,17 @@ use Rattle.house.proofs.house.House.admit.Goals as goal
 pub returns-in_default-visitor_talks-clause-no_memory : goal.returns-in_default-visitor_talks-clause-no_memory
 returns-in_default-visitor_talks-clause-no_memory c k s st =
     let i = c.self.inside in
-    let h : State = record { core = i.desk.core; callers = i.callers.items; serials = i.serials.items; visitors = i.visitors.items; entered = i.entered.items; directory = i.directory; host = i.host.items; max_message = i.max_message } in
-    let st1 = subst (λ (x : State). StandsFor k x s) (sym c.self.view_is) st in
-    let many = ap (λ (x : State). length x.visitors) c.self.view_is in
-    let first = ap (λ (x : State). length x.callers) c.self.view_is in
+    let h : House = record { core = i.desk.core; callers = i.callers.items; serials = i.serials.items; visitors = i.visitors.items; entered = i.entered.items; directory = i.directory; host = i.host.items; max_message = i.max_message } in
+    let st1 = subst (λ (x : House). StandsFor k x s) (sym c.self.view_is) st in
+    let many = ap (λ (x : House). length x.visitors) c.self.view_is in
+    let first = ap (λ (x : House). length x.callers) c.self.view_is in
     let e1 = c.from-place.ensures in
     let place = c.from-place.result in
     let lt : place < length i.visitors.items = let n = c.requires.free.number in let m = c.requires.free.place in omega (arith, e1, many, n, m) in
     let ls : place < length i.entered.items = let z = c.self.invariant.3 in omega (arith, lt, z) in
-    let free : ◌≡◌ {A = Option Seat} (get_or i.visitors.items place None) None = subst (λ (n : ℕ). ◌≡◌ {A = Option Seat} (get_or i.visitors.items n None) None) (sym e1) (subst (λ (x : State). ◌≡◌ {A = Option Seat} (get_or x.visitors (c.args.session - 1) None) None) (sym c.self.view_is) c.requires.free.free) in
-    let known : has_user i.directory c.args.user.now ≡ true = subst (λ (x : State). has_user x.directory c.args.user.now ≡ true) (sym c.self.view_is) c.requires.free.known in
-    let more = subst (λ (n : ℕ). get_or i.entered.items n 0 < most_serials) (sym e1) (subst (λ (x : State). get_or x.entered (c.args.session - 1) 0 < most_serials) (sym c.self.view_is) c.requires.free.more) in
+    let free : ◌≡◌ {A = Option SeatedSession} (get_or i.visitors.items place None) None = subst (λ (n : ℕ). ◌≡◌ {A = Option SeatedSession} (get_or i.visitors.items n None) None) (sym e1) (subst (λ (x : House). ◌≡◌ {A = Option SeatedSession} (get_or x.visitors (c.args.session - 1) None) None) (sym c.self.view_is) c.requires.free.free) in
+    let known : has_user i.directory c.args.user.now ≡ true = subst (λ (x : House). has_user x.directory c.args.user.now ≡ true) (sym c.self.view_is) c.requires.free.known in
+    let more = subst (λ (n : ℕ). get_or i.entered.items n 0 < most_serials) (sym e1) (subst (λ (x : House). get_or x.entered (c.args.session - 1) 0 < most_serials) (sym c.self.view_is) c.requires.free.more) in
     let seat : c.session_seat-seat.result ≡ length i.callers.items + place = c.session_seat-seat.ensures ∙ ap (λ (n : ℕ). n + (c.args.session - 1)) (sym first) ∙ ap (λ (n : ℕ). length i.callers.items + n) (sym e1) in
     let serial : c.index-serial.result.now ≡ get_or i.entered.items place 0 = c.index-serial.ensures ∙ get_or-any i.entered.items place c.index-serial.result.now 0 ls in
     let r = entered k false h s place c.session_seat-seat.result c.index-serial.result.now i.max_message c.args.user.now c.in-Ok-admitted.visitor c.visitor_talks.new.place c.visitor_talks.new.desk.core c.args.out.now.items c.visitor_talks.new.out.items
@@ -44,17 +44,17 @@ returns-in_default-visitor_talks-clause-no_memory c k s st =
 pub returns-clause-follows : goal.returns-clause-follows
 returns-clause-follows c k s st =
     let i = c.self.inside in
-    let h : State = record { core = i.desk.core; callers = i.callers.items; serials = i.serials.items; visitors = i.visitors.items; entered = i.entered.items; directory = i.directory; host = i.host.items; max_message = i.max_message } in
-    let st1 = subst (λ (x : State). StandsFor k x s) (sym c.self.view_is) st in
-    let many = ap (λ (x : State). length x.visitors) c.self.view_is in
-    let first = ap (λ (x : State). length x.callers) c.self.view_is in
+    let h : House = record { core = i.desk.core; callers = i.callers.items; serials = i.serials.items; visitors = i.visitors.items; entered = i.entered.items; directory = i.directory; host = i.host.items; max_message = i.max_message } in
+    let st1 = subst (λ (x : House). StandsFor k x s) (sym c.self.view_is) st in
+    let many = ap (λ (x : House). length x.visitors) c.self.view_is in
+    let first = ap (λ (x : House). length x.callers) c.self.view_is in
     let e1 = c.from-place.ensures in
     let place = c.from-place.result in
     let lt : place < length i.visitors.items = let n = c.requires.free.number in let m = c.requires.free.place in omega (arith, e1, many, n, m) in
     let ls : place < length i.entered.items = let z = c.self.invariant.3 in omega (arith, lt, z) in
-    let free : ◌≡◌ {A = Option Seat} (get_or i.visitors.items place None) None = subst (λ (n : ℕ). ◌≡◌ {A = Option Seat} (get_or i.visitors.items n None) None) (sym e1) (subst (λ (x : State). ◌≡◌ {A = Option Seat} (get_or x.visitors (c.args.session - 1) None) None) (sym c.self.view_is) c.requires.free.free) in
-    let known : has_user i.directory c.args.user.now ≡ true = subst (λ (x : State). has_user x.directory c.args.user.now ≡ true) (sym c.self.view_is) c.requires.free.known in
-    let more = subst (λ (n : ℕ). get_or i.entered.items n 0 < most_serials) (sym e1) (subst (λ (x : State). get_or x.entered (c.args.session - 1) 0 < most_serials) (sym c.self.view_is) c.requires.free.more) in
+    let free : ◌≡◌ {A = Option SeatedSession} (get_or i.visitors.items place None) None = subst (λ (n : ℕ). ◌≡◌ {A = Option SeatedSession} (get_or i.visitors.items n None) None) (sym e1) (subst (λ (x : House). ◌≡◌ {A = Option SeatedSession} (get_or x.visitors (c.args.session - 1) None) None) (sym c.self.view_is) c.requires.free.free) in
+    let known : has_user i.directory c.args.user.now ≡ true = subst (λ (x : House). has_user x.directory c.args.user.now ≡ true) (sym c.self.view_is) c.requires.free.known in
+    let more = subst (λ (n : ℕ). get_or i.entered.items n 0 < most_serials) (sym e1) (subst (λ (x : House). get_or x.entered (c.args.session - 1) 0 < most_serials) (sym c.self.view_is) c.requires.free.more) in
     let seat : c.session_seat-seat.result ≡ length i.callers.items + place = c.session_seat-seat.ensures ∙ ap (λ (n : ℕ). n + (c.args.session - 1)) (sym first) ∙ ap (λ (n : ℕ). length i.callers.items + n) (sym e1) in
     let serial : c.index-serial.result.now ≡ get_or i.entered.items place 0 = c.index-serial.ensures ∙ get_or-any i.entered.items place c.index-serial.result.now 0 ls in
     let r = entered k true h s place c.session_seat-seat.result c.index-serial.result.now i.max_message c.args.user.now c.in-Ok-admitted.visitor c.visitor_talks.new.place c.visitor_talks.new.desk.core c.args.out.now.items c.visitor_talks.new.out.items

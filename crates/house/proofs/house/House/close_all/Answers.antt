@@ -1,6 +1,6 @@
 use Rattle.std.proofs.Common.{◌≡◌, ◌<◌, ℕ, ap, sym, ◌∙◌, arith}
 use Rattle.envelope.specs.Directory.{Directory, is_shut}
-use Rattle.house.specs.State.{State}
+use Rattle.house.specs.House.{House}
 use Rattle.house.specs.inner.Trying.{closes}
 use Rattle.house.proofs.Closing.{closes_step, closes_wants}
 use Rattle.house.proofs.Settlement.{shards_of, visits_as}
@@ -8,7 +8,7 @@ use Rattle.house.proofs.house.House.close_all.Goals as goal
 
 pub returns-in_default-clause-came : goal.returns-in_default-clause-came
 returns-in_default-clause-came c =
-    let many = ap (λ (x : State). x.directory.shards) c.self.view_is in
+    let many = ap (λ (x : House). x.directory.shards) c.self.view_is in
     let e = c.shards-shards.ensures.value in
     let t = c.loop-shard-test.true in
     let l : c.loop-shard.shard < c.args.self.now.directory.shards = omega (arith, t, e, many) in
@@ -17,18 +17,18 @@ returns-in_default-clause-came c =
 
 pub loop-shard-preserved : goal.loop-shard-preserved
 loop-shard-preserved c =
-    let many = ap (λ (x : State). x.directory.shards) c.self.view_is in
+    let many = ap (λ (x : House). x.directory.shards) c.self.view_is in
     let e = c.shards-shards.ensures.value in
     let t = c.loop-shard-test.true in
     let l : c.loop-shard.shard < c.args.self.now.directory.shards = omega (arith, t, e, many) in (
       c.in-Ok.ensures.marks ∙ c.loop-shard.invariant.0,
       closes_step (is_shut c.args.self.now.directory) c.args.self.now.directory.shards c.loop-shard.shard c.is_shut-shut.result c.args.self.now c.args.out.now.items c.loop-shard.self c.loop-shard.out.items c.end_where.new.self c.end_where.new.out.items
-          c.loop-shard.moved c.in-Ok.one l (c.is_shut-shut.ensures ∙ ap (λ (n : ℕ). is_shut c.self-in-loop-shard.inside.directory n) c.from.ensures ∙ ap (λ (x : State). is_shut x.directory c.loop-shard.shard) c.self-in-loop-shard.view_is ∙ ap (λ (d : Directory). is_shut d c.loop-shard.shard) c.loop-shard.invariant.0) c.loop-shard.invariant.1 c.in-Ok.ensures.came,
+          c.loop-shard.moved c.in-Ok.one l (c.is_shut-shut.ensures ∙ ap (λ (n : ℕ). is_shut c.self-in-loop-shard.inside.directory n) c.from.ensures ∙ ap (λ (x : House). is_shut x.directory c.loop-shard.shard) c.self-in-loop-shard.view_is ∙ ap (λ (d : Directory). is_shut d c.loop-shard.shard) c.loop-shard.invariant.0) c.loop-shard.invariant.1 c.in-Ok.ensures.came,
     )
 
 pub returns-clause-came : goal.returns-clause-came
 returns-clause-came c =
-    let many = ap (λ (x : State). x.directory.shards) c.self.view_is in
+    let many = ap (λ (x : House). x.directory.shards) c.self.view_is in
     let e = c.shards-shards.ensures.value in
     let t = c.loop-shard-test.false in
     let u = c.loop-shard.auto.shard-end in

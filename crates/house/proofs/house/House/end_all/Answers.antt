@@ -1,12 +1,12 @@
 use Rattle.std.proofs.Common.{◌≡◌, ◌+◌, ◌<◌, length, ap, ◌∙◌, arith, refl}
-use Rattle.house.specs.State.{State}
+use Rattle.house.specs.House.{House}
 use Rattle.house.proofs.Closing.{ends_done, ends_step, ends_wants}
 use Rattle.house.proofs.house.House.end_all.Goals as goal
 
 pub returns-in_default-clause-came : goal.returns-in_default-clause-came
 returns-in_default-clause-came c =
-    let many = ap (λ (x : State). length x.callers) c.self.view_is in
-    let more = ap (λ (x : State). length x.visitors) c.self.view_is in
+    let many = ap (λ (x : House). length x.callers) c.self.view_is in
+    let more = ap (λ (x : House). length x.visitors) c.self.view_is in
     let e = c.len.ensures in
     let f = c.len-2.ensures in
     let t = c.loop-seat-test.true in
@@ -16,8 +16,8 @@ returns-in_default-clause-came c =
 
 pub loop-seat-preserved : goal.loop-seat-preserved
 loop-seat-preserved c =
-    let many = ap (λ (x : State). length x.callers) c.self.view_is in
-    let more = ap (λ (x : State). length x.visitors) c.self.view_is in
+    let many = ap (λ (x : House). length x.callers) c.self.view_is in
+    let more = ap (λ (x : House). length x.visitors) c.self.view_is in
     let e = c.len.ensures in
     let f = c.len-2.ensures in
     let t = c.loop-seat-test.true in
@@ -29,8 +29,8 @@ loop-seat-preserved c =
 
 pub returns-clause-came : goal.returns-clause-came
 returns-clause-came c =
-    let many = ap (λ (x : State). length x.callers) c.self.view_is in
-    let more = ap (λ (x : State). length x.visitors) c.self.view_is in
+    let many = ap (λ (x : House). length x.callers) c.self.view_is in
+    let more = ap (λ (x : House). length x.visitors) c.self.view_is in
     let e = c.len.ensures in
     let f = c.len-2.ensures in
     let t = c.loop-seat-test.false in

@@ -3,8 +3,8 @@ use Rattle.std.specs.Option.{is_some}
 use Rattle.world.specs.World as world
 use Rattle.delivery_core.specs.Stands as core
 use Rattle.delivery_core.proofs.Follow.{get_or-any}
-use Rattle.house_connection.specs.Line.{Line}
-use Rattle.house.specs.State.{State}
+use Rattle.house_connection.specs.HouseConnection.{HouseConnection}
+use Rattle.house.specs.House.{House}
 use Rattle.house.specs.Scene.{HearPlay, connection_hears, seat_of}
 use Rattle.house.specs.Stands.{StandsFor}
 use Rattle.house.specs.inner.Steps.{StandsForMaybe}
@@ -12,16 +12,16 @@ use Rattle.delivery_core.specs.Changes.{Hears}
 use Rattle.house.proofs.Turns.{heard_at, heard_led, hears_none}
 use Rattle.house.proofs.house.House.hear_of_connection.Goals as goal
 
-there : (o : Option Line) → is_some o ≡ true → (g : Line) × (o ≡ Some g)
+there : (o : Option HouseConnection) → is_some o ≡ true → (g : HouseConnection) × (o ≡ Some g)
 there None e = absurd (let x : false ≡ true = e in cc)
 there (Some g) e = (g, refl)
 
 pub returns-in_default-clause-no_memory : goal.returns-in_default-clause-no_memory
 returns-in_default-clause-no_memory c e k s st =
     let i = c.self.inside in
-    let h : State = record { core = i.desk.core; callers = i.callers.items; serials = i.serials.items; visitors = i.visitors.items; entered = i.entered.items; directory = i.directory; host = i.host.items; max_message = i.max_message } in
-    let st1 = subst (λ (x : State). StandsFor k x s) (sym c.self.view_is) st in
-    let many = ap (λ (x : State). length x.callers) c.self.view_is in
+    let h : House = record { core = i.desk.core; callers = i.callers.items; serials = i.serials.items; visitors = i.visitors.items; entered = i.entered.items; directory = i.directory; host = i.host.items; max_message = i.max_message } in
+    let st1 = subst (λ (x : House). StandsFor k x s) (sym c.self.view_is) st in
+    let many = ap (λ (x : House). length x.callers) c.self.view_is in
     let e1 = c.from-seat.ensures in
     let number : c.args.connection ≡ c.from-seat.result + 1 = let n = c.requires.seat.number in omega (arith, n, e1) in
     let lt : c.from-seat.result < length i.callers.items = let m = c.requires.seat.seat in omega (arith, number, m, many) in
@@ -31,15 +31,15 @@ returns-in_default-clause-no_memory c e k s st =
     let f = c.in-Ok.ensures in
     let r = heard_led k h s c.args.connection c.from-seat.result i.directory g.0 c.hear.new.self c.in-Ok.noted q.0 c.caller_goes_on.new.place false c.args.out.now.items c.caller_goes_on.new.out.items
     st1 number refl lt some (subst (λ (n : ℕ). (x : world.Config) → core.Follows x i.desk.core (world.Hear n ∷ []) c.hear.new.self) (sym e1) f.follows) (subst (λ (n : ℕ). Hears i.desk.core c.hear.new.self n (c.in-Ok.noted ∷ [])) (sym e1) f.heard) f.next q.2
-    (λ x p next heard b of m. c.in_default.ensures.err x p next heard b of (subst (λ (o : Option Line). StandsForMaybe x p next heard o (Some b)) (sym q.1) m)) in
+    (λ x p next heard b of m. c.in_default.ensures.err x p next heard b of (subst (λ (o : Option HouseConnection). StandsForMaybe x p next heard o (Some b)) (sym q.1) m)) in
     inl (record { after = r.0; printed = r.1; plays = subst (λ (n : ℕ). HearPlay k false s n r.0 r.1) e1 (connection_hears (let b = st1.connections in omega (arith, lt, b)) r.2); stands = r.3; out = r.4 })
 
 pub returns-clause-follows : goal.returns-clause-follows
 returns-clause-follows c k s st =
     let i = c.self.inside in
-    let h : State = record { core = i.desk.core; callers = i.callers.items; serials = i.serials.items; visitors = i.visitors.items; entered = i.entered.items; directory = i.directory; host = i.host.items; max_message = i.max_message } in
-    let st1 = subst (λ (x : State). StandsFor k x s) (sym c.self.view_is) st in
-    let many = ap (λ (x : State). length x.callers) c.self.view_is in
+    let h : House = record { core = i.desk.core; callers = i.callers.items; serials = i.serials.items; visitors = i.visitors.items; entered = i.entered.items; directory = i.directory; host = i.host.items; max_message = i.max_message } in
+    let st1 = subst (λ (x : House). StandsFor k x s) (sym c.self.view_is) st in
+    let many = ap (λ (x : House). length x.callers) c.self.view_is in
     let e1 = c.from-seat.ensures in
     let number : c.args.connection ≡ c.from-seat.result + 1 = let n = c.requires.seat.number in omega (arith, n, e1) in
     let lt : c.from-seat.result < length i.callers.items = let m = c.requires.seat.seat in omega (arith, number, m, many) in
@@ -49,15 +49,15 @@ returns-clause-follows c k s st =
     let f = c.in-Ok.ensures in
     let r = heard_led k h s c.args.connection c.from-seat.result i.directory g.0 c.hear.new.self c.in-Ok.noted q.0 c.caller_goes_on.new.place true c.args.out.now.items c.caller_goes_on.new.out.items
     st1 number refl lt some (subst (λ (n : ℕ). (x : world.Config) → core.Follows x i.desk.core (world.Hear n ∷ []) c.hear.new.self) (sym e1) f.follows) (subst (λ (n : ℕ). Hears i.desk.core c.hear.new.self n (c.in-Ok.noted ∷ [])) (sym e1) f.heard) f.next q.2
-    (λ x p next heard b of m. c.in-Ok-caller_goes_on.ensures.ok x p next heard b of (subst (λ (o : Option Line). StandsForMaybe x p next heard o (Some b)) (sym q.1) m)) in
+    (λ x p next heard b of m. c.in-Ok-caller_goes_on.ensures.ok x p next heard b of (subst (λ (o : Option HouseConnection). StandsForMaybe x p next heard o (Some b)) (sym q.1) m)) in
     record { after = r.0; printed = r.1; plays = subst (λ (n : ℕ). HearPlay k true s n r.0 r.1) e1 (connection_hears (let b = st1.connections in omega (arith, lt, b)) r.2); stands = r.3; out = r.4 }
 
 pub returns-in-Err-Nothing-clause-changes_nothing : goal.returns-in-Err-Nothing-clause-changes_nothing
 returns-in-Err-Nothing-clause-changes_nothing c e k s st t printed p =
     let i = c.self.inside in
-    let h : State = record { core = i.desk.core; callers = i.callers.items; serials = i.serials.items; visitors = i.visitors.items; entered = i.entered.items; directory = i.directory; host = i.host.items; max_message = i.max_message } in
-    let st1 = subst (λ (x : State). StandsFor k x s) (sym c.self.view_is) st in
-    let many = ap (λ (x : State). length x.callers) c.self.view_is in
+    let h : House = record { core = i.desk.core; callers = i.callers.items; serials = i.serials.items; visitors = i.visitors.items; entered = i.entered.items; directory = i.directory; host = i.host.items; max_message = i.max_message } in
+    let st1 = subst (λ (x : House). StandsFor k x s) (sym c.self.view_is) st in
+    let many = ap (λ (x : House). length x.callers) c.self.view_is in
     let lt : seat_of c.args.connection < length i.callers.items = let n = c.requires.seat.number in let m = c.requires.seat.seat in omega (arith, n, m, many) in
     absurd (hears_none k h s (seat_of c.args.connection) t printed st1 lt (c.in-Err-Nothing.ensures.changes_nothing (ap (λ x. Err x) c.in-Err-Nothing.field-0-is)) p)
 

@@ -3,8 +3,8 @@ use Rattle.delivery_core.proofs.Follow.{get_or-any}
 use Rattle.delivery_core.specs.Changes.{Hears}
 use Rattle.delivery_core.specs.Stands as core
 use Rattle.world.specs.World as world
-use Rattle.house_session.specs.Seat.{Seat}
-use Rattle.house.specs.State.{State}
+use Rattle.house_session.specs.SeatedSession.{SeatedSession}
+use Rattle.house.specs.House.{House}
 use Rattle.house.specs.Setup.{session_seat}
 use Rattle.house.specs.Scene.{HearPlay, session_hears}
 use Rattle.house.specs.Stands.{StandsFor}
@@ -16,10 +16,10 @@ use Rattle.house.proofs.house.House.hear_of_session.Goals as goal
 pub returns-in_default-clause-no_memory : goal.returns-in_default-clause-no_memory
 returns-in_default-clause-no_memory c e k s st =
     let i = c.self.inside in
-    let h : State = record { core = i.desk.core; callers = i.callers.items; serials = i.serials.items; visitors = i.visitors.items; entered = i.entered.items; directory = i.directory; host = i.host.items; max_message = i.max_message } in
-    let st1 = subst (λ (x : State). StandsFor k x s) (sym c.self.view_is) st in
-    let many = ap (λ (x : State). length x.visitors) c.self.view_is in
-    let first = ap (λ (x : State). length x.callers) c.self.view_is in
+    let h : House = record { core = i.desk.core; callers = i.callers.items; serials = i.serials.items; visitors = i.visitors.items; entered = i.entered.items; directory = i.directory; host = i.host.items; max_message = i.max_message } in
+    let st1 = subst (λ (x : House). StandsFor k x s) (sym c.self.view_is) st in
+    let many = ap (λ (x : House). length x.visitors) c.self.view_is in
+    let first = ap (λ (x : House). length x.callers) c.self.view_is in
     let place = c.from-place.result in
     let counted = c.len.ensures in
     let number = c.from-place.ensures in
@@ -27,22 +27,22 @@ returns-in_default-clause-no_memory c e k s st =
     let lt : place < length i.visitors.items = let b = c.requires.number.behind in let w = c.requires.number.within in omega (arith, b, w, first, many, counted, number) in
     let mine : c.args.number - 1 ≡ session_seat k place = at ∙ ap (λ (n : ℕ). n + place) st1.connections in
     let g = some_seat c.index.result.now (c.is_none.ensures ∙ ap not c.if-is_none.false) in
-    let some : ◌≡◌ {A = Option Seat} (get_or i.visitors.items place None) (Some g.0) = get_or-any i.visitors.items place None c.index.result.now lt ∙ sym c.index.ensures ∙ g.1 in
+    let some : ◌≡◌ {A = Option SeatedSession} (get_or i.visitors.items place None) (Some g.0) = get_or-any i.visitors.items place None c.index.result.now lt ∙ sym c.index.ensures ∙ g.1 in
     let q = heard_at c.index_mut-here.result.now c.visitor_hears.new.place c.in-Ok.noted g.0 (c.index_mut-here.ensures.value ∙ get_or-any i.visitors.items place _ None lt ∙ some) c.visitor_hears.ensures in
     let f = c.in-Ok.ensures in
     let r = heard_led k false h s place g.0 c.hear.new.self c.visitor_goes_on.new.desk.core c.in-Ok.noted q.0 c.visitor_goes_on.new.place c.args.out.now.items c.visitor_goes_on.new.out.items st1 lt some
     (subst (λ (n : ℕ). (x : world.Config) → core.Follows x i.desk.core (world.Hear n ∷ []) c.hear.new.self) mine f.follows) (subst (λ (n : ℕ). Hears i.desk.core c.hear.new.self n (c.in-Ok.noted ∷ [])) mine f.heard) f.next q.2 c.visitor_goes_on.ensures.delivery
     (λ next heard w b stands is. subst (λ (n : ℕ). PlaceVisited k false n next heard w b c.visitor_goes_on.new.place c.visitor_goes_on.new.desk.core c.args.out.now.items c.visitor_goes_on.new.out.items) (sym number)
-    (c.in_default.ensures.err k next heard w b stands (subst (λ (n : ℕ). StandsForSomebody (session_seat k n) next heard c.visitor_hears.new.place (Some b)) number (subst (λ (o : Option Seat). StandsForSomebody (session_seat k place) next heard o (Some b)) (sym q.1) is)))) in
+    (c.in_default.ensures.err k next heard w b stands (subst (λ (n : ℕ). StandsForSomebody (session_seat k n) next heard c.visitor_hears.new.place (Some b)) number (subst (λ (o : Option SeatedSession). StandsForSomebody (session_seat k place) next heard o (Some b)) (sym q.1) is)))) in
     inl (record { after = r.0; printed = r.1; plays = session_hears place mine r.2; stands = r.3; out = r.4 })
 
 pub returns-clause-follows : goal.returns-clause-follows
 returns-clause-follows c k s st =
     let i = c.self.inside in
-    let h : State = record { core = i.desk.core; callers = i.callers.items; serials = i.serials.items; visitors = i.visitors.items; entered = i.entered.items; directory = i.directory; host = i.host.items; max_message = i.max_message } in
-    let st1 = subst (λ (x : State). StandsFor k x s) (sym c.self.view_is) st in
-    let many = ap (λ (x : State). length x.visitors) c.self.view_is in
-    let first = ap (λ (x : State). length x.callers) c.self.view_is in
+    let h : House = record { core = i.desk.core; callers = i.callers.items; serials = i.serials.items; visitors = i.visitors.items; entered = i.entered.items; directory = i.directory; host = i.host.items; max_message = i.max_message } in
+    let st1 = subst (λ (x : House). StandsFor k x s) (sym c.self.view_is) st in
+    let many = ap (λ (x : House). length x.visitors) c.self.view_is in
+    let first = ap (λ (x : House). length x.callers) c.self.view_is in
     let place = c.from-place.result in
     let counted = c.len.ensures in
     let number = c.from-place.ensures in
@@ -50,22 +50,22 @@ returns-clause-follows c k s st =
     let lt : place < length i.visitors.items = let b = c.requires.number.behind in let w = c.requires.number.within in omega (arith, b, w, first, many, counted, number) in
     let mine : c.args.number - 1 ≡ session_seat k place = at ∙ ap (λ (n : ℕ). n + place) st1.connections in
     let g = some_seat c.index.result.now (c.is_none.ensures ∙ ap not c.if-is_none.false) in
-    let some : ◌≡◌ {A = Option Seat} (get_or i.visitors.items place None) (Some g.0) = get_or-any i.visitors.items place None c.index.result.now lt ∙ sym c.index.ensures ∙ g.1 in
+    let some : ◌≡◌ {A = Option SeatedSession} (get_or i.visitors.items place None) (Some g.0) = get_or-any i.visitors.items place None c.index.result.now lt ∙ sym c.index.ensures ∙ g.1 in
     let q = heard_at c.index_mut-here.result.now c.visitor_hears.new.place c.in-Ok.noted g.0 (c.index_mut-here.ensures.value ∙ get_or-any i.visitors.items place _ None lt ∙ some) c.visitor_hears.ensures in
     let f = c.in-Ok.ensures in
     let r = heard_led k true h s place g.0 c.hear.new.self c.visitor_goes_on.new.desk.core c.in-Ok.noted q.0 c.visitor_goes_on.new.place c.args.out.now.items c.visitor_goes_on.new.out.items st1 lt some
     (subst (λ (n : ℕ). (x : world.Config) → core.Follows x i.desk.core (world.Hear n ∷ []) c.hear.new.self) mine f.follows) (subst (λ (n : ℕ). Hears i.desk.core c.hear.new.self n (c.in-Ok.noted ∷ [])) mine f.heard) f.next q.2 c.visitor_goes_on.ensures.delivery
     (λ next heard w b stands is. subst (λ (n : ℕ). PlaceVisited k true n next heard w b c.visitor_goes_on.new.place c.visitor_goes_on.new.desk.core c.args.out.now.items c.visitor_goes_on.new.out.items) (sym number)
-    (c.in-Ok-visitor_goes_on.ensures.ok k next heard w b stands (subst (λ (n : ℕ). StandsForSomebody (session_seat k n) next heard c.visitor_hears.new.place (Some b)) number (subst (λ (o : Option Seat). StandsForSomebody (session_seat k place) next heard o (Some b)) (sym q.1) is)))) in
+    (c.in-Ok-visitor_goes_on.ensures.ok k next heard w b stands (subst (λ (n : ℕ). StandsForSomebody (session_seat k n) next heard c.visitor_hears.new.place (Some b)) number (subst (λ (o : Option SeatedSession). StandsForSomebody (session_seat k place) next heard o (Some b)) (sym q.1) is)))) in
     record { after = r.0; printed = r.1; plays = session_hears place mine r.2; stands = r.3; out = r.4 }
 
 pub returns-in-Err-Nothing-clause-changes_nothing : goal.returns-in-Err-Nothing-clause-changes_nothing
 returns-in-Err-Nothing-clause-changes_nothing c e k s st t printed p =
     let i = c.self.inside in
-    let h : State = record { core = i.desk.core; callers = i.callers.items; serials = i.serials.items; visitors = i.visitors.items; entered = i.entered.items; directory = i.directory; host = i.host.items; max_message = i.max_message } in
-    let st1 = subst (λ (x : State). StandsFor k x s) (sym c.self.view_is) st in
-    let many = ap (λ (x : State). length x.visitors) c.self.view_is in
-    let first = ap (λ (x : State). length x.callers) c.self.view_is in
+    let h : House = record { core = i.desk.core; callers = i.callers.items; serials = i.serials.items; visitors = i.visitors.items; entered = i.entered.items; directory = i.directory; host = i.host.items; max_message = i.max_message } in
+    let st1 = subst (λ (x : House). StandsFor k x s) (sym c.self.view_is) st in
+    let many = ap (λ (x : House). length x.visitors) c.self.view_is in
+    let first = ap (λ (x : House). length x.callers) c.self.view_is in
     let place = c.from-place.result in
     let counted = c.len.ensures in
     let number = c.from-place.ensures in

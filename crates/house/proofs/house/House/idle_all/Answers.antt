@@ -1,11 +1,11 @@
 use Rattle.std.proofs.Common.{◌<◌, length, ap, arith, refl}
-use Rattle.house.specs.State.{State}
+use Rattle.house.specs.House.{House}
 use Rattle.house.proofs.IdleSettling.{all_sessions, session_more, session_wants}
 use Rattle.house.proofs.house.House.idle_all.Goals as goal
 
 pub returns-in_default-clause-err : goal.returns-in_default-clause-err
 returns-in_default-clause-err c =
-    let many = ap (λ (x : State). length x.visitors) c.self.view_is in
+    let many = ap (λ (x : House). length x.visitors) c.self.view_is in
     let e = c.len-sessions.ensures in
     let t = c.loop-place-test.true in
     let l : c.loop-place.place < length c.args.self.now.visitors = omega (arith, t, e, many) in
@@ -14,7 +14,7 @@ returns-in_default-clause-err c =
 
 pub loop-place-preserved : goal.loop-place-preserved
 loop-place-preserved c =
-    let many = ap (λ (x : State). length x.visitors) c.self.view_is in
+    let many = ap (λ (x : House). length x.visitors) c.self.view_is in
     let e = c.len-sessions.ensures in
     let t = c.loop-place-test.true in
     let l : c.loop-place.place < length c.args.self.now.visitors = omega (arith, t, e, many) in
@@ -22,7 +22,7 @@ loop-place-preserved c =
 
 pub returns-clause-ok : goal.returns-clause-ok
 returns-clause-ok c =
-    let many = ap (λ (x : State). length x.visitors) c.self.view_is in
+    let many = ap (λ (x : House). length x.visitors) c.self.view_is in
     let e = c.len-sessions.ensures in
     let t = c.loop-place-test.false in
     let u = c.loop-place.auto.place-end in

@@ -1,14 +1,14 @@
 use Rattle.std.proofs.Common.{◌≡◌, ◌+◌, ◌<◌, ℕ, length, ap, sym, ◌∙◌, arith, refl, [], ◌∷◌}
 use Rattle.house.specs.declared.event.Event.TheVariants.{Put}
-use Rattle.house.specs.State.{State}
+use Rattle.house.specs.House.{House}
 use Rattle.house.specs.inner.Trying.{puts}
 use Rattle.house.proofs.Settlement.{put_among, seats_step, seats_wants, visits_as}
 use Rattle.house.proofs.house.House.put_all.Goals as goal
 
 pub returns-in_default-clause-came : goal.returns-in_default-clause-came
 returns-in_default-clause-came c =
-    let many = ap (λ (x : State). length x.callers) c.self.view_is in
-    let more = ap (λ (x : State). length x.visitors) c.self.view_is in
+    let many = ap (λ (x : House). length x.callers) c.self.view_is in
+    let more = ap (λ (x : House). length x.visitors) c.self.view_is in
     let e = c.len.ensures in
     let f = c.len-2.ensures in
     let t = c.loop-seat-test.true in
@@ -18,8 +18,8 @@ returns-in_default-clause-came c =
 
 pub loop-seat-preserved : goal.loop-seat-preserved
 loop-seat-preserved c =
-    let many = ap (λ (x : State). length x.callers) c.self.view_is in
-    let more = ap (λ (x : State). length x.visitors) c.self.view_is in
+    let many = ap (λ (x : House). length x.callers) c.self.view_is in
+    let more = ap (λ (x : House). length x.visitors) c.self.view_is in
     let e = c.len.ensures in
     let f = c.len-2.ensures in
     let t = c.loop-seat-test.true in
@@ -31,8 +31,8 @@ loop-seat-preserved c =
 
 pub returns-clause-came : goal.returns-clause-came
 returns-clause-came c =
-    let many = ap (λ (x : State). length x.callers) c.self.view_is in
-    let more = ap (λ (x : State). length x.visitors) c.self.view_is in
+    let many = ap (λ (x : House). length x.callers) c.self.view_is in
+    let more = ap (λ (x : House). length x.visitors) c.self.view_is in
     let e = c.len.ensures in
     let f = c.len-2.ensures in
     let t = c.loop-seat-test.false in

@@ -2,7 +2,7 @@ use Rattle.std.proofs.Common.{◌≡◌, ◌+◌, ◌<◌, inl, inr, refl, sym, 
 use Rattle.std.specs.Option.{option_map}
 use Rattle.delivery_core.proofs.Follow.{get_or-any}
 use Rattle.house.specs.declared.event.HouseFault.TheVariants as house_faults
-use Rattle.house.specs.State.{State}
+use Rattle.house.specs.House.{House}
 use Rattle.house.specs.Scene.{PutPlay, connection_puts}
 use Rattle.house_connection.specs.Taking.{noted_put}
 use Rattle.submission.specs.inner.Verdicts.{heard_verdict}
@@ -15,9 +15,9 @@ use Rattle.house.proofs.house.House.put_of_connection.Goals as goal
 pub returns-in_default-clause-no_memory : goal.returns-in_default-clause-no_memory
 returns-in_default-clause-no_memory c e k s st =
     let i = c.self.inside in
-    let h : State = record { core = i.desk.core; callers = i.callers.items; serials = i.serials.items; visitors = i.visitors.items; entered = i.entered.items; directory = i.directory; host = i.host.items; max_message = i.max_message } in
-    let st1 = subst (λ (x : State). StandsFor k x s) (sym c.self.view_is) st in
-    let many = ap (λ (x : State). length x.callers) c.self.view_is in
+    let h : House = record { core = i.desk.core; callers = i.callers.items; serials = i.serials.items; visitors = i.visitors.items; entered = i.entered.items; directory = i.directory; host = i.host.items; max_message = i.max_message } in
+    let st1 = subst (λ (x : House). StandsFor k x s) (sym c.self.view_is) st in
+    let many = ap (λ (x : House). length x.callers) c.self.view_is in
     let e1 = c.from-seat.ensures in
     let number : c.args.connection ≡ c.from-seat.result + 1 = let n = c.requires.seat.number in omega (arith, n, e1) in
     let lt : c.from-seat.result < length i.callers.items = let m = c.requires.seat.seat in omega (arith, number, m, many) in
@@ -31,9 +31,9 @@ returns-in_default-clause-no_memory c e k s st =
 pub returns-clause-follows : goal.returns-clause-follows
 returns-clause-follows c k s st =
     let i = c.self.inside in
-    let h : State = record { core = i.desk.core; callers = i.callers.items; serials = i.serials.items; visitors = i.visitors.items; entered = i.entered.items; directory = i.directory; host = i.host.items; max_message = i.max_message } in
-    let st1 = subst (λ (x : State). StandsFor k x s) (sym c.self.view_is) st in
-    let many = ap (λ (x : State). length x.callers) c.self.view_is in
+    let h : House = record { core = i.desk.core; callers = i.callers.items; serials = i.serials.items; visitors = i.visitors.items; entered = i.entered.items; directory = i.directory; host = i.host.items; max_message = i.max_message } in
+    let st1 = subst (λ (x : House). StandsFor k x s) (sym c.self.view_is) st in
+    let many = ap (λ (x : House). length x.callers) c.self.view_is in
     let e1 = c.from-seat.ensures in
     let number : c.args.connection ≡ c.from-seat.result + 1 = let n = c.requires.seat.number in omega (arith, n, e1) in
     let lt : c.from-seat.result < length i.callers.items = let m = c.requires.seat.seat in omega (arith, number, m, many) in
@@ -47,9 +47,9 @@ returns-clause-follows c k s st =
 pub returns-in-Err-clause-changes_nothing : goal.returns-in-Err-clause-changes_nothing
 returns-in-Err-clause-changes_nothing c e k s st t printed p =
     let i = c.self.inside in
-    let h : State = record { core = i.desk.core; callers = i.callers.items; serials = i.serials.items; visitors = i.visitors.items; entered = i.entered.items; directory = i.directory; host = i.host.items; max_message = i.max_message } in
-    let st1 = subst (λ (x : State). StandsFor k x s) (sym c.self.view_is) st in
-    let many = ap (λ (x : State). length x.callers) c.self.view_is in
+    let h : House = record { core = i.desk.core; callers = i.callers.items; serials = i.serials.items; visitors = i.visitors.items; entered = i.entered.items; directory = i.directory; host = i.host.items; max_message = i.max_message } in
+    let st1 = subst (λ (x : House). StandsFor k x s) (sym c.self.view_is) st in
+    let many = ap (λ (x : House). length x.callers) c.self.view_is in
     let e1 = c.from-seat.ensures in
     let number : c.args.connection ≡ c.from-seat.result + 1 = let n = c.requires.seat.number in omega (arith, n, e1) in
     let lt : c.from-seat.result < length i.callers.items = let m = c.requires.seat.seat in omega (arith, number, m, many) in
@@ -61,8 +61,8 @@ returns-in-Err-clause-changes_nothing c e k s st t printed p =
 pub returns-in_default-clause-asks : goal.returns-in_default-clause-asks
 returns-in_default-clause-asks c e =
     let i = c.self.inside in
-    let h : State = record { core = i.desk.core; callers = i.callers.items; serials = i.serials.items; visitors = i.visitors.items; entered = i.entered.items; directory = i.directory; host = i.host.items; max_message = i.max_message } in
-    let many = ap (λ (x : State). length x.callers) c.self.view_is in
+    let h : House = record { core = i.desk.core; callers = i.callers.items; serials = i.serials.items; visitors = i.visitors.items; entered = i.entered.items; directory = i.directory; host = i.host.items; max_message = i.max_message } in
+    let many = ap (λ (x : House). length x.callers) c.self.view_is in
     let e1 = c.from-seat.ensures in
     let number : c.args.connection ≡ c.from-seat.result + 1 = let n = c.requires.seat.number in omega (arith, n, e1) in
     let lt : c.from-seat.result < length i.callers.items = let m = c.requires.seat.seat in omega (arith, number, m, many) in
@@ -73,8 +73,8 @@ returns-in_default-clause-asks c e =
 pub returns-in-Err-clause-asks : goal.returns-in-Err-clause-asks
 returns-in-Err-clause-asks c e =
     let i = c.self.inside in
-    let h : State = record { core = i.desk.core; callers = i.callers.items; serials = i.serials.items; visitors = i.visitors.items; entered = i.entered.items; directory = i.directory; host = i.host.items; max_message = i.max_message } in
-    let many = ap (λ (x : State). length x.callers) c.self.view_is in
+    let h : House = record { core = i.desk.core; callers = i.callers.items; serials = i.serials.items; visitors = i.visitors.items; entered = i.entered.items; directory = i.directory; host = i.host.items; max_message = i.max_message } in
+    let many = ap (λ (x : House). length x.callers) c.self.view_is in
     let e1 = c.from-seat.ensures in
     let number : c.args.connection ≡ c.from-seat.result + 1 = let n = c.requires.seat.number in omega (arith, n, e1) in
     let lt : c.from-seat.result < length i.callers.items = let m = c.requires.seat.seat in omega (arith, number, m, many) in

@@ -1,10 +1,10 @@
 use Rattle.std.proofs.Common.{◌≡◌, ◌+◌, ◌-◌, ◌<◌, ◌∙◌, ap, arith, false, inl, inr, length, ℕ, None, Option, Some, Err, subst, sym, true, get_or}
 use Rattle.std.specs.Option.{option_map}
 use Rattle.delivery_core.proofs.Follow.{get_or-any}
-use Rattle.house_session.specs.Seat.{Seat, noted_put}
+use Rattle.house_session.specs.SeatedSession.{SeatedSession, noted_put}
 use Rattle.submission.specs.inner.Verdicts.{heard_verdict}
 use Rattle.house.specs.declared.event.HouseFault.TheVariants as house_faults
-use Rattle.house.specs.State.{State}
+use Rattle.house.specs.House.{House}
 use Rattle.house.specs.Setup.{session_seat}
 use Rattle.house.specs.Scene.{PutPlay, session_puts}
 use Rattle.house.specs.Stands.{StandsFor}
@@ -16,10 +16,10 @@ use Rattle.house.proofs.house.House.put_of_session.Goals as goal
 pub returns-in_default-clause-no_memory : goal.returns-in_default-clause-no_memory
 returns-in_default-clause-no_memory c e k s st =
     let i = c.self.inside in
-    let h : State = record { core = i.desk.core; callers = i.callers.items; serials = i.serials.items; visitors = i.visitors.items; entered = i.entered.items; directory = i.directory; host = i.host.items; max_message = i.max_message } in
-    let st1 = subst (λ (x : State). StandsFor k x s) (sym c.self.view_is) st in
-    let many = ap (λ (x : State). length x.visitors) c.self.view_is in
-    let first = ap (λ (x : State). length x.callers) c.self.view_is in
+    let h : House = record { core = i.desk.core; callers = i.callers.items; serials = i.serials.items; visitors = i.visitors.items; entered = i.entered.items; directory = i.directory; host = i.host.items; max_message = i.max_message } in
+    let st1 = subst (λ (x : House). StandsFor k x s) (sym c.self.view_is) st in
+    let many = ap (λ (x : House). length x.visitors) c.self.view_is in
+    let first = ap (λ (x : House). length x.callers) c.self.view_is in
     let place = c.from-place.result in
     let counted = c.len.ensures in
     let number = c.from-place.ensures in
@@ -27,7 +27,7 @@ returns-in_default-clause-no_memory c e k s st =
     let lt : place < length i.visitors.items = let b = c.requires.number.behind in let w = c.requires.number.within in omega (arith, b, w, first, many, counted, number) in
     let mine : c.args.number - 1 ≡ session_seat k place = at ∙ ap (λ (n : ℕ). n + place) st1.connections in
     let p = c.in-Ok.ensures.puts in
-    let some : ◌≡◌ {A = Option Seat} (get_or i.visitors.items place None) (Some p.0) = get_or-any i.visitors.items place None c.index.result.now lt ∙ sym c.index.ensures ∙ p.1 in
+    let some : ◌≡◌ {A = Option SeatedSession} (get_or i.visitors.items place None) (Some p.0) = get_or-any i.visitors.items place None c.index.result.now lt ∙ sym c.index.ensures ∙ p.1 in
     let here = c.visitor_notes_put.ensures ∙ ap (option_map (noted_put (heard_verdict c.in-Ok.why))) (c.index_mut-here.ensures.value ∙ get_or-any i.visitors.items place _ None lt ∙ some) in
     let r = put_led k false h s place p.0 c.put_next.new.core c.visitor_goes_on.new.desk.core c.in-Ok.why c.visitor_notes_put.new.place c.visitor_goes_on.new.place c.args.out.now.items c.visitor_goes_on.new.out.items st1 lt some p.2 here c.visitor_goes_on.ensures.delivery
     (λ next heard w b stands is. subst (λ (n : ℕ). PlaceVisited k false n next heard w b c.visitor_goes_on.new.place c.visitor_goes_on.new.desk.core c.args.out.now.items c.visitor_goes_on.new.out.items) (sym number)
@@ -37,10 +37,10 @@ returns-in_default-clause-no_memory c e k s st =
 pub returns-clause-follows : goal.returns-clause-follows
 returns-clause-follows c k s st =
     let i = c.self.inside in
-    let h : State = record { core = i.desk.core; callers = i.callers.items; serials = i.serials.items; visitors = i.visitors.items; entered = i.entered.items; directory = i.directory; host = i.host.items; max_message = i.max_message } in
-    let st1 = subst (λ (x : State). StandsFor k x s) (sym c.self.view_is) st in
-    let many = ap (λ (x : State). length x.visitors) c.self.view_is in
-    let first = ap (λ (x : State). length x.callers) c.self.view_is in
+    let h : House = record { core = i.desk.core; callers = i.callers.items; serials = i.serials.items; visitors = i.visitors.items; entered = i.entered.items; directory = i.directory; host = i.host.items; max_message = i.max_message } in
+    let st1 = subst (λ (x : House). StandsFor k x s) (sym c.self.view_is) st in
+    let many = ap (λ (x : House). length x.visitors) c.self.view_is in
+    let first = ap (λ (x : House). length x.callers) c.self.view_is in
     let place = c.from-place.result in
     let counted = c.len.ensures in
     let number = c.from-place.ensures in
@@ -48,7 +48,7 @@ returns-clause-follows c k s st =
     let lt : place < length i.visitors.items = let b = c.requires.number.behind in let w = c.requires.number.within in omega (arith, b, w, first, many, counted, number) in
     let mine : c.args.number - 1 ≡ session_seat k place = at ∙ ap (λ (n : ℕ). n + place) st1.connections in
     let p = c.in-Ok.ensures.puts in
-    let some : ◌≡◌ {A = Option Seat} (get_or i.visitors.items place None) (Some p.0) = get_or-any i.visitors.items place None c.index.result.now lt ∙ sym c.index.ensures ∙ p.1 in
+    let some : ◌≡◌ {A = Option SeatedSession} (get_or i.visitors.items place None) (Some p.0) = get_or-any i.visitors.items place None c.index.result.now lt ∙ sym c.index.ensures ∙ p.1 in
     let here = c.visitor_notes_put.ensures ∙ ap (option_map (noted_put (heard_verdict c.in-Ok.why))) (c.index_mut-here.ensures.value ∙ get_or-any i.visitors.items place _ None lt ∙ some) in
     let r = put_led k true h s place p.0 c.put_next.new.core c.visitor_goes_on.new.desk.core c.in-Ok.why c.visitor_notes_put.new.place c.visitor_goes_on.new.place c.args.out.now.items c.visitor_goes_on.new.out.items st1 lt some p.2 here c.visitor_goes_on.ensures.delivery
     (λ next heard w b stands is. subst (λ (n : ℕ). PlaceVisited k true n next heard w b c.visitor_goes_on.new.place c.visitor_goes_on.new.desk.core c.args.out.now.items c.visitor_goes_on.new.out.items) (sym number)
@@ -58,10 +58,10 @@ returns-clause-follows c k s st =
 pub returns-in-Err-clause-changes_nothing : goal.returns-in-Err-clause-changes_nothing
 returns-in-Err-clause-changes_nothing c e k s st t printed p =
     let i = c.self.inside in
-    let h : State = record { core = i.desk.core; callers = i.callers.items; serials = i.serials.items; visitors = i.visitors.items; entered = i.entered.items; directory = i.directory; host = i.host.items; max_message = i.max_message } in
-    let st1 = subst (λ (x : State). StandsFor k x s) (sym c.self.view_is) st in
-    let many = ap (λ (x : State). length x.visitors) c.self.view_is in
-    let first = ap (λ (x : State). length x.callers) c.self.view_is in
+    let h : House = record { core = i.desk.core; callers = i.callers.items; serials = i.serials.items; visitors = i.visitors.items; entered = i.entered.items; directory = i.directory; host = i.host.items; max_message = i.max_message } in
+    let st1 = subst (λ (x : House). StandsFor k x s) (sym c.self.view_is) st in
+    let many = ap (λ (x : House). length x.visitors) c.self.view_is in
+    let first = ap (λ (x : House). length x.callers) c.self.view_is in
     let place = c.from-place.result in
     let counted = c.len.ensures in
     let number = c.from-place.ensures in
@@ -70,30 +70,30 @@ returns-in-Err-clause-changes_nothing c e k s st t printed p =
     let mine : c.args.number - 1 ≡ session_seat k place = at ∙ ap (λ (n : ℕ). n + place) st1.connections in
     let is : c.in-Err.fault ≡ house_faults.Nothing = let e2 = e in cc in
     let n = c.in-Err.ensures.nothing (ap (λ x. Err x) is) in
-    let some : ◌≡◌ {A = Option Seat} (get_or i.visitors.items place None) (Some n.0) = get_or-any i.visitors.items place None c.index.result.now lt ∙ sym c.index.ensures ∙ n.1 in
+    let some : ◌≡◌ {A = Option SeatedSession} (get_or i.visitors.items place None) (Some n.0) = get_or-any i.visitors.items place None c.index.result.now lt ∙ sym c.index.ensures ∙ n.1 in
     absurd (puts_none k h s place n.0 t printed st1 lt some n.2 (subst (λ (x : ℕ). PutPlay k true s x t printed) mine p))
 
 pub returns-in_default-clause-asks : goal.returns-in_default-clause-asks
 returns-in_default-clause-asks c e =
     let i = c.self.inside in
-    let h : State = record { core = i.desk.core; callers = i.callers.items; serials = i.serials.items; visitors = i.visitors.items; entered = i.entered.items; directory = i.directory; host = i.host.items; max_message = i.max_message } in
-    let many = ap (λ (x : State). length x.visitors) c.self.view_is in
-    let first = ap (λ (x : State). length x.callers) c.self.view_is in
+    let h : House = record { core = i.desk.core; callers = i.callers.items; serials = i.serials.items; visitors = i.visitors.items; entered = i.entered.items; directory = i.directory; host = i.host.items; max_message = i.max_message } in
+    let many = ap (λ (x : House). length x.visitors) c.self.view_is in
+    let first = ap (λ (x : House). length x.callers) c.self.view_is in
     let place = c.from-place.result in
     let counted = c.len.ensures in
     let number = c.from-place.ensures in
     let at : c.args.number - 1 ≡ length i.callers.items + place = let b = c.requires.number.behind in omega (arith, b, first, counted, number) in
     let lt : place < length i.visitors.items = let b = c.requires.number.behind in let w = c.requires.number.within in omega (arith, b, w, first, many, counted, number) in
     let p = c.in-Ok.ensures.puts in
-    let some : ◌≡◌ {A = Option Seat} (get_or i.visitors.items place None) (Some p.0) = get_or-any i.visitors.items place None c.index.result.now lt ∙ sym c.index.ensures ∙ p.1 in
+    let some : ◌≡◌ {A = Option SeatedSession} (get_or i.visitors.items place None) (Some p.0) = get_or-any i.visitors.items place None c.index.result.now lt ∙ sym c.index.ensures ∙ p.1 in
     rw (← c.self.view_is, due_behind h (c.args.number - 1) place p.0 at some) (inr (c.put_next.new.core, c.in-Ok.why, p.2, c.visitor_goes_on.ensures.delivery))
 
 pub returns-in-Err-clause-asks : goal.returns-in-Err-clause-asks
 returns-in-Err-clause-asks c e =
     let i = c.self.inside in
-    let h : State = record { core = i.desk.core; callers = i.callers.items; serials = i.serials.items; visitors = i.visitors.items; entered = i.entered.items; directory = i.directory; host = i.host.items; max_message = i.max_message } in
-    let many = ap (λ (x : State). length x.visitors) c.self.view_is in
-    let first = ap (λ (x : State). length x.callers) c.self.view_is in
+    let h : House = record { core = i.desk.core; callers = i.callers.items; serials = i.serials.items; visitors = i.visitors.items; entered = i.entered.items; directory = i.directory; host = i.host.items; max_message = i.max_message } in
+    let many = ap (λ (x : House). length x.visitors) c.self.view_is in
+    let first = ap (λ (x : House). length x.callers) c.self.view_is in
     let place = c.from-place.result in
     let counted = c.len.ensures in
     let number = c.from-place.ensures in
@@ -101,5 +101,5 @@ returns-in-Err-clause-asks c e =
     let lt : place < length i.visitors.items = let b = c.requires.number.behind in let w = c.requires.number.within in omega (arith, b, w, first, many, counted, number) in
     let is : c.in-Err.fault ≡ house_faults.NoMemory = let e2 = e in cc in
     let n = c.in-Err.ensures.memory (ap (λ x. Err x) is) in
-    let some : ◌≡◌ {A = Option Seat} (get_or i.visitors.items place None) (Some n.0) = get_or-any i.visitors.items place None c.index.result.now lt ∙ sym c.index.ensures ∙ n.1 in
+    let some : ◌≡◌ {A = Option SeatedSession} (get_or i.visitors.items place None) (Some n.0) = get_or-any i.visitors.items place None c.index.result.now lt ∙ sym c.index.ensures ∙ n.1 in
     rw (← c.self.view_is, due_behind h (c.args.number - 1) place n.0 at some) (inl n.2)

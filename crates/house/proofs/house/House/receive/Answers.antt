@@ -2,7 +2,7 @@ use Rattle.std.proofs.Common.{◌≡◌, ◌+◌, ◌-◌, ◌<◌, inl, refl, s
 use Rattle.std.specs.Option.{option_map}
 use Rattle.delivery_core.proofs.Follow.{get_or-any}
 use Rattle.house_connection.specs.Taking.{with_more}
-use Rattle.house.specs.State.{State}
+use Rattle.house.specs.House.{House}
 use Rattle.house.specs.Scene.{BytesPlay}
 use Rattle.house.specs.Stands.{StandsFor}
 use Rattle.house.specs.Steps.{is_unread}
@@ -12,12 +12,12 @@ use Rattle.house.proofs.house.House.receive.Goals as goal
 pub returns-in_default-caller_goes_on-clause-no_memory : goal.returns-in_default-caller_goes_on-clause-no_memory
 returns-in_default-caller_goes_on-clause-no_memory c k s st =
     let i = c.self.inside in
-    let h : State = record { core = i.desk.core; callers = i.callers.items; serials = i.serials.items; visitors = i.visitors.items; entered = i.entered.items; directory = i.directory; host = i.host.items; max_message = i.max_message } in
-    let st1 = subst (λ (x : State). StandsFor k x s) (sym c.self.view_is) st in
-    let many = ap (λ (x : State). length x.callers) c.self.view_is in
+    let h : House = record { core = i.desk.core; callers = i.callers.items; serials = i.serials.items; visitors = i.visitors.items; entered = i.entered.items; directory = i.directory; host = i.host.items; max_message = i.max_message } in
+    let st1 = subst (λ (x : House). StandsFor k x s) (sym c.self.view_is) st in
+    let many = ap (λ (x : House). length x.callers) c.self.view_is in
     let e = c.from.ensures in
-    let who = subst (λ (n : ℕ). IsSome (get_or i.callers.items n None)) (sym e) (subst (λ (x : State). IsSome (get_or x.callers (c.args.connection - 1) None)) (sym c.self.view_is) c.requires.there.who) in
-    let read = subst (λ (n : ℕ). is_unread (get_or i.callers.items n None) ≡ false) (sym e) (subst (λ (x : State). is_unread (get_or x.callers (c.args.connection - 1) None) ≡ false) (sym c.self.view_is) c.requires.there.read) in
+    let who = subst (λ (n : ℕ). IsSome (get_or i.callers.items n None)) (sym e) (subst (λ (x : House). IsSome (get_or x.callers (c.args.connection - 1) None)) (sym c.self.view_is) c.requires.there.who) in
+    let read = subst (λ (n : ℕ). is_unread (get_or i.callers.items n None) ≡ false) (sym e) (subst (λ (x : House). is_unread (get_or x.callers (c.args.connection - 1) None) ≡ false) (sym c.self.view_is) c.requires.there.read) in
     let number : c.args.connection ≡ c.from.result + 1 = let n = c.requires.there.number in omega (arith, n, e) in
     let lt : c.from.result < length i.callers.items = let m = c.requires.there.seat in omega (arith, number, m, many) in
     let at = c.in-Ok.ensures.ok ∙ ap (option_map (with_more c.args.piece.now)) (c.index_mut-place.ensures.value ∙ get_or-any i.callers.items c.from.result _ None lt) in
@@ -28,12 +28,12 @@ returns-in_default-caller_goes_on-clause-no_memory c k s st =
 pub returns-clause-follows : goal.returns-clause-follows
 returns-clause-follows c k s st =
     let i = c.self.inside in
-    let h : State = record { core = i.desk.core; callers = i.callers.items; serials = i.serials.items; visitors = i.visitors.items; entered = i.entered.items; directory = i.directory; host = i.host.items; max_message = i.max_message } in
-    let st1 = subst (λ (x : State). StandsFor k x s) (sym c.self.view_is) st in
-    let many = ap (λ (x : State). length x.callers) c.self.view_is in
+    let h : House = record { core = i.desk.core; callers = i.callers.items; serials = i.serials.items; visitors = i.visitors.items; entered = i.entered.items; directory = i.directory; host = i.host.items; max_message = i.max_message } in
+    let st1 = subst (λ (x : House). StandsFor k x s) (sym c.self.view_is) st in
+    let many = ap (λ (x : House). length x.callers) c.self.view_is in
     let e = c.from.ensures in
-    let who = subst (λ (n : ℕ). IsSome (get_or i.callers.items n None)) (sym e) (subst (λ (x : State). IsSome (get_or x.callers (c.args.connection - 1) None)) (sym c.self.view_is) c.requires.there.who) in
-    let read = subst (λ (n : ℕ). is_unread (get_or i.callers.items n None) ≡ false) (sym e) (subst (λ (x : State). is_unread (get_or x.callers (c.args.connection - 1) None) ≡ false) (sym c.self.view_is) c.requires.there.read) in
+    let who = subst (λ (n : ℕ). IsSome (get_or i.callers.items n None)) (sym e) (subst (λ (x : House). IsSome (get_or x.callers (c.args.connection - 1) None)) (sym c.self.view_is) c.requires.there.who) in
+    let read = subst (λ (n : ℕ). is_unread (get_or i.callers.items n None) ≡ false) (sym e) (subst (λ (x : House). is_unread (get_or x.callers (c.args.connection - 1) None) ≡ false) (sym c.self.view_is) c.requires.there.read) in
     let number : c.args.connection ≡ c.from.result + 1 = let n = c.requires.there.number in omega (arith, n, e) in
     let lt : c.from.result < length i.callers.items = let m = c.requires.there.seat in omega (arith, number, m, many) in
     let at = c.in-Ok.ensures.ok ∙ ap (option_map (with_more c.args.piece.now)) (c.index_mut-place.ensures.value ∙ get_or-any i.callers.items c.from.result _ None lt) in

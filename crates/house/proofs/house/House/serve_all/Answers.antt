@@ -1,13 +1,13 @@
 use Rattle.std.proofs.Common.{◌≡◌, ◌<◌, ℕ, ap, sym, ◌∙◌, arith}
 use Rattle.house.specs.Settled.{is_held}
-use Rattle.house.specs.State.{State}
+use Rattle.house.specs.House.{House}
 use Rattle.house.specs.inner.Trying.{serves}
 use Rattle.house.proofs.Settlement.{shards_of, shards_step, shards_wants, visits_as}
 use Rattle.house.proofs.house.House.serve_all.Goals as goal
 
 pub returns-in_default-clause-came : goal.returns-in_default-clause-came
 returns-in_default-clause-came c =
-    let many = ap (λ (x : State). x.directory.shards) c.self.view_is in
+    let many = ap (λ (x : House). x.directory.shards) c.self.view_is in
     let e = c.shards-shards.ensures.value in
     let t = c.loop-shard-test.true in
     let l : c.loop-shard.shard < c.args.self.now.directory.shards = omega (arith, t, e, many) in
@@ -16,7 +16,7 @@ returns-in_default-clause-came c =
 
 pub loop-shard-preserved : goal.loop-shard-preserved
 loop-shard-preserved c =
-    let many = ap (λ (x : State). x.directory.shards) c.self.view_is in
+    let many = ap (λ (x : House). x.directory.shards) c.self.view_is in
     let e = c.shards-shards.ensures.value in
     let t = c.loop-shard-test.true in
     let l : c.loop-shard.shard < c.args.self.now.directory.shards = omega (arith, t, e, many) in (
@@ -27,7 +27,7 @@ loop-shard-preserved c =
 
 pub returns-clause-came : goal.returns-clause-came
 returns-clause-came c =
-    let many = ap (λ (x : State). x.directory.shards) c.self.view_is in
+    let many = ap (λ (x : House). x.directory.shards) c.self.view_is in
     let e = c.shards-shards.ensures.value in
     let t = c.loop-shard-test.false in
     let u = c.loop-shard.auto.shard-end in

@@ -1,10 +1,10 @@
 use Rattle.std.proofs.Common.{◌≡◌, ◌+◌, ◌-◌, ◌<◌, inl, refl, sym, subst, ap, ◌∙◌, true, false, None, List, ℕ, length, arith, get_or, set}
 use Rattle.delivery_core.proofs.Follow.{get_or-any}
-use Rattle.house.specs.State.{State}
+use Rattle.house.specs.House.{House}
 use Rattle.house.specs.Scene.{BytesPlay, most_serials}
 use Rattle.house.specs.Stands.{StandsFor}
 use Rattle.house.proofs.Events.{welcomed}
-use Rattle.house_connection.specs.HouseConnection.{Terms, greeted, more_waits}
+use Rattle.house_connection.specs.Caller.{Terms, greeted, more_waits}
 use Rattle.house_connection.specs.ConnectionStands.{StandsForConnection}
 use Rattle.delivery_token.specs.Keys.{AtLeast}
 use Rattle.delivery_token.specs.declared.CopyKey.{CopyKey}
@@ -14,15 +14,15 @@ use Rattle.house.proofs.house.House.welcome.Goals as goal
 pub returns-in_default-caller_goes_on-clause-no_memory : goal.returns-in_default-caller_goes_on-clause-no_memory
 returns-in_default-caller_goes_on-clause-no_memory c k s st =
     let i = c.self.inside in
-    let h : State = record { core = i.desk.core; callers = i.callers.items; serials = i.serials.items; visitors = i.visitors.items; entered = i.entered.items; directory = i.directory; host = i.host.items; max_message = i.max_message } in
-    let st1 = subst (λ (x : State). StandsFor k x s) (sym c.self.view_is) st in
-    let many = ap (λ (x : State). length x.callers) c.self.view_is in
+    let h : House = record { core = i.desk.core; callers = i.callers.items; serials = i.serials.items; visitors = i.visitors.items; entered = i.entered.items; directory = i.directory; host = i.host.items; max_message = i.max_message } in
+    let st1 = subst (λ (x : House). StandsFor k x s) (sym c.self.view_is) st in
+    let many = ap (λ (x : House). length x.callers) c.self.view_is in
     let e1 = c.from-seat.ensures in
     let seat = c.from-seat.result in
     let number : c.args.connection ≡ seat + 1 = let n = c.requires.vacant.number in omega (arith, n, e1) in
     let lt : seat < length i.callers.items = let m = c.requires.vacant.seat in omega (arith, number, m, many) in
-    let none : get_or i.callers.items seat None ≡ None = subst (λ (n : ℕ). get_or i.callers.items n None ≡ None) (sym e1) (subst (λ (x : State). get_or x.callers (c.args.connection - 1) None ≡ None) (sym c.self.view_is) c.requires.vacant.empty) in
-    let more = subst (λ (n : ℕ). get_or i.serials.items n 0 < most_serials) (sym e1) (subst (λ (x : State). get_or x.serials (c.args.connection - 1) 0 < most_serials) (sym c.self.view_is) c.requires.vacant.more) in
+    let none : get_or i.callers.items seat None ≡ None = subst (λ (n : ℕ). get_or i.callers.items n None ≡ None) (sym e1) (subst (λ (x : House). get_or x.callers (c.args.connection - 1) None ≡ None) (sym c.self.view_is) c.requires.vacant.empty) in
+    let more = subst (λ (n : ℕ). get_or i.serials.items n 0 < most_serials) (sym e1) (subst (λ (x : House). get_or x.serials (c.args.connection - 1) 0 < most_serials) (sym c.self.view_is) c.requires.vacant.more) in
     let ls : seat < length i.serials.items = let z = c.self.invariant.0 in omega (arith, lt, z) in
     let serial : c.index-serial.result.now ≡ get_or i.serials.items seat 0 = c.index-serial.ensures ∙ get_or-any i.serials.items seat c.index-serial.result.now 0 ls in
     let opened = λ (x : Terms) (next : CopyKey) (heard : List Noted) (a : x.host ≡ i.host.items) (b : x.max_message ≡ i.max_message) (l : AtLeast next (record { seat = seat; serial = get_or i.serials.items seat 0; message = 0; recipient = 0 })).
@@ -43,15 +43,15 @@ returns-in_default-caller_goes_on-clause-no_memory c k s st =
 pub returns-clause-follows : goal.returns-clause-follows
 returns-clause-follows c k s st =
     let i = c.self.inside in
-    let h : State = record { core = i.desk.core; callers = i.callers.items; serials = i.serials.items; visitors = i.visitors.items; entered = i.entered.items; directory = i.directory; host = i.host.items; max_message = i.max_message } in
-    let st1 = subst (λ (x : State). StandsFor k x s) (sym c.self.view_is) st in
-    let many = ap (λ (x : State). length x.callers) c.self.view_is in
+    let h : House = record { core = i.desk.core; callers = i.callers.items; serials = i.serials.items; visitors = i.visitors.items; entered = i.entered.items; directory = i.directory; host = i.host.items; max_message = i.max_message } in
+    let st1 = subst (λ (x : House). StandsFor k x s) (sym c.self.view_is) st in
+    let many = ap (λ (x : House). length x.callers) c.self.view_is in
     let e1 = c.from-seat.ensures in
     let seat = c.from-seat.result in
     let number : c.args.connection ≡ seat + 1 = let n = c.requires.vacant.number in omega (arith, n, e1) in
     let lt : seat < length i.callers.items = let m = c.requires.vacant.seat in omega (arith, number, m, many) in
-    let none : get_or i.callers.items seat None ≡ None = subst (λ (n : ℕ). get_or i.callers.items n None ≡ None) (sym e1) (subst (λ (x : State). get_or x.callers (c.args.connection - 1) None ≡ None) (sym c.self.view_is) c.requires.vacant.empty) in
-    let more = subst (λ (n : ℕ). get_or i.serials.items n 0 < most_serials) (sym e1) (subst (λ (x : State). get_or x.serials (c.args.connection - 1) 0 < most_serials) (sym c.self.view_is) c.requires.vacant.more) in
+    let none : get_or i.callers.items seat None ≡ None = subst (λ (n : ℕ). get_or i.callers.items n None ≡ None) (sym e1) (subst (λ (x : House). get_or x.callers (c.args.connection - 1) None ≡ None) (sym c.self.view_is) c.requires.vacant.empty) in
+    let more = subst (λ (n : ℕ). get_or i.serials.items n 0 < most_serials) (sym e1) (subst (λ (x : House). get_or x.serials (c.args.connection - 1) 0 < most_serials) (sym c.self.view_is) c.requires.vacant.more) in
     let ls : seat < length i.serials.items = let z = c.self.invariant.0 in omega (arith, lt, z) in
     let serial : c.index-serial.result.now ≡ get_or i.serials.items seat 0 = c.index-serial.ensures ∙ get_or-any i.serials.items seat c.index-serial.result.now 0 ls in
     let opened = λ (x : Terms) (next : CopyKey) (heard : List Noted) (a : x.host ≡ i.host.items) (b : x.max_message ≡ i.max_message) (l : AtLeast next (record { seat = seat; serial = get_or i.serials.items seat 0; message = 0; recipient = 0 })).

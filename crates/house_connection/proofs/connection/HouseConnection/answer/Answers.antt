@@ -2,8 +2,8 @@ use Rattle.std.proofs.Common.{◌≡◌, ◌<◌, ℕ, ap, sym, subst, length, L
 use Rattle.std.specs.Prelude.{true, false}
 use Rattle.delivery_token.specs.declared.Verdict.{Verdict}
 use Rattle.lmtp_machine.specs.Dialogue.{Answered, Submission}
-use Rattle.house_connection.specs.Line.{Line}
-use Rattle.house_connection.specs.HouseConnection.{meets}
+use Rattle.house_connection.specs.HouseConnection.{HouseConnection}
+use Rattle.house_connection.specs.Caller.{meets}
 use Rattle.submission.specs.Verdicts.{AreKnown as IsKnown}
 use Rattle.house_connection.specs.Taking.{awaited_keys}
 use Rattle.house_connection.proofs.Connections.{went_answers, went_stalls, went_waits}
@@ -17,7 +17,7 @@ pub returns-in_default-known-clause-ok : goal.returns-in_default-known-clause-ok
 returns-in_default-known-clause-ok c k seat next heard b of s =
     went_waits k seat next heard b c.args.self.now s c.requires.one
     (λ vs a. c.in-Ok.ensures.unknown (ap (λ (o : Option (Vec Verdict Global)). Ok o) c.in_default-known.is) vs
-    (subst (λ (n : ℕ). IsKnown n c.self.inside.verdicts.slots vs) (sym c.awaited.ensures) (subst (λ (x : Line). IsKnown (length (awaited_keys c.args.self.now)) x.verdicts vs) (sym c.self.view_is) a)))
+    (subst (λ (n : ℕ). IsKnown n c.self.inside.verdicts.slots vs) (sym c.awaited.ensures) (subst (λ (x : HouseConnection). IsKnown (length (awaited_keys c.args.self.now)) x.verdicts vs) (sym c.self.view_is) a)))
 
 pub returns-in_default-work_off-clause-err : goal.returns-in_default-work_off-clause-err
 returns-in_default-work_off-clause-err c k seat next heard b of s =

@@ -1,11 +1,11 @@
 use Rattle.std.proofs.Common.{sym, subst, [], List, ℕ}
 use Rattle.lmtp_machine.specs.Calls.{Happens}
 use Rattle.lmtp_machine.specs.Dialogue as dialogue
-use Rattle.lmtp_machine.specs.Machine.{StandsFor}
+use Rattle.lmtp_machine.specs.LmtpMachine.{StandsFor}
 use Rattle.std.specs.Prelude.{false}
 use Rattle.submission.specs.Verdicts.{Verdicts}
 use Rattle.house_connection.specs.ConnectionStands.{StandsForConnection}
-use Rattle.house_connection.specs.HouseConnection.{greeted}
+use Rattle.house_connection.specs.Caller.{greeted}
 use Rattle.house_connection.proofs.Connections.{opened_stands}
 use Rattle.house_connection.proofs.connection.HouseConnection.open.Goals as goal
 

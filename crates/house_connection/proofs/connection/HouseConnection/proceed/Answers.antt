@@ -6,7 +6,7 @@ use Rattle.lmtp_machine.specs.declared.connection.What.{What}
 use Rattle.submission.specs.Verdicts.{AreKnown as IsKnown}
 use Rattle.house_connection.specs.ConnectionStands.{Proceeded}
 use Rattle.house_connection.specs.Taking.{awaited_keys}
-use Rattle.house_connection.specs.Line.{Line}
+use Rattle.house_connection.specs.HouseConnection.{HouseConnection}
 use Rattle.house_connection.proofs.Connections.{faded, lingered, proceeds}
 use Rattle.house_connection.proofs.connection.HouseConnection.proceed.Goals as goal
 use Rattle.house_connection.proofs.connection.HouseConnection.proceed.Goals.{then-are_known, else-are_known}
@@ -14,11 +14,11 @@ use Rattle.house_connection.proofs.connection.HouseConnection.proceed.Goals.{the
 pub returns-in_default-clause-err : goal.returns-in_default-clause-err
 returns-in_default-clause-err c k seat next heard b of s =
     let w = c.in_default.ensures.err k seat next heard b of s in
-    (w.0, proceeds k seat next heard false b w.0 c.args.self.now c.go_on.new.self s (ap (λ (x : Line). x.gone) (sym c.self.view_is) ∙ c.if-self.false) w.1)
+    (w.0, proceeds k seat next heard false b w.0 c.args.self.now c.go_on.new.self s (ap (λ (x : HouseConnection). x.gone) (sym c.self.view_is) ∙ c.if-self.false) w.1)
 
 pub returns-clause-ok : goal.returns-clause-ok
 returns-clause-ok c k seat next heard b of s =
-    proceeds k seat next heard true b c.in-Ok.what c.args.self.now c.go_on.new.self s (ap (λ (x : Line). x.gone) (sym c.self.view_is) ∙ c.if-self.false)
+    proceeds k seat next heard true b c.in-Ok.what c.args.self.now c.go_on.new.self s (ap (λ (x : HouseConnection). x.gone) (sym c.self.view_is) ∙ c.if-self.false)
     (c.in-Ok.ensures.ok k seat next heard b of s)
 
 -- a peer that is gone is told nothing
@@ -27,9 +27,9 @@ silent gone unsaid f e = f e
 
 pub returns-then-self-clause-ok : goal.returns-then-self-clause-ok
 returns-then-self-clause-ok c k seat next heard b of s =
-    let gone : c.args.self.now.gone ≡ true = ap (λ (x : Line). x.gone) (sym c.self.view_is) ∙ c.if-self.true in
-    let none : c.args.self.now.unsaid ≡ [] = ap (λ (x : Line). x.unsaid) (sym c.self.view_is) ∙ silent c.self.inside.is_gone c.self.inside.unsaid.items c.self.invariant.4 c.if-self.true in
-    let slots = ap (λ (x : Line). x.verdicts) c.self.view_is in
+    let gone : c.args.self.now.gone ≡ true = ap (λ (x : HouseConnection). x.gone) (sym c.self.view_is) ∙ c.if-self.true in
+    let none : c.args.self.now.unsaid ≡ [] = ap (λ (x : HouseConnection). x.unsaid) (sym c.self.view_is) ∙ silent c.self.inside.is_gone c.self.inside.unsaid.items c.self.invariant.4 c.if-self.true in
+    let slots = ap (λ (x : HouseConnection). x.verdicts) c.self.view_is in
     elim c.if-are_known.branch [
       | then-are_known w ↦ subst (λ (what : What). Proceeded k true seat next heard b what c.args.self.now) (sym w.result-is)
           (faded k seat next heard b c.args.self.now s gone none

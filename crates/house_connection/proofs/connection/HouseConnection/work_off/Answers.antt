@@ -1,13 +1,13 @@
 use Rattle.std.proofs.Common.{◌≡◌, true, false, ◌∙◌, ◌+◌, ◌*◌, ◌≤◌, refl, ap, sym, subst, take, drop, List, [], ◌++◌, ℕ, length, Option, Some, None, take-append-drop}
 use Rattle.envelope.specs.Directory.{Directory}
-use Rattle.lmtp_machine.specs.Machine.{StandsFor}
+use Rattle.lmtp_machine.specs.LmtpMachine.{StandsFor}
 use Rattle.lmtp_machine.specs.Dialogue.{Submission}
 use Rattle.lmtp_machine.specs.declared.connection.What.{What}
 use Rattle.lmtp_machine.specs.declared.connection.What.TheVariants.{More}
-use Rattle.house_connection.specs.Line.{Line}
+use Rattle.house_connection.specs.HouseConnection.{HouseConnection}
 use Rattle.house_connection.specs.Taking.{line_effort}
 use Rattle.house_connection.specs.inner.Taking.{TakenBy}
-use Rattle.house_connection.specs.HouseConnection.{copies_of}
+use Rattle.house_connection.specs.Caller.{copies_of}
 use Rattle.house_connection.specs.ConnectionStands.{IsAwaited, StandsForConnection}
 use Rattle.house_connection.specs.inner.ConnectionStands.{WorkedOff}
 use Rattle.house_connection.proofs.Connections.{took_all, took_nothing, took_part}
@@ -17,10 +17,10 @@ use Rattle.house_connection.proofs.connection.HouseConnection.work_off.Goals as 
 pub returns-then-not-has_ended-clause-ok : goal.returns-then-not-has_ended-clause-ok
 returns-then-not-has_ended-clause-ok c k seat next heard b e s =
     let i = c.self.inside in
-    let h : Line = record { serial = i.serial; gone = i.is_gone; machine = i.machine; waits = i.incoming; unsaid = i.unsaid.items; verdicts = i.verdicts.slots } in
-    let s1 = subst (λ (x : Line). StandsForConnection k seat next heard x b) (sym c.self.view_is) s in
-    let quiet = ap (λ (x : Line). x.machine.pending) c.self.view_is ∙ c.requires.quiet in
-    subst (λ (x : Line). WorkedOff k true seat next heard b More x) c.self.view_is
+    let h : HouseConnection = record { serial = i.serial; gone = i.is_gone; machine = i.machine; waits = i.incoming; unsaid = i.unsaid.items; verdicts = i.verdicts.slots } in
+    let s1 = subst (λ (x : HouseConnection). StandsForConnection k seat next heard x b) (sym c.self.view_is) s in
+    let quiet = ap (λ (x : HouseConnection). x.machine.pending) c.self.view_is ∙ c.requires.quiet in
+    subst (λ (x : HouseConnection). WorkedOff k true seat next heard b More x) c.self.view_is
     (took_nothing k seat next heard b h s1 quiet (sym c.as_slice.ensures ∙ empty_of c.as_slice.result.now c.is_empty.result c.is_empty.ensures c.if-is_empty.true) (c.if-not-has_ended.ensures.going refl))
 
 pub returns-in-Some-clause-less : goal.returns-in-Some-clause-less
@@ -28,9 +28,9 @@ returns-in-Some-clause-less c =
     let i = c.self.inside in
     let r = c.take_all-progress in
     let f = r.ensures in
-    let quiet = ap (λ (x : Line). x.machine.pending) c.self.view_is ∙ c.requires.quiet in
+    let quiet = ap (λ (x : HouseConnection). x.machine.pending) c.self.view_is ∙ c.requires.quiet in
     let here = c.as_slice-2.ensures in
-    subst (λ (x : Line). 501 * length c.take.new.self + 5 * length (drop (length i.verdicts.slots) (copies_of r.new.machine.pending)) ≤ line_effort x) c.self.view_is
+    subst (λ (x : HouseConnection). 501 * length c.take.new.self + 5 * length (drop (length i.verdicts.slots) (copies_of r.new.machine.pending)) ≤ line_effort x) c.self.view_is
     (subst (λ (w : List ℕ). 501 * length w + 5 * length (drop (length i.verdicts.slots) (copies_of r.new.machine.pending)) ≤ 501 * length i.incoming + 5 * length (drop (length i.verdicts.slots) (copies_of i.machine.pending))) (sym c.take.ensures)
     (took_less i.incoming r.result.used (length i.verdicts.slots) r.result.what i.machine.pending r.new.machine.pending quiet (subst (λ (w : List ℕ). r.result.used ≤ length w) here f.used) f.moves f.awaits f.most))
 
@@ -39,9 +39,9 @@ returns-in-Some-clause-ok c k seat next heard b e s =
     let i = c.self.inside in
     let r = c.take_all-progress in
     let f = r.ensures in
-    let h : Line = record { serial = i.serial; gone = i.is_gone; machine = i.machine; waits = i.incoming; unsaid = i.unsaid.items; verdicts = i.verdicts.slots } in
-    let s1 = subst (λ (x : Line). StandsForConnection k seat next heard x b) (sym c.self.view_is) s in
-    let quiet = ap (λ (x : Line). x.machine.pending) c.self.view_is ∙ c.requires.quiet in
+    let h : HouseConnection = record { serial = i.serial; gone = i.is_gone; machine = i.machine; waits = i.incoming; unsaid = i.unsaid.items; verdicts = i.verdicts.slots } in
+    let s1 = subst (λ (x : HouseConnection). StandsForConnection k seat next heard x b) (sym c.self.view_is) s in
+    let quiet = ap (λ (x : HouseConnection). x.machine.pending) c.self.view_is ∙ c.requires.quiet in
     let here = c.as_slice-2.ensures in
     subst (λ (w : List ℕ). WorkedOff k true seat next heard b c.in-Some.what (record { serial = i.serial; gone = i.is_gone; machine = r.new.machine; waits = w; unsaid = r.new.out.items; verdicts = i.verdicts.slots })) (sym c.take.ensures)
     (took_all k seat next heard b h r.new.machine (take r.result.used i.incoming) (drop r.result.used i.incoming) r.new.out.items c.in-Some.what
@@ -57,9 +57,9 @@ returns-in-None-clause-err c k seat next heard b e s =
     let i = c.self.inside in
     let r = c.take_all-progress in
     let f = r.ensures in
-    let h : Line = record { serial = i.serial; gone = i.is_gone; machine = i.machine; waits = i.incoming; unsaid = i.unsaid.items; verdicts = i.verdicts.slots } in
-    let s1 = subst (λ (x : Line). StandsForConnection k seat next heard x b) (sym c.self.view_is) s in
-    let quiet = ap (λ (x : Line). x.machine.pending) c.self.view_is ∙ c.requires.quiet in
+    let h : HouseConnection = record { serial = i.serial; gone = i.is_gone; machine = i.machine; waits = i.incoming; unsaid = i.unsaid.items; verdicts = i.verdicts.slots } in
+    let s1 = subst (λ (x : HouseConnection). StandsForConnection k seat next heard x b) (sym c.self.view_is) s in
+    let quiet = ap (λ (x : HouseConnection). x.machine.pending) c.self.view_is ∙ c.requires.quiet in
     let here = c.as_slice-2.ensures in
     subst (λ (w : List ℕ). (what : What) × WorkedOff k false seat next heard b what (record { serial = i.serial; gone = i.is_gone; machine = r.new.machine; waits = w; unsaid = r.new.out.items; verdicts = i.verdicts.slots })) (sym c.take.ensures)
     (took_part k seat next heard b h r.new.machine (take r.result.used i.incoming) (drop r.result.used i.incoming) r.new.out.items

@@ -7,7 +7,7 @@ use Rattle.line_io.specs.Cutting.{EndsLine}
 use Rattle.imap_session.specs.Exchange.{Standing, may_send, waits_for}
 use Rattle.imap_session.specs.Store.{Answers, TakesBytes}
 use Rattle.imap_session.specs.Commands.{due_of, long_line_text, turn_of_long_line}
-use Rattle.imap_connection.specs.Dialogue.{Link, begins, ends, most_bytes, reads, too_long}
+use Rattle.imap_connection.specs.Dialogue.{ImapConnection, begins, ends, most_bytes, reads, too_long}
 use Rattle.imap_connection.proofs.Feeding.{has_begun, line_ends, literal_taken, none_due, some_same, stands_anew}
 use Rattle.imap_connection.proofs.connection.ImapConnection.feed.Goals as goal
 
@@ -17,8 +17,8 @@ invariant_of-self g c =
 
 pub returns-in-NeedMore-clause-ok : goal.returns-in-NeedMore-clause-ok
 returns-in-NeedMore-clause-ok g c d s =
-    let same : c.self.inside.session ≡ d.standing = ap (λ (l : Link). l.session) c.self.view_is ∙ s.session in
-    let cut : cutting.StandsFor c.self.inside.cutter d.begun = subst (λ (l : Link). cutting.StandsFor l.cutter d.begun) (sym c.self.view_is) s.cutter in
+    let same : c.self.inside.session ≡ d.standing = ap (λ (l : ImapConnection). l.session) c.self.view_is ∙ s.session in
+    let cut : cutting.StandsFor c.self.inside.cutter d.begun = subst (λ (l : ImapConnection). cutting.StandsFor l.cutter d.begun) (sym c.self.view_is) s.cutter in
     let used : c.take-cut.result.used ≡ length c.args.piece.now = c.take-cut.ensures.all_used c.in-NeedMore.is in
     let all : take c.take-cut.result.used c.args.piece.now ≡ c.args.piece.now = ap (λ n. take n c.args.piece.now) used ∙ take-length c.args.piece.now in
     let tells = subst (λ w. cutting.Tells w c.take-cut.new.self d.begun (take c.take-cut.result.used c.args.piece.now)) c.in-NeedMore.is (c.take-cut.ensures.lines d.begun cut) in
@@ -30,8 +30,8 @@ returns-in-NeedMore-clause-ok g c d s =
 
 pub returns-in-Ok-clause-ok : goal.returns-in-Ok-clause-ok
 returns-in-Ok-clause-ok g c d s =
-    let same : c.self.inside.session ≡ d.standing = ap (λ (l : Link). l.session) c.self.view_is ∙ s.session in
-    let cut : cutting.StandsFor c.self.inside.cutter d.begun = subst (λ (l : Link). cutting.StandsFor l.cutter d.begun) (sym c.self.view_is) s.cutter in
+    let same : c.self.inside.session ≡ d.standing = ap (λ (l : ImapConnection). l.session) c.self.view_is ∙ s.session in
+    let cut : cutting.StandsFor c.self.inside.cutter d.begun = subst (λ (l : ImapConnection). cutting.StandsFor l.cutter d.begun) (sym c.self.view_is) s.cutter in
     let used : List ℕ = take c.take-cut.result.used c.args.piece.now in
     let told = subst (λ w. cutting.Tells w c.take-cut.new.self d.begun (take c.take-cut.result.used c.args.piece.now)) c.in-Line.is (c.take-cut.ensures.lines d.begun cut) in
     let is : told.0 ≡ c.line.result.now = some_same told.0 c.line.result.now (sym told.3 ∙ c.line.ensures) in
@@ -48,8 +48,8 @@ returns-in-Ok-clause-ok g c d s =
 
 pub returns-in-Ok-long_line-clause-ok : goal.returns-in-Ok-long_line-clause-ok
 returns-in-Ok-long_line-clause-ok g c d s =
-    let same : c.self.inside.session ≡ d.standing = ap (λ (l : Link). l.session) c.self.view_is ∙ s.session in
-    let cut : cutting.StandsFor c.self.inside.cutter d.begun = subst (λ (l : Link). cutting.StandsFor l.cutter d.begun) (sym c.self.view_is) s.cutter in
+    let same : c.self.inside.session ≡ d.standing = ap (λ (l : ImapConnection). l.session) c.self.view_is ∙ s.session in
+    let cut : cutting.StandsFor c.self.inside.cutter d.begun = subst (λ (l : ImapConnection). cutting.StandsFor l.cutter d.begun) (sym c.self.view_is) s.cutter in
     let used : List ℕ = take c.take-cut.result.used c.args.piece.now in
     let told = subst (λ w. cutting.Tells w c.take-cut.new.self d.begun (take c.take-cut.result.used c.args.piece.now)) c.in-TooLong.is (c.take-cut.ensures.lines d.begun cut) in
     let max : c.take-cut.new.self.max ≡ 8192 = c.take-cut.ensures.max ∙ c.self.invariant.0 in
@@ -61,7 +61,7 @@ returns-in-Ok-long_line-clause-ok g c d s =
 
 pub returns-then-literal_due-gt0-clause-ok : goal.returns-then-literal_due-gt0-clause-ok
 returns-then-literal_due-gt0-clause-ok g c d s =
-    let same : c.self.inside.session ≡ d.standing = ap (λ (l : Link). l.session) c.self.view_is ∙ s.session in
+    let same : c.self.inside.session ≡ d.standing = ap (λ (l : ImapConnection). l.session) c.self.view_is ∙ s.session in
     let live : d.standing.ended ≡ false = ap (λ x. x.ended) (sym same) ∙ sym c.ended.ensures ∙ c.if-ended.false in
     let e = c.take_literal.ensures in
     let positive : 0 < c.literal_due.result = omega (arith, c.if-literal_due-gt0.true) in

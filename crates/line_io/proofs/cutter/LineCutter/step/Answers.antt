@@ -1,7 +1,7 @@
 use Rattle.std.proofs.Common.{◌≡◌, ◌-◌, [], ◌∙◌, sym, ap, refl, arith, true, false, take, length, Some, None}
 use Rattle.std.specs.Prelude.{if◌then◌else◌}
 use Rattle.std.proofs.lemmas.Bool.Decides.{nat_tests}
-use Rattle.line_io.specs.Cutting.{Cutter}
+use Rattle.line_io.specs.Cutting.{LineCutter}
 use Rattle.line_io.proofs.Lines.{stands_more, stands_line, stands_long, fields, kept_room, kept_full}
 use Rattle.line_io.proofs.cutter.LineCutter.step.Goals as goal
 use Rattle.line_io.proofs.cutter.LineCutter.step.Goals.{else-byte-eq-LF-via-then-byte-eq-LF+else-self, else-byte-eq-LF-via-else-byte-eq-LF, then-len-self-2, else-len-self-2}
@@ -9,7 +9,7 @@ use Rattle.line_io.proofs.cutter.LineCutter.step.Goals.{else-byte-eq-LF-via-then
 pub returns-then-len-self-clause-lines : goal.returns-then-len-self-clause-lines
 returns-then-len-self-clause-lines c stream at =
     let f = fields _ _ _ _ c.args.self.now c.self.view_is c.requires in
-    let new : Cutter = record { max = c.self.inside.max; kept = []; after_cr = false; line = Some c.truncate.new.self.items } in
+    let new : LineCutter = record { max = c.self.inside.max; kept = []; after_cr = false; line = Some c.truncate.new.self.items } in
     let len : length c.args.self.now.kept ≡ c.len-len.result = ap length f.2 ∙ sym c.self.inside.bytes.ok.0 ∙ sym c.len-len.ensures in
     let w = stands_line c.args.self.now new stream c.args.byte at c.if-byte-eq-LF.true (f.3 ∙ c.if-self.true) refl refl (omega arith) in
     let same : take (c.len-len.result - 1) c.self.inside.bytes.items ≡ take (length c.args.self.now.kept - 1) c.args.self.now.kept = rw (len, f.2) refl in

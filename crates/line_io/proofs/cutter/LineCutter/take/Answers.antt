@@ -1,6 +1,6 @@
 use Rattle.std.proofs.Common.{◌≡◌, ℕ, List, ◌++◌, ◌∙◌, ap, refl, arith, take, ◌+◌, append_assoc, get_or, [], ◌∷◌}
 use Rattle.std.proofs.lemmas.List.{take_more, length-drop}
-use Rattle.line_io.specs.Cutting.{Cutter, StandsFor}
+use Rattle.line_io.specs.Cutting.{LineCutter, StandsFor}
 use Rattle.line_io.proofs.Lines.{tells_joined, stands_begun, run_joined}
 use Rattle.line_io.proofs.cutter.LineCutter.take.Goals as goal
 
@@ -17,7 +17,7 @@ returns-in_default c =
       some_used = λ _. omega arith;
       all_used = λ e. absurd (c.in_default.not-NeedMore e);
       line = c.step.ensures.line;
-      max = c.step.ensures.max ∙ c.take_run-used.ensures.max ∙ c.loop-used.invariant.max ∙ ap (λ (t : Cutter). t.max) c.begin.ensures;
+      max = c.step.ensures.max ∙ c.take_run-used.ensures.max ∙ c.loop-used.invariant.max ∙ ap (λ (t : LineCutter). t.max) c.begin.ensures;
       stands = λ stream at. rw (more, ← append_assoc stream _ _) (c.step.ensures.lines _ (s stream at).0).0;
       lines = λ stream at. rw more (tells_joined _ _ stream _ _ (s stream at).1 (c.step.ensures.lines _ (s stream at).0).1);
     }

@@ -4,7 +4,7 @@ use Rattle.change_ring.specs.Log.{no_flags}
 use Rattle.cursor_set.proofs.Places.{Rises-first, Rises-from, Rises-to}
 use Rattle.mailbox.specs.declared.letters.Letter.{Letter}
 use Rattle.mailbox.specs.inner.Letters.{AreCounted, letter_uids, message_of, messages_of}
-use Rattle.mailbox.specs.Mail.{Message}
+use Rattle.mailbox.specs.Mailbox.{Message}
 use Rattle.mailbox.proofs.LetterLaws.{AreCounted-add, AreCounted-same, bytes_few, messages_few, messages_more, uids_more, unseen_few}
 use Rattle.mailbox.proofs.letters.Letters.add.Goals as goal
 

@@ -1,7 +1,7 @@
 use Rattle.std.proofs.Common.{ℕ, ap, sym, ◌∙◌, List}
 use Rattle.std.specs.Prelude.{option_map}
 use Rattle.mailbox.specs.inner.Letters.{message_of}
-use Rattle.mailbox.specs.Mail.{Message, message_with}
+use Rattle.mailbox.specs.Mailbox.{Message, message_with}
 use Rattle.mailbox.proofs.LetterLaws.{at_place}
 use Rattle.mailbox.proofs.letters.Letters.get.Goals as goal
 

@@ -1,6 +1,6 @@
 use Rattle.std.proofs.Common.{subst, List, arith}
 use Rattle.std.specs.List.Sorted.{IsStrictlyIncreasing}
-use Rattle.mailbox.specs.Mail.{Message, uids_of}
+use Rattle.mailbox.specs.Mailbox.{Message, uids_of}
 use Rattle.mailbox.proofs.LetterLaws.{messages_few, messages_rise}
 use Rattle.mailbox.proofs.letters.Letters.len.Goals as goal
 

@@ -2,7 +2,7 @@ use Rattle.std.proofs.Common.{◌+◌, ◌-◌, not, ap, ◌∙◌, sym, subst, 
 use Rattle.std.specs.List.Sorted.{IsStrictlyIncreasing}
 use Rattle.change_ring.specs.declared.change.Flags.{Flags}
 use Rattle.mailbox.specs.inner.Letters.{messages_of}
-use Rattle.mailbox.specs.Mail.{message_with}
+use Rattle.mailbox.specs.Mailbox.{message_with}
 use Rattle.mailbox.proofs.LetterLaws.{AreCounted-same, AreCounted-set, flags_of_none, flags_of_one, messages_few, number_of, one_at_most, one_if, reflagged_none, unseen_few, unseen_there}
 use Rattle.mailbox.proofs.letters.Letters.set_flags.Goals as goal
 

@@ -2,7 +2,7 @@ use Rattle.std.proofs.Common.{◌≡◌, ◌+◌, ◌<◌, ℕ, List, [], ◌∷
 use Rattle.change_ring.specs.declared.change.Change.{Change}
 use Rattle.change_ring.specs.declared.change.Change.TheVariants.{Add}
 use Rattle.delivery_token.specs.declared.CopyKey.{CopyKey}
-use Rattle.mailbox.specs.Mail.{Mail, next_uid, uids_of}
+use Rattle.mailbox.specs.Mailbox.{Mailbox, next_uid, uids_of}
 use Rattle.mailbox.specs.Stands.{Stands}
 use Rattle.mailbox.specs.inner.Seen.{mail_of}
 use Rattle.mailbox.proofs.StandsLaws.{Stands-below, Stands-deliver, Stands-rising}
@@ -14,7 +14,7 @@ add-requires c =
     subst (λ (n : ℕ). All (λ u. u < n) (uids_of b.messages)) (sym c.self.invariant.0) (Stands-below (mail_of b) c.self.invariant.2.0 c.self.invariant.2.1)
 
 -- the mailbox as it is left
-abbrev after : goal.After-result-1 → Mail
+abbrev after : goal.After-result-1 → Mailbox
 after c = mail_of (record c.self.inside { next = c.self.inside.next + 1; messages = c.add.new.self; ring = c.log_change.new.ring; accepted = c.accept.new.self })
 
 -- its copies are those that it had, and this one
@@ -42,7 +42,7 @@ invariant_of-self-2 c =
 pub returns-clause-logged : goal.returns-clause-logged
 returns-clause-logged c =
     let new = after c in
-    λ log. subst (λ (m : Mail). Stands m log → Stands new (log ++ Add (next_uid m) ∷ [])) c.self.view_is
+    λ log. subst (λ (m : Mailbox). Stands m log → Stands new (log ++ Add (next_uid m) ∷ [])) c.self.view_is
     (λ s. subst (λ (u : ℕ). Stands new (log ++ Add u ∷ [])) c.self.invariant.0 (delivered c log s))
 
 pub returns-clause-rising : goal.returns-clause-rising

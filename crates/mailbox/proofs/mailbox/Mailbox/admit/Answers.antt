@@ -3,7 +3,7 @@ use Rattle.std.specs.Prelude.{None, option_map, Some, Option, List, ℕ}
 use Rattle.change_ring.specs.Window.{total}
 use Rattle.cursor_set.specs.Cursors.{Open, held}
 use Rattle.cursor_set.proofs.OpenedLemmas.{held_in_slot}
-use Rattle.mailbox.specs.Mail.{Mail}
+use Rattle.mailbox.specs.Mailbox.{Mailbox}
 use Rattle.mailbox.proofs.Seats.{held_at, held_some}
 use Rattle.mailbox.proofs.mailbox.Mailbox.admit.Goals as goal
 
@@ -17,5 +17,5 @@ returns-clause-within c =
     let seat = c.args.seat.now in
     let h = held_some (held b.cursors seat) (no_view (held b.cursors seat) c.in-Ok.ensures.ok) in
     let shown = c.self.invariant.2.1.cursors seat.slot h.0 (held_in_slot b.cursors seat h.0 h.1) in
-    let same = ap (λ (m : Mail). total m.window) c.self.view_is in
+    let same = ap (λ (m : Mailbox). total m.window) c.self.view_is in
     omega (arith, shown.within, c.self.invariant.2.1.window.long, held_at b.cursors seat h.0 h.1, same)

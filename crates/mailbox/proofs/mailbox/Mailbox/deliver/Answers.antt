@@ -8,9 +8,9 @@ use Rattle.change_ring.specs.declared.flag_op.FlagOp.TheVariants.{Set}
 use Rattle.change_ring.specs.Log.{no_flags}
 use Rattle.change_ring.specs.Logged.{flags_logged, new_flags}
 use Rattle.change_ring.specs.Window.{total}
-use Rattle.cursor_set.specs.Cursors.{Cursors}
+use Rattle.cursor_set.specs.Cursors.{CursorSet}
 use Rattle.mailbox.specs.Events.{Logs, Moves}
-use Rattle.mailbox.specs.Mail.{Mail, Message, flagged, message_with, next_uid, row_of, rows, uids_of}
+use Rattle.mailbox.specs.Mailbox.{Mailbox, Message, flagged, message_with, next_uid, row_of, rows, uids_of}
 use Rattle.mailbox.proofs.ArrivalLaws.{Logs-append, arrived_flagged, arrived_logged, arrived_there, room_for_all}
 use Rattle.mailbox.proofs.WindowMoves.{Moves-append, moves_logged}
 use Rattle.mailbox.proofs.mailbox.Mailbox.deliver.Goals as goal
@@ -21,7 +21,7 @@ on_ok (Err e) err p = absurd (err refl)
 
 -- ---- the message was added
 
-module _ (now : Mail) (flags : Flags) (text : List ℕ) (added : Mail) (messages : added.messages ≡ now.messages ++ record { uid = next_uid now; flags = no_flags; text = text } ∷ [])
+module _ (now : Mailbox) (flags : Flags) (text : List ℕ) (added : Mailbox) (messages : added.messages ≡ now.messages ++ record { uid = next_uid now; flags = no_flags; text = text } ∷ [])
     (rising : IsStrictlyIncreasing (uids_of added.messages)) where
   rises : IsStrictlyIncreasing (uids_of (now.messages ++ record { uid = next_uid now; flags = no_flags; text = text } ∷ []))
   rises = subst (λ (ms : List Message). IsStrictlyIncreasing (uids_of ms)) messages rising
@@ -79,8 +79,8 @@ returns-clause-window c =
     let now = c.args.self.now in
     let u = next_uid now in
     let flags = c.args.job.now.flags in
-    let same : c.add.new.self.cursors ≡ now.cursors = ap (λ (m : Mail). m.cursors) c.in_ok-receipt.ensures.rest in
+    let same : c.add.new.self.cursors ≡ now.cursors = ap (λ (m : Mailbox). m.cursors) c.in_ok-receipt.ensures.rest in
     let moves : Moves c.add.new.self.cursors c.add.new.self.window c.set_flags.new.self.window (new_flags u no_flags flags) =
     subst (Moves c.add.new.self.cursors c.add.new.self.window c.set_flags.new.self.window) (sets c) (on_ok c.set_flags.result (is_set c) c.set_flags.ensures.window) in
     Moves-append now.cursors now.window c.add.new.self.window c.set_flags.new.self.window (Add u ∷ []) (new_flags u no_flags flags) c.in_ok-receipt.ensures.window
-    (subst (λ (s : Cursors). Moves s c.add.new.self.window c.set_flags.new.self.window (new_flags u no_flags flags)) same moves)
+    (subst (λ (s : CursorSet). Moves s c.add.new.self.window c.set_flags.new.self.window (new_flags u no_flags flags)) same moves)

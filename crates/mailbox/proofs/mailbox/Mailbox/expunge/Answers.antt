@@ -6,9 +6,9 @@ use Rattle.change_ring.specs.declared.change.Change.{Change}
 use Rattle.change_ring.specs.Logged.{removals}
 use Rattle.change_ring.specs.Window.{changes_from, total}
 use Rattle.cursor_set.specs.Lines.{lines}
-use Rattle.cursor_set.specs.Cursors.{Cursors, Open, Updates, after_showing, held}
+use Rattle.cursor_set.specs.Cursors.{CursorSet, Open, Updates, after_showing, held}
 use Rattle.mailbox.specs.inner.Choices.{passes}
-use Rattle.mailbox.specs.Mail.{Mail, rows}
+use Rattle.mailbox.specs.Mailbox.{Mailbox, rows}
 use Rattle.mailbox.specs.Stands.{Stands}
 use Rattle.mailbox.proofs.mailbox.Mailbox.expunge.Goals as goal
 
@@ -52,13 +52,13 @@ returns-clause-spent c =
 pub remove-requires-clause-room : goal.remove-requires-clause-room
 remove-requires-clause-room c =
     let fits = has_room c.has_room.result (2 ^ 62) (total c.args.self.now.window) c.count_removals-count.result c.has_room.ensures c.if-not-has_room.false in
-    let same = ap (λ (m : Mail). total m.window + length (removals (passes c.of-choice.result) (rows m))) c.in-Ok.ensures.rest in
+    let same = ap (λ (m : Mailbox). total m.window + length (removals (passes c.of-choice.result) (rows m))) c.in-Ok.ensures.rest in
     omega (arith, fits, c.count_removals-count.ensures, same)
 
 pub returns-clause-logged : goal.returns-clause-logged
 returns-clause-logged c = λ log s.
     subst (λ (f : ℕ → Bool). Stands c.remove.new.self (log ++ removals f (rows c.args.self.now))) c.of-choice.ensures.test
-    (subst (λ (m : Mail). Stands c.remove.new.self (log ++ removals (passes c.of-choice.result) (rows m))) c.in-Ok.ensures.rest (c.remove.ensures.logged log (c.in-Ok.ensures.logged log s)))
+    (subst (λ (m : Mailbox). Stands c.remove.new.self (log ++ removals (passes c.of-choice.result) (rows m))) c.in-Ok.ensures.rest (c.remove.ensures.logged log (c.in-Ok.ensures.logged log s)))
 
 pub returns-clause-moved : goal.returns-clause-moved
 returns-clause-moved c =
@@ -67,8 +67,8 @@ returns-clause-moved c =
     let all : take c.in-Ok._shown (changes_from at now.window) ≡ changes_from at now.window =
     take_all c.in-Ok._shown (changes_from at now.window) (omega (arith, c.in-Ok.ensures.count, c.admit.ensures.small, c.in_ok-admit.ensures.admitted.1, length-drop (at - now.window.base) now.window.changes)) in
     subst (λ (cs : List Change). Updates now.cursors c.remove.new.self.cursors c.args.seat.now.slot (option_map (after_showing cs) (held now.cursors c.args.seat.now))) all
-    (subst (λ (k : Cursors). Updates now.cursors k c.args.seat.now.slot (option_map (after_showing (take c.in-Ok._shown (changes_from at now.window))) (held now.cursors c.args.seat.now)))
-    (sym (ap (λ (m : Mail). m.cursors) c.remove.ensures.rest)) c.in-Ok.ensures.moved)
+    (subst (λ (k : CursorSet). Updates now.cursors k c.args.seat.now.slot (option_map (after_showing (take c.in-Ok._shown (changes_from at now.window))) (held now.cursors c.args.seat.now)))
+    (sym (ap (λ (m : Mailbox). m.cursors) c.remove.ensures.rest)) c.in-Ok.ensures.moved)
 
 pub returns-clause-written : goal.returns-clause-written
 returns-clause-written c =

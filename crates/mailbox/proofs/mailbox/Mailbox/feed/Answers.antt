@@ -6,7 +6,7 @@ use Rattle.cursor_set.specs.Lines.{lines}
 use Rattle.cursor_set.specs.Cursors.{Open, Updates, after_showing, held, next_changes}
 use Rattle.cursor_set.proofs.OpenedLemmas.{held_in_slot}
 use Rattle.change_ring.specs.declared.change.Change.{Change}
-use Rattle.mailbox.specs.Mail.{Mail}
+use Rattle.mailbox.specs.Mailbox.{Mailbox}
 use Rattle.mailbox.specs.Stands.{Stands, next_of}
 use Rattle.mailbox.specs.inner.Seen.{mail_of}
 use Rattle.mailbox.proofs.Seats.{held_at, held_some}
@@ -65,7 +65,7 @@ invariant_of-self-2 c =
     (c.self.invariant.0, c.self.invariant.1, (log, fed c log c.self.invariant.2.1), search rules)
 
 pub returns-clause-logged : goal.returns-clause-logged
-returns-clause-logged c = λ log s. fed c log (subst (λ (m : Mail). Stands m log) (sym c.self.view_is) s)
+returns-clause-logged c = λ log s. fed c log (subst (λ (m : Mailbox). Stands m log) (sym c.self.view_is) s)
 
 pub returns-clause-shown : goal.returns-clause-shown
 returns-clause-shown c = λ log s.
@@ -74,5 +74,5 @@ returns-clause-shown c = λ log s.
     let written = rw o.1 at c.in_ok-count.ensures.shown in
     written ∙ ap (λ (k : ℕ). c.args.out.now.items ++ lines o.0.view (next_changes c.self.inside.ring k c.in_ok-count.count)) (sym at)
     ∙ ap (λ (t : List ℕ). c.args.out.now.items ++ t)
-    (lines-log (mail_of c.self.inside) log c.args.seat.now.slot c.in_ok-count.count o.0 (subst (λ (m : Mail). Stands m log) (sym c.self.view_is) s) (held_in_slot c.self.inside.cursors c.args.seat.now o.0 o.1) o.2
+    (lines-log (mail_of c.self.inside) log c.args.seat.now.slot c.in_ok-count.count o.0 (subst (λ (m : Mailbox). Stands m log) (sym c.self.view_is) s) (held_in_slot c.self.inside.cursors c.args.seat.now o.0 o.1) o.2
     ∙ ap (λ (k : ℕ). lines (view_at log k) (next_of log k c.in_ok-count.count)) at)

@@ -1,6 +1,6 @@
 use Rattle.std.proofs.Common.{◌≡◌, [], ap, length, arith}
 use Rattle.change_ring.specs.Window.{Window}
-use Rattle.cursor_set.specs.Cursors.{Cursors}
+use Rattle.cursor_set.specs.Cursors.{CursorSet}
 use Rattle.mailbox.proofs.StandsLaws.{Stands-new}
 use Rattle.mailbox.proofs.mailbox.Mailbox.new.Goals as goal
 
@@ -11,6 +11,6 @@ invariant_of-result c =
     let empty = ap length c.new-2.ensures in (
       omega (arith, none),
       omega (arith, empty),
-      ([], Stands-new _ c.new-2.ensures (ap (λ (w : Window). w.base) c.in_ok-ring.ensures) (ap (λ (w : Window). w.changes) c.in_ok-ring.ensures) took (ap (λ (s : Cursors). s.slots) c.new-4.ensures)),
-      ap (λ (s : Cursors). s.number) c.new-4.ensures,
+      ([], Stands-new _ c.new-2.ensures (ap (λ (w : Window). w.base) c.in_ok-ring.ensures) (ap (λ (w : Window). w.changes) c.in_ok-ring.ensures) took (ap (λ (s : CursorSet). s.slots) c.new-4.ensures)),
+      ap (λ (s : CursorSet). s.number) c.new-4.ensures,
     )

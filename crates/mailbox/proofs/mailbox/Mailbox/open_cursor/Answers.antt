@@ -1,7 +1,7 @@
 use Rattle.std.proofs.Common.{rules, ◌≡◌, ℕ, List, Some, subst, sym, ◌∙◌}
 use Rattle.change_ring.specs.Window.{total}
 use Rattle.cursor_set.specs.Cursors.{Updates}
-use Rattle.mailbox.specs.Mail.{Mail, uids_of}
+use Rattle.mailbox.specs.Mailbox.{Mailbox, uids_of}
 use Rattle.mailbox.specs.Stands.{Stands}
 use Rattle.mailbox.specs.inner.Seen.{mail_of}
 use Rattle.mailbox.proofs.Seats.{known_by}
@@ -30,11 +30,11 @@ invariant_of-self-2 c =
 
 pub returns-clause-logged : goal.returns-clause-logged
 returns-clause-logged c = λ log s.
-    Stands-enter (mail_of c.self.inside) c.enter.new.self log c.in-Ok-enter.seat.slot c.self.inside.cursors.next (subst (λ (m : Mail). Stands m log) (sym c.self.view_is) s) (entered c)
+    Stands-enter (mail_of c.self.inside) c.enter.new.self log c.in-Ok-enter.seat.slot c.self.inside.cursors.next (subst (λ (m : Mailbox). Stands m log) (sym c.self.view_is) s) (entered c)
 
 pub returns-clause-opened : goal.returns-clause-opened
 returns-clause-opened c =
-    subst (λ (m : Mail). Updates m.cursors c.enter.new.self c.in-Ok-enter.seat.slot (Some (record { serial = m.cursors.next; at = total m.window; view = uids_of m.messages }))) c.self.view_is (entered c)
+    subst (λ (m : Mailbox). Updates m.cursors c.enter.new.self c.in-Ok-enter.seat.slot (Some (record { serial = m.cursors.next; at = total m.window; view = uids_of m.messages }))) c.self.view_is (entered c)
 
 pub returns-clause-known : goal.returns-clause-known
 returns-clause-known c =

@@ -5,7 +5,7 @@ use Rattle.change_ring.specs.Logged.{flags_after, seen_logged}
 use Rattle.mailbox.specs.Events.{Moves, mark, was_logged}
 use Rattle.mailbox.specs.declared.clients.Row.{Row}
 use Rattle.mailbox.specs.inner.Letters.{message_of}
-use Rattle.mailbox.specs.Mail.{Message, message_with, rows}
+use Rattle.mailbox.specs.Mailbox.{Message, message_with, rows}
 use Rattle.mailbox.proofs.MessageLaws.{seen_none, seen_after_none, with_seen}
 use Rattle.mailbox.proofs.StandsLaws.{Logs-nothing}
 use Rattle.mailbox.proofs.mailbox.Mailbox.read.Goals as goal

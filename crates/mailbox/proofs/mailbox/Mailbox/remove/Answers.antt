@@ -6,7 +6,7 @@ use Rattle.cursor_set.proofs.Places.{Rises-from}
 use Rattle.mailbox.specs.inner.Choices.{passes}
 use Rattle.mailbox.specs.Events.{Moves}
 use Rattle.mailbox.specs.inner.Events.{GoesOn}
-use Rattle.mailbox.specs.Mail.{Mail, remaining, row_of, rows, uids_of}
+use Rattle.mailbox.specs.Mailbox.{Mailbox, remaining, row_of, rows, uids_of}
 use Rattle.mailbox.specs.inner.Marks.{gone_of}
 use Rattle.mailbox.specs.inner.Seen.{mail_of}
 use Rattle.mailbox.specs.Stands.{Stands}
@@ -21,7 +21,7 @@ log_removals-requires-clause-room c =
     let test = passes c.args.choice in
     let all = ap (λ (us : List ℕ). length (gone_of test us)) c.marked.ensures in
     let same = ap length (gone_marked test c.self.inside.messages) in
-    let now = ap (λ (m : Mail). total m.window + length (removals test (rows m))) c.self.view_is in
+    let now = ap (λ (m : Mailbox). total m.window + length (removals test (rows m))) c.self.view_is in
     omega (arith, c.requires.room, all, same, now)
 
 -- what is logged
@@ -38,7 +38,7 @@ moves : (c : goal.After-remove) → Moves c.self.inside.cursors c.self.inside.ri
 moves c = subst (Moves c.self.inside.cursors c.self.inside.ring c.log_removals.new.ring) (same c) c.log_removals.ensures.moves
 
 -- the mailbox as it is left
-abbrev after : goal.After-remove → Mail
+abbrev after : goal.After-remove → Mailbox
 after c = record (mail_of c.self.inside) { messages = c.remove.new.self; window = c.log_removals.new.ring }
 
 removed : (c : goal.After-remove) (log : List Change) → Stands (mail_of c.self.inside) log → Stands (after c) (log ++ logged c)
@@ -59,10 +59,10 @@ invariant_of-self c =
 pub returns-clause-logged : goal.returns-clause-logged
 returns-clause-logged c =
     let new = after c in
-    λ log s. subst (λ (m : Mail). Stands new (log ++ removals (passes c.args.choice) (rows m))) c.self.view_is (removed c log (subst (λ (m : Mail). Stands m log) (sym c.self.view_is) s))
+    λ log s. subst (λ (m : Mailbox). Stands new (log ++ removals (passes c.args.choice) (rows m))) c.self.view_is (removed c log (subst (λ (m : Mailbox). Stands m log) (sym c.self.view_is) s))
 
 pub returns-clause-window : goal.returns-clause-window
-returns-clause-window c = subst (λ (m : Mail). Moves m.cursors m.window c.log_removals.new.ring (removals (passes c.args.choice) (rows m))) c.self.view_is (moves c)
+returns-clause-window c = subst (λ (m : Mailbox). Moves m.cursors m.window c.log_removals.new.ring (removals (passes c.args.choice) (rows m))) c.self.view_is (moves c)
 
 pub returns-clause-messages : goal.returns-clause-messages
-returns-clause-messages c = c.remove.ensures ∙ ap (λ (m : Mail). remaining (passes c.args.choice) m.messages) c.self.view_is
+returns-clause-messages c = c.remove.ensures ∙ ap (λ (m : Mailbox). remaining (passes c.args.choice) m.messages) c.self.view_is

@@ -10,7 +10,7 @@ use Rattle.change_ring.specs.Window.{total}
 use Rattle.cursor_set.proofs.Places.{Rises-from}
 use Rattle.mailbox.specs.Events.{Moves, was_logged}
 use Rattle.mailbox.specs.inner.Letters.{reflagged}
-use Rattle.mailbox.specs.Mail.{Mail, Message, flagged, message_with, row_of, rows, uids_of}
+use Rattle.mailbox.specs.Mailbox.{Mailbox, Message, flagged, message_with, row_of, rows, uids_of}
 use Rattle.mailbox.specs.inner.Seen.{mail_of}
 use Rattle.mailbox.specs.Stands.{Stands}
 use Rattle.mailbox.specs.inner.Stands.{IsSound}
@@ -21,10 +21,10 @@ use Rattle.mailbox.proofs.StandsLaws.{Logs-nothing, Stands-changed, Stands-risin
 use Rattle.mailbox.proofs.mailbox.Mailbox.set_flags.Goals as goal
 
 -- the message is found
-found : (b : kept_mail) (now : Mail) (uid : ℕ) (op : FlagOp) (old : Flags) → mail_of b ≡ now → IsSound (mail_of b) →
+found : (b : kept_mail) (now : Mailbox) (uid : ℕ) (op : FlagOp) (old : Flags) → mail_of b ≡ now → IsSound (mail_of b) →
     option_map (λ (m : Message). m.flags) (message_with uid now.messages) ≡ Some old → IsFound uid op now.messages old
 found b now uid op old same sound there =
-    let rising = subst (λ (m : Mail). IsStrictlyIncreasing (uids_of m.messages)) same (Stands-rising (mail_of b) sound.0 sound.1) in
+    let rising = subst (λ (m : Mailbox). IsStrictlyIncreasing (uids_of m.messages)) same (Stands-rising (mail_of b) sound.0 sound.1) in
     found_by uid op now.messages old (Rises-from (uids_of now.messages) rising) there
 
 -- its flags stay
@@ -55,7 +55,7 @@ pub returns-then-not-differ_from-clause-changed : goal.returns-then-not-differ_f
 returns-then-not-differ_from-clause-changed c = ap was_logged (stays c).0
 
 -- they become others
-one_change : (uid : ℕ) (op : FlagOp) (now : Mail) (old new : Flags) (differs : Bool) → IsFound uid op now.messages old → new ≡ flags_after op old →
+one_change : (uid : ℕ) (op : FlagOp) (now : Mailbox) (old new : Flags) (differs : Bool) → IsFound uid op now.messages old → new ≡ flags_after op old →
     differs ≡ flags_differ old new → differs ≡ true → flags_logged (rows now) uid op ≡ SetFlags uid new ∷ []
 one_change uid op now old new differs f is tells other =
     change_logged uid op now.messages old f (ap (flags_differ old) (sym is) ∙ sym tells ∙ other) ∙ ap (λ (g : Flags). SetFlags uid g ∷ []) (sym is)
@@ -65,11 +65,11 @@ returns-in_default-clause-spent c =
     let f = found c.self.inside c.args.self.now c.args.uid c.args.op c.args.old c.self.view_is c.self.invariant.2 c.requires.there in
     let one = ap length (one_change c.args.uid c.args.op c.args.self.now c.args.old c.after-flags.result c.differ_from.result f c.after-flags.ensures c.differ_from.ensures c.if-not-differ_from.false) in
     let full : total c.self.inside.ring ≡ 2 ^ 62 = c.in_default.ensures.spent.0 (search rules) in
-    let same : total c.self.inside.ring ≡ total c.args.self.now.window = ap (λ (m : Mail). total m.window) c.self.view_is in
+    let same : total c.self.inside.ring ≡ total c.args.self.now.window = ap (λ (m : Mailbox). total m.window) c.self.view_is in
     (λ e. omega (arith, one, full, same), λ many. refl)
 
 -- the mailbox as it is left
-abbrev after : goal.After-set_flags → Mail
+abbrev after : goal.After-set_flags → Mailbox
 after c = record (mail_of c.self.inside) { messages = c.set_flags.new.self; window = c.log_change.new.ring }
 
 known : (c : goal.After-set_flags) → IsFound c.args.uid c.args.op c.args.self.now.messages c.args.old
@@ -79,7 +79,7 @@ changed : (c : goal.After-set_flags) (log : List Change) → Stands (mail_of c.s
 changed c log s =
     let b = c.self.inside in
     let new = c.after-flags.result in
-    let f = subst (λ (m : Mail). IsFound c.args.uid c.args.op m.messages c.args.old) (sym c.self.view_is) (known c) in
+    let f = subst (λ (m : Mailbox). IsFound c.args.uid c.args.op m.messages c.args.old) (sym c.self.view_is) (known c) in
     Stands-changed (mail_of b) (after c) log (SetFlags c.args.uid new ∷ []) s (change_fits c.args.uid c.args.op b.messages c.args.old new f)
     (ap (map row_of) c.set_flags.ensures ∙ change_rows c.args.uid b.messages new)
     c.in-Ok.ensures.goes_on refl refl refl refl
@@ -100,23 +100,23 @@ invariant_of-self-2 c =
 pub returns-clause-spent : goal.returns-clause-spent
 returns-clause-spent c =
     let one = ap length (logged c) in
-    let same : total c.self.inside.ring ≡ total c.args.self.now.window = ap (λ (m : Mail). total m.window) c.self.view_is in
+    let same : total c.self.inside.ring ≡ total c.args.self.now.window = ap (λ (m : Mailbox). total m.window) c.self.view_is in
     let room : total c.self.inside.ring ≢ 2 ^ 62 = λ full. search (rules, c.in-Ok.ensures.spent.1 full) in
     (λ e. cc, λ many. absurd (room (omega (arith, many, one, same, c.requires.small))))
 
 pub returns-clause-logged : goal.returns-clause-logged
 returns-clause-logged c =
     let new = after c in
-    λ log s. subst (λ (cs : List Change). Stands new (log ++ cs)) (sym (logged c)) (changed c log (subst (λ (m : Mail). Stands m log) (sym c.self.view_is) s))
+    λ log s. subst (λ (cs : List Change). Stands new (log ++ cs)) (sym (logged c)) (changed c log (subst (λ (m : Mailbox). Stands m log) (sym c.self.view_is) s))
 
 pub returns-clause-window : goal.returns-clause-window
 returns-clause-window c =
     subst (Moves c.args.self.now.cursors c.args.self.now.window c.log_change.new.ring) (sym (logged c))
-    (subst (λ (m : Mail). Moves m.cursors m.window c.log_change.new.ring (SetFlags c.args.uid c.after-flags.result ∷ [])) c.self.view_is c.in-Ok.ensures.moves)
+    (subst (λ (m : Mailbox). Moves m.cursors m.window c.log_change.new.ring (SetFlags c.args.uid c.after-flags.result ∷ [])) c.self.view_is c.in-Ok.ensures.moves)
 
 pub returns-clause-messages : goal.returns-clause-messages
 returns-clause-messages c =
-    c.set_flags.ensures ∙ ap (λ (m : Mail). reflagged c.args.uid c.after-flags.result m.messages) c.self.view_is
+    c.set_flags.ensures ∙ ap (λ (m : Mailbox). reflagged c.args.uid c.after-flags.result m.messages) c.self.view_is
     ∙ ap (λ (g : Flags). reflagged c.args.uid g c.args.self.now.messages) c.after-flags.ensures ∙ sym (known c).flagged
 
 pub returns-clause-changed : goal.returns-clause-changed

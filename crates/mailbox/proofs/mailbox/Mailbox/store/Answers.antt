@@ -1,7 +1,7 @@
 use Rattle.std.proofs.Common.{◌≡◌, refl, ap, subst, sym, ◌∙◌, length, arith, List}
 use Rattle.std.specs.Prelude.{None, Some, option_map}
 use Rattle.mailbox.specs.Events.{Moves}
-use Rattle.mailbox.specs.Mail.{Message, message_with, rows}
+use Rattle.mailbox.specs.Mailbox.{Message, message_with, rows}
 use Rattle.mailbox.proofs.MessageLaws.{flags_stored, flagged_none, logged_none, none_found}
 use Rattle.mailbox.proofs.StandsLaws.{Logs-nothing}
 use Rattle.change_ring.specs.Logged.{flags_logged}

@@ -1,7 +1,7 @@
 use Rattle.std.proofs.Common.{◌≡◌, ◌∙◌, List, [], ◌∷◌, map, sym, ap, subst, refl}
 use Rattle.std.specs.List.Sorted.{IsStrictlyIncreasing}
 use Rattle.std.proofs.lemmas.Result.{IfOk-weaker}
-use Rattle.mailbox.specs.Mail.{Mail, Message, texts_of, uids_of}
+use Rattle.mailbox.specs.Mailbox.{Mailbox, Message, texts_of, uids_of}
 use Rattle.mailbox.specs.inner.Seen.{mail_of}
 use Rattle.mailbox.proofs.StandsLaws.{Stands-rising}
 use Rattle.mailbox.proofs.mailbox.Mailbox.texts.Goals as goal
@@ -12,7 +12,7 @@ uids_told [] = refl
 uids_told (m ∷ ms) = ap (λ us. m.uid ∷ us) (uids_told ms)
 
 pub returns-clause-all : goal.returns-clause-all
-returns-clause-all c = IfOk-weaker c.texts.result _ _ (λ v h. h ∙ ap texts_of (ap (λ (m : Mail). m.messages) c.self.view_is)) c.texts.ensures
+returns-clause-all c = IfOk-weaker c.texts.result _ _ (λ v h. h ∙ ap texts_of (ap (λ (m : Mailbox). m.messages) c.self.view_is)) c.texts.ensures
 
 pub returns-clause-rising : goal.returns-clause-rising
 returns-clause-rising c =

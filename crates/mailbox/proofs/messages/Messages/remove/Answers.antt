@@ -2,7 +2,7 @@ use Rattle.std.proofs.Common.{rules, of_calls, ◌≡◌, ℕ, List, filter, not
 use Rattle.std.proofs.lemmas.Fn.{filter_same}
 use Rattle.cursor_set.proofs.Places.{Rises-from}
 use Rattle.mailbox.specs.inner.Choices.{passes}
-use Rattle.mailbox.specs.Mail.{Message, remaining, uids_of}
+use Rattle.mailbox.specs.Mailbox.{Message, remaining, uids_of}
 use Rattle.mailbox.specs.inner.Marks.{marked_of, without_each}
 use Rattle.mailbox.proofs.MarkLaws.{length_remaining}
 use Rattle.mailbox.proofs.TakenLaws.{each_taken, marks_left}

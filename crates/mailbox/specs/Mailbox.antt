@@ -5,7 +5,7 @@ use Rattle.change_ring.specs.declared.flag_op.FlagOp.{FlagOp}
 use Rattle.change_ring.specs.Log.{Row}
 use Rattle.change_ring.specs.Logged.{arrival, flags_after}
 use Rattle.change_ring.specs.Window.{Window, total}
-use Rattle.cursor_set.specs.Cursors.{Cursors}
+use Rattle.cursor_set.specs.Cursors.{CursorSet}
 use Rattle.delivery_token.specs.declared.CopyKey.{CopyKey}
 use Rattle.mailbox.specs.declared.history.History.{History}
 
@@ -17,7 +17,7 @@ pub record Message : Type 0 where
 
 -- its number and UIDVALIDITY, the first UID, how many messages may be there, the messages, the last changes, the copies that were
 -- accepted, each with its UID, whether these are kept, and the clients' cursors
-pub record Mail : Type 0 where
+pub record Mailbox : Type 0 where
   pub number : ℕ
   pub uidvalidity : ℕ
   pub first_uid : ℕ
@@ -26,22 +26,22 @@ pub record Mail : Type 0 where
   pub window : Window
   pub history : History
   pub accepted : List (CopyKey × ℕ)
-  pub cursors : Cursors
+  pub cursors : CursorSet
 
 -- the UID of the next message
-abbrev pub next_uid : Mail → ℕ
+abbrev pub next_uid : Mailbox → ℕ
 next_uid m = m.first_uid + length m.accepted
 
 -- no UID is left, or not as many numbers of changes as the arrival of a message with these flags takes
-abbrev pub is_spent : Flags → Mail → Bool
+abbrev pub is_spent : Flags → Mailbox → Bool
 is_spent flags m = nat_le 4294967295 (next_uid m) || nat_lt 4611686018427387904 (total m.window + length (arrival (next_uid m) flags))
 
 -- as many messages are there as may be
-abbrev pub is_full : Mail → Bool
+abbrev pub is_full : Mailbox → Bool
 is_full m = nat_le m.limit (length m.messages)
 
 -- what no call changes
-pub record SameMailbox (old new : Mail) : Type 0 where
+pub record SameMailbox (old new : Mailbox) : Type 0 where
   pub number : new.number ≡ old.number
   pub uidvalidity : new.uidvalidity ≡ old.uidvalidity
   pub first_uid : new.first_uid ≡ old.first_uid
@@ -53,7 +53,7 @@ abbrev pub row_of : Message → Row
 row_of m = record { uid = m.uid; flags = m.flags }
 
 -- the messages as a client sees them
-abbrev pub rows : Mail → List Row
+abbrev pub rows : Mailbox → List Row
 rows m = map row_of m.messages
 
 -- the messages' UIDs
@@ -65,7 +65,7 @@ abbrev pub texts_of : List Message → List (ℕ × List ℕ)
 texts_of messages = map (λ (m : Message). (m.uid, m.text)) messages
 
 -- the UIDs that were given out
-abbrev pub accepted_uids : Mail → List ℕ
+abbrev pub accepted_uids : Mailbox → List ℕ
 accepted_uids m = map (λ (a : CopyKey × ℕ). a.1) m.accepted
 
 -- the message of a UID

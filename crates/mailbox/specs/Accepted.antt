@@ -5,7 +5,7 @@ use Rattle.mailbox.specs.declared.history.History.{History}
 use Rattle.mailbox.specs.declared.history.History.TheVariants.{Kept, Unkept}
 
 -- whether they are kept, each with its UID, in the order of the deliveries, and for how many more there is room
-pub record Copies : Type 0 where
+pub record Accepted : Type 0 where
   pub history : History
   pub items : List (CopyKey × ℕ)
   pub spare : ℕ

@@ -12,29 +12,29 @@ use Rattle.submission.specs.Verdicts as verdicts
 use Rattle.submission.specs.Verdicts.{Hears}
 use Rattle.imap_session.specs.Exchange.{Call, Answer, Sent}
 use Rattle.imap_session.specs.Store.{IdleTurns}
-use Rattle.house_session.specs.HouseSession.{HasAnswered, HouseSession}
-use Rattle.house_session.specs.Place as place
-use Rattle.house_session.specs.Place.{Place}
-use Rattle.house_session.specs.Seated.{Proceeds, SeatedSession, copies_of, keys_of, sent_by}
+use Rattle.house_session.specs.Visitor.{HasAnswered, Visitor}
+use Rattle.house_session.specs.HouseSession as place
+use Rattle.house_session.specs.HouseSession.{HouseSession}
+use Rattle.house_session.specs.SeatedVisitor.{Proceeds, SeatedVisitor, copies_of, keys_of, sent_by}
 
 -- the session at its place, its seat and serial, whether its client is gone, and of the copy that was put the verdict, or None while that is awaited
-pub record Seat : Type 0 where
-  pub place : Place
+pub record SeatedSession : Type 0 where
+  pub place : HouseSession
   pub number : ℕ
   pub serial : ℕ
   pub gone : Bool
   pub slots : List (Option Verdict)
 
-abbrev pub submitted_at : Seat → Option Sent
+abbrev pub submitted_at : SeatedSession → Option Sent
 submitted_at p = p.place.link.session.mailing.sent
 
 -- the copy of the message at hand, where that is still to be put
-abbrev pub due : Seat → List Job
+abbrev pub due : SeatedSession → List Job
 due p = submission.due (copies_of p.number p.serial (submitted_at p)) p.slots
 
 -- How much is left to do for a session. A byte that waits may end a message, of which one copy is put, and that counts 5 (`put_effort`): so a byte counts 6,
 -- and it becomes less by each that is taken.
-abbrev pub seat_effort : Seat → ℕ
+abbrev pub seat_effort : SeatedSession → ℕ
 seat_effort p = 6 * length p.place.came + put_effort (due p)
 
 -- the key of the next copy: of the message that was submitted, or of the next one
@@ -43,7 +43,7 @@ key_with seat serial number None slots = record { seat = seat; serial = serial; 
 key_with seat serial number (Some sent) slots = record { seat = seat; serial = serial; message = sent.append.message; recipient = length slots }
 
 -- At this seat, which has heard these verdicts and may use keys from `next` on, it stands for this session. Of one whose client is gone only the message that it submitted matters.
-pub record StandsForSeated (seat : ℕ) (next : CopyKey) (heard : List Noted) (p : Seat) (v : SeatedSession) : Type 0 where
+pub record StandsForSeated (seat : ℕ) (next : CopyKey) (heard : List Noted) (p : SeatedSession) (v : SeatedVisitor) : Type 0 where
   pub place : p.gone ≡ false → place.StandsFor p.place v.session
   pub submitted : submitted_at p ≡ sent_by v
   pub number : p.number ≡ seat
@@ -55,28 +55,28 @@ pub record StandsForSeated (seat : ℕ) (next : CopyKey) (heard : List Noted) (p
   pub numbered : (sent : Sent) → sent_by v ≡ Some sent → sent.append.message < v.session.standing.mailing.number
   pub ahead : AtLeast next (key_with seat v.serial v.session.standing.mailing.number (sent_by v) p.slots)
 
-abbrev pub with_slots : List (Option Verdict) → Seat → Seat
+abbrev pub with_slots : List (Option Verdict) → SeatedSession → SeatedSession
 with_slots slots p = record { place = p.place; number = p.number; serial = p.serial; gone = p.gone; slots = slots }
 
-abbrev pub with_place : Place → Seat → Seat
+abbrev pub with_place : HouseSession → SeatedSession → SeatedSession
 with_place new p = record { place = new; number = p.number; serial = p.serial; gone = p.gone; slots = p.slots }
 
 -- The verdict is noted at its place, where it is awaited, and nothing else is changed.
-pub record HearsVerdict (p : Seat) (r : Noted) (new : Seat) : Type 0 where
+pub record HearsVerdict (p : SeatedSession) (r : Noted) (new : SeatedSession) : Type 0 where
   pub hears : Hears (keys_of p.number p.serial (submitted_at p)) p.slots r new.slots
   pub rest : new ≡ with_slots new.slots p
 
 -- the copy was put, and this was heard of it at once
-abbrev pub noted_put : Option Verdict → Seat → Seat
+abbrev pub noted_put : Option Verdict → SeatedSession → SeatedSession
 noted_put verdict p = with_slots (verdicts.noted_put verdict p.slots) p
 
 -- its client is gone: what waited and what was still to be printed is dropped
-abbrev pub with_nobody_there : Seat → Seat
+abbrev pub with_nobody_there : SeatedSession → SeatedSession
 with_nobody_there p = record { place = record { link = p.place.link; came = []; unsaid = [] }; number = p.number; serial = p.serial; gone = true; slots = p.slots }
 
 -- From this session at its seat what could be done was done, and nothing of what it said is printed yet.
-pub record Proceeded {S : Type 0} (step : S → Call → Answer → S → Type 0) (whole : Bool) (seat : ℕ) (next : CopyKey) (heard : List Noted) (before : SeatedSession) (old new : S) (p : Seat) : Type 0 where
-  pub after : SeatedSession
+pub record Proceeded {S : Type 0} (step : S → Call → Answer → S → Type 0) (whole : Bool) (seat : ℕ) (next : CopyKey) (heard : List Noted) (before : SeatedVisitor) (old new : S) (p : SeatedSession) : Type 0 where
+  pub after : SeatedVisitor
   pub said : List ℕ
   pub proceeds : Proceeds step whole seat heard before old new after said
   pub kept : after.session.unsaid ≡ before.session.unsaid ++ said
@@ -84,8 +84,8 @@ pub record Proceeded {S : Type 0} (step : S → Call → Answer → S → Type 0
   pub stands : StandsForSeated seat next heard p after
 
 -- From this session at its seat it had a turn while it idles, which showed so many changes, and nothing of that is printed yet.
-pub record SeatedTurned {S : Type 0} (step : S → Call → Answer → S → Type 0) (count : ℕ) (seat : ℕ) (next : CopyKey) (heard : List Noted) (before : SeatedSession) (old new : S) (p : Seat) : Type 0 where
-  pub session : HouseSession
+pub record SeatedTurned {S : Type 0} (step : S → Call → Answer → S → Type 0) (count : ℕ) (seat : ℕ) (next : CopyKey) (heard : List Noted) (before : SeatedVisitor) (old new : S) (p : SeatedSession) : Type 0 where
+  pub session : Visitor
   pub said : List ℕ
   pub turned : IdleTurns step before.session.standing old new [] said count session.standing
   pub kept : session.unsaid ≡ before.session.unsaid ++ said

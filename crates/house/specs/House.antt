@@ -1,17 +1,17 @@
 -- What the house holds, as contracts see it.
 use Rattle.std.specs.Prelude.{ℕ, List, Option}
 use Rattle.envelope.specs.Directory.{Directory}
-use Rattle.delivery_core.specs.Held.{Held}
-use Rattle.house_connection.specs.Line.{Line}
-use Rattle.house_session.specs.Seat.{Seat}
+use Rattle.delivery_core.specs.DeliveryCore.{DeliveryCore}
+use Rattle.house_connection.specs.HouseConnection.{HouseConnection}
+use Rattle.house_session.specs.SeatedSession.{SeatedSession}
 
 -- The delivery core; which connection stands at each of the first seats, and the serial of the next one there; which session is at each place, and the serial
 -- of the next one there; and what is settled.
-pub record State : Type 0 where
-  pub core : Held
-  pub callers : List (Option Line)
+pub record House : Type 0 where
+  pub core : DeliveryCore
+  pub callers : List (Option HouseConnection)
   pub serials : List ℕ
-  pub visitors : List (Option Seat)
+  pub visitors : List (Option SeatedSession)
   pub entered : List ℕ
   pub directory : Directory
   pub host : List ℕ

@@ -2,7 +2,7 @@
 use Rattle.std.specs.Prelude.{ℕ, Bool, List}
 use Rattle.shard_queue.specs.declared.lane.Entry.{Entry}
 
-pub record Waits (T : Type 0) : Type 0 where
+pub record PlainLane (T : Type 0) : Type 0 where
   pub capacity : ℕ
   pub live : List Bool
   pub waiting : List (Entry T)
