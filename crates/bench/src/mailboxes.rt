@@ -35,6 +35,12 @@ pub enum Measure {
     Parts(u32),
     /// Messages of a size, so many of them, that come in one piece each.
     Mail(Mail, usize),
+    /// The same by so many rounds, of which the first and the last are measured: whether a message costs more where many stand already.
+    Rounds {
+        mail: Mail,
+        rounds: usize,
+        each: usize,
+    },
     /// A session removes half of a mailbox of so many messages, in no order, and another is shown it.
     Scattered(u32),
     /// Mail for four mailboxes, so many messages each.
@@ -128,6 +134,28 @@ fn sized_mail<T: AllocGlobal + CpuClock + Print>(
     show(rt, shows, "delivered", output.len(), took)
 }
 
+fn mail_in_rounds<T: AllocGlobal + CpuClock + Print>(
+    rt: &T,
+    house: &mut House,
+    mail: Mail,
+    rounds: usize,
+    each: usize,
+    shows: Shows,
+) -> io::Result<()> {
+    let wire = message(rt.alloc(), &USERS, mail)?;
+    let mut output = Vec::new(rt.alloc());
+    println!(rt;
+        "{rounds} rounds of {each} messages, each of {} bytes with its commands",
+        wire.len()
+    )?;
+    let mut took = deliver(rt, house, &wire, each, &mut output)?;
+    show(rt, shows, "the first round", output.len(), took)?;
+    for _ in 1..rounds {
+        took = deliver(rt, house, &wire, each, &mut output)?;
+    }
+    show(rt, shows, "the last round", output.len(), took)
+}
+
 fn scattered<T: AllocGlobal + CpuClock + Print>(
     rt: &T,
     house: &mut House,
@@ -190,6 +218,9 @@ pub fn measure_once<T: AllocGlobal + CpuClock + Print>(
         Measure::OneMailbox(messages) => one_mailbox(rt, &mut house, messages, shows),
         Measure::Parts(messages) => parts_of_mailbox(rt, &mut house, messages, shows),
         Measure::Mail(mail, times) => sized_mail(rt, &mut house, mail, times, shows),
+        Measure::Rounds { mail, rounds, each } => {
+            mail_in_rounds(rt, &mut house, mail, rounds, each, shows)
+        }
         Measure::Scattered(messages) => scattered(rt, &mut house, messages, shows),
         Measure::FourMailboxes(each) => four_mailboxes(rt, &mut house, each, shows),
         Measure::Visits(rounds) => short_sessions(rt, &mut house, rounds, shows),

@@ -90,7 +90,7 @@ const LARGE_FOR_ALL: Mail = Mail {
 };
 
 /// What is measured of a house: few messages or sessions, and three or four times as many.
-const MEASURES: [Measure; 14] = [
+const MEASURES: [Measure; 15] = [
     Measure::OneMailbox(10_000),
     Measure::OneMailbox(30_000),
     Measure::Parts(10_000),
@@ -98,6 +98,11 @@ const MEASURES: [Measure; 14] = [
     Measure::Scattered(30_000),
     Measure::Mail(SMALL, 1_000),
     Measure::Mail(SMALL, 30_000),
+    Measure::Rounds {
+        mail: SMALL,
+        rounds: 30,
+        each: 1_000,
+    },
     Measure::Mail(SMALL_FOR_TEN, 3_000),
     Measure::Mail(LARGE, 1_000),
     Measure::Mail(LARGE_FOR_ALL, 300),
@@ -108,11 +113,16 @@ const MEASURES: [Measure; 14] = [
 ];
 
 /// The same on a small scale.
-const TRIES: [Measure; 9] = [
+const TRIES: [Measure; 10] = [
     Measure::OneMailbox(100),
     Measure::Parts(100),
     Measure::Scattered(100),
     Measure::Mail(SMALL, 10),
+    Measure::Rounds {
+        mail: SMALL,
+        rounds: 3,
+        each: 10,
+    },
     Measure::Mail(SMALL_FOR_TEN, 10),
     Measure::Mail(LARGE, 1),
     Measure::Mail(LARGE_FOR_ALL, 1),

@@ -4,7 +4,7 @@
 
 pub use change::{Change, Flags, NO_FLAGS};
 pub use flag_op::FlagOp;
-pub use ring::{ChangeRing, Lapped, Spent};
+pub use ring::{ChangeRing, Lapped, MOST_CHANGES, Spent};
 
 mod block;
 mod cells;

@@ -21,8 +21,8 @@ pub struct Spent;
 #[derive(Clone, Copy, Debug, PartialEq, Eq)]
 pub struct Lapped;
 
-// So many changes can be numbered.
-const LAST: u64 = 1 << 62;
+/// So many changes a log numbers at most.
+pub const MOST_CHANGES: u64 = 1 << 62;
 
 /// The last changes of a log, each under its number, which counts from 0.
 #[derive(Drop)]
@@ -122,7 +122,7 @@ impl ChangeRing {
         ensures wanted { OnOk result (self.old.capacity < self.new.capacity → keep_from ≤ self.old.base) }
         ensures within { OnOk result (length self.new.changes ≤ self.new.capacity) }
     {
-        if self.total() >= LAST {
+        if self.total() >= MOST_CHANGES {
             return Err(Spent);
         }
         self.make_room(keep_from);

@@ -36,6 +36,9 @@ pub enum Stage {
 /// The most bytes of a mailbox: a local part, an at sign and a domain (RFC 5321, section 4.5.3.1).
 const SENDER_ROOM: usize = 320;
 
+// The most bytes that a command line has before its CRLF (RFC 5321, 4.5.3.1.4).
+const MOST_TEXT: usize = 510;
+
 /// A connection between commands.
 #[derive(Drop)]
 pub struct Commands {
@@ -251,7 +254,7 @@ impl Commands {
         requires stage { IsOpen self.old.stage }
         ensures { Takes host.now (on_command_line directory.now (standing_of self.old) line.now) self.new out.old.items out.new.items }
     {
-        if line.len() > 510 {
+        if line.len() > MOST_TEXT {
             return say(out, host, Reply::LineTooLong);
         }
         match read_command(line) {

@@ -16,7 +16,7 @@ ghost use Rattle.mailbox.specs.Stands.{Stands, next_of};
 use crate::logging::log_change;
 use crate::mailbox::Mailbox;
 use crate::shown::View;
-use change_ring::{Change, FlagOp, Flags, Spent};
+use change_ring::{Change, FlagOp, Flags, MOST_CHANGES, Spent};
 use cursor_set::{CursorSeat, FeedFault, NoMemory, Stranger};
 use delivery_token::Text;
 
@@ -256,7 +256,7 @@ impl Mailbox {
         if !old.differ_from(MARK.after(old)) {
             return false;
         }
-        self.ring.total() >= 1 << 62
+        self.ring.total() >= MOST_CHANGES
     }
 
     // Sets \Seen, where that is asked for: answers whether that changed the flags.

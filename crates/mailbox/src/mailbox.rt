@@ -15,7 +15,7 @@ ghost use Rattle.mailbox.specs.Stands.{Stands};
 use crate::history::{Accepted, History};
 use crate::logging::log_change;
 use crate::messages::Messages;
-use change_ring::{Change, ChangeRing, FlagOp, Flags, NO_FLAGS};
+use change_ring::{Change, ChangeRing, FlagOp, Flags, MOST_CHANGES, NO_FLAGS};
 use cursor_set::CursorSet;
 use delivery_token::{CopyKey, Job, Refusal, Text};
 use std::alloc::{AllocError, Global};
@@ -157,7 +157,7 @@ impl Mailbox {
         if self.next >= u32::MAX {
             return true;
         }
-        let left = (1 << 62) - self.ring.total();
+        let left = MOST_CHANGES - self.ring.total();
         if NO_FLAGS.differ_from(flags) {
             left < 2
         } else {

@@ -20,7 +20,7 @@ use crate::choice::Choice;
 use crate::clients::MailFault;
 use crate::logging::log_change;
 use crate::mailbox::Mailbox;
-use change_ring::{Change, ChangeRing};
+use change_ring::{Change, ChangeRing, MOST_CHANGES};
 use cursor_set::{CursorSeat, CursorSet, FeedFault};
 
 // How many of the UIDs the choice has.
@@ -50,7 +50,7 @@ impl Mailbox {
     fn has_room(&self, count: usize) -> bool
         ensures { IsTrue result ↔ (total self.now.window + count ≤ 2 ^ 62) }
     {
-        let left = (1 << 62) - self.ring.total();
+        let left = MOST_CHANGES - self.ring.total();
         count as u64 <= left
     }
 
