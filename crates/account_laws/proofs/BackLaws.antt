@@ -13,7 +13,7 @@ use Rattle.line_io.specs.inner.WireLaws.{reading_cut, uncut_nil}
 use Rattle.lmtp_machine.specs.declared.reply.Reply.{Reply}
 use Rattle.lmtp_machine.specs.declared.reply.Reply.TheVariants.{Greeting}
 use Rattle.lmtp_machine.specs.Calls.{IsQuiet}
-use Rattle.lmtp_machine.specs.Conversation.{Conversation, Heard, IsListening, Leads, MayHear, opened}
+use Rattle.lmtp_machine.specs.Conversation.{Conversation, Heard, IsListening, Leads, MayHear}
 use Rattle.lmtp_machine.specs.Conversation as heard
 use Rattle.lmtp_machine.specs.Message.{outcome, plain}
 use Rattle.lmtp_machine.specs.Dialogue.{Phase, Start, Ready, Transaction, Data, Waiting, Ended, Standing, Setting, Submission, Event, Opened, Line, Starved, Answered, Shut, Turn, turn, at_end, dialogue, fresh, is_dot, on_event, on_line, on_outcome, on_starved, on_verdicts, verdict_reply}

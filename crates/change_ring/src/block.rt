@@ -1,7 +1,7 @@
 //! A block of places for changes, which are written from the first place on. No pointer is touched
 //! here, and no place is written before a change comes.
 
-ghost use Rattle.std.specs.Prelude.{◌≡◌, ◌+◌, ◌<◌, ◌≤◌, List, [], ◌∷◌, ◌++◌, length, take, drop, slice_index_or, IfOk, OnOk, OnErr};
+ghost use Rattle.std.specs.Prelude.{◌≡◌, ◌+◌, ◌<◌, ◌≤◌, [], ◌∷◌, ◌++◌, length, take, drop, slice_index_or, IfOk, OnOk, OnErr};
 ghost use Rattle.change_ring.specs.declared.change.Change.{Change};
 ghost use Rattle.change_ring.specs.inner.Filled.{around};
 

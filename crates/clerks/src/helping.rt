@@ -1,7 +1,7 @@
 //! How whoever has put a copy gets it taken: by the clerk of its shard, under that one's lock. What a
 //! clerk does does not belong here, nor who puts.
 
-ghost use Rattle.std.specs.Prelude.{◌≡◌, List, Some};
+ghost use Rattle.std.specs.Prelude.{◌≡◌, Some};
 ghost use Rattle.delivery_token.specs.declared.Job.{Job};
 ghost use Rattle.shard_queue.specs.declared.queue.ShardQueue.{ShardQueue};
 ghost use Rattle.lane_work.specs.declared.consumer.Depot.{Depot};

@@ -1,9 +1,8 @@
 //! The clerks of all shards: hired from the stands that were dealt, and dismissed when all is done, or
 //! stood down where a run comes to nothing. What one clerk does does not belong here.
 
-ghost use Rattle.std.specs.Prelude.{◌≡◌, ◌≤◌, ◌<◌, ℕ, List, [], All, IfOk, Some, true, false, length, map, vec_len, vec_capacity};
+ghost use Rattle.std.specs.Prelude.{◌≡◌, ◌≤◌, ◌<◌, ℕ, [], All, IfOk, Some, true, false, length, map, vec_len, vec_capacity};
 ghost use Rattle.delivery_token.specs.declared.Job.{Job};
-ghost use Rattle.shard_queue.specs.declared.queue.ShardQueue.{ShardQueue};
 ghost use Rattle.lane_work.specs.declared.consumer.Depot.{Depot};
 ghost use Rattle.lane_seats.specs.Rooms.{AreRooms};
 ghost use Rattle.lane_seats.specs.rows.Rows.{AreConsumers};

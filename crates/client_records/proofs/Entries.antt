@@ -19,7 +19,7 @@ use Rattle.house_session.specs.SeatedVisitor.{SeatedVisitor, seated_greeted}
 use Rattle.house.specs.Setup.{Setup, session_seat}
 use Rattle.house.specs.Printing.{with_session}
 use Rattle.house.specs.Scene as scene
-use Rattle.house.specs.Scene.{BytesPlay, ClosePlay, ConnectionHears, ConnectionPuts, EnterPlay, HearPlay, IdlePlay, LeavePlay, Moves, Plays, PutPlay, SayPlay, Scene, SessionGoes, SessionHears, SessionPuts, SessionTalks, VanishPlay, connection_hears, connection_puts, empty_scene, goes_on, opens, place_of, seat_of, session_hears, session_puts}
+use Rattle.house.specs.Scene.{EnterPlay, IdlePlay, LeavePlay, SayPlay, Scene, SessionTalks, place_of}
 use Rattle.house.specs.declared.event.Event as house
 use Rattle.house.specs.declared.event.Event.TheVariants.{Bytes, Vanish, Put, Take, Deliver, Answer, Hear, End, Close, Enter, Say, Idle, Leave}
 use Rattle.exactly_once.specs.Promise.{Lines, Piece, Silence}

@@ -5,7 +5,6 @@ use Rattle.std.proofs.lemmas.Bool.{eq-eqb}
 use Rattle.std.specs.Borrow.{Bor}
 use Rattle.line_io.specs.Wire.{IsCut, joined}
 use Rattle.world.specs.World as world
-use Rattle.world.specs.World.{empty_world}
 use Rattle.house_session.specs.SeatedVisitor.{SeatedVisitor}
 use Rattle.house.specs.Setup.{Setup, session_seat}
 use Rattle.house.specs.Printing.{Prints, of_session}

@@ -14,7 +14,7 @@ use Rattle.world.specs.Law.{StandsOnce, pair_of, pairs}
 use Rattle.world.proofs.Always.{always, steps_join}
 use Rattle.world.proofs.Mails.{IsIn}
 use Rattle.imap_session.specs.Exchange as calls
-use Rattle.imap_session.specs.Exchange.{Call, Answer, Standing}
+use Rattle.imap_session.specs.Exchange.{Call, Answer}
 use Rattle.imap_session.specs.Commands.{greeting}
 use Rattle.imap_session.specs.Store.{Met}
 use Rattle.session_store.specs.Meets.{Meets}

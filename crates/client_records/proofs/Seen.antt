@@ -23,7 +23,7 @@ use Rattle.mailbox.specs.declared.clients.Opening.{Opening}
 use Rattle.mailbox.specs.declared.clients.Row as read
 use Rattle.mailbox.specs.declared.mailbox.Status.{Status}
 use Rattle.world.specs.World as world
-use Rattle.world.specs.World.{Config, World, Box, Session, Event, Logs, Selected, IsWorld, last_uid, most_changes, next_uid, pending, shows, enters, enter_spent, enter_no_memory}
+use Rattle.world.specs.World.{Config, World, Box, Session, last_uid, most_changes, pending, shows, enters, enter_spent, enter_no_memory}
 use Rattle.world.specs.Law.{IsShown}
 use Rattle.world.proofs.Base.{Every, every_of_all, all_of_every}
 use Rattle.world.proofs.Kept.{Kept, SessionOk}

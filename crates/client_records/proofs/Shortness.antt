@@ -9,7 +9,7 @@ use Rattle.delivery_token.specs.declared.Job.{Job}
 use Rattle.delivery_token.specs.declared.log.Noted.{Noted}
 use Rattle.submission.specs.Copies.{copies}
 use Rattle.world.specs.World as world
-use Rattle.world.specs.World.{Config, Event, Step, World}
+use Rattle.world.specs.World.{Config, Event, World}
 use Rattle.world.proofs.Base.{Every, every_append}
 use Rattle.lmtp_machine.specs.declared.connection.What.{What}
 use Rattle.lmtp_machine.specs.Dialogue as dialogue
@@ -18,7 +18,7 @@ use Rattle.house_connection.specs.Caller as connection
 use Rattle.house_connection.specs.Caller.{Caller, Proceeds, Terms, Works, copies_of, greeted, meets, more_waits, setting_of, with_unsaid}
 use Rattle.imap_session.specs.declared.standing.After.{After}
 use Rattle.imap_session.specs.Exchange as calls
-use Rattle.imap_session.specs.Exchange.{Appending, Mailing, Sent, Standing, is_idling}
+use Rattle.imap_session.specs.Exchange.{Appending, Sent, Standing, is_idling}
 use Rattle.imap_session.specs.Commands.{due_of}
 use Rattle.imap_session.specs.Store.{Met}
 use Rattle.imap_connection.specs.Dialogue as imap

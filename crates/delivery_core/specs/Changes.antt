@@ -1,8 +1,5 @@
 -- What a call leaves as it was, and what a seat hears by it.
-use Rattle.std.specs.Prelude.{◌≡◌, ◌≢◌, ◌<◌, ◌≤◌, ◌⊎◌, true, false, ℕ, List, [], ◌∷◌, ◌++◌, length, Option, Some, None}
-use Rattle.delivery_token.specs.declared.CopyKey.{CopyKey}
-use Rattle.delivery_token.specs.declared.Refusal.{Refusal}
-use Rattle.delivery_token.specs.declared.Verdict.TheVariants.{Refused}
+use Rattle.std.specs.Prelude.{◌≡◌, ◌≢◌, ◌<◌, ◌≤◌, ◌⊎◌, true, false, ℕ, List, [], ◌∷◌, ◌++◌, length}
 use Rattle.delivery_token.specs.declared.log.Noted.{Noted}
 use Rattle.shard_queue.specs.declared.lane.Entry.TheVariants.{End}
 use Rattle.delivery_core.specs.DeliveryCore.{DeliveryCore, is_ended, lane_of, notes_of}

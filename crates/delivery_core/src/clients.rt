@@ -1,14 +1,14 @@
 //! What a session does in the mailbox that it enters: each call is one event of the world. Lanes and
 //! verdicts are told in `steps`.
 
-ghost use Rattle.std.specs.Prelude.{◌≡◌, ◌≢◌, ℕ, ◌+◌, ◌-◌, ◌^◌, ◌<◌, ◌≤◌, ◌⊎◌, ◌↔◌, [], length, Err, Some, None, IfErr, IfOk, IfSome, OnErr, OnOk, IsErr, IsSome, IsTrue, min, option_map, slice_index_or, take, true, vec_capacity};
+ghost use Rattle.std.specs.Prelude.{◌≡◌, ◌≢◌, ℕ, ◌+◌, ◌-◌, ◌^◌, ◌<◌, ◌≤◌, ◌⊎◌, ◌↔◌, [], length, Err, Some, None, IfErr, IfOk, IfSome, OnErr, OnOk, IsErr, IsSome, min, option_map, slice_index_or, take, true, vec_capacity};
 ghost use Rattle.std.specs.List.Sorted.{IsStrictlyIncreasing};
 ghost use Rattle.change_ring.specs.Log.{rows_of, view_at};
 ghost use Rattle.change_ring.specs.Window.{total};
 ghost use Rattle.change_ring.specs.Logged.{flags_logged, removals, seen_logged};
 ghost use Rattle.mailbox.specs.Events.{in_set};
 ghost use Rattle.mailbox.specs.Mailbox.{Mailbox, SameMailbox};
-ghost use Rattle.world.specs.World.{Box, Config, World, Expunge, Feed, Leave, Read, Selected, Store, pending};
+ghost use Rattle.world.specs.World.{Config, World, Expunge, Feed, Leave, Read, Selected, Store, pending};
 ghost use Rattle.delivery_core.specs.Changes.{SameCounts, SameDelivery};
 ghost use Rattle.delivery_core.specs.Clients.{Alters, Does, Enters, Expunges, Feeds, IsStatus, Leaves, Makes, Reads, Sees};
 ghost use Rattle.delivery_core.specs.inner.Clients.{answer_of};

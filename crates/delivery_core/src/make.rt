@@ -1,8 +1,7 @@
 //! The parts of a new delivery side, each made of as many as the settings say. What they do later is
 //! told in `steps`.
 
-ghost use Rattle.std.specs.Prelude.{max, ◌≡◌, ◌<◌, [], length, replicate, true, IfOk, None};
-ghost use Rattle.mailbox.specs.Stands.{Stands};
+ghost use Rattle.std.specs.Prelude.{max, ◌≡◌, ◌<◌, [], length, replicate, IfOk, None};
 ghost use Rattle.delivery_core.specs.Stands.{EachAt};
 ghost use Rattle.delivery_core.specs.New.{first_key, new_lane, IsNewBox};
 

@@ -13,7 +13,6 @@ ghost use Rattle.delivery_core.specs.Puts.{IsNextKey};
 ghost use Rattle.delivery_core.specs.inner.Puts.{LanePuts};
 ghost use Rattle.delivery_token.specs.Keys.{AtLeast, past};
 ghost use Rattle.delivery_core.specs.Stands.{EachAt, Follows, ChangesNothing, StandsFor, StandsForBox};
-ghost use Rattle.delivery_core.specs.inner.Stands.{Lives};
 ghost use Rattle.delivery_core.specs.inner.Boxes.{verdict_of, BoxDelivers};
 ghost use Rattle.delivery_core.specs.Settled.{IsFor};
 ghost use Rattle.delivery_core.specs.New.{IsNewBox, first_key};

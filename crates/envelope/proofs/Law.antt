@@ -11,7 +11,7 @@ use Rattle.envelope.proofs.FormsSound.{is_line}
 use Rattle.envelope.specs.declared.command.Verb.{Verb}
 use Rattle.envelope.specs.declared.command.CommandFault.{CommandFault}
 use Rattle.envelope.specs.declared.command.CommandFault.TheVariants.{Unknown, Syntax, PathTooLong, Parameter}
-use Rattle.envelope.specs.Values.{Path, Command}
+use Rattle.envelope.specs.Values.{Command}
 use Rattle.envelope.specs.Values as say
 use Rattle.envelope.specs.Bytes.{is_not_space}
 use Rattle.envelope.specs.Grammar.{Keyword, Anything, Form, Plain, Mail, Rcpt, Line, name_of, is_lhlo, Begins, judged, is_too_long, is_body, IsFault, Reads}

@@ -1,14 +1,13 @@
 //! Reading a line from left to right: each function takes its part from the front of the bytes.
 //! What each answers is its namesake in specs/Reading.antt; that file is tied to the grammar by `read_command`.
 
-ghost use Rattle.std.specs.Prelude.{◌≡◌, ◌+◌, ◌≤◌, ◌<◌, length, take, drop, false, Option, Some, None, List, ℕ, IsTrue, ◌↔◌, IfSome, ◌||◌, not, nat_lt, Result};
+ghost use Rattle.std.specs.Prelude.{◌≡◌, ◌+◌, ◌≤◌, ◌<◌, length, false, Option, Some, None, ℕ, ◌↔◌, IfSome, ◌||◌, not, nat_lt, Result};
 ghost use Rattle.std.specs.List.{prefix_len, list_all};
 ghost use Rattle.std.specs.Option.{option_copied, option_map};
-ghost use Rattle.std.specs.Str.{str_eq_ignore_ascii_case as is_same};
 ghost use Rattle.envelope.specs.Bytes.{is_text};
 ghost use Rattle.envelope.specs.Values.{address, reverse_path, forward_path, To, said, understood, Command};
 ghost use Rattle.envelope.specs.Grammar.{is_body, has_long_part, Reads};
-ghost use Rattle.envelope.specs.Reading.{past_comma, past_all_hops, past_route, address_at, path_at, reverse_at, past_keyword, forward_at, after_spaces, is_tail, words, verb_of, of_form, form_of, alone, read, is_of, first_is, some_len, quoted_len, local_len, literal_len, domain_len, past_byte, past_domain};
+ghost use Rattle.envelope.specs.Reading.{past_comma, past_all_hops, past_route, address_at, path_at, reverse_at, past_keyword, forward_at, after_spaces, is_tail, words, verb_of, of_form, form_of, alone, read, is_of, some_len, quoted_len, local_len, literal_len, domain_len, past_byte, past_domain};
 ghost use Rattle.envelope.specs.declared.command.CommandFault.{CommandFault};
 ghost use Rattle.envelope.specs.declared.command.Verb.TheVariants as verbs;
 

@@ -13,15 +13,14 @@ use Rattle.delivery_token.specs.Keys.{Below}
 use Rattle.delivery_token.specs.declared.CopyKey.{CopyKey}
 use Rattle.delivery_token.specs.declared.log.Noted.{Noted}
 use Rattle.world.specs.World as world
-use Rattle.world.specs.World.{Config, World, Steps}
+use Rattle.world.specs.World.{Config, World}
 use Rattle.world.specs.Law.{Headline}
 use Rattle.world.proofs.Always.{always}
 use Rattle.world.proofs.Base.{all_of_every, every_weaker, rising_pair}
 use Rattle.house_connection.specs.Caller.{Caller, more_waits, greeted}
 use Rattle.house.specs.Setup.{Setup, session_seat, terms_of}
-use Rattle.house_session.specs.Visitor.{Visitor}
 use Rattle.house.specs.Printing.{Speaks, Prints, prints_all, prints_none}
-use Rattle.house.specs.Printing.{marked_session, of_session, still_unsaid, with_session}
+use Rattle.house.specs.Printing.{marked_session, of_session, with_session}
 use Rattle.house_session.specs.Visitor.{more_waits as visitor_more_waits}
 use Rattle.house_session.specs.SeatedVisitor.{SeatedVisitor, seated_greeted}
 use Rattle.house_session.specs.Folders.{folders_of}

@@ -4,7 +4,6 @@ use Rattle.delivery_token.specs.Keys.{Below}
 use Rattle.delivery_token.specs.declared.CopyKey.{CopyKey}
 use Rattle.delivery_token.specs.declared.Verdict.{Verdict}
 use Rattle.delivery_token.specs.declared.log.Noted.{Noted}
-use Rattle.envelope.specs.Directory.{Directory}
 use Rattle.lmtp_machine.specs.Dialogue.{Setting, Submission, keys_from}
 use Rattle.lmtp_machine.specs.Kept.{AreMessages}
 use Rattle.house_connection.specs.Caller.{keys_of}

@@ -1,14 +1,13 @@
 //! A whole round: three workers in threads of their own, who put copies for three mailboxes on two
 //! lanes and make the clerks' steps; then all lanes are closed.
 
-ghost use Rattle.std.specs.Prelude.{◌≡◌, ◌<◌, ◌≤◌, ◌+◌, ℕ, suc, [], All, IfOk, Some, length, map, vec_len, vec_capacity};
+ghost use Rattle.std.specs.Prelude.{◌≡◌, ◌<◌, ◌≤◌, ◌+◌, ℕ, [], All, IfOk, Some, length, map, vec_len, vec_capacity};
 ghost use Rattle.std.specs.Mem.{manually_drop_value};
 ghost use Rattle.std.specs.Thread.{IsSync};
 ghost use Rattle.shard_queue.specs.Reply.{IsReceiver};
 ghost use Rattle.shard_queue.specs.Seats.{IsProducer, number_of};
-ghost use Rattle.lane_work.specs.Seats.{AreEnded, AreSeats, IsSeat, seat_number};
-ghost use Rattle.lane_seats.specs.Rooms.{AreRooms};
-ghost use Rattle.lane_seats.specs.rows.Rows.{AreConsumers, EndedRows};
+ghost use Rattle.lane_work.specs.Seats.{AreSeats, IsSeat, seat_number};
+ghost use Rattle.lane_seats.specs.rows.Rows.{EndedRows};
 ghost use Rattle.house_floor.specs.Crew.{AllAt, IsCrew, IsPost, IsStand};
 ghost use Rattle.house_floor.specs.Opening.{AreBaskets};
 ghost use Rattle.floor_tests.specs.inner.Rounds.{AreSomeones, IsOwnPost};

@@ -12,13 +12,13 @@ use Rattle.shard_queue.proofs.AtLaws.{set_at-same}
 use Rattle.submission.specs.Copies as submission
 use Rattle.submission.specs.inner.Verdicts.{heard_verdict}
 use Rattle.envelope.specs.Directory.{Directory}
-use Rattle.world.specs.World.{Config, PutStep, World, shard_of}
+use Rattle.world.specs.World.{Config, World}
 use Rattle.world.specs.World as world
 use Rattle.delivery_core.specs.DeliveryCore.{DeliveryCore, notes_of}
 use Rattle.delivery_core.specs.Changes.{Hears, SameDelivery}
 use Rattle.delivery_core.specs.New.{first_key}
 use Rattle.delivery_core.specs.Stands as core
-use Rattle.imap_session.specs.Exchange.{Answer, Sent}
+use Rattle.imap_session.specs.Exchange.{Answer}
 use Rattle.imap_session.specs.Exchange as calls
 use Rattle.session_store.specs.declared.desk.Desk.{Desk}
 use Rattle.session_store.specs.Desk.{Serves}

@@ -21,7 +21,7 @@ use Rattle.session_store.proofs.Served.{IsServing, carries}
 use Rattle.shard_queue.specs.At.{set_at}
 use Rattle.shard_queue.proofs.AtLaws.{set_at-same}
 use Rattle.house_session.specs.SeatedVisitor as seated
-use Rattle.house_session.specs.SeatedVisitor.{GoesOn, SeatedVisitor, Works, sent_by}
+use Rattle.house_session.specs.SeatedVisitor.{GoesOn, SeatedVisitor, sent_by}
 use Rattle.house_session.specs.SeatedSession.{SeatedSession, StandsForSeated, key_with}
 use Rattle.house.specs.inner.Printing.{WentOn}
 use Rattle.house.specs.Printing.{Speaks}

@@ -1,6 +1,6 @@
 -- Events of the world in which nobody says a word.
 use Rattle.std.proofs.Common.{◌≡◌, ℕ, List, [], ◌∷◌, refl, ap, ◌∙◌}
-use Rattle.world.specs.World.{Config, World, Step, Steps}
+use Rattle.world.specs.World.{Config, World}
 use Rattle.world.specs.World as world
 use Rattle.delivery_core.specs.DeliveryCore.{DeliveryCore}
 use Rattle.delivery_core.specs.Stands as core

@@ -1,7 +1,7 @@
 //! The house: who stands at each seat, over the delivery core. Each call is one event, and what it appends to `out` is what the event
 //! prints. No script and no socket is known here.
 
-ghost use Rattle.std.specs.Prelude.{true, false, IsTrue, ◌≡◌, ◌≢◌, ◌≤◌, ◌<◌, ◌+◌, ◌⊎◌, ◌↔◌, ℕ, List, [], length, None, Some, Err, OnOk, OnErr, IfOk, IfErr, IfNone, IfSome, IsSome, IsSomeAnd, MatchOption, option_map};
+ghost use Rattle.std.specs.Prelude.{true, false, IsTrue, ◌≡◌, ◌≢◌, ◌≤◌, ◌<◌, ◌+◌, ◌⊎◌, ◌↔◌, ℕ, List, [], length, None, Some, Err, OnOk, OnErr, IfOk, IfErr, IfSome, IsSomeAnd, MatchOption, option_map};
 ghost use Rattle.delivery_token.specs.Keys.{AtLeast};
 ghost use Rattle.house_connection.specs.HouseConnection.{HouseConnection};
 ghost use Rattle.house_connection.specs.Taking.{HearsVerdict, due, noted_put, with_more, with_nobody_there};
@@ -18,7 +18,7 @@ ghost use Rattle.house.specs.Stands.{StandsFor};
 ghost use Rattle.house.specs.Effort.{MakesLess, place_effort};
 ghost use Rattle.delivery_core.specs.Load.{load};
 ghost use Rattle.std.specs.Borrow.{Bor};
-ghost use Rattle.house.specs.Steps.{CannotNote, CorePuts, Follows, FollowsInPart, HasNoRoom, IsBusy, IsEmptySeat, ChangesNothing, IsNoNumber, IsNobody, IsVacant, KeepsMarks, Led, MayWant, PutsNext, is_unread};
+ghost use Rattle.house.specs.Steps.{CannotNote, CorePuts, Follows, FollowsInPart, HasNoRoom, IsBusy, IsEmptySeat, ChangesNothing, IsNoNumber, IsNobody, KeepsMarks, Led, MayWant, PutsNext, is_unread};
 ghost use Rattle.house.specs.inner.Steps.{HasSeat, IsNoNext, IsOpen, IsRead, MayNotPut, PlaceWentOn, StandsForMaybe, fault_of, job_of};
 ghost use Rattle.house.specs.declared.event.Event.TheVariants as events;
 

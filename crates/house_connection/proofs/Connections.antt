@@ -1,7 +1,6 @@
 -- What a connection's steps come to, from the machine's own promises.
 use Rattle.change_ring.specs.Log.{no_flags}
-use Rattle.std.proofs.Common.{◌≡◌, ℕ, zero, suc, ◌+◌, ◌<◌, ◌≤◌, Bool, true, false, List, [], ◌∷◌, ◌++◌, length, drop, refl, ap, sym, ◌∙◌, subst, arith, Option, Some, None}
-use Rattle.std.proofs.lemmas.List.{append-nil}
+use Rattle.std.proofs.Common.{◌≡◌, ℕ, ◌+◌, ◌<◌, ◌≤◌, Bool, true, false, List, [], ◌∷◌, ◌++◌, length, drop, refl, ap, sym, ◌∙◌, subst, arith, Option, Some, None}
 use Rattle.delivery_token.specs.declared.CopyKey.{CopyKey}
 use Rattle.delivery_token.specs.declared.Verdict.{Verdict}
 use Rattle.delivery_token.specs.declared.log.Noted.{Noted}
@@ -21,7 +20,6 @@ use Rattle.lmtp_machine.proofs.Calls.{nothing_taken}
 use Rattle.lmtp_machine.proofs.Follow.{still_listens}
 use Rattle.lmtp_machine.proofs.Kept.{taken_keeps, event_keeps}
 use Rattle.house_connection.specs.HouseConnection.{HouseConnection}
-use Rattle.house_connection.specs.Talk.{Talk}
 use Rattle.house_connection.specs.Caller.{Caller, IsAnswered, Terms, answers, copies_of, fades, greeted, keys_of, lingers, meets, setting_of, stalls, talks, unread, waits, with_unsaid, works}
 use Rattle.house_connection.specs.Taking.{AreKnown, with_all_said, with_nobody_there}
 use Rattle.house_connection.specs.inner.Taking.{TakenBy}

@@ -6,7 +6,7 @@ use Rattle.change_ring.specs.declared.change.Change.{Change}
 use Rattle.cursor_set.specs.Lines.{lines}
 use Rattle.delivery_token.specs.declared.Verdict.{Verdict}
 use Rattle.mailbox.specs.declared.clients.MailFault.TheVariants.{Stranger, Lapped, Spent, NoMemory}
-use Rattle.imap_grammar.specs.Reading.{is_done, read}
+use Rattle.imap_grammar.specs.Reading.{read}
 use Rattle.imap_grammar.specs.declared.command.Command.{Command}
 use Rattle.imap_grammar.specs.declared.command.ImapFault.{ImapFault}
 use Rattle.imap_session.specs.declared.standing.After.{After}
@@ -15,11 +15,11 @@ use Rattle.imap_session.specs.declared.standing.After.TheVariants as afters
 use Rattle.imap_session.specs.declared.standing.Selected.{Selected}
 use Rattle.imap_session.specs.Store.{IdleTurns}
 use Rattle.imap_session.specs.Exchange as ex
-use Rattle.imap_session.specs.Exchange.{Answer, Appending, Call, Entered, Looked, Found, Counted, Altered, Expunged, Fed, ForDone, ForLiteral, ForNothing, ForVerdict, Left, Mailing, Refused, Sent, Starved, Exchange, Standing, Turn, Waiting, closed, having, is_idling, may_send, played, refusal_after, refused, saying, waiting, waits_begun, waits_for, waits_idling, waits_sent}
+use Rattle.imap_session.specs.Exchange.{Answer, Appending, Call, Entered, Looked, Found, Counted, Altered, Expunged, Fed, ForDone, ForLiteral, ForNothing, ForVerdict, Left, Mailing, Refused, Sent, Starved, Exchange, Standing, Turn, Waiting, closed, having, is_idling, played, refusal_after, refused, saying, waiting}
 use Rattle.imap_session.specs.Commands as commands_of
 use Rattle.imap_session.specs.Commands.{on_idle_line, on_rest, on_verdict, without_begun, without_sent}
 use Rattle.imap_connection.specs.Dialogue as dialogue
-use Rattle.imap_connection.specs.Dialogue.{AnswersLine, AnswersOne, Converses, Sends, goes_on, may_follow, parts, reads, silent, too_long}
+use Rattle.imap_connection.specs.Dialogue.{AnswersLine, AnswersOne, Converses, Sends, goes_on, parts, reads, silent, too_long}
 
 -- from one to the other the next number only rises, and a message that was submitted between has one of the numbers between
 abbrev pub NumbersRise : Mailing → Mailing → Type 0

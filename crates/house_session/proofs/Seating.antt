@@ -12,7 +12,7 @@ use Rattle.submission.proofs.Copies.{all_put, no-key}
 use Rattle.submission.proofs.Slots.{all-full, heard-for, hears_slots, no-slots}
 use Rattle.imap_session.specs.Exchange.{Call, Answer, Mailing, Sent, Standing, may_send}
 use Rattle.imap_connection.specs.Dialogue.{may_follow}
-use Rattle.house_session.specs.Visitor.{Answers, HasAnswered, Visitor}
+use Rattle.house_session.specs.Visitor.{HasAnswered, Visitor}
 use Rattle.house_session.specs.HouseSession as place
 use Rattle.house_session.specs.HouseSession.{Answered, AnsweredVerdict, HouseSession, Turned}
 use Rattle.house_session.specs.SeatedVisitor.{Awaits, IsAnswered, IsSettled, SeatedVisitor, Works, copies_of, keys_of, sent_by, told}

@@ -12,7 +12,7 @@ ghost use Rattle.imap_session.specs.Store.{Starves};
 ghost use Rattle.imap_connection.specs.Dialogue.{Asks};
 ghost use Rattle.house_session.specs.HouseSession.{HadTurn, with_all_said, with_more};
 ghost use Rattle.house_session.specs.SeatedVisitor as spec;
-ghost use Rattle.house_session.specs.SeatedVisitor.{Awaits, IsSettled, keys_of, seated_greeted};
+ghost use Rattle.house_session.specs.SeatedVisitor.{Awaits, IsSettled, seated_greeted};
 ghost use Rattle.house_session.specs.SeatedSession.{HearsVerdict, Proceeded, SeatedTurned, StandsForSeated, due, noted_put, seat_effort, submitted_at, with_nobody_there, with_place};
 
 use crate::session::HouseSession;

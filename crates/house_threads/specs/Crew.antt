@@ -4,7 +4,6 @@ use Rattle.std.specs.Global.{Global}
 use Rattle.courier.specs.Carried.{Carried, judged_of}
 use Rattle.delivery_token.specs.declared.Job.{Job}
 use Rattle.delivery_token.specs.declared.log.Noted.{Noted}
-use Rattle.envelope.specs.Directory.{Directory}
 use Rattle.house_session.specs.Folders.{folders_of}
 use Rattle.shard_queue.specs.declared.lane.Entry.{Entry}
 use Rattle.shard_queue.specs.declared.queue.ShardQueue.{ShardQueue}

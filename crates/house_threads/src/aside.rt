@@ -1,12 +1,10 @@
 //! Actors for whom no thread could be made: what of theirs other threads wait for is ended. Nothing is
 //! started here, and no life is led.
 
-ghost use Rattle.std.specs.Prelude.{◌≡◌, ◌≤◌, ◌+◌, [], ℕ, List, length, map, vec_len, vec_capacity};
+ghost use Rattle.std.specs.Prelude.{◌≡◌, ◌≤◌, ◌+◌, [], ℕ, length, map, vec_capacity};
 ghost use Rattle.delivery_token.specs.declared.Job.{Job};
-ghost use Rattle.delivery_token.specs.declared.log.Noted.{Noted};
-ghost use Rattle.shard_queue.specs.declared.ends.ReplyChannel.{ReplyChannel};
 ghost use Rattle.shard_queue.specs.declared.queue.ShardQueue.{ShardQueue};
-ghost use Rattle.shard_queue.specs.Reply.{IsReceiver, sent_on};
+ghost use Rattle.shard_queue.specs.Reply.{sent_on};
 ghost use Rattle.shard_queue.specs.Seats.{IsConsumer, got};
 ghost use Rattle.lane_work.specs.Consuming.{IsConsumed};
 ghost use Rattle.lane_work.specs.Seats.{AreEnded, AreSeats, AreSenders};

@@ -8,12 +8,12 @@ use Rattle.std.specs.List.{list_all, prefix_len}
 use Rattle.envelope.proofs.Sound.{bind_some, byte_sound, either, guard_some, many_taken, some_sound}
 use Rattle.envelope.proofs.Words.{all_of}
 use Rattle.envelope.proofs.Tokens.{Stops, some_again}
-use Rattle.envelope.specs.Bytes.{is_space, is_not_space}
-use Rattle.envelope.specs.Grammar.{Many, Some1, Spaces, Gap, Exactly, Joined}
+use Rattle.envelope.specs.Bytes.{is_space}
+use Rattle.envelope.specs.Grammar.{Many, Spaces, Gap, Joined}
 use Rattle.envelope.specs.Reading.{◌>>=◌, first_is, past_byte, some_len}
 use Rattle.imap_grammar.specs.Bytes.{is_atom, is_digit}
 use Rattle.imap_grammar.specs.Cuts.{cut_at}
-use Rattle.imap_grammar.specs.Grammar.{AnyQuoted, FlagList, FlagWords, GivenDate, GivenFlags, LiteralIs, Name, Quoted, SizeIs, StringOf}
+use Rattle.imap_grammar.specs.Grammar.{AnyQuoted, FlagList, FlagWords, GivenDate, GivenFlags, LiteralIs, Name, StringOf}
 use Rattle.imap_grammar.specs.Numbers.{most_size, number_of}
 use Rattle.imap_grammar.specs.Reading.{append_at, flag_list_at, flags_in, given_flags_at, if_end, is_tight, literal_at, literal_end, parens_at, past_date, past_gap, past_quoted, string_at}
 use Rattle.imap_grammar.specs.declared.command.Append.{Append}
@@ -23,7 +23,7 @@ use Rattle.imap_grammar.specs.declared.command.Literal.{Literal}
 use Rattle.imap_grammar.proofs.Chains.{end_again, end_sound, gap_first, name_read, past}
 use Rattle.imap_grammar.proofs.Cuts.{cut_again, cut_sound, is_other}
 use Rattle.imap_grammar.proofs.ListLaw.{flag_words_read, inner_flags, paren_text, text_paren}
-use Rattle.imap_grammar.proofs.Tokens.{between, gap_again, gap_sound, spaced_first, stops_class, string_again, string_sound}
+use Rattle.imap_grammar.proofs.Tokens.{gap_again, gap_sound, spaced_first, stops_class, string_again, string_sound}
 
 -- the digits at the front are digits
 pub taken_digits : (bytes : List ℕ) → list_all is_digit (take (prefix_len is_digit bytes) bytes) ≡ true

@@ -8,8 +8,8 @@ use Rattle.envelope.proofs.Sound.{many_taken}
 use Rattle.change_ring.specs.declared.change.Flags.{Flags}
 use Rattle.change_ring.specs.declared.flag_op.FlagOp.{FlagOp}
 use Rattle.change_ring.specs.declared.flag_op.FlagOp.TheVariants.{Set, Insert, Remove}
-use Rattle.envelope.proofs.Begins.{gap_stops, stopped_gap}
-use Rattle.envelope.proofs.Sound.{bind_some, guard_some}
+use Rattle.envelope.proofs.Begins.{stopped_gap}
+use Rattle.envelope.proofs.Sound.{bind_some}
 use Rattle.envelope.proofs.Tokens.{Stops}
 use Rattle.envelope.proofs.Words.{append_none}
 use Rattle.envelope.specs.Bytes.{is_space, is_not_space}
@@ -18,7 +18,7 @@ use Rattle.envelope.specs.Reading.{◌>>=◌}
 use Rattle.imap_grammar.specs.Bytes.{is_atom, is_pattern}
 use Rattle.imap_grammar.specs.Grammar.{GivenDate, GivenFlags, LiteralIs, Name, Pattern, SetIs, ItemsAre, StatusItemIs, Separated, Parenthesized, FlagsAre, operation_word, flags_of, ChangeIs, verb_of, ArgumentsOf}
 use Rattle.imap_grammar.specs.Items.{status_item_of}
-use Rattle.imap_grammar.specs.Reading.{past_gap, word_at, string_at, is_blank, if_end, in_parentheses, set_at, name_alone, fetch_items_at, status_items_in, flags_at, operation_of, change_with, fetch_at, store_at, set_alone, list_at, status_at, command_at}
+use Rattle.imap_grammar.specs.Reading.{past_gap, word_at, string_at, if_end, in_parentheses, set_at, name_alone, fetch_items_at, status_items_in, flags_at, operation_of, change_with, fetch_at, store_at, set_alone, list_at, status_at, command_at}
 use Rattle.imap_grammar.specs.declared.arguments.Operation.{Operation}
 use Rattle.imap_grammar.specs.declared.arguments.Operation.TheVariants as operations
 use Rattle.imap_grammar.specs.declared.set.SeqRange.{SeqRange}
@@ -34,8 +34,7 @@ use Rattle.imap_grammar.proofs.AppendLaw.{AppendIs, append_again, append_sound}
 use Rattle.imap_grammar.specs.declared.command.Append.{Append}
 use Rattle.imap_grammar.proofs.Chains.{regroup, ungroup, behind, inside, past, gap_first, end_again, end_sound, nothing_again, name_read, pattern_read}
 use Rattle.imap_grammar.proofs.Keywords.{word_length, word_clean, map_take, same_sound}
-use Rattle.imap_grammar.proofs.Tokens.{excludes, not_true, stops_class, starts, many_joined, spaced_first, blank_first, gap_again, gap_sound, word_again, word_parts, string_again, string_starts, string_sound}
-use Rattle.imap_grammar.proofs.Parens.{blank_again, blank_sound}
+use Rattle.imap_grammar.proofs.Tokens.{not_true, starts, many_joined, spaced_first, blank_first, gap_again, gap_sound, word_again, word_parts, string_sound}
 use Rattle.imap_grammar.proofs.SetLaw.{set_again, set_sound, set_bytes}
 use Rattle.imap_grammar.proofs.ItemLaw.{status_again, status_sound, status_bare, status_open}
 use Rattle.imap_grammar.proofs.ListLaw.{listed_again, listed_sound, items_again, items_sound, items_starts, flags_again, flags_sound, flags_starts}

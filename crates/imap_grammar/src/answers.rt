@@ -1,13 +1,13 @@
 //! The answers that tell of a message and of a mailbox's numbers (RFC 9051, 7.5.2 and 7.3.4), with the
 //! bytes that specs/Answers.antt gives. Who is answered what and when is told above.
 
-ghost use Rattle.std.specs.Prelude.{◌≡◌, ◌++◌, ◌≤◌, length, take, drop, codes, decimal, List, ℕ, map, OnOk, OnErr, IfOk, IfSome, IfNone, ◌∷◌, [], ◌&&◌, ◌==◌, if◌then◌else◌, true, not, is_some, option_to_list, vec_capacity};
+ghost use Rattle.std.specs.Prelude.{◌≡◌, ◌++◌, ◌≤◌, length, take, drop, codes, decimal, ℕ, map, OnOk, OnErr, IfOk, ◌∷◌, [], ◌&&◌, ◌==◌, if◌then◌else◌, true, not, is_some, option_to_list, vec_capacity};
 ghost use Rattle.std.specs.Io.{StartsWith};
-ghost use Rattle.std.specs.List.{filter_map, list_any};
+ghost use Rattle.std.specs.List.{list_any};
 ghost use Rattle.envelope.specs.Reading.{words};
 ghost use Rattle.imap_grammar.specs.Grammar.{section_word, status_word};
 ghost use Rattle.imap_grammar.specs.Items.{fetch_item_of, fetch_items_of, status_item_of, status_items_of};
-ghost use Rattle.imap_grammar.specs.Answers.{header, section, part, origin_text, is_crlf, literal, body_text, item_text, uid_first, flags_last, answered, marks_seen, is_uid, is_flags, status_number, status_text, row_answer, status_answer};
+ghost use Rattle.imap_grammar.specs.Answers.{header, section, part, is_crlf, literal, body_text, item_text, uid_first, flags_last, answered, marks_seen, is_uid, is_flags, status_number, status_text, row_answer, status_answer};
 ghost use Rattle.cursor_set.specs.Lines.{spaced};
 ghost use Rattle.imap_grammar.specs.inner.Joined.{lead, joined, is_none};
 

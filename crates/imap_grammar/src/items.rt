@@ -5,7 +5,6 @@ ghost use Rattle.std.specs.Prelude.{◌≡◌, ◌++◌, IfOk, OnOk, is_some, op
 ghost use Rattle.std.specs.List.{list_all};
 ghost use Rattle.envelope.specs.Reading.{words};
 ghost use Rattle.imap_grammar.specs.Items.{section_of, span_between, span_of, partial_of, body_of, fetch_item_of, fetch_items_of, status_item_of};
-ghost use Rattle.imap_grammar.specs.Reading.{are_items};
 
 use crate::bytes::{past_byte, past_keyword};
 use crate::cut::cut_at;

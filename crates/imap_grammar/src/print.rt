@@ -1,7 +1,6 @@
 //! The flags of a message as answers print them, appended all or none. No answer as a whole stands here.
 
 ghost use Rattle.std.specs.Prelude.{◌≡◌, ◌++◌, [], drop, if◌then◌else◌, OnOk, OnErr, ◌≤◌, vec_capacity};
-ghost use Rattle.cursor_set.specs.Lines.{flag_words, spaced};
 ghost use Rattle.imap_grammar.specs.Answers.{flags_text};
 
 use change_ring::Flags;

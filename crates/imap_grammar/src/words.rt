@@ -4,7 +4,7 @@
 ghost use Rattle.std.specs.Prelude.{◌≡◌, ◌<◌, ◌∷◌, [], IfSome, IfNone, length, Some, None, if◌then◌else◌};
 ghost use Rattle.std.specs.List.{list_all};
 ghost use Rattle.envelope.specs.Reading.{words};
-ghost use Rattle.imap_grammar.specs.Items.{is_word_of, is_flag, has_word, flags_among};
+ghost use Rattle.imap_grammar.specs.Items.{is_word_of, is_flag, has_word};
 ghost use Rattle.imap_grammar.specs.Reading.{is_of, flags_in};
 
 use crate::bytes::{Class, after_spaces, past_byte, run_len, word_at};

@@ -5,7 +5,7 @@ use Rattle.mailbox.specs.declared.clients.MailFault.TheVariants.{NoMemory}
 use Rattle.mailbox.specs.declared.clients.Row.{Row}
 use Rattle.imap_grammar.specs.declared.command.Fetch.{Fetch}
 use Rattle.imap_session.specs.Exchange as ex
-use Rattle.imap_session.specs.Exchange.{Call, Answer, Found, Refused, Exchange, Standing}
+use Rattle.imap_session.specs.Exchange.{Call, Answer, Found, Exchange, Standing}
 use Rattle.imap_session.specs.Commands.{on_found, fetched, fetching}
 use Rattle.imap_session.specs.inner.Store.{Reaches, Stops}
 use Rattle.imap_session.proofs.Runs.{reaches_read, reaches_write, reaches_then, stops_write, stops_then}

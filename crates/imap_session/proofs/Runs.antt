@@ -12,7 +12,7 @@ use Rattle.cursor_set.specs.Lines.{lines}
 use Rattle.mailbox.specs.declared.clients.Opening.{Opening}
 use Rattle.imap_session.specs.declared.standing.Selected.{Selected}
 use Rattle.imap_session.specs.Exchange as ex
-use Rattle.imap_session.specs.Exchange.{Call, Answer, Entered, Looked, Found, Counted, Altered, Expunged, Fed, Left, Refused, Starved, Event, Exchange, Standing, Turn, played, refused, saying, having}
+use Rattle.imap_session.specs.Exchange.{Call, Answer, Entered, Looked, Found, Counted, Altered, Expunged, Fed, Left, Refused, Starved, Event, Exchange, Standing, refused, saying, having}
 use Rattle.imap_session.specs.Store.{Met}
 use Rattle.imap_session.specs.inner.Store.{LeadsOn, onward, Reaches, Stops}
 

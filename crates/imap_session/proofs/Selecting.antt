@@ -4,7 +4,7 @@ use Rattle.mailbox.specs.declared.clients.MailFault.{MailFault}
 use Rattle.mailbox.specs.declared.clients.MailFault.TheVariants.{NoMemory}
 use Rattle.imap_session.specs.declared.standing.Selected.{Selected}
 use Rattle.imap_session.specs.Exchange as ex
-use Rattle.imap_session.specs.Exchange.{Call, Answer, Left, Refused, Exchange, Standing}
+use Rattle.imap_session.specs.Exchange.{Call, Answer, Left, Exchange, Standing}
 use Rattle.mailbox.specs.declared.clients.Opening.{Opening}
 use Rattle.imap_session.specs.Commands.{all_flags, closing, opening_text}
 use Rattle.imap_session.specs.inner.Store.{Reaches, Moves}

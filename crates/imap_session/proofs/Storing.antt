@@ -6,7 +6,7 @@ use Rattle.change_ring.specs.declared.change.Flags.{Flags}
 use Rattle.change_ring.specs.declared.flag_op.FlagOp.{FlagOp}
 use Rattle.imap_grammar.specs.declared.command.Store.{Store}
 use Rattle.imap_session.specs.Exchange as ex
-use Rattle.imap_session.specs.Exchange.{Call, Answer, Altered, Refused, Exchange, Standing}
+use Rattle.imap_session.specs.Exchange.{Call, Answer, Altered, Exchange, Standing}
 use Rattle.imap_session.specs.Commands.{on_found, stored, storing}
 use Rattle.imap_session.specs.inner.Store.{Reaches, Stops}
 use Rattle.imap_session.proofs.Runs.{reaches_alter, reaches_write, reaches_then, stops_write, stops_then}

@@ -4,7 +4,7 @@
 ghost use Rattle.std.specs.Prelude.{◌≡◌, ◌≢◌, ◌≤◌, IfErr, ◌⊎◌};
 ghost use Rattle.std.specs.Option.{option_copied};
 ghost use Rattle.std.specs.Vec.{vec_capacity};
-ghost use Rattle.imap_session.specs.Exchange.{Call, Enter, Look, Read, Count, Alter, Expunge, Feed, Leave, Answer, Entered, Looked, Found, Counted, Altered, Left};
+ghost use Rattle.imap_session.specs.Exchange.{Call, Enter, Look, Read, Count, Alter, Expunge, Feed, Leave, Answer, Entered, Found, Counted, Altered, Left};
 ghost use Rattle.imap_session.specs.Store.{answer, Chooses, Feeds, Expunges};
 
 use change_ring::{FlagOp, Flags};

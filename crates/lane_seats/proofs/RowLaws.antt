@@ -9,7 +9,7 @@ use Rattle.shard_queue.specs.declared.queue.ConsumerSeat.{ConsumerSeat}
 use Rattle.shard_queue.specs.Seats.{IsProducer, IsEnded, IsConsumer, number_of, sent, producers_of, numbers}
 use Rattle.lane_work.specs.declared.desk.LaneSeat.{LaneSeat}
 use Rattle.lane_work.specs.declared.desk.LaneSeat.TheVariants.{Live}
-use Rattle.lane_work.specs.Seats.{AreSeats, AreEnded, IsNew, IsSeat, put_by, is_over, seat_number}
+use Rattle.lane_work.specs.Seats.{AreSeats, AreEnded, IsNew, IsSeat, seat_number}
 use Rattle.lane_seats.specs.rows.Rows.{AreLeft, AreHands, Rows, AreConsumers, EndedRows, AreIn, AllIn, AreEndedHands, Keep}
 use Rattle.lane_seats.proofs.StepLaws.{StepTo, ahead, front, one_step}
 

@@ -2,7 +2,7 @@
 //! house's lanes and channels, and to collect them. They are made before the first seat is, so that
 //! behind the dealing nothing can be refused. What goes into them stands in the modules beside this.
 
-ghost use Rattle.std.specs.Prelude.{◌≡◌, ◌≤◌, [], All, IfOk, vec_len, vec_capacity};
+ghost use Rattle.std.specs.Prelude.{◌≡◌, ◌≤◌, [], All, IfOk};
 ghost use Rattle.lane_seats.specs.Rooms.{AreEmptyHands, AreEmptySeatRooms, AreHandRooms, AreRooms, AreSeatRooms};
 
 use delivery_token::{Job, Noted};

@@ -4,7 +4,6 @@
 ghost use Rattle.std.specs.Prelude.{◌≡◌, ◌++◌, ◌∷◌, [], length, map};
 ghost use Rattle.shard_queue.specs.declared.lane.Entry.TheVariants as entries;
 ghost use Rattle.shard_queue.specs.Reply.{IsSender, sender_number, sent_on};
-ghost use Rattle.mailbox_holds.specs.Holds.{DoesDeliver};
 ghost use Rattle.lane_work.specs.Seats.{AreSenders};
 ghost use Rattle.lane_work.specs.Answering.{IsDelivered, IsVerdict, Serves, UnderLock, is_ours, verdict_of};
 

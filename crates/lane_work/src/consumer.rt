@@ -1,11 +1,11 @@
 //! A consumer's life: each copy of its lane is taken, delivered and answered, until the end of every
 //! producer came; then its own seats are ended. What becomes of one copy stands in `answering`.
 
-ghost use Rattle.std.specs.Prelude.{◌≡◌, ◌≤◌, ◌<◌, ◌+◌, ◌++◌, ◌∷◌, [], true, length, map, All, vec_len, vec_capacity};
+ghost use Rattle.std.specs.Prelude.{◌≡◌, ◌≤◌, ◌<◌, ◌+◌, ◌++◌, ◌∷◌, [], true, length, map, vec_capacity};
 ghost use Rattle.std.specs.List.{list_any};
 ghost use Rattle.shard_queue.specs.Seats.{IsConsumer, got};
 ghost use Rattle.shard_queue.specs.Reply.{sent_on};
-ghost use Rattle.lane_work.specs.Seats.{AreSenders, AreSendersEnded};
+ghost use Rattle.lane_work.specs.Seats.{AreSenders};
 ghost use Rattle.lane_work.specs.Answering.{is_nobodys};
 ghost use Rattle.lane_work.specs.inner.Answering.{HaveAnswered};
 ghost use Rattle.lane_work.specs.Consuming.{IsConsumed, items_of};

@@ -1,6 +1,6 @@
 //! Lines that are printed with a mark that tells who said them. What they say is for the crates above.
 
-ghost use Rattle.std.specs.Prelude.{◌≡◌, ◌++◌, ◌+◌, ◌<◌, ◌≤◌, ℕ, List, length, codes, decimal, flat_map, slice_index, take, drop, IfSome, IfNone, OnOk, OnErr, ◌∷◌, []};
+ghost use Rattle.std.specs.Prelude.{◌≡◌, ◌++◌, ◌+◌, ◌<◌, ◌≤◌, ℕ, length, codes, decimal, slice_index, IfSome, IfNone, OnOk, OnErr, ◌∷◌, []};
 ghost use Rattle.std.specs.Io.{StartsWith};
 ghost use Rattle.line_io.specs.Marks.{marked};
 ghost use Rattle.line_io.specs.Wire.{wire_lines};

@@ -1,6 +1,6 @@
 -- The server's side of an LMTP connection (RFC 2033), line by line. It knows nothing of pieces and buffers.
 use Rattle.std.specs.Prelude.{ℕ, Bool, true, false, List, [], ◌∷◌, ◌++◌, ◌+◌, ◌-◌, ◌^◌, length, map, replicate, Result, Ok, Err, nat_lt, ◌==◌, if◌then◌else◌}
-use Rattle.envelope.specs.Values.{Path, Null, Postmaster, To, Command}
+use Rattle.envelope.specs.Values.{Path, Command}
 use Rattle.envelope.specs.Values as say
 use Rattle.envelope.specs.Reading.{read}
 use Rattle.envelope.specs.Directory.{Directory, is_shut, lookup, shard_of}

@@ -2,7 +2,7 @@
 //! messages are submitted. Answers to command lines are in commands.rt, building a message in message.rt; it knows nothing of sockets,
 //! queues and mailboxes.
 
-ghost use Rattle.std.specs.Prelude.{All, ◌≡◌, ◌+◌, ◌*◌, ◌++◌, ◌≤◌, ◌<◌, take, codes, replicate, true, false, Some, List, [], ◌∷◌, length, IfOk, OnOk, OnErr, ℕ, vec_len, vec_capacity};
+ghost use Rattle.std.specs.Prelude.{All, ◌≡◌, ◌+◌, ◌*◌, ◌++◌, ◌≤◌, ◌<◌, take, replicate, true, false, Some, List, [], ◌∷◌, length, IfOk, OnOk, OnErr, ℕ, vec_len, vec_capacity};
 ghost use Rattle.lmtp_machine.specs.Dialogue as dialogue;
 ghost use Rattle.lmtp_machine.specs.Conversation.{Conversation, opened};
 ghost use Rattle.envelope.specs.Directory.{Directory};

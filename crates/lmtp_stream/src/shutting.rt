@@ -1,7 +1,7 @@
 //! What is said last where the house stops or memory is refused, and that it is sent. When that is, is
 //! for `talk`.
 
-ghost use Rattle.std.specs.Prelude.{◌≡◌, ◌≢◌, ◌++◌, List, false, true, OnOk, OnErr, Err};
+ghost use Rattle.std.specs.Prelude.{◌≡◌, ◌≢◌, ◌++◌, false, true, OnOk, OnErr, Err};
 ghost use Rattle.lmtp_machine.specs.Conversation.{Conversation};
 ghost use Rattle.lmtp_machine.specs.LmtpMachine.{StandsFor};
 ghost use Rattle.lmtp_machine.specs.Replies.{wire};

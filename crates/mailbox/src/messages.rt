@@ -1,7 +1,7 @@
 //! The messages that are there, and which of them have \Deleted, so that an expunge passes these
 //! alone. Changes and cursors are not told here.
 
-ghost use Rattle.std.specs.Prelude.{◌≡◌, ◌<◌, false, [], ◌∷◌, ◌++◌, length, map, All, IfOk, OnOk, OnErr, option_map, vec_len, vec_capacity};
+ghost use Rattle.std.specs.Prelude.{◌≡◌, ◌<◌, false, [], ◌∷◌, ◌++◌, length, All, IfOk, OnOk, OnErr, option_map, vec_len, vec_capacity};
 ghost use Rattle.std.specs.List.Sorted.{IsStrictlyIncreasing};
 ghost use Rattle.change_ring.specs.Log.{no_flags, without};
 ghost use Rattle.mailbox.specs.inner.Choices.{IsFound, passes};

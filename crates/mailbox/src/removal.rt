@@ -1,9 +1,7 @@
 //! Which messages go: those with \Deleted, at an expunge or as a client leaves. All of a call's
 //! removals are one event, logged in the order of the UIDs. Those with \Deleted alone are passed.
 
-ghost use Rattle.std.specs.Prelude.{◌≡◌, ◌≢◌, ◌+◌, ◌^◌, ◌≤◌, ◌<◌, ◌↔◌, ◌⊎◌, ◌==◌, not, ℕ, Bool, true, List, [], ◌∷◌, ◌++◌, length, map, filter, count_by, None, Some, Err, OnOk, OnErr, IfOk, IfErr, IsTrue, option_map, drop, IsSome, IfSome, if◌then◌else◌, vec_capacity};
-ghost use Rattle.std.specs.List.Sorted.{IsNonDecreasing};
-ghost use Rattle.std.specs.List.{list_any};
+ghost use Rattle.std.specs.Prelude.{◌≡◌, ◌≢◌, ◌+◌, ◌^◌, ◌≤◌, ◌<◌, ◌↔◌, ◌⊎◌, ◌==◌, ℕ, true, List, [], ◌∷◌, ◌++◌, length, filter, count_by, None, Err, OnOk, OnErr, IfOk, IfErr, IsTrue, option_map, drop, IsSome, IfSome, if◌then◌else◌, vec_capacity};
 ghost use Rattle.change_ring.specs.Log.{view_at};
 ghost use Rattle.change_ring.specs.Logged.{removals, removals_if};
 ghost use Rattle.change_ring.specs.Window.{changes_from, total};

@@ -1,5 +1,5 @@
 -- From what a run promises to what the program does.
-use Rattle.std.proofs.Common.{lit<, ◌≡◌, ◌⊎◌, ◌∙◌, ap, ℕ, Bool, true, List, inl, inr, refl, sym, subst, Option, Some, None, Result, Ok, Err, arith}
+use Rattle.std.proofs.Common.{lit<, ◌≡◌, ◌⊎◌, ◌∙◌, ap, ℕ, Bool, true, List, inl, inr, refl, sym, subst, Option, Some, None, Result, Err, arith}
 use Rattle.std.specs.Prelude.{IfSome}
 use Rattle.house.specs.Settings.{setup_of}
 use Rattle.house.specs.House.{House}
@@ -8,7 +8,7 @@ use Rattle.house.specs.declared.config.ConfigFault.{ConfigFault}
 use Rattle.house.specs.declared.config.ConfigFault.TheVariants as config_faults
 use Rattle.script.specs.Leaving.{IsLeft, IsLeftWanting, WritesBeginning, WritesFirst}
 use Rattle.script.specs.Promise.{WroteOnce}
-use Rattle.script.specs.Script.{ScriptLine, script_of}
+use Rattle.script.specs.Script.{ScriptLine}
 use Rattle.script.specs.declared.run.RunFault.{RunFault}
 use Rattle.script.specs.declared.run.RunFault.TheVariants as run_faults
 use Rattle.script.proofs.Once.{wrote_beginning}

@@ -24,7 +24,7 @@ use Rattle.lmtp_machine.specs.Replies.{wire}
 use Rattle.lmtp_machine.specs.Calls.{Tells}
 use Rattle.lmtp_machine.specs.Conversation.{Conversation, IsListening}
 use Rattle.lmtp_machine.specs.Dialogue as dialogue
-use Rattle.lmtp_machine.specs.Dialogue.{Phase, Start, Ready, Transaction, Data, Waiting, Ended, Answered, Opened, Setting, Submission, Turn, keys_from, on_event, on_verdicts, verdict_reply}
+use Rattle.lmtp_machine.specs.Dialogue.{Phase, Start, Ready, Waiting, Ended, Answered, Setting, Submission, Turn, keys_from, on_verdicts, verdict_reply}
 use Rattle.lmtp_machine.specs.Kept.{IsMessage}
 use Rattle.house_connection.specs.ConnectionStands.{IsAwaited}
 use Rattle.house_connection.specs.Caller.{GoesOn, Caller, IsAnswered, Proceeds, Terms, Works, answers, copies_of, fades, greeted, keys_of, lingers, meets, more_waits, setting_of, stalls, talks, unread, waits, works}

@@ -9,7 +9,7 @@ use Rattle.line_io.specs.inner.WireLaws.{cut_none, wire_join, wire_joined}
 use Rattle.lmtp_machine.specs.declared.reply.Reply.{Reply}
 use Rattle.lmtp_machine.specs.declared.reply.Reply.TheVariants.{Greeting}
 use Rattle.lmtp_machine.specs.Replies.{wire}
-use Rattle.lmtp_machine.specs.Conversation.{Conversation, EachMayBeHeard, Heard, IsListening, Leads, MayHear, ◌⨾◌, led_by, opened}
+use Rattle.lmtp_machine.specs.Conversation.{Conversation, EachMayBeHeard, Heard, MayHear, ◌⨾◌, led_by}
 use Rattle.lmtp_machine.specs.Conversation as conversation
 use Rattle.lmtp_machine.specs.Dialogue.{Phase, Waiting, Setting, Standing, Submission, Event, Opened, Line, Starved, Answered, Shut, Turn, dialogue, fresh, on_event, on_verdicts, verdict_reply}
 use Rattle.lmtp_machine.proofs.Pieces.{cut-append}

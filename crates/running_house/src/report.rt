@@ -1,7 +1,7 @@
 //! What the threads left is closed, compared and put together. Nothing runs any more.
 
 ghost use Rattle.std.specs.Global.{Global};
-ghost use Rattle.std.specs.Prelude.{◌≡◌, ◌⊎◌, ◌≤◌, ◌+◌, ◌∷◌, ℕ, [], IfErr, IfOk, OnOk, Vec, drop, length, map, take, vec_len};
+ghost use Rattle.std.specs.Prelude.{◌≡◌, ◌⊎◌, ◌≤◌, ◌+◌, ◌∷◌, ℕ, [], IfErr, IfOk, OnOk, Vec, drop, map, take, vec_len};
 ghost use Rattle.agreement.specs.Lists.{ListsAgree};
 ghost use Rattle.house_floor.specs.Crew.{AllAt};
 ghost use Rattle.house_floor.specs.Opening.{AreBaskets};

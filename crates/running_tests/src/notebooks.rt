@@ -1,6 +1,6 @@
 //! What a worker's notebooks keep, and that whoever is to take what waits on a lane is woken.
 
-ghost use Rattle.std.specs.Prelude.{◌≡◌, IfOk, length, vec_len};
+ghost use Rattle.std.specs.Prelude.{◌≡◌, IfOk, vec_len};
 
 use crossbeam_utils::sync::Parker;
 use delivery_token::{CopyKey, Refusal, Text, Verdict, WorkerLog};

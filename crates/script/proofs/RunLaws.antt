@@ -24,7 +24,7 @@ use Rattle.house_connection.specs.HouseConnection.{HouseConnection}
 use Rattle.house.specs.House.{House}
 use Rattle.house_connection.specs.Caller.{Caller, Terms}
 use Rattle.house.specs.Setup.{Setup, terms_of}
-use Rattle.house.specs.Scene.{Plays, Scene, empty_scene, most_serials, seat_of}
+use Rattle.house.specs.Scene.{Plays, Scene, empty_scene, seat_of}
 use Rattle.house.specs.Stands.{StandsFor, StandsForOne}
 use Rattle.house.specs.declared.event.Event.{Event}
 use Rattle.house.specs.Steps.{FollowsInPart, IsEmptySeat, IsNoSeat, IsSpent, IsUnread, Led, is_unread}
@@ -32,7 +32,7 @@ use Rattle.house.specs.Settled.{HappenedFrom, SettledFrom, is_held}
 use Rattle.house.specs.Settling.{Settles}
 use Rattle.house.specs.Window.{PrintsWindow}
 use Rattle.script.specs.Script.{IsAway, IsNoConnection, IsOwing, LinePlays, NobodyThere, Script, ScriptLine, Asks, Enters, Leaves, Sends, Vanishes, Hold, Free, Closes, Tail, Skip, Bad, asked, brought, closes, closes_again, closes_nobody, goes_again, goes_nobody, held_after, is_bad, is_digit, line_of, none_held, refusal, script_of, sends, sends_to_nobody, sends_to_owing, skips, stands_nobody, stands_still, tails, tails_nobody, vanishes, vanishes_again, vanishes_away}
-use Rattle.script.specs.Leaving.{Writes, WritesBeginning, WritesFirst, IsLeftWanting, unread, unwritten, LineBegins, LineWanting, undone, begun, PlayWanting, doing, settling}
+use Rattle.script.specs.Leaving.{Writes, WritesBeginning, WritesFirst, unwritten, LineBegins, LineWanting, undone, begun, PlayWanting, settling}
 use Rattle.std.specs.Prelude.{Bool, IfNone, IfSome, codes, false, true}
 use Rattle.script.specs.inner.Running.{HasRun, IsClipped, IsOver, IsUnread as IsUnreadTurn, IsUnwritten, LineCut, LineDone, LinePlayed, LineWritten, SetsHeld, TurnTells, held_by, sets, sets_nobody}
 use Rattle.script.proofs.Once.{script_once}

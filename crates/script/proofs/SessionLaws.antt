@@ -1,5 +1,5 @@
 -- From what the house promises of a session's events to what a run promises of the lines of sessions.
-use Rattle.std.proofs.Common.{◌≡◌, ◌∙◌, ℕ, zero, suc, ◌+◌, ◌<◌, ◌≤◌, ◌⊎◌, inl, inr, List, ◌++◌, length, refl, sym, ap, subst, arith, get_or, Option, Some, None, false, true}
+use Rattle.std.proofs.Common.{◌≡◌, ◌∙◌, ℕ, zero, suc, ◌+◌, ◌<◌, ◌≤◌, ◌⊎◌, inl, inr, List, ◌++◌, length, refl, sym, ap, arith, Option, Some, None, false, true}
 use Rattle.std.specs.Prelude.{IsSome, codes}
 use Rattle.std.specs.Borrow.{Bor}
 use Rattle.envelope.specs.Directory.{Directory}
@@ -11,7 +11,7 @@ use Rattle.delivery_token.specs.declared.log.Noted.{Noted}
 use Rattle.house.specs.Setup.{Setup}
 use Rattle.house.specs.declared.event.Event.TheVariants as events
 use Rattle.house.specs.House.{House}
-use Rattle.house.specs.Scene.{Scene, most_serials, place_of}
+use Rattle.house.specs.Scene.{Scene, place_of}
 use Rattle.house.specs.Stands.{StandsFor, StandsForVisit}
 use Rattle.house.specs.Steps.{IsFreePlace, IsLeft, IsNoPlace, IsSpentPlace, IsTakenPlace, Led, is_left}
 use Rattle.script.specs.Script.{Asks, Enters, IsLingering, IsNoSession, IsSpentSession, IsUnknown, IsUnvisited, IsVisited, Leaves, asks, asks_lingering, asks_nobody, enters, enters_nowhere, enters_taken, leaves, leaves_again, leaves_nobody, refusal}

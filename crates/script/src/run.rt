@@ -14,7 +14,7 @@ ghost use Rattle.house.specs.Scene as scene;
 ghost use Rattle.house.specs.Setup.{Setup};
 ghost use Rattle.house.specs.Scene.{empty_scene};
 ghost use Rattle.script.specs.Script as spec;
-ghost use Rattle.script.specs.Script.{as_spec, asked, brought, held_after, is_digit, line_of, refusal, script_of};
+ghost use Rattle.script.specs.Script.{asked, brought, held_after, is_digit, line_of, refusal, script_of};
 ghost use Rattle.script.specs.Leaving.{IsLeft, IsLeftWanting, LineWanting, PlayWanting, Writes, WritesBeginning, WritesFirst};
 ghost use Rattle.house.specs.Stands.{StandsFor};
 ghost use Rattle.script.specs.Promise.{WroteOnce};

@@ -1,7 +1,7 @@
 //! What is said of the listeners, so that whoever started the server knows when to begin. Nothing listens here.
 
-ghost use Rattle.std.specs.Prelude.{◌≡◌, ◌≤◌, ◌<◌, ◌+◌, ◌++◌, ◌∷◌, [], IfOk, IfSome, OnOk, codes, length, slice_get};
-ghost use Rattle.serving.specs.Announcing.{announcement, imap_line, imap_lines, lmtp_line, users_of, warning};
+ghost use Rattle.std.specs.Prelude.{◌≡◌, ◌≤◌, ◌<◌, ◌+◌, ◌++◌, ◌∷◌, [], IfOk, IfSome, OnOk, length, slice_get};
+ghost use Rattle.serving.specs.Announcing.{announcement, imap_line, imap_lines, lmtp_line, users_of};
 
 use crate::server::Uidvalidity;
 use envelope::Directory;

@@ -6,7 +6,7 @@ ghost use Rattle.house.specs.declared.config.ConfigFault.{ConfigFault};
 ghost use Rattle.house_threads.specs.Crew.{IsPostLeft, IsStandLeft};
 ghost use Rattle.std.specs.Mem.{manually_drop_value};
 ghost use Rattle.std.specs.Thread.{IsSync};
-ghost use Rattle.house_floor.specs.Crew.{AllAt, AreVisits, IsCrew, IsHouse, IsPost};
+ghost use Rattle.house_floor.specs.Crew.{AllAt, IsCrew, IsHouse, IsPost};
 ghost use Rattle.house_floor.specs.Opening.{AreBaskets};
 ghost use Rattle.lane_seats.specs.Rooms.{AreRooms};
 ghost use Rattle.serving_workers.specs.Leaving.{IsServed};

@@ -1,6 +1,6 @@
 //! The whole of a server: settings, sockets, what is said of them, the house, and the end. What runs in between stands in `run`.
 
-ghost use Rattle.std.specs.Prelude.{ℕ, ◌≡◌, ◌≤◌, ◌<◌, ◌+◌, Err, None, OnOk, Some, false, length, take};
+ghost use Rattle.std.specs.Prelude.{ℕ, ◌≡◌, ◌≤◌, ◌<◌, ◌+◌, Err, None, OnOk, Some, false, take};
 ghost use Rattle.std.specs.Io.KnownBytes.{Appends};
 ghost use Rattle.house.specs.Settings.{IsInRange, setup_of};
 ghost use Rattle.serving.specs.Producers.{server_fault};

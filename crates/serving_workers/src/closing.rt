@@ -1,7 +1,7 @@
 //! The house that the producers of a server leave: the shards' ends are heard, and each queue is closed with what all producers and clerks
 //! left. No thread runs any more.
 
-ghost use Rattle.std.specs.Prelude.{◌≡◌, ◌<◌, ◌≤◌, [], All, Some, length, map, true, vec_len, vec_capacity};
+ghost use Rattle.std.specs.Prelude.{◌≡◌, ◌<◌, ◌≤◌, [], All, length, map, true, vec_len, vec_capacity};
 ghost use Rattle.lane_seats.specs.rows.Rows.{AreConsumers, AreEndedHands};
 ghost use Rattle.lane_seats.specs.rows.SenderRows.{AreReceivers, AreSenderEndedHands};
 ghost use Rattle.house_floor.specs.Crew.{AllAt, IsHouse};

@@ -1,7 +1,7 @@
 //! The workers' threads, started in order, and the producers' joined: the workers, and behind them whoever else has a post. What a worker
 //! does stands in `accepting`.
 
-ghost use Rattle.std.specs.Prelude.{ℕ, ◌≡◌, ◌≤◌, ◌<◌, ◌+◌, All, Some, List, [], length, vec_len, vec_capacity};
+ghost use Rattle.std.specs.Prelude.{ℕ, ◌≡◌, ◌≤◌, ◌<◌, ◌+◌, All, Some, [], length, vec_len, vec_capacity};
 ghost use Rattle.std.specs.Mem.{manually_drop_value};
 ghost use Rattle.house_floor.specs.Crew.{AllAt, IsHouse, IsPost};
 ghost use Rattle.serving_workers.specs.Leaving.{IsHired, IsServed};

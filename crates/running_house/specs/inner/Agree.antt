@@ -1,7 +1,6 @@
 -- What bodies and proofs say besides: what a report says of a run: how what the threads left agrees.
 use Rattle.std.specs.Prelude.{◌≡◌, ◌<◌, ℕ, List, [], ◌∷◌, length, map, All, Vec}
 use Rattle.std.specs.Global.{Global}
-use Rattle.shard_queue.specs.Lane.{of}
 use Rattle.shard_queue.specs.Reply.{room_of, senders_of}
 use Rattle.shard_queue.specs.Seats.{capacity_of, history, producers_of}
 use Rattle.lane_work.specs.Speaking.{premises_of}

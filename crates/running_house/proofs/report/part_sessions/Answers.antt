@@ -1,7 +1,6 @@
-use Rattle.std.proofs.Common.{rules, ◌≡◌, ◌<◌, ◌+◌, ◌∙◌, length, vec_len, take, drop, sym, subst, ap, ℕ, Vec, List, arith}
-use Rattle.std.specs.Global.{Global}
+use Rattle.std.proofs.Common.{rules, ◌≡◌, ◌<◌, ◌+◌, ◌∙◌, length, vec_len, take, drop, sym, subst, ℕ, arith}
 use Rattle.running_house.specs.inner.Agree.{AreTexts}
-use Rattle.running_house.proofs.Moves.{parted_all, parted_more}
+use Rattle.running_house.proofs.Moves.{parted_more}
 use Rattle.running_house.proofs.report.part_sessions.Goals as goal
 
 pub loop-session-preserved : goal.loop-session-preserved

@@ -1,4 +1,4 @@
-use Rattle.std.proofs.Common.{◌≡◌, ◌∙◌, ◌+◌, ℕ, List, ap, inl, inr, refl, length, subst, arith, Result, Err}
+use Rattle.std.proofs.Common.{◌≡◌, ◌∙◌, ◌+◌, ℕ, List, ap, refl, length, subst, arith, Result, Err}
 use Rattle.std.specs.Prelude.{Bool, false, replicate}
 use Rattle.std.proofs.lemmas.List.{length-replicate}
 use Rattle.envelope.specs.Directory.{Directory}

@@ -1,4 +1,4 @@
-use Rattle.std.proofs.Common.{◌≡◌, ◌+◌, length, map, sym, subst, vec_len, arith}
+use Rattle.std.proofs.Common.{◌≡◌, ◌+◌, map, sym, subst, arith}
 use Rattle.lane_work.specs.declared.worker.Worked.{Worked}
 use Rattle.lane_seats.specs.rows.Rows.{AreEndedHands}
 use Rattle.lane_seats.specs.rows.SenderRows.{AreReceivers}

@@ -1,4 +1,4 @@
-use Rattle.std.proofs.Common.{rules, ◌≡◌, ◌∷◌, [], List, map, All, length, slice_index_or, subst, sym, arith}
+use Rattle.std.proofs.Common.{◌≡◌, ◌∷◌, [], List, map, All, slice_index_or, subst, sym}
 use Rattle.std.proofs.lemmas.List.Elements.{All-head}
 use Rattle.delivery_token.specs.declared.Job.{Job}
 use Rattle.shard_queue.specs.declared.queue.ShardQueue.{ShardQueue}

@@ -6,7 +6,7 @@ use Rattle.house_connection.specs.HouseConnection.{HouseConnection}
 use Rattle.house_connection.specs.Caller.{meets}
 use Rattle.submission.specs.Verdicts.{AreKnown as IsKnown}
 use Rattle.house_connection.specs.Taking.{awaited_keys}
-use Rattle.house_connection.proofs.Connections.{went_answers, went_stalls, went_waits}
+use Rattle.house_connection.proofs.Connections.{went_answers, went_waits}
 use Rattle.house_connection.proofs.connection.HouseConnection.answer.Goals as goal
 
 -- a message is at hand

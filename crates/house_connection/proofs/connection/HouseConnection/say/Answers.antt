@@ -1,5 +1,4 @@
-use Rattle.std.proofs.Common.{◌∙◌, ap, sym, subst, List, length, Option}
-use Rattle.delivery_token.specs.declared.Verdict.{Verdict}
+use Rattle.std.proofs.Common.{◌∙◌, ap, sym, subst, length}
 use Rattle.submission.specs.Verdicts.{Verdicts}
 use Rattle.house_connection.specs.HouseConnection.{HouseConnection}
 use Rattle.house_connection.specs.ConnectionStands.{StandsForConnection}

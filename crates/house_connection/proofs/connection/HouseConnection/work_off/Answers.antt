@@ -1,4 +1,4 @@
-use Rattle.std.proofs.Common.{◌≡◌, true, false, ◌∙◌, ◌+◌, ◌*◌, ◌≤◌, refl, ap, sym, subst, take, drop, List, [], ◌++◌, ℕ, length, Option, Some, None, take-append-drop}
+use Rattle.std.proofs.Common.{◌≡◌, true, false, ◌∙◌, ◌+◌, ◌*◌, ◌≤◌, refl, ap, sym, subst, take, drop, List, [], ◌++◌, ℕ, length, Option, Some, take-append-drop}
 use Rattle.envelope.specs.Directory.{Directory}
 use Rattle.lmtp_machine.specs.LmtpMachine.{StandsFor}
 use Rattle.lmtp_machine.specs.Dialogue.{Submission}

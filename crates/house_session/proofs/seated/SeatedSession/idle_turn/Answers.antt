@@ -1,4 +1,4 @@
-use Rattle.std.proofs.Common.{◌≡◌, ◌∙◌, ap, subst, sym, false}
+use Rattle.std.proofs.Common.{◌≡◌, ◌∙◌, ap, subst, sym}
 use Rattle.house_session.specs.SeatedSession.{SeatedSession, StandsForSeated}
 use Rattle.house_session.proofs.Seating.{seat_turned}
 use Rattle.house_session.proofs.seated.SeatedSession.idle_turn.Goals as goal

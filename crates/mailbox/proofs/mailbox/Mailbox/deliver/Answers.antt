@@ -7,7 +7,6 @@ use Rattle.change_ring.specs.declared.change.Flags.{Flags}
 use Rattle.change_ring.specs.declared.flag_op.FlagOp.TheVariants.{Set}
 use Rattle.change_ring.specs.Log.{no_flags}
 use Rattle.change_ring.specs.Logged.{flags_logged, new_flags}
-use Rattle.change_ring.specs.Window.{total}
 use Rattle.cursor_set.specs.Cursors.{CursorSet}
 use Rattle.mailbox.specs.Events.{Logs, Moves}
 use Rattle.mailbox.specs.Mailbox.{Mailbox, Message, flagged, message_with, next_uid, row_of, rows, uids_of}

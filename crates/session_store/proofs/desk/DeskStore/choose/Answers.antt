@@ -1,4 +1,4 @@
-use Rattle.std.proofs.Common.{◌≡◌, List, map, Err, None, ap, refl, sym}
+use Rattle.std.proofs.Common.{◌≡◌, map, Err, None, ap, refl, sym}
 use Rattle.std.specs.Prelude.{option_map}
 use Rattle.imap_grammar.specs.Sets.{named_at, named_in}
 use Rattle.session_store.proofs.Serving.{looked, not_looked}
