@@ -1,26 +1,23 @@
 //! The program: it reads its command line, runs what that asks for, and says how it went by its exit status and on standard error. How
-//! words become settings stands in `arguments`, how it may fail in `failure`; what a house does is told in the crate `house`.
+//! words become settings is told in the crate `command_line`, how the program may fail in `failure`; what a house does in the crate `house`.
 #![tactic(auto)]
 
-mod arguments;
 mod failure;
-#[cfg(test)]
-mod tests;
 
 ghost use Rattle.std.specs.Prelude.{◌≡◌, ◌⊎◌, false, ℕ, List, Some, Err};
 ghost use Rattle.script.specs.Script.{script_of};
 ghost use Rattle.script.specs.Promise.{WroteOnce};
 ghost use Rattle.house.specs.Settings.{IsInRange, config_fault, setup_of};
 ghost use Rattle.house.specs.declared.config.ConfigFault.{ConfigFault};
-ghost use Rattle.post_house.specs.Asking.{IsAskedInRange};
+ghost use Rattle.command_line.specs.Asking.{IsAskedInRange};
 ghost use Rattle.post_house.specs.inner.Playing.{HasDone, HasDoneAsked, HasServed, Played, RanScript};
 ghost use Rattle.post_house.specs.Status.{status_of};
 ghost use Rattle.post_house.specs.inner.Status.{IsStatus};
 
-use crate::arguments::{Asked, asked_of};
 use crate::failure::{Failure, device_or_memory};
 use clap::Error;
 use clap::error::ErrorKind;
+use command_line::{Asked, asked_of};
 use house::{Config, House};
 use line_io::{Sink, Watched, send};
 use script::drive;

@@ -5,10 +5,10 @@ use Rattle.house.specs.Settings.{config_fault, setup_of}
 use Rattle.house.specs.House.{House}
 use Rattle.house.specs.declared.config.Config.{Config}
 use Rattle.house.specs.declared.config.ConfigFault.{ConfigFault}
-use Rattle.post_house.specs.Asking.{IsAskedInRange}
+use Rattle.command_line.specs.Asking.{IsAskedInRange}
 use Rattle.post_house.specs.inner.Status.{status_for, status_served}
-use Rattle.post_house.specs.declared.arguments.Asked.{Asked}
-use Rattle.post_house.specs.declared.arguments.Asked.TheVariants.{Script, Serve}
+use Rattle.command_line.specs.declared.asked.Asked.{Asked}
+use Rattle.command_line.specs.declared.asked.Asked.TheVariants.{Script, Serve}
 use Rattle.post_house.specs.declared.failure.Failure.{Failure}
 use Rattle.post_house.specs.declared.failure.Failure.TheVariants as failures
 use Rattle.script.specs.Promise.{WroteOnce}

@@ -1,7 +1,7 @@
 -- What the words of a command line ask for.
 use Rattle.house.specs.Settings.{IsInRange}
-use Rattle.post_house.specs.declared.arguments.Asked.{Asked}
-use Rattle.post_house.specs.declared.arguments.Asked.TheVariants.{Script, Serve}
+use Rattle.command_line.specs.declared.asked.Asked.{Asked}
+use Rattle.command_line.specs.declared.asked.Asked.TheVariants.{Script, Serve}
 
 -- with settings that are in their ranges
 abbrev pub IsAskedInRange : Asked → Type 0

@@ -1,116 +1,19 @@
-//! The command line: which words the program takes, what they ask for, and the settings that they come to. Nothing is run and nothing
-//! is printed here.
+//! What the words of a command line ask for, and the settings that they come to.
 
 ghost use Rattle.std.specs.Prelude.{◌<◌, length, IfOk};
 ghost use Rattle.house.specs.Settings.{IsFrom, IsInRange};
-ghost use Rattle.post_house.specs.Asking.{IsAskedInRange};
+ghost use Rattle.command_line.specs.Asking.{IsAskedInRange};
 
-use clap::builder::ValueParser;
+use crate::options::{
+    DEPTH, FIRST_UID, HOUSE_OPTIONS, IMAP_PORT, LMTP_PORT, MAX_MESSAGE, MESSAGES, NumberOption,
+    RING, RING_MAX, SERVER_OPTIONS, SESSIONS, SHARDS, UIDVALIDITY, WORKERS, command_line, helps_of,
+};
 use clap::error::ErrorKind;
-use clap::{Arg, ArgAction, ArgMatches, Command, Error};
+use clap::{ArgMatches, Command, Error};
 use house::Config;
-use house::numbers::{self, Number};
 use serving::Uidvalidity;
 use std::alloc::{AllocError, Global};
 use std::convert::AsStr;
-
-/// An option that sets a number. How far it may go, and what stands where it is not given, is the settings' to say.
-#[derive(Clone, Copy)]
-struct NumberOption {
-    name: &'static str,
-    help: &'static str,
-    number: Number,
-}
-
-const SHARDS: NumberOption = NumberOption {
-    name: "shards",
-    help: "Shards that keep the mailboxes",
-    number: numbers::SHARDS,
-};
-
-const DEPTH: NumberOption = NumberOption {
-    name: "depth",
-    help: "Entries that each shard's lane has room for",
-    number: numbers::DEPTH,
-};
-
-const RING: NumberOption = NumberOption {
-    name: "ring",
-    help: "Changes that each mailbox keeps, at least two for each message",
-    number: numbers::RING,
-};
-
-const RING_MAX: NumberOption = NumberOption {
-    name: "ring-max",
-    help: "Changes that each mailbox keeps at most, for clients that fall behind; 0 for no more than --ring",
-    number: numbers::RING_MAX,
-};
-
-const MESSAGES: NumberOption = NumberOption {
-    name: "messages",
-    help: "Messages that each mailbox may hold",
-    number: numbers::MESSAGES,
-};
-
-const MAX_MESSAGE: NumberOption = NumberOption {
-    name: "max-message",
-    help: "Bytes that a message's data may have",
-    number: numbers::MAX_MESSAGE,
-};
-
-const FIRST_UID: NumberOption = NumberOption {
-    name: "first-uid",
-    help: "The UID of each mailbox's first message",
-    number: numbers::FIRST_UID,
-};
-
-const UIDVALIDITY: NumberOption = NumberOption {
-    name: "uidvalidity",
-    help: "What each mailbox tells as its UIDVALIDITY",
-    number: numbers::UIDVALIDITY,
-};
-
-const LMTP_PORT: NumberOption = NumberOption {
-    name: "lmtp-port",
-    help: "The port that mail comes to",
-    number: numbers::LMTP_PORT,
-};
-
-const IMAP_PORT: NumberOption = NumberOption {
-    name: "imap-port",
-    help: "The port of the first user's sessions; the others' follow",
-    number: numbers::IMAP_PORT,
-};
-
-const WORKERS: NumberOption = NumberOption {
-    name: "workers",
-    help: "Mail connections that are served at a time",
-    number: numbers::WORKERS,
-};
-
-const SESSIONS: NumberOption = NumberOption {
-    name: "sessions",
-    help: "Sessions of each user that are served at a time",
-    number: numbers::SESSIONS,
-};
-
-// What both subcommands may be given.
-const HOUSE_OPTIONS: &[NumberOption] = &[
-    SHARDS,
-    DEPTH,
-    RING,
-    RING_MAX,
-    MESSAGES,
-    MAX_MESSAGE,
-    UIDVALIDITY,
-    FIRST_UID,
-];
-
-// What `serve` may be given besides.
-const SERVER_OPTIONS: &[NumberOption] = &[LMTP_PORT, IMAP_PORT, WORKERS, SESSIONS];
-
-// The program's version, and the logic that its proofs were checked by, as `rt version` names it.
-const VERSION: &str = "0.1.0, proved with logic dac8208d650f15bf";
 
 /// What the words ask for.
 #[derive(Drop)]
@@ -141,125 +44,6 @@ impl<'a> From<AllocError> for Refused<'a> {
     fn from(_error: AllocError) -> Refused<'a> {
         Refused::NoMemory
     }
-}
-
-// An option that sets a number. Its help says what it is for, how far it may go, and what stands where it
-// is not given.
-fn option<'a>(alloc: Global, option: NumberOption, help: &'a str) -> Arg<'a> {
-    Arg::new(alloc, option.name)
-        .long(option.name)
-        .help(help)
-        .action(ArgAction::Set)
-        .value_parser(ValueParser::unsigned(option.number.least, option.number.most))
-}
-
-// The help of each of these options.
-fn helps_of(alloc: Global, options: &[NumberOption]) -> Result<Vec<String>, AllocError> {
-    let mut helps = Vec::new(alloc);
-    for option in options {
-        let number = option.number;
-        let help = format!(in alloc;
-            "{}: {} to {}, and {} where it is not given",
-            option.help, number.least, number.most, number.standing
-        )?;
-        helps.push(help)?;
-    }
-    Ok(helps)
-}
-
-// A subcommand with these options besides.
-fn with_options<'a>(
-    alloc: Global,
-    subcommand: Command<'a>,
-    options: &[NumberOption],
-    helps: &'a [String],
-) -> Result<Command<'a>, AllocError> {
-    let mut subcommand = subcommand;
-    for (number, help) in options.iter().zip(helps) {
-        subcommand = subcommand.arg(option(alloc, *number, help))?;
-    }
-    Ok(subcommand)
-}
-
-// A name that may be set. Which names are right is the settings' to say.
-fn name<'a>(alloc: Global, name: &'static str, help: &'static str) -> Arg<'a> {
-    Arg::new(alloc, name)
-        .long(name)
-        .help(help)
-        .action(ArgAction::Set)
-}
-
-// A subcommand with the names that may be set.
-fn with_names_of<'a>(alloc: Global, subcommand: Command<'a>) -> Result<Command<'a>, AllocError> {
-    subcommand
-        .arg(name(
-            alloc,
-            "host",
-            "The name that the house greets with: mx.example.org where it is not given",
-        ))?
-        .arg(name(
-            alloc,
-            "domain",
-            "The domain that mail comes for: example.org where it is not given",
-        ))
-}
-
-// The mailboxes, of which there is one at least.
-fn mailboxes<'a>(alloc: Global) -> Arg<'a> {
-    Arg::new(alloc, "MAILBOX")
-        .help("A mailbox, `user` or `user/folder`")
-        .action(ArgAction::Append)
-        .num_args(1..)
-        .required(true)
-}
-
-// A subcommand with what both have: the options of a house, and its mailboxes.
-fn with_house<'a>(
-    alloc: Global,
-    subcommand: Command<'a>,
-    helps: &'a [String],
-) -> Result<Command<'a>, AllocError> {
-    let named = with_names_of(alloc, subcommand)?;
-    with_options(alloc, named, HOUSE_OPTIONS, helps)?.arg(mailboxes(alloc))
-}
-
-// `script`, with its options and its mailboxes.
-fn script_line<'a>(alloc: Global, helps: &'a [String]) -> Result<Command<'a>, AllocError> {
-    let script = Command::new(alloc, "script").about(
-        "Runs a script from standard input on a house of its own",
-    );
-    with_house(alloc, script, helps)
-}
-
-// `serve`, with its options and its mailboxes.
-fn serve_line<'a>(
-    alloc: Global,
-    helps: &'a [String],
-    server_helps: &'a [String],
-) -> Result<Command<'a>, AllocError> {
-    let serve = Command::new(alloc, "serve").about(
-        "Serves on the loopback address until standard input is at its end",
-    );
-    let housed = with_house(alloc, serve, helps)?;
-    with_options(alloc, housed, SERVER_OPTIONS, server_helps)
-}
-
-// The program, with no subcommand yet.
-fn program<'a>(alloc: Global) -> Command<'a> {
-    Command::new(alloc, "post_house")
-        .about("Takes in mail for a few mailboxes")
-        .version(VERSION)
-        .subcommand_required(true)
-}
-
-// What the program takes: one of two subcommands.
-fn command_line<'a>(
-    alloc: Global,
-    helps: &'a [String],
-    server_helps: &'a [String],
-) -> Result<Command<'a>, AllocError> {
-    let with_script = program(alloc).subcommand(script_line(alloc, helps)?)?;
-    with_script.subcommand(serve_line(alloc, helps, server_helps)?)
 }
 
 fn are_digits(text: &str) -> bool {
