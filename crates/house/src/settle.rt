@@ -72,7 +72,13 @@ impl House {
         let seats = (self.callers.len() + self.visitors.len()) as u8;
         let mut moved = false;
         for seat in 0..seats {
-            let Ok(one) = self.visit(&[Event::End { producer: seat + 1, shard }], out) else {
+            let Ok(one) = self.visit(
+                &[Event::End {
+                    producer: seat + 1,
+                    shard,
+                }],
+                out,
+            ) else {
                 return Err(AllocError);
             };
             moved |= one;

@@ -12,11 +12,38 @@ const CASES: &[(&str, &[Step])] = &[
     (
         "a seat that ended takes connections, whose copies are refused there",
         &[
-            Step::Made(Event::End { producer: 1, shard: 0 }),
-            Step::Refused(Event::End { producer: 1, shard: 0 }, HouseFault::Nothing),
-            Step::Refused(Event::End { producer: 1, shard: 1 }, HouseFault::Nobody),
-            Step::Refused(Event::End { producer: 0, shard: 0 }, HouseFault::Nobody),
-            Step::Refused(Event::End { producer: 17, shard: 0 }, HouseFault::Nobody),
+            Step::Made(Event::End {
+                producer: 1,
+                shard: 0,
+            }),
+            Step::Refused(
+                Event::End {
+                    producer: 1,
+                    shard: 0,
+                },
+                HouseFault::Nothing,
+            ),
+            Step::Refused(
+                Event::End {
+                    producer: 1,
+                    shard: 1,
+                },
+                HouseFault::Nobody,
+            ),
+            Step::Refused(
+                Event::End {
+                    producer: 0,
+                    shard: 0,
+                },
+                HouseFault::Nobody,
+            ),
+            Step::Refused(
+                Event::End {
+                    producer: 17,
+                    shard: 0,
+                },
+                HouseFault::Nobody,
+            ),
             Step::Printed(b""),
             Step::Made(Event::Bytes(1, MESSAGE)),
             Step::Forget,
@@ -28,7 +55,10 @@ const CASES: &[(&str, &[Step])] = &[
             Step::Made(Event::Bytes(2, MESSAGE)),
             Step::Forget,
             Step::Made(Event::Put(2)),
-            Step::Made(Event::End { producer: 2, shard: 0 }),
+            Step::Made(Event::End {
+                producer: 2,
+                shard: 0,
+            }),
             Step::Settled(&[]),
             Step::Printed(b"L2 250 2.1.5 Delivered\n"),
         ],
@@ -52,9 +82,18 @@ const CASES: &[(&str, &[Step])] = &[
             Step::Printed(
                 b"L2 550 5.1.2 Domain unknown\nL2 550 5.1.1 Mailbox unknown\nL2 450 4.2.1 Shard closed\n",
             ),
-            Step::Made(Event::End { producer: 1, shard: 0 }),
+            Step::Made(Event::End {
+                producer: 1,
+                shard: 0,
+            }),
             Step::Settled(&[true]),
-            Step::Refused(Event::End { producer: 16, shard: 0 }, HouseFault::Nothing),
+            Step::Refused(
+                Event::End {
+                    producer: 16,
+                    shard: 0,
+                },
+                HouseFault::Nothing,
+            ),
             Step::Printed(b""),
             Step::Settled(&[]),
             Step::Printed(b"L1 250 2.1.5 Delivered\n"),
@@ -72,7 +111,10 @@ const CASES: &[(&str, &[Step])] = &[
             Step::Refused(Event::Bytes(1, b"NOOP\r\n"), HouseFault::Busy),
             Step::Refused(Event::Vanish(1), HouseFault::Busy),
             Step::Made(Event::Put(1)),
-            Step::Made(Event::End { producer: 1, shard: 0 }),
+            Step::Made(Event::End {
+                producer: 1,
+                shard: 0,
+            }),
             Step::Made(Event::Take(0)),
             Step::Made(Event::Deliver(0)),
             Step::Made(Event::Answer(0)),

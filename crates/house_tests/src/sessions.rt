@@ -122,7 +122,10 @@ const CASES: &[(&str, &[Step])] = &[
         "what a session appends behind its end is refused",
         &[
             Step::Made(Event::Enter(1, b"alice")),
-            Step::Made(Event::End { producer: 9, shard: 0 }),
+            Step::Made(Event::End {
+                producer: 9,
+                shard: 0,
+            }),
             Step::Forget,
             Step::Made(Event::Say(1, b"a1 APPEND INBOX {2+}\r\nok\r\n")),
             Step::Made(Event::Put(9)),
