@@ -4,8 +4,6 @@
 #![tactic(auto)]
 
 mod agree;
-#[cfg(test)]
-mod tests;
 mod there;
 mod told;
 

@@ -11,5 +11,3 @@ mod cells;
 mod change;
 mod flag_op;
 mod ring;
-#[cfg(test)]
-mod tests;

@@ -8,8 +8,6 @@ mod collector;
 mod dots;
 mod laws;
 mod place;
-#[cfg(test)]
-mod tests;
 mod unstuffer;
 
 pub use dots::stuff;

@@ -117,32 +117,6 @@ impl Unstuffer {
         self.collector.into_bytes()
     }
 
-    /// [`Unstuffer::take`] byte by byte: the plain program, which meets the same contract.
-    pub(crate) fn take_by_bytes(&mut self, piece: &[u8]) -> Taken
-        requires { self.old.outcome ≡ None }
-        ensures used { result.used ≤ length piece.now }
-        ensures all_used { result.what ≡ Progress.More → result.used ≡ length piece.now }
-        ensures some_used { result.what ≢ Progress.More → 0 < result.used }
-        ensures max { self.new.collected.max ≡ self.old.collected.max }
-        ensures behind { (front : List ℕ) → IsBehind self.old.collected front → IsBehind self.new.collected front }
-        ensures outcome { self.new.outcome ≡ outcome_of result.what }
-        ensures data { (wire : List ℕ) → StandsFor self.old wire →
-            Tells result.what self.new wire (take result.used piece.now) }
-    {
-        for (i, byte) in piece.iter().enumerate() {
-            match self.step(*byte) {
-                Progress::More => {}
-                what => {
-                    return Taken { used: i + 1, what };
-                }
-            }
-        }
-        Taken {
-            used: piece.len(),
-            what: Progress::More,
-        }
-    }
-
     /// Takes the bytes up to the next line that begins with a dot at once, where the wire stands inside a line, and
     /// answers how many. All of them are bytes of the text.
     fn take_run(&mut self, finder: &Finder<'_>, piece: &[u8]) -> usize

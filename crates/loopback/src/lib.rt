@@ -6,8 +6,6 @@
 mod listening;
 mod parting;
 mod slot;
-#[cfg(test)]
-mod tests;
 mod waiting;
 
 pub use listening::Listening;

@@ -3,9 +3,6 @@
 //! stands above, and nothing is proved of a gate.
 #![tactic(auto)]
 
-#[cfg(test)]
-mod tests;
-
 /// An actor of a running house, by its number among those of its kind, from 0.
 #[derive(Clone, Copy, Debug, PartialEq, Eq)]
 pub enum Actor {

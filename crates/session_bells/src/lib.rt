@@ -3,7 +3,5 @@
 #![tactic(auto)]
 
 mod bell;
-#[cfg(test)]
-mod tests;
 
 pub use bell::{SessionBell, Sleeper, ring_each};

@@ -3,7 +3,5 @@
 #![tactic(auto)]
 
 mod desk;
-#[cfg(test)]
-mod tests;
 
 pub use desk::Desk;

@@ -1,4 +1,4 @@
-//! Tests of IMAP's lines, sessions, connections and visitors, as a server above them would call them. What is proved of them stands in their own crates.
+//! Tests of IMAP's lines, sessions, connections and visitors, and of the delivery core as a session's store, as a server above them would call them. What is proved of them stands in their own crates.
 #![tactic(auto)]
 
 #[cfg(test)]
@@ -7,6 +7,8 @@ mod answers;
 mod appends;
 #[cfg(test)]
 mod connections;
+#[cfg(test)]
+mod desks;
 #[cfg(test)]
 mod dialogues;
 #[cfg(test)]

@@ -1,6 +1,6 @@
 //! A bell that is rung before anybody sleeps on it: the ring is kept. A sleeper that wasn't woken would sleep for good.
 
-use crate::{Sleeper, ring_each};
+use session_bells::{Sleeper, ring_each};
 use std::alloc::AllocError;
 use std::sync::atomic::Ordering;
 

@@ -1,12 +1,12 @@
 //! Two sessions of one core, each served in its turn through the trait. The lines are those of RFC 9051, 7.4 and 7.5.
 
-use crate::desk::Desk;
 use change_ring::{FlagOp, Flags, NO_FLAGS};
 use delivery_core::{DeliveryCore, Settings};
 use delivery_token::{CopyKey, Text};
 use imap_grammar::{Command, Named, SeqSet, read_line};
 use imap_session::Store;
 use mailbox::{Limits, MailFault, Opening, Row, Status};
+use session_store::Desk;
 use std::alloc::{AllocError, Global};
 
 const SMALL: Settings = Settings {

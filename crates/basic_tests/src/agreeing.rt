@@ -2,7 +2,7 @@
 
 ghost use Rattle.std.specs.Prelude.{◌≡◌};
 
-use crate::lists_agree;
+use agreement::lists_agree;
 use change_ring::NO_FLAGS;
 use delivery_token::{CopyKey, Job, Text, Verdict, WorkerLog};
 use envelope::Directory;

@@ -1,15 +1,8 @@
 //! Data and their texts by the published rules (RFC 5321, section 4.5.2): the text is what stands before the line of one dot, without
-//! the first dot of each line that begins with one. Pieces of several sizes, by runs and byte by byte.
+//! the first dot of each line that begins with one. Pieces of several sizes, single bytes among them.
 
-use crate::{Outcome, Progress, Unstuffer, stuff};
+use dot_stuffing::{Outcome, Progress, Unstuffer, stuff};
 use std::alloc::{AllocError, Global};
-
-// The two ways in which data are taken.
-#[derive(Clone, Copy)]
-enum Form {
-    Runs,
-    Bytes,
-}
 
 // What comes of data in pieces of this size, and the text where there is one. After it stands how many bytes were used.
 fn unstuff(
@@ -17,16 +10,12 @@ fn unstuff(
     max: usize,
     wire: &[u8],
     size: usize,
-    form: Form,
 ) -> (Option<Outcome>, Option<Vec<u8>>, usize) {
     let mut unstuffer = Unstuffer::new(alloc, max);
     let mut rest = wire;
     for _ in 0..wire.len() {
         let piece = &rest[..size.min(rest.len())];
-        let taken = match form {
-            Form::Runs => unstuffer.take(piece),
-            Form::Bytes => unstuffer.take_by_bytes(piece),
-        };
+        let taken = unstuffer.take(piece);
         rest = &rest[taken.used..];
         let at = wire.len().saturating_sub(rest.len());
         match taken.what {
@@ -41,15 +30,8 @@ fn unstuff(
 }
 
 // Whether the data at the front of these bytes have this text, and no byte behind them was used.
-fn has_text(
-    alloc: Global,
-    wire: &[u8],
-    behind: usize,
-    text: &[u8],
-    size: usize,
-    form: Form,
-) -> bool {
-    let (outcome, found, used) = unstuff(alloc, 1_000, wire, size, form);
+fn has_text(alloc: Global, wire: &[u8], behind: usize, text: &[u8], size: usize) -> bool {
+    let (outcome, found, used) = unstuff(alloc, 1_000, wire, size);
     let Some(found) = found else {
         return false;
     };
@@ -58,12 +40,11 @@ fn has_text(
         && used == wire.len().saturating_sub(behind)
 }
 
-// The same in pieces of several sizes, both ways.
+// The same in pieces of several sizes.
 fn always_has_text(alloc: Global, wire: &[u8], behind: usize, text: &[u8]) -> bool {
-    [1, 2, 3, 5, 100, 1_000].iter().all(|size| {
-        has_text(alloc, wire, behind, text, *size, Form::Runs)
-            && has_text(alloc, wire, behind, text, *size, Form::Bytes)
-    })
+    [1, 2, 3, 5, 100, 1_000]
+        .iter()
+        .all(|size| { has_text(alloc, wire, behind, text, *size) })
 }
 
 #[test]
@@ -104,6 +85,14 @@ fn long_lines(rt: HostRuntime) {
     assert!(rt; always_has_text(rt.alloc(), wire, 0, &wire[1..wire.len() - 3]));
 }
 
+// Whether data of at most so many bytes have this outcome, in pieces of several sizes.
+fn always_ends(alloc: Global, max: usize, wire: &[u8], wanted: Option<Outcome>) -> bool {
+    [1, 2, 100].iter().all(|size| {
+        let (outcome, _, _) = unstuff(alloc, max, wire, *size);
+        outcome == wanted
+    })
+}
+
 #[test]
 fn outcomes(rt: HostRuntime) {
     let cases = [
@@ -118,12 +107,7 @@ fn outcomes(rt: HostRuntime) {
         (3, b"hi\r\n.\r".as_slice(), None),
     ];
     for (max, wire, want) in cases {
-        let (runs, _, _) = unstuff(rt.alloc(), max, wire, 2, Form::Runs);
-        let (long_runs, _, _) = unstuff(rt.alloc(), max, wire, 100, Form::Runs);
-        let (bytes, _, _) = unstuff(rt.alloc(), max, wire, 2, Form::Bytes);
-        assert_eq!(rt; runs, want);
-        assert_eq!(rt; long_runs, want);
-        assert_eq!(rt; bytes, want);
+        assert!(rt; always_ends(rt.alloc(), max, wire, want));
     }
 }
 

@@ -1,6 +1,6 @@
 //! Sockets of the system, on ports that it chooses.
 
-use crate::{Listening, Patience, Pause, Slot, farewell, prepare};
+use loopback::{Listening, Patience, Pause, Slot, farewell, prepare};
 use std::io::{Read, Write};
 use std::net::TcpStream;
 use std::{io, thread};

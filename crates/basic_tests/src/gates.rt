@@ -1,6 +1,6 @@
 //! An actor asks once for each pass, by its own number, and counts from 0.
 
-use crate::{Actor, Gate, Pace};
+use pace::{Actor, Gate, Pace};
 use std::sync::atomic::{AtomicU64, Ordering};
 
 // Keeps how often it was asked, and by whom and with what number it was asked last.

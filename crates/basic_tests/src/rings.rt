@@ -3,7 +3,7 @@
 
 ghost use Rattle.std.specs.Prelude.{◌≤◌};
 
-use crate::{Change, ChangeRing, Lapped, Spent};
+use change_ring::{Change, ChangeRing, Lapped, Spent};
 use std::alloc::{AllocError, Global};
 
 // What is seen of a ring after a push.
