@@ -1,7 +1,7 @@
 //! The house: who stands at each seat, over the delivery core. Each call is one event, and what it appends to `out` is what the event
 //! prints. No script and no socket is known here.
 
-ghost use Rattle.std.specs.Prelude.{true, false, IsTrue, ◌≡◌, ◌≢◌, ◌≤◌, ◌<◌, ◌+◌, ◌⊎◌, ◌↔◌, ℕ, List, [], length, None, Some, Err, OnOk, OnErr, IfOk, IfErr, IfSome, IsSomeAnd, MatchOption, option_map};
+ghost use Rattle.std.specs.Prelude.{true, false, IsTrue, ◌≡◌, ◌≢◌, ◌≤◌, ◌<◌, ◌+◌, ◌-◌, ◌⊎◌, ◌↔◌, ℕ, List, [], length, None, Some, Err, OnOk, OnErr, IfOk, IfErr, IfSome, IsSomeAnd, MatchOption, option_map};
 ghost use Rattle.delivery_token.specs.Keys.{AtLeast};
 ghost use Rattle.house_connection.specs.HouseConnection.{HouseConnection};
 ghost use Rattle.house_connection.specs.Taking.{HearsVerdict, due, noted_put, with_more, with_nobody_there};
@@ -67,6 +67,14 @@ impl Model for House {
 
     ghost invariant = { λ h. (length h.serials.items ≡ length h.callers.items) × (length h.host.items < 256) × (length h.callers.items + length h.visitors.items < 256)
         × (length h.entered.items ≡ length h.visitors.items) × (h.max_message < 4294967296) };
+}
+
+// The place of a connection or a session, which are numbered from 1, among all of its kind.
+pub(crate) fn index_of(number: u8) -> usize
+    requires { 0 < number }
+    ensures { result ≡ number - 1 }
+{
+    usize::from(number - 1)
 }
 
 // The caller at a place goes on, and leaves it where its connection has ended.
@@ -221,7 +229,7 @@ impl House {
         ensures only { IfErr result (λ e. e ≡ HouseFault.NoMemory) }
         ensures no_memory { OnErr result (FollowsInPart self.old (events.Bytes connection piece.entry) self.new out.old.items out.new.items) }
     {
-        let place = &mut self.callers[usize::from(connection - 1)];
+        let place = &mut self.callers[index_of(connection)];
         let Ok(()) = append_to_caller(place, piece) else {
             return Err(HouseFault::NoMemory);
         };
@@ -235,7 +243,7 @@ impl House {
         requires there { IsRead self.old connection }
         ensures { Follows self.old (events.Vanish connection) self.new out.old.items out.new.items }
     {
-        let place = &mut self.callers[usize::from(connection - 1)];
+        let place = &mut self.callers[index_of(connection)];
         caller_vanishes(place);
         // Nobody is told anything any more, so this asks for no memory.
         let _ = caller_goes_on(place, connection, &self.directory, out);
@@ -248,7 +256,7 @@ impl House {
         ensures only { IfErr result (λ e. e ≡ HouseFault.NoMemory) }
         ensures no_memory { OnErr result (FollowsInPart self.old (events.Bytes connection piece.entry) self.new out.old.items out.new.items) }
     {
-        let seat = usize::from(connection - 1);
+        let seat = index_of(connection);
         let serial = self.serials[seat];
         let limits = Limits {
             host: &self.host,
@@ -285,7 +293,7 @@ impl House {
         ensures asks { result ≡ Err HouseFault.NoMemory → MayWant (events.Put connection) self.old self.new }
         ensures refused { result ≢ Err HouseFault.NoMemory → OnErr result ((self.new ≡ self.old) × (out.new.items ≡ out.old.items)) }
     {
-        let seat = usize::from(connection - 1);
+        let seat = index_of(connection);
         let why = match put_next(&mut self.desk.core, &self.callers[seat]) {
             Ok(why) => why,
             Err(fault) => return Err(fault),
@@ -311,7 +319,7 @@ impl House {
         ensures asks { result ≡ Err HouseFault.NoMemory → MayWant (events.Hear connection) self.old self.new }
         ensures refused { result ≢ Err HouseFault.NoMemory → OnErr result ((self.new ≡ self.old) × (out.new.items ≡ out.old.items)) }
     {
-        let seat = usize::from(connection - 1);
+        let seat = index_of(connection);
         if self.callers[seat].is_none() {
             return Err(HouseFault::Nobody);
         }
@@ -433,7 +441,7 @@ impl House {
         if connection == 0 || usize::from(connection) > self.callers.len() {
             return Err(HouseFault::Nobody);
         }
-        let seat = usize::from(connection - 1);
+        let seat = index_of(connection);
         if is_unread(&self.callers[seat]) {
             return Err(HouseFault::Busy);
         }
@@ -458,7 +466,7 @@ impl House {
         if connection == 0 || usize::from(connection) > self.callers.len() {
             return Err(HouseFault::Nobody);
         }
-        let seat = usize::from(connection - 1);
+        let seat = index_of(connection);
         if self.callers[seat].is_none() {
             return Err(HouseFault::Nobody);
         }

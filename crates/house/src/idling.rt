@@ -18,7 +18,7 @@ ghost use Rattle.delivery_token.specs.declared.log.Noted.{Noted};
 ghost use Rattle.world.specs.World.{World};
 
 use crate::event::{Event, HouseFault};
-use crate::house::House;
+use crate::house::{House, index_of};
 use crate::printing::take_turn;
 use delivery_core::DeliveryCore;
 use house_session::SeatedSession;
@@ -87,7 +87,7 @@ impl House {
         if self.has_no_place(session) {
             return Err(HouseFault::Nobody);
         }
-        let place = &mut self.visitors[usize::from(session - 1)];
+        let place = &mut self.visitors[index_of(session)];
         let Some(visitor) = place else {
             return Err(HouseFault::Nobody);
         };

@@ -21,7 +21,7 @@ ghost use Rattle.submission.specs.inner.Verdicts.{heard_verdict};
 ghost use Rattle.world.specs.World.{World};
 
 use crate::event::HouseFault;
-use crate::house::{House, put_copy};
+use crate::house::{House, index_of, put_copy};
 use crate::printing::go_on;
 use delivery_core::{DeliveryCore, HearFault};
 use delivery_token::{Noted, Refusal, Verdict};
@@ -208,7 +208,7 @@ impl House {
         ensures only { IfErr result (λ e. e ≡ HouseFault.NoMemory) }
         ensures no_memory { OnErr result (FollowsInPart self.old (events.Enter session user.entry) self.new out.old.items out.new.items) }
     {
-        let place = usize::from(session - 1);
+        let place = index_of(session);
         let seat = self.session_seat(session);
         let serial = self.entered[place];
         let alloc = *self.host.allocator();
@@ -244,7 +244,7 @@ impl House {
         if self.has_no_place(session) || !has_user(&self.directory, user) {
             return Err(HouseFault::Nobody);
         }
-        let place = usize::from(session - 1);
+        let place = index_of(session);
         if self.visitors[place].is_some() {
             return Err(HouseFault::Busy);
         }
@@ -261,7 +261,7 @@ impl House {
         ensures only { IfErr result (λ e. e ≡ HouseFault.NoMemory) }
         ensures no_memory { OnErr result (FollowsInPart self.old (events.Say session piece.entry) self.new out.old.items out.new.items) }
     {
-        let place = &mut self.visitors[usize::from(session - 1)];
+        let place = &mut self.visitors[index_of(session)];
         let Ok(()) = append_to_visitor(place, piece) else {
             return Err(HouseFault::NoMemory);
         };
@@ -289,7 +289,7 @@ impl House {
         if self.has_no_place(session) {
             return Err(HouseFault::Nobody);
         }
-        let place = usize::from(session - 1);
+        let place = index_of(session);
         if self.visitors[place].is_none() {
             return Err(HouseFault::Nobody);
         }
@@ -306,7 +306,7 @@ impl House {
     {
         self.desk.session = session - 1;
         let _ = self.desk.leave(false);
-        let place = &mut self.visitors[usize::from(session - 1)];
+        let place = &mut self.visitors[index_of(session)];
         visitor_vanishes(place);
         visitor_lingers(place);
     }
@@ -322,7 +322,7 @@ impl House {
         if self.has_no_place(session) {
             return Err(HouseFault::Nobody);
         }
-        let place = usize::from(session - 1);
+        let place = index_of(session);
         if self.visitors[place].is_none() {
             return Err(HouseFault::Nobody);
         }
@@ -347,7 +347,7 @@ impl House {
         ensures refused { result ≢ Err HouseFault.NoMemory → OnErr result ((self.new ≡ self.old) × (out.new.items ≡ out.old.items)) }
     {
         let session = number - self.callers.len() as u8;
-        let place = usize::from(session - 1);
+        let place = index_of(session);
         let why = match put_next(&mut self.desk.core, &self.visitors[place]) {
             Ok(why) => why,
             Err(fault) => return Err(fault),
@@ -379,7 +379,7 @@ impl House {
         ensures refused { result ≢ Err HouseFault.NoMemory → OnErr result ((self.new ≡ self.old) × (out.new.items ≡ out.old.items)) }
     {
         let session = number - self.callers.len() as u8;
-        let place = usize::from(session - 1);
+        let place = index_of(session);
         if self.visitors[place].is_none() {
             return Err(HouseFault::Nobody);
         }

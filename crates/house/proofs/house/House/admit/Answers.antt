@@ -19,8 +19,8 @@ returns-in_default-visitor_talks-clause-no_memory c k s st =
     let st1 = subst (λ (x : House). StandsFor k x s) (sym c.self.view_is) st in
     let many = ap (λ (x : House). length x.visitors) c.self.view_is in
     let first = ap (λ (x : House). length x.callers) c.self.view_is in
-    let e1 = c.from-place.ensures in
-    let place = c.from-place.result in
+    let e1 = c.index_of-place.ensures in
+    let place = c.index_of-place.result in
     let lt : place < length i.visitors.items = let n = c.requires.free.number in let m = c.requires.free.place in omega (arith, e1, many, n, m) in
     let ls : place < length i.entered.items = let z = c.self.invariant.3 in omega (arith, lt, z) in
     let free : ◌≡◌ {A = Option SeatedSession} (get_or i.visitors.items place None) None = subst (λ (n : ℕ). ◌≡◌ {A = Option SeatedSession} (get_or i.visitors.items n None) None) (sym e1) (subst (λ (x : House). ◌≡◌ {A = Option SeatedSession} (get_or x.visitors (c.args.session - 1) None) None) (sym c.self.view_is) c.requires.free.free) in
@@ -48,8 +48,8 @@ returns-clause-follows c k s st =
     let st1 = subst (λ (x : House). StandsFor k x s) (sym c.self.view_is) st in
     let many = ap (λ (x : House). length x.visitors) c.self.view_is in
     let first = ap (λ (x : House). length x.callers) c.self.view_is in
-    let e1 = c.from-place.ensures in
-    let place = c.from-place.result in
+    let e1 = c.index_of-place.ensures in
+    let place = c.index_of-place.result in
     let lt : place < length i.visitors.items = let n = c.requires.free.number in let m = c.requires.free.place in omega (arith, e1, many, n, m) in
     let ls : place < length i.entered.items = let z = c.self.invariant.3 in omega (arith, lt, z) in
     let free : ◌≡◌ {A = Option SeatedSession} (get_or i.visitors.items place None) None = subst (λ (n : ℕ). ◌≡◌ {A = Option SeatedSession} (get_or i.visitors.items n None) None) (sym e1) (subst (λ (x : House). ◌≡◌ {A = Option SeatedSession} (get_or x.visitors (c.args.session - 1) None) None) (sym c.self.view_is) c.requires.free.free) in

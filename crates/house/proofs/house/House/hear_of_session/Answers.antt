@@ -20,9 +20,9 @@ returns-in_default-clause-no_memory c e k s st =
     let st1 = subst (λ (x : House). StandsFor k x s) (sym c.self.view_is) st in
     let many = ap (λ (x : House). length x.visitors) c.self.view_is in
     let first = ap (λ (x : House). length x.callers) c.self.view_is in
-    let place = c.from-place.result in
+    let place = c.index_of-place.result in
     let counted = c.len.ensures in
-    let number = c.from-place.ensures in
+    let number = c.index_of-place.ensures in
     let at : c.args.number - 1 ≡ length i.callers.items + place = let b = c.requires.number.behind in omega (arith, b, first, counted, number) in
     let lt : place < length i.visitors.items = let b = c.requires.number.behind in let w = c.requires.number.within in omega (arith, b, w, first, many, counted, number) in
     let mine : c.args.number - 1 ≡ session_seat k place = at ∙ ap (λ (n : ℕ). n + place) st1.connections in
@@ -43,9 +43,9 @@ returns-clause-follows c k s st =
     let st1 = subst (λ (x : House). StandsFor k x s) (sym c.self.view_is) st in
     let many = ap (λ (x : House). length x.visitors) c.self.view_is in
     let first = ap (λ (x : House). length x.callers) c.self.view_is in
-    let place = c.from-place.result in
+    let place = c.index_of-place.result in
     let counted = c.len.ensures in
-    let number = c.from-place.ensures in
+    let number = c.index_of-place.ensures in
     let at : c.args.number - 1 ≡ length i.callers.items + place = let b = c.requires.number.behind in omega (arith, b, first, counted, number) in
     let lt : place < length i.visitors.items = let b = c.requires.number.behind in let w = c.requires.number.within in omega (arith, b, w, first, many, counted, number) in
     let mine : c.args.number - 1 ≡ session_seat k place = at ∙ ap (λ (n : ℕ). n + place) st1.connections in
@@ -66,9 +66,9 @@ returns-in-Err-Nothing-clause-changes_nothing c e k s st t printed p =
     let st1 = subst (λ (x : House). StandsFor k x s) (sym c.self.view_is) st in
     let many = ap (λ (x : House). length x.visitors) c.self.view_is in
     let first = ap (λ (x : House). length x.callers) c.self.view_is in
-    let place = c.from-place.result in
+    let place = c.index_of-place.result in
     let counted = c.len.ensures in
-    let number = c.from-place.ensures in
+    let number = c.index_of-place.ensures in
     let at : c.args.number - 1 ≡ length i.callers.items + place = let b = c.requires.number.behind in omega (arith, b, first, counted, number) in
     let lt : place < length i.visitors.items = let b = c.requires.number.behind in let w = c.requires.number.within in omega (arith, b, w, first, many, counted, number) in
     let mine : c.args.number - 1 ≡ session_seat k place = at ∙ ap (λ (n : ℕ). n + place) st1.connections in

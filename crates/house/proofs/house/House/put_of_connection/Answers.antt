@@ -18,13 +18,13 @@ returns-in_default-clause-no_memory c e k s st =
     let h : House = record { core = i.desk.core; callers = i.callers.items; serials = i.serials.items; visitors = i.visitors.items; entered = i.entered.items; directory = i.directory; host = i.host.items; max_message = i.max_message } in
     let st1 = subst (λ (x : House). StandsFor k x s) (sym c.self.view_is) st in
     let many = ap (λ (x : House). length x.callers) c.self.view_is in
-    let e1 = c.from-seat.ensures in
-    let number : c.args.connection ≡ c.from-seat.result + 1 = let n = c.requires.seat.number in omega (arith, n, e1) in
-    let lt : c.from-seat.result < length i.callers.items = let m = c.requires.seat.seat in omega (arith, number, m, many) in
+    let e1 = c.index_of-seat.ensures in
+    let number : c.args.connection ≡ c.index_of-seat.result + 1 = let n = c.requires.seat.number in omega (arith, n, e1) in
+    let lt : c.index_of-seat.result < length i.callers.items = let m = c.requires.seat.seat in omega (arith, number, m, many) in
     let p = c.in-Ok.ensures.puts in
-    let some = get_or-any i.callers.items c.from-seat.result None c.index.result.now lt ∙ sym c.index.ensures ∙ p.1 in
-    let at = c.caller_notes_put.ensures ∙ ap (option_map (noted_put (heard_verdict c.in-Ok.why))) (c.index_mut-place.ensures.value ∙ get_or-any i.callers.items c.from-seat.result _ None lt ∙ some) in
-    let r = put_led k h s c.args.connection c.from-seat.result i.directory p.0 c.put_next.new.core c.in-Ok.why c.caller_notes_put.new.place c.caller_goes_on.new.place false c.args.out.now.items c.caller_goes_on.new.out.items
+    let some = get_or-any i.callers.items c.index_of-seat.result None c.index.result.now lt ∙ sym c.index.ensures ∙ p.1 in
+    let at = c.caller_notes_put.ensures ∙ ap (option_map (noted_put (heard_verdict c.in-Ok.why))) (c.index_mut-place.ensures.value ∙ get_or-any i.callers.items c.index_of-seat.result _ None lt ∙ some) in
+    let r = put_led k h s c.args.connection c.index_of-seat.result i.directory p.0 c.put_next.new.core c.in-Ok.why c.caller_notes_put.new.place c.caller_goes_on.new.place false c.args.out.now.items c.caller_goes_on.new.out.items
     st1 number refl lt some p.2 at c.in_default.ensures.err in
     inl (record { after = r.0; printed = r.1; plays = subst (λ (n : ℕ). PutPlay k false s n r.0 r.1) e1 (connection_puts (let b = st1.connections in omega (arith, lt, b)) r.2); stands = r.3; out = r.4 })
 
@@ -34,13 +34,13 @@ returns-clause-follows c k s st =
     let h : House = record { core = i.desk.core; callers = i.callers.items; serials = i.serials.items; visitors = i.visitors.items; entered = i.entered.items; directory = i.directory; host = i.host.items; max_message = i.max_message } in
     let st1 = subst (λ (x : House). StandsFor k x s) (sym c.self.view_is) st in
     let many = ap (λ (x : House). length x.callers) c.self.view_is in
-    let e1 = c.from-seat.ensures in
-    let number : c.args.connection ≡ c.from-seat.result + 1 = let n = c.requires.seat.number in omega (arith, n, e1) in
-    let lt : c.from-seat.result < length i.callers.items = let m = c.requires.seat.seat in omega (arith, number, m, many) in
+    let e1 = c.index_of-seat.ensures in
+    let number : c.args.connection ≡ c.index_of-seat.result + 1 = let n = c.requires.seat.number in omega (arith, n, e1) in
+    let lt : c.index_of-seat.result < length i.callers.items = let m = c.requires.seat.seat in omega (arith, number, m, many) in
     let p = c.in-Ok.ensures.puts in
-    let some = get_or-any i.callers.items c.from-seat.result None c.index.result.now lt ∙ sym c.index.ensures ∙ p.1 in
-    let at = c.caller_notes_put.ensures ∙ ap (option_map (noted_put (heard_verdict c.in-Ok.why))) (c.index_mut-place.ensures.value ∙ get_or-any i.callers.items c.from-seat.result _ None lt ∙ some) in
-    let r = put_led k h s c.args.connection c.from-seat.result i.directory p.0 c.put_next.new.core c.in-Ok.why c.caller_notes_put.new.place c.caller_goes_on.new.place true c.args.out.now.items c.caller_goes_on.new.out.items
+    let some = get_or-any i.callers.items c.index_of-seat.result None c.index.result.now lt ∙ sym c.index.ensures ∙ p.1 in
+    let at = c.caller_notes_put.ensures ∙ ap (option_map (noted_put (heard_verdict c.in-Ok.why))) (c.index_mut-place.ensures.value ∙ get_or-any i.callers.items c.index_of-seat.result _ None lt ∙ some) in
+    let r = put_led k h s c.args.connection c.index_of-seat.result i.directory p.0 c.put_next.new.core c.in-Ok.why c.caller_notes_put.new.place c.caller_goes_on.new.place true c.args.out.now.items c.caller_goes_on.new.out.items
     st1 number refl lt some p.2 at c.in-Ok-caller_goes_on.ensures.ok in
     record { after = r.0; printed = r.1; plays = subst (λ (n : ℕ). PutPlay k true s n r.0 r.1) e1 (connection_puts (let b = st1.connections in omega (arith, lt, b)) r.2); stands = r.3; out = r.4 }
 
@@ -50,35 +50,35 @@ returns-in-Err-clause-changes_nothing c e k s st t printed p =
     let h : House = record { core = i.desk.core; callers = i.callers.items; serials = i.serials.items; visitors = i.visitors.items; entered = i.entered.items; directory = i.directory; host = i.host.items; max_message = i.max_message } in
     let st1 = subst (λ (x : House). StandsFor k x s) (sym c.self.view_is) st in
     let many = ap (λ (x : House). length x.callers) c.self.view_is in
-    let e1 = c.from-seat.ensures in
-    let number : c.args.connection ≡ c.from-seat.result + 1 = let n = c.requires.seat.number in omega (arith, n, e1) in
-    let lt : c.from-seat.result < length i.callers.items = let m = c.requires.seat.seat in omega (arith, number, m, many) in
+    let e1 = c.index_of-seat.ensures in
+    let number : c.args.connection ≡ c.index_of-seat.result + 1 = let n = c.requires.seat.number in omega (arith, n, e1) in
+    let lt : c.index_of-seat.result < length i.callers.items = let m = c.requires.seat.seat in omega (arith, number, m, many) in
     let is : c.in-Err.fault ≡ house_faults.Nothing = let e2 = e in cc in
     let n = c.in-Err.ensures.nothing (ap (λ x. Err x) is) in
-    let some = get_or-any i.callers.items c.from-seat.result None c.index.result.now lt ∙ sym c.index.ensures ∙ n.1 in
-    absurd (puts_none k h s c.from-seat.result n.0 t printed st1 lt some n.2 (subst (λ (x : ℕ). PutPlay k true s x t printed) (sym e1) p))
+    let some = get_or-any i.callers.items c.index_of-seat.result None c.index.result.now lt ∙ sym c.index.ensures ∙ n.1 in
+    absurd (puts_none k h s c.index_of-seat.result n.0 t printed st1 lt some n.2 (subst (λ (x : ℕ). PutPlay k true s x t printed) (sym e1) p))
 
 pub returns-in_default-clause-asks : goal.returns-in_default-clause-asks
 returns-in_default-clause-asks c e =
     let i = c.self.inside in
     let h : House = record { core = i.desk.core; callers = i.callers.items; serials = i.serials.items; visitors = i.visitors.items; entered = i.entered.items; directory = i.directory; host = i.host.items; max_message = i.max_message } in
     let many = ap (λ (x : House). length x.callers) c.self.view_is in
-    let e1 = c.from-seat.ensures in
-    let number : c.args.connection ≡ c.from-seat.result + 1 = let n = c.requires.seat.number in omega (arith, n, e1) in
-    let lt : c.from-seat.result < length i.callers.items = let m = c.requires.seat.seat in omega (arith, number, m, many) in
+    let e1 = c.index_of-seat.ensures in
+    let number : c.args.connection ≡ c.index_of-seat.result + 1 = let n = c.requires.seat.number in omega (arith, n, e1) in
+    let lt : c.index_of-seat.result < length i.callers.items = let m = c.requires.seat.seat in omega (arith, number, m, many) in
     let p = c.in-Ok.ensures.puts in
-    let some = get_or-any i.callers.items c.from-seat.result None c.index.result.now lt ∙ sym c.index.ensures ∙ p.1 in
-    rw (← c.self.view_is, ← e1, due_first h c.from-seat.result p.0 lt some) (inr (c.put_next.new.core, c.in-Ok.why, p.2, same_delivery c.put_next.new.core))
+    let some = get_or-any i.callers.items c.index_of-seat.result None c.index.result.now lt ∙ sym c.index.ensures ∙ p.1 in
+    rw (← c.self.view_is, ← e1, due_first h c.index_of-seat.result p.0 lt some) (inr (c.put_next.new.core, c.in-Ok.why, p.2, same_delivery c.put_next.new.core))
 
 pub returns-in-Err-clause-asks : goal.returns-in-Err-clause-asks
 returns-in-Err-clause-asks c e =
     let i = c.self.inside in
     let h : House = record { core = i.desk.core; callers = i.callers.items; serials = i.serials.items; visitors = i.visitors.items; entered = i.entered.items; directory = i.directory; host = i.host.items; max_message = i.max_message } in
     let many = ap (λ (x : House). length x.callers) c.self.view_is in
-    let e1 = c.from-seat.ensures in
-    let number : c.args.connection ≡ c.from-seat.result + 1 = let n = c.requires.seat.number in omega (arith, n, e1) in
-    let lt : c.from-seat.result < length i.callers.items = let m = c.requires.seat.seat in omega (arith, number, m, many) in
+    let e1 = c.index_of-seat.ensures in
+    let number : c.args.connection ≡ c.index_of-seat.result + 1 = let n = c.requires.seat.number in omega (arith, n, e1) in
+    let lt : c.index_of-seat.result < length i.callers.items = let m = c.requires.seat.seat in omega (arith, number, m, many) in
     let is : c.in-Err.fault ≡ house_faults.NoMemory = let e2 = e in cc in
     let n = c.in-Err.ensures.memory (ap (λ x. Err x) is) in
-    let some = get_or-any i.callers.items c.from-seat.result None c.index.result.now lt ∙ sym c.index.ensures ∙ n.1 in
-    rw (← c.self.view_is, ← e1, due_first h c.from-seat.result n.0 lt some) (inl n.2)
+    let some = get_or-any i.callers.items c.index_of-seat.result None c.index.result.now lt ∙ sym c.index.ensures ∙ n.1 in
+    rw (← c.self.view_is, ← e1, due_first h c.index_of-seat.result n.0 lt some) (inl n.2)

@@ -17,8 +17,8 @@ returns-in_default-caller_goes_on-clause-no_memory c k s st =
     let h : House = record { core = i.desk.core; callers = i.callers.items; serials = i.serials.items; visitors = i.visitors.items; entered = i.entered.items; directory = i.directory; host = i.host.items; max_message = i.max_message } in
     let st1 = subst (λ (x : House). StandsFor k x s) (sym c.self.view_is) st in
     let many = ap (λ (x : House). length x.callers) c.self.view_is in
-    let e1 = c.from-seat.ensures in
-    let seat = c.from-seat.result in
+    let e1 = c.index_of-seat.ensures in
+    let seat = c.index_of-seat.result in
     let number : c.args.connection ≡ seat + 1 = let n = c.requires.vacant.number in omega (arith, n, e1) in
     let lt : seat < length i.callers.items = let m = c.requires.vacant.seat in omega (arith, number, m, many) in
     let none : get_or i.callers.items seat None ≡ None = subst (λ (n : ℕ). get_or i.callers.items n None ≡ None) (sym e1) (subst (λ (x : House). get_or x.callers (c.args.connection - 1) None ≡ None) (sym c.self.view_is) c.requires.vacant.empty) in
@@ -46,8 +46,8 @@ returns-clause-follows c k s st =
     let h : House = record { core = i.desk.core; callers = i.callers.items; serials = i.serials.items; visitors = i.visitors.items; entered = i.entered.items; directory = i.directory; host = i.host.items; max_message = i.max_message } in
     let st1 = subst (λ (x : House). StandsFor k x s) (sym c.self.view_is) st in
     let many = ap (λ (x : House). length x.callers) c.self.view_is in
-    let e1 = c.from-seat.ensures in
-    let seat = c.from-seat.result in
+    let e1 = c.index_of-seat.ensures in
+    let seat = c.index_of-seat.result in
     let number : c.args.connection ≡ seat + 1 = let n = c.requires.vacant.number in omega (arith, n, e1) in
     let lt : seat < length i.callers.items = let m = c.requires.vacant.seat in omega (arith, number, m, many) in
     let none : get_or i.callers.items seat None ≡ None = subst (λ (n : ℕ). get_or i.callers.items n None ≡ None) (sym e1) (subst (λ (x : House). get_or x.callers (c.args.connection - 1) None ≡ None) (sym c.self.view_is) c.requires.vacant.empty) in
