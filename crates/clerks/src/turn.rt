@@ -35,11 +35,13 @@ pub(crate) fn take_turn<R: Wait, G: Gate>(
 ) -> Turn
     requires seat { IsConsumer lane.now stall.old.seat }
     requires senders { AreSenders depot.now.channels.items stall.old.shard stall.old.senders.items }
-    requires answered { HaveAnswered (length depot.now.mailboxes.items) (length depot.now.channels.items) stall.old.shard (got stall.old.seat) [] (map sent_on stall.old.senders.items) }
+    requires answered { HaveAnswered (length depot.now.mailboxes.items) (length depot.now.channels.items) stall.old.shard
+        (got stall.old.seat) [] (map sent_on stall.old.senders.items) }
     ensures shard { stall.new.shard ≡ stall.old.shard }
     ensures seat { IsConsumer lane.now stall.new.seat }
     ensures senders { AreSenders depot.now.channels.items stall.old.shard stall.new.senders.items }
-    ensures answered { HaveAnswered (length depot.now.mailboxes.items) (length depot.now.channels.items) stall.old.shard (got stall.new.seat) [] (map sent_on stall.new.senders.items) }
+    ensures answered { HaveAnswered (length depot.now.mailboxes.items) (length depot.now.channels.items) stall.old.shard
+        (got stall.new.seat) [] (map sent_on stall.new.senders.items) }
     ensures turned { Turned (length depot.now.mailboxes.items) (length depot.now.channels.items) lane.now stall.old.seat result stall.new.seat }
 {
     pace.pass();

@@ -49,7 +49,8 @@ impl DeliveryCore {
         ensures stranger { (result ≡ Err MailFault.Stranger) ↔ (client_of self.old session ≡ None) }
         ensures spent { result ≢ Err MailFault.Spent }
         ensures memory { result ≡ Err MailFault.NoMemory → 0 < length (take limit (pending_for self.old session)) }
-        ensures event { IsSome (client_of self.old session) → (k : Config) → Does k self.old (Feed session limit) session (Feeds limit out.old.items out.new.items result) self.new }
+        ensures event { IsSome (client_of self.old session) → (k : Config) →
+            Does k self.old (Feed session limit) session (Feeds limit out.old.items out.new.items result) self.new }
         ensures done { OnOk result ((k : Config) → Makes k self.old session (λ b s. take limit (pending b s)) (λ b. []) self.new) }
         ensures shown { IfOk result (λ n. Sees self.old self.new session (take n (pending_for self.old session)) out.old.items out.new.items) }
         ensures count { IfOk result (λ n. (n ≤ limit) × (length (take n (pending_for self.old session)) ≡ n)) }
@@ -81,7 +82,8 @@ impl DeliveryCore {
         ensures stranger { (result ≡ Err MailFault.Stranger) ↔ (client_of self.old session ≡ None) }
         ensures clients { self.new.clients ≡ self.old.clients }
         ensures view { view_of self.new session ≡ view_of self.old session }
-        ensures event { IsSome (client_of self.old session) → (k : Config) → Does k self.old (Read session uid mark_seen) session (Reads mark_seen uid result) self.new }
+        ensures event { IsSome (client_of self.old session) → (k : Config) →
+            Does k self.old (Read session uid mark_seen) session (Reads mark_seen uid result) self.new }
         ensures done { OnOk result ((k : Config) → Makes k self.old session (λ b s. []) (λ b. seen_logged mark_seen (rows_of b.log) uid) self.new) }
         ensures rest { SameDelivery self.old self.new }
         ensures same { OnOk result ((m : ℕ) (d : Mailbox) → SameMailbox (slice_index_or self.old.boxes m d) (slice_index_or self.new.boxes m d)) }
@@ -105,7 +107,8 @@ impl DeliveryCore {
     pub fn store(&mut self, session: u8, uid: u32, op: FlagOp) -> Result<Option<Flags>, MailFault>
         ensures stranger { (result ≡ Err MailFault.Stranger) ↔ (client_of self.old session ≡ None) }
         ensures memory { result ≢ Err MailFault.NoMemory }
-        ensures event { IsSome (client_of self.old session) → (k : Config) → Does k self.old (Store session uid op) session (Alters uid op result) self.new }
+        ensures event { IsSome (client_of self.old session) → (k : Config) →
+            Does k self.old (Store session uid op) session (Alters uid op result) self.new }
         ensures done { OnOk result ((k : Config) → Makes k self.old session (λ b s. []) (λ b. flags_logged (rows_of b.log) uid op) self.new) }
         ensures clients { self.new.clients ≡ self.old.clients }
         ensures view { view_of self.new session ≡ view_of self.old session }
@@ -137,9 +140,11 @@ impl DeliveryCore {
     ) -> Result<usize, MailFault>
         ensures stranger { (result ≡ Err MailFault.Stranger) ↔ (client_of self.old session ≡ None) }
         ensures memory { result ≡ Err MailFault.NoMemory → 0 < length (pending_for self.old session) }
-        ensures event { IsSome (client_of self.old session) → (k : Config) → Does k self.old (Expunge session (in_set (option_map (λ uids. uids.now) uids.entry))) session
+        ensures event { IsSome (client_of self.old session) → (k : Config) →
+            Does k self.old (Expunge session (in_set (option_map (λ uids. uids.now) uids.entry))) session
             (Expunges (in_set (option_map (λ uids. uids.now) uids.entry)) out.old.items out.new.items result) self.new }
-        ensures done { OnOk result ((k : Config) → Makes k self.old session (λ b s. pending b s) (λ b. removals (in_set (option_map (λ uids. uids.now) uids.entry)) (rows_of b.log)) self.new) }
+        ensures done { OnOk result ((k : Config) → Makes k self.old session (λ b s. pending b s) (λ b.
+            removals (in_set (option_map (λ uids. uids.now) uids.entry)) (rows_of b.log)) self.new) }
         ensures shown { OnOk result (Sees self.old self.new session (pending_for self.old session) out.old.items out.new.items) }
         ensures rest { SameDelivery self.old self.new }
         ensures same { OnOk result ((m : ℕ) (d : Mailbox) → SameMailbox (slice_index_or self.old.boxes m d) (slice_index_or self.new.boxes m d)) }
@@ -165,7 +170,8 @@ impl DeliveryCore {
     /// session or mailbox, or the session has entered one already; else Spent where the mailbox has
     /// no serial left for a cursor, else NoMemory; nothing is then changed.
     pub fn enter(&mut self, session: u8, mailbox: u8) -> Result<Opening, MailFault>
-        ensures stranger { (result ≡ Err MailFault.Stranger) ↔ ((length self.old.clients ≤ session) ⊎ (IsSome (client_of self.old session) ⊎ (length self.old.boxes ≤ mailbox))) }
+        ensures stranger { (result ≡ Err MailFault.Stranger) ↔ ((length self.old.clients ≤ session) ⊎
+            (IsSome (client_of self.old session) ⊎ (length self.old.boxes ≤ mailbox))) }
         ensures lapsed { result ≢ Err MailFault.Lapped }
         ensures spent { result ≡ Err MailFault.Spent → (d : Mailbox) → 2 ^ 64 - 1 ≤ (slice_index_or self.old.boxes mailbox d).cursors.next }
         ensures event { result ≢ Err MailFault.Stranger → (k : Config) → Enters k self.old session mailbox result self.new }
@@ -203,7 +209,8 @@ impl DeliveryCore {
     pub fn leave(&mut self, session: u8, remove: bool) -> Result<usize, MailFault>
         ensures stranger { (result ≡ Err MailFault.Stranger) ↔ (client_of self.old session ≡ None) }
         ensures faults { IfErr result (λ fault. (fault ≡ MailFault.Stranger) ⊎ (fault ≡ MailFault.Spent)) }
-        ensures event { IsSome (client_of self.old session) → (k : Config) → Does k self.old (Leave session remove) session (Leaves remove result) self.new }
+        ensures event { IsSome (client_of self.old session) → (k : Config) →
+            Does k self.old (Leave session remove) session (Leaves remove result) self.new }
         ensures gone { OnOk result (client_of self.new session ≡ None) }
         ensures rest { SameDelivery self.old self.new }
         ensures same { OnOk result ((m : ℕ) (d : Mailbox) → SameMailbox (slice_index_or self.old.boxes m d) (slice_index_or self.new.boxes m d)) }

@@ -75,7 +75,8 @@ pub fn new_boxes(
 ) -> Result<Vec<Mailbox>, AllocError>
     requires { 0 < limits.ring }
     ensures count { IfOk result (λ v. length v.items ≡ count) }
-    ensures each { IfOk result (λ v. EachAt (λ m b. IsNewBox m uidvalidity first_uid limits.messages limits.ring (max limits.ring limits.ring_max) b) v.items) }
+    ensures each { IfOk result (λ v. EachAt (λ m b. IsNewBox m uidvalidity first_uid limits.messages limits.ring
+        (max limits.ring limits.ring_max) b) v.items) }
 {
     let mut boxes = Vec::new(alloc);
     for number in 0..count {

@@ -12,7 +12,8 @@ use std::alloc::AllocError;
 
 // An event is tried; one that is refused changes nothing.
 fn try_event(house: &mut House, event: Event<'_>, out: &mut Vec<u8>) -> Result<(), AllocError>
-    ensures tried { OnOk result ((k : Setup) (s : Scene) → StandsFor k house.old s → TriedFrom k (event.entry ∷ []) house.old s house.new out.old.items out.new.items) }
+    ensures tried { OnOk result ((k : Setup) (s : Scene) → StandsFor k house.old s →
+        TriedFrom k (event.entry ∷ []) house.old s house.new out.old.items out.new.items) }
     ensures wanting { OnErr result ((k : Setup) (s : Scene) → StandsFor k house.old s → HappenedFrom k s house.new out.old.items out.new.items) }
 {
     match house.step(event, out) {
@@ -34,7 +35,8 @@ fn try_event(house: &mut House, event: Event<'_>, out: &mut Vec<u8>) -> Result<(
 ///
 /// Errors: `AllocError` where memory was wanting; what happened by then stands, and the events that were left weren't tried.
 pub fn play(house: &mut House, events: &[Event<'_>], out: &mut Vec<u8>) -> Result<(), AllocError>
-    ensures tried { OnOk result ((k : Setup) (s : Scene) → StandsFor k house.old s → TriedFrom k events.now house.old s house.new out.old.items out.new.items) }
+    ensures tried { OnOk result ((k : Setup) (s : Scene) → StandsFor k house.old s →
+        TriedFrom k events.now house.old s house.new out.old.items out.new.items) }
     ensures once { (k : Setup) → StandsFor k house.old (empty_scene k) → CameOnce k house.new out.old.items out.new.items }
 {
     for event in events {

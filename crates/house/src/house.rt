@@ -85,9 +85,11 @@ fn caller_goes_on(
     out: &mut Vec<u8>,
 ) -> Result<(), AllocError>
     ensures less { place_effort place.new ≤ place_effort place.old }
-    ensures ok { OnOk result ((k : Terms) (seat : ℕ) (next : CopyKey) (heard : List Noted) (b : spec.Caller) → IsOf k number seat directory.now → StandsForMaybe k seat next heard place.old (Some b) →
+    ensures ok { OnOk result ((k : Terms) (seat : ℕ) (next : CopyKey) (heard : List Noted) (b : spec.Caller) →
+        IsOf k number seat directory.now → StandsForMaybe k seat next heard place.old (Some b) →
         PlaceWentOn k true seat next heard b place.new out.old.items out.new.items) }
-    ensures err { OnErr result ((k : Terms) (seat : ℕ) (next : CopyKey) (heard : List Noted) (b : spec.Caller) → IsOf k number seat directory.now → StandsForMaybe k seat next heard place.old (Some b) →
+    ensures err { OnErr result ((k : Terms) (seat : ℕ) (next : CopyKey) (heard : List Noted) (b : spec.Caller) →
+        IsOf k number seat directory.now → StandsForMaybe k seat next heard place.old (Some b) →
         PlaceWentOn k false seat next heard b place.new out.old.items out.new.items) }
     ensures asks { OnErr result (IfSome place.old (λ h. h.gone ≡ false)) }
 {
@@ -112,7 +114,8 @@ fn opened(
     piece: &[u8],
 ) -> Result<HouseConnection, AllocError>
     requires { length limits.host.now < 256 }
-    ensures { IfOk result (λ h. (k : Terms) (next : CopyKey) (heard : List Noted) → k.host ≡ limits.entry.host.now → k.max_message ≡ limits.entry.max_message
+    ensures { IfOk result (λ h. (k : Terms) (next : CopyKey) (heard : List Noted) → k.host ≡ limits.entry.host.now →
+        k.max_message ≡ limits.entry.max_message
         → AtLeast next (record { seat = seat; serial = serial; message = 0; recipient = 0 }) → StandsForConnection k seat next heard h (more_waits (greeted k seat serial) piece.now)) }
 {
     let Ok(mut caller) = HouseConnection::open(alloc, seat, serial, limits) else {
@@ -339,7 +342,8 @@ impl House {
 
     // A shard's consumer takes what waits at the front of its lane.
     fn take(&mut self, shard: u8) -> Result<(), HouseFault>
-        ensures follows { OnOk result ((k : Setup) (s : scene.Scene) (old : List ℕ) → StandsFor k self.old s → Led k true s (events.Take shard) self.new old old) }
+        ensures follows { OnOk result ((k : Setup) (s : scene.Scene) (old : List ℕ) → StandsFor k self.old s →
+            Led k true s (events.Take shard) self.new old old) }
         ensures effort { OnOk result (MakesLess (events.Take shard) self.old self.new) }
         ensures marks { self.new.directory ≡ self.old.directory }
         ensures nobody { (result ≡ Err HouseFault.Nobody) ↔ IsNobody self.old (events.Take shard) }
@@ -355,7 +359,8 @@ impl House {
 
     // The copy in a shard's hand is delivered, or refused.
     fn deliver(&mut self, shard: u8) -> Result<(), HouseFault>
-        ensures follows { OnOk result ((k : Setup) (s : scene.Scene) (old : List ℕ) → StandsFor k self.old s → Led k true s (events.Deliver shard) self.new old old) }
+        ensures follows { OnOk result ((k : Setup) (s : scene.Scene) (old : List ℕ) → StandsFor k self.old s →
+            Led k true s (events.Deliver shard) self.new old old) }
         ensures effort { OnOk result (MakesLess (events.Deliver shard) self.old self.new) }
         ensures marks { self.new.directory ≡ self.old.directory }
         ensures nobody { (result ≡ Err HouseFault.Nobody) ↔ IsNobody self.old (events.Deliver shard) }
@@ -371,7 +376,8 @@ impl House {
 
     // The verdict in a shard's hand goes into the reply lane of the copy's seat.
     fn answer(&mut self, shard: u8) -> Result<(), HouseFault>
-        ensures follows { OnOk result ((k : Setup) (s : scene.Scene) (old : List ℕ) → StandsFor k self.old s → Led k true s (events.Answer shard) self.new old old) }
+        ensures follows { OnOk result ((k : Setup) (s : scene.Scene) (old : List ℕ) → StandsFor k self.old s →
+            Led k true s (events.Answer shard) self.new old old) }
         ensures effort { OnOk result (MakesLess (events.Answer shard) self.old self.new) }
         ensures marks { self.new.directory ≡ self.old.directory }
         ensures nobody { (result ≡ Err HouseFault.Nobody) ↔ IsNobody self.old (events.Answer shard) }
@@ -435,7 +441,8 @@ impl House {
         ensures nobody { (result ≡ Err HouseFault.Nobody) ↔ IsNobody self.old (events.Bytes connection piece.entry) }
         ensures busy { (result ≡ Err HouseFault.Busy) ↔ IsBusy self.old (events.Bytes connection piece.entry) }
         ensures nothing { result ≢ Err HouseFault.Nothing }
-        ensures no_memory { result ≡ Err HouseFault.NoMemory → FollowsInPart self.old (events.Bytes connection piece.entry) self.new out.old.items out.new.items }
+        ensures no_memory { result ≡ Err HouseFault.NoMemory →
+            FollowsInPart self.old (events.Bytes connection piece.entry) self.new out.old.items out.new.items }
         ensures refused { result ≢ Err HouseFault.NoMemory → OnErr result ((self.new ≡ self.old) × (out.new.items ≡ out.old.items)) }
     {
         if connection == 0 || usize::from(connection) > self.callers.len() {
@@ -486,7 +493,8 @@ impl House {
 
     // A shard is marked as shut, where it wasn't.
     fn close(&mut self, shard: u8) -> Result<(), HouseFault>
-        ensures follows { OnOk result ((k : Setup) (s : scene.Scene) (old : List ℕ) → StandsFor k self.old s → Led k true s (events.Close shard) self.new old old) }
+        ensures follows { OnOk result ((k : Setup) (s : scene.Scene) (old : List ℕ) → StandsFor k self.old s →
+            Led k true s (events.Close shard) self.new old old) }
         ensures effort { OnOk result (MakesLess (events.Close shard) self.old self.new) }
         ensures nobody { (result ≡ Err HouseFault.Nobody) ↔ IsNobody self.old (events.Close shard) }
         ensures busy { (result ≡ Err HouseFault.Busy) ↔ IsBusy self.old (events.Close shard) }
@@ -505,7 +513,8 @@ impl House {
 
     // A seat puts its end into a shard's lane.
     fn end(&mut self, number: u8, shard: u8) -> Result<(), HouseFault>
-        ensures follows { OnOk result ((k : Setup) (s : scene.Scene) (old : List ℕ) → StandsFor k self.old s → Led k true s (events.End number shard) self.new old old) }
+        ensures follows { OnOk result ((k : Setup) (s : scene.Scene) (old : List ℕ) → StandsFor k self.old s →
+            Led k true s (events.End number shard) self.new old old) }
         ensures marks { self.new.directory ≡ self.old.directory }
         ensures nobody { (result ≡ Err HouseFault.Nobody) ↔ IsNobody self.old (events.End number shard) }
         ensures busy { result ≢ Err HouseFault.Busy }

@@ -52,10 +52,13 @@ fn turn_at(
 ) -> Result<(), AllocError>
     requires counted { 0 < number }
     requires idles { IfSome place.old (λ p. MayIdle p (number - 1) desk.old.core) }
-    ensures ok { OnOk result ((k : Setup) (next : CopyKey) (heard : List Noted) (w : World) (b : spec.SeatedVisitor) → core.StandsFor k.config desk.old.core w → StandsForSomebody (session_seat k (number - 1)) next heard place.old (Some b) →
+    ensures ok { OnOk result ((k : Setup) (next : CopyKey) (heard : List Noted) (w : World) (b : spec.SeatedVisitor) →
+        core.StandsFor k.config desk.old.core w → StandsForSomebody (session_seat k (number - 1)) next heard place.old (Some b) →
         PlaceIdled k true (number - 1) next heard w b desk.old.core place.new desk.new.core out.old.items out.new.items) }
-    ensures less { OnOk result (IfSome place.old (λ p. turns_left place.new (behind desk.new.core (number - 1)) < turns_left (Some p) (behind desk.old.core (number - 1)))) }
-    ensures err { OnErr result ((k : Setup) (next : CopyKey) (heard : List Noted) (w : World) (b : spec.SeatedVisitor) → core.StandsFor k.config desk.old.core w → StandsForSomebody (session_seat k (number - 1)) next heard place.old (Some b) →
+    ensures less { OnOk result (IfSome place.old (λ p.
+        turns_left place.new (behind desk.new.core (number - 1)) < turns_left (Some p) (behind desk.old.core (number - 1)))) }
+    ensures err { OnErr result ((k : Setup) (next : CopyKey) (heard : List Noted) (w : World) (b : spec.SeatedVisitor) →
+        core.StandsFor k.config desk.old.core w → StandsForSomebody (session_seat k (number - 1)) next heard place.old (Some b) →
         PlaceIdledInPart k (number - 1) next heard w b desk.old.core place.new desk.new.core out.old.items out.new.items) }
 {
     let Some(visitor) = place else {
@@ -105,7 +108,8 @@ impl House {
 
     // A session that idles is shown what is pending, until nothing is.
     fn idle_out(&mut self, session: u8, out: &mut Vec<u8>) -> Result<(), AllocError>
-        ensures ok { OnOk result (Goes (λ k. IsAmong k (events.Idle session)) (λ k s t printed. Visit k (events.Idle session ∷ []) s t printed) self.old out.old.items self.new out.new.items) }
+        ensures ok { OnOk result (Goes (λ k. IsAmong k (events.Idle session)) (λ k s t printed.
+            Visit k (events.Idle session ∷ []) s t printed) self.old out.old.items self.new out.new.items) }
         ensures err { OnErr result (Wants (λ k. IsAmong k (events.Idle session)) self.old out.old.items self.new out.new.items) }
     {
         loop {
@@ -121,7 +125,8 @@ impl House {
 
     // Each session that idles is shown what is pending.
     pub(crate) fn idle_all(&mut self, out: &mut Vec<u8>) -> Result<(), AllocError>
-        ensures ok { OnOk result (Goes (λ k. Unit {0}) (λ k s t printed. Visits k (idle_turns k.config.sessions) s t printed) self.old out.old.items self.new out.new.items) }
+        ensures ok { OnOk result (Goes (λ k. Unit {0}) (λ k s t printed.
+            Visits k (idle_turns k.config.sessions) s t printed) self.old out.old.items self.new out.new.items) }
         ensures err { OnErr result (Wants (λ k. Unit {0}) self.old out.old.items self.new out.new.items) }
     {
         let sessions = self.visitors.len() as u8;

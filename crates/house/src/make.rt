@@ -53,7 +53,8 @@ fn named_directory(alloc: Global, config: &Config) -> Result<Directory, ConfigFa
     ensures host { IfOk result (λ d. length config.now.host.items < 256) }
     ensures fault { IfErr (words_read (config.now.host.items ∷ config.now.domain.items ∷ []) (words_of config.now))
         (λ fault. (result ≡ Err (fault_named fault)) ⊎ (result ≡ Err ConfigFault.NoMemory)) }
-    ensures made { IsOk (words_read (config.now.host.items ∷ config.now.domain.items ∷ []) (words_of config.now)) → IsOkUnless result ConfigFault.NoMemory }
+    ensures made { IsOk (words_read (config.now.host.items ∷ config.now.domain.items ∷ []) (words_of config.now)) →
+        IsOkUnless result ConfigFault.NoMemory }
 {
     if config.mailboxes.len() > MOST_MAILBOXES {
         return Err(ConfigFault::TooMany);
@@ -172,7 +173,8 @@ impl House {
         ensures stands { IfOk result (λ h. StandsFor (setup_of config.now) h (empty_scene (setup_of config.now))) }
         ensures fault { IfSome (config_fault config.now) (λ fault. (result ≡ Err fault) ⊎ (result ≡ Err ConfigFault.NoMemory)) }
         // Each mailbox is empty, with the settings' UIDs, room and window.
-        ensures mailboxes { IfOk result (λ h. EachAt (λ m b. IsNewBox m config.now.uidvalidity config.now.first_uid config.now.messages config.now.ring
+        ensures mailboxes { IfOk result (λ h. EachAt (λ m b.
+            IsNewBox m config.now.uidvalidity config.now.first_uid config.now.messages config.now.ring
             (max config.now.ring config.now.ring_max) b) h.core.boxes) }
         // Where nothing is wrong.
         ensures made { config_fault config.now ≡ None → IsOkUnless result ConfigFault.NoMemory }

@@ -48,7 +48,8 @@ fn print_connection(
     number: u8,
     out: &mut Vec<u8>,
 ) -> Result<(), AllocError>
-    ensures ok { OnOk result ((caller.new ≡ taking.with_all_said caller.old) × (out.new.items ≡ out.old.items ++ marked of_connection number caller.old.unsaid)) }
+    ensures ok { OnOk result ((caller.new ≡ taking.with_all_said caller.old) ×
+        (out.new.items ≡ out.old.items ++ marked of_connection number caller.old.unsaid)) }
     ensures err { OnErr result ((caller.new ≡ caller.old) × (out.new.items ≡ out.old.items)) }
     ensures asks { OnErr result (caller.old.gone ≡ true → ⊥) }
 {
@@ -65,7 +66,8 @@ fn print_session(
     number: u8,
     out: &mut Vec<u8>,
 ) -> Result<(), AllocError>
-    ensures ok { OnOk result ((visitor.new ≡ with_place (with_all_said visitor.old.place) visitor.old) × (out.new.items ≡ out.old.items ++ marked of_session number visitor.old.place.unsaid)) }
+    ensures ok { OnOk result ((visitor.new ≡ with_place (with_all_said visitor.old.place) visitor.old) ×
+        (out.new.items ≡ out.old.items ++ marked of_session number visitor.old.place.unsaid)) }
     ensures err { OnErr result ((visitor.new ≡ visitor.old) × (out.new.items ≡ out.old.items)) }
 {
     let Ok(()) = print_words(b'I', number, visitor.unsaid(), out) else {
@@ -83,9 +85,11 @@ pub(crate) fn proceed(
     out: &mut Vec<u8>,
 ) -> Result<What, AllocError>
     ensures less { line_effort caller.new ≤ line_effort caller.old }
-    ensures ok { IfOk result (λ what. (k : Terms) (seat : ℕ) (next : CopyKey) (heard : List Noted) (b : connection.Caller) → IsOf k number seat directory.now → StandsForConnection k seat next heard caller.old b →
+    ensures ok { IfOk result (λ what. (k : Terms) (seat : ℕ) (next : CopyKey) (heard : List Noted) (b : connection.Caller) →
+        IsOf k number seat directory.now → StandsForConnection k seat next heard caller.old b →
         ConnectionWent k true seat next heard b what caller.new out.old.items out.new.items) }
-    ensures err { OnErr result ((k : Terms) (seat : ℕ) (next : CopyKey) (heard : List Noted) (b : connection.Caller) → IsOf k number seat directory.now → StandsForConnection k seat next heard caller.old b →
+    ensures err { OnErr result ((k : Terms) (seat : ℕ) (next : CopyKey) (heard : List Noted) (b : connection.Caller) →
+        IsOf k number seat directory.now → StandsForConnection k seat next heard caller.old b →
         ConnectionWent k false seat next heard b whats.More caller.new out.old.items out.new.items) }
     ensures asks { OnErr result (caller.old.gone ≡ false) }
 {
@@ -112,8 +116,10 @@ pub(crate) fn go_on(
     ensures less { seat_effort visitor.new ≤ seat_effort visitor.old }
     ensures delivery { SameDelivery desk.old.core desk.new.core }
     ensures gone { visitor.new.gone ≡ false }
-    ensures ok { OnOk result ((seat : ℕ) (next : CopyKey) (heard : List Noted) (v : session.SeatedVisitor) → StandsForSeated seat next heard visitor.old v → WentOn Serves true seat number next heard v desk.old desk.new out.old.items out.new.items visitor.new) }
-    ensures err { OnErr result ((seat : ℕ) (next : CopyKey) (heard : List Noted) (v : session.SeatedVisitor) → StandsForSeated seat next heard visitor.old v → WentOn Serves false seat number next heard v desk.old desk.new out.old.items out.new.items visitor.new) }
+    ensures ok { OnOk result ((seat : ℕ) (next : CopyKey) (heard : List Noted) (v : session.SeatedVisitor) →
+        StandsForSeated seat next heard visitor.old v → WentOn Serves true seat number next heard v desk.old desk.new out.old.items out.new.items visitor.new) }
+    ensures err { OnErr result ((seat : ℕ) (next : CopyKey) (heard : List Noted) (v : session.SeatedVisitor) →
+        StandsForSeated seat next heard visitor.old v → WentOn Serves false seat number next heard v desk.old desk.new out.old.items out.new.items visitor.new) }
 {
     let Ok(()) = visitor.proceed(alloc, desk) else {
         let _ = print_session(visitor, number, out);
@@ -134,9 +140,11 @@ pub(crate) fn take_turn(
 ) -> Result<usize, AllocError>
     requires there { visitor.old.gone ≡ false }
     ensures gone { visitor.new.gone ≡ false }
-    ensures ok { IfOk result (λ count. (seat : ℕ) (next : CopyKey) (heard : List Noted) (v : session.SeatedVisitor) → StandsForSeated seat next heard visitor.old v → Idled Serves true seat number count next heard v desk.old desk.new out.old.items out.new.items visitor.new) }
+    ensures ok { IfOk result (λ count. (seat : ℕ) (next : CopyKey) (heard : List Noted) (v : session.SeatedVisitor) →
+        StandsForSeated seat next heard visitor.old v → Idled Serves true seat number count next heard v desk.old desk.new out.old.items out.new.items visitor.new) }
     ensures session { IfOk result (λ count. HadTurn Serves visitor.old.place desk.old desk.new count visitor.new.place) }
-    ensures err { OnErr result ((seat : ℕ) (next : CopyKey) (heard : List Noted) (v : session.SeatedVisitor) → StandsForSeated seat next heard visitor.old v → IdledInPart Serves seat number next heard v desk.old desk.new out.old.items out.new.items visitor.new) }
+    ensures err { OnErr result ((seat : ℕ) (next : CopyKey) (heard : List Noted) (v : session.SeatedVisitor) →
+        StandsForSeated seat next heard visitor.old v → IdledInPart Serves seat number next heard v desk.old desk.new out.old.items out.new.items visitor.new) }
 {
     let Ok(count) = visitor.idle_turn(desk) else {
         return Err(AllocError);

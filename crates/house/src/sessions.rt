@@ -52,9 +52,11 @@ fn visitor_talks(
     requires there { is_left place.old ≡ false }
     ensures less { visit_effort place.new ≤ visit_effort place.old }
     ensures delivery { SameDelivery desk.old.core desk.new.core }
-    ensures ok { OnOk result ((k : Setup) (next : CopyKey) (heard : List NotedSpec) (w : World) (b : spec.SeatedVisitor) → core.StandsFor k.config desk.old.core w → StandsForSomebody (session_seat k (number - 1)) next heard place.old (Some b) →
+    ensures ok { OnOk result ((k : Setup) (next : CopyKey) (heard : List NotedSpec) (w : World) (b : spec.SeatedVisitor) →
+        core.StandsFor k.config desk.old.core w → StandsForSomebody (session_seat k (number - 1)) next heard place.old (Some b) →
         PlaceTalked k true (number - 1) next heard w b place.new desk.new.core out.old.items out.new.items) }
-    ensures err { OnErr result ((k : Setup) (next : CopyKey) (heard : List NotedSpec) (w : World) (b : spec.SeatedVisitor) → core.StandsFor k.config desk.old.core w → StandsForSomebody (session_seat k (number - 1)) next heard place.old (Some b) →
+    ensures err { OnErr result ((k : Setup) (next : CopyKey) (heard : List NotedSpec) (w : World) (b : spec.SeatedVisitor) →
+        core.StandsFor k.config desk.old.core w → StandsForSomebody (session_seat k (number - 1)) next heard place.old (Some b) →
         PlaceTalked k false (number - 1) next heard w b place.new desk.new.core out.old.items out.new.items) }
 {
     let Some(visitor) = place else {
@@ -74,7 +76,8 @@ fn visitor_talks(
 // Where the client of the session at a place is gone, it leaves its place as soon as the verdict that it awaited was heard.
 fn visitor_lingers(place: &mut Option<SeatedSession>)
     ensures less { visit_effort place.new ≤ visit_effort place.old }
-    ensures who { (seat : ℕ) (next : CopyKey) (heard : List NotedSpec) (b : spec.SeatedVisitor) → StandsForSomebody seat next heard place.old (Some b) → HasLingered seat next heard b place.new }
+    ensures who { (seat : ℕ) (next : CopyKey) (heard : List NotedSpec) (b : spec.SeatedVisitor) →
+        StandsForSomebody seat next heard place.old (Some b) → HasLingered seat next heard b place.new }
 {
     let Some(visitor) = place else {
         return;
@@ -95,9 +98,11 @@ fn visitor_goes_on(
     requires counted { 0 < number }
     ensures less { visit_effort place.new ≤ visit_effort place.old }
     ensures delivery { SameDelivery desk.old.core desk.new.core }
-    ensures ok { OnOk result ((k : Setup) (next : CopyKey) (heard : List NotedSpec) (w : World) (b : spec.SeatedVisitor) → core.StandsFor k.config desk.old.core w → StandsForSomebody (session_seat k (number - 1)) next heard place.old (Some b) →
+    ensures ok { OnOk result ((k : Setup) (next : CopyKey) (heard : List NotedSpec) (w : World) (b : spec.SeatedVisitor) →
+        core.StandsFor k.config desk.old.core w → StandsForSomebody (session_seat k (number - 1)) next heard place.old (Some b) →
         PlaceVisited k true (number - 1) next heard w b place.new desk.new.core out.old.items out.new.items) }
-    ensures err { OnErr result ((k : Setup) (next : CopyKey) (heard : List NotedSpec) (w : World) (b : spec.SeatedVisitor) → core.StandsFor k.config desk.old.core w → StandsForSomebody (session_seat k (number - 1)) next heard place.old (Some b) →
+    ensures err { OnErr result ((k : Setup) (next : CopyKey) (heard : List NotedSpec) (w : World) (b : spec.SeatedVisitor) →
+        core.StandsFor k.config desk.old.core w → StandsForSomebody (session_seat k (number - 1)) next heard place.old (Some b) →
         PlaceVisited k false (number - 1) next heard w b place.new desk.new.core out.old.items out.new.items) }
 {
     if is_left(place) {
@@ -115,7 +120,8 @@ fn admitted(
     folders: Vec<Folder>,
     max_message: u32,
 ) -> Result<SeatedSession, AllocError>
-    ensures { IfOk result (λ p. (p.gone ≡ false) × ((next : CopyKey) (heard : List NotedSpec) → AtLeast next (first_of seat serial) → StandsForSeated seat next heard p (spec.seated_greeted serial (Some max_message) folders.items))) }
+    ensures { IfOk result (λ p. (p.gone ≡ false) × ((next : CopyKey) (heard : List NotedSpec) → AtLeast next (first_of seat serial) →
+        StandsForSeated seat next heard p (spec.seated_greeted serial (Some max_message) folders.items))) }
 {
     SeatedSession::open(alloc, seat, serial, folders, Some(max_message))
 }
@@ -238,7 +244,8 @@ impl House {
         ensures nobody { (result ≡ Err HouseFault.Nobody) ↔ IsNobody self.old (events.Enter session user.entry) }
         ensures busy { (result ≡ Err HouseFault.Busy) ↔ IsBusy self.old (events.Enter session user.entry) }
         ensures nothing { result ≢ Err HouseFault.Nothing }
-        ensures no_memory { result ≡ Err HouseFault.NoMemory → FollowsInPart self.old (events.Enter session user.entry) self.new out.old.items out.new.items }
+        ensures no_memory { result ≡ Err HouseFault.NoMemory →
+            FollowsInPart self.old (events.Enter session user.entry) self.new out.old.items out.new.items }
         ensures refused { result ≢ Err HouseFault.NoMemory → OnErr result ((self.new ≡ self.old) × (out.new.items ≡ out.old.items)) }
     {
         if self.has_no_place(session) || !has_user(&self.directory, user) {
@@ -283,7 +290,8 @@ impl House {
         ensures nobody { (result ≡ Err HouseFault.Nobody) ↔ IsNobody self.old (events.Say session piece.entry) }
         ensures busy { (result ≡ Err HouseFault.Busy) ↔ IsBusy self.old (events.Say session piece.entry) }
         ensures nothing { result ≢ Err HouseFault.Nothing }
-        ensures no_memory { result ≡ Err HouseFault.NoMemory → FollowsInPart self.old (events.Say session piece.entry) self.new out.old.items out.new.items }
+        ensures no_memory { result ≡ Err HouseFault.NoMemory →
+            FollowsInPart self.old (events.Say session piece.entry) self.new out.old.items out.new.items }
         ensures refused { result ≢ Err HouseFault.NoMemory → OnErr result ((self.new ≡ self.old) × (out.new.items ≡ out.old.items)) }
     {
         if self.has_no_place(session) {
@@ -313,7 +321,8 @@ impl House {
 
     // A session's client is gone.
     pub(crate) fn leave(&mut self, session: u8) -> Result<(), HouseFault>
-        ensures follows { OnOk result ((k : Setup) (s : scene.Scene) (old : List ℕ) → StandsFor k self.old s → Led k true s (events.Leave session) self.new old old) }
+        ensures follows { OnOk result ((k : Setup) (s : scene.Scene) (old : List ℕ) → StandsFor k self.old s →
+            Led k true s (events.Leave session) self.new old old) }
         ensures nobody { (result ≡ Err HouseFault.Nobody) ↔ IsNobody self.old (events.Leave session) }
         ensures busy { (result ≡ Err HouseFault.Busy) ↔ IsBusy self.old (events.Leave session) }
         ensures only { IfErr result (λ e. (e ≡ HouseFault.Nobody) ⊎ (e ≡ HouseFault.Busy)) }

@@ -66,7 +66,8 @@ impl House {
 
     // Each seat ends on a shard, whoever stands there.
     fn end_all(&mut self, shard: u8, out: &mut Vec<u8>) -> Result<bool, AllocError>
-        ensures came { CameVisits (λ k. shard < k.config.shards) (λ k. ends k.config.seats shard) self.old out.old.items self.new out.new.items result }
+        ensures came { CameVisits (λ k. shard < k.config.shards) (λ k.
+            ends k.config.seats shard) self.old out.old.items self.new out.new.items result }
         ensures marks { self.new.directory ≡ self.old.directory }
     {
         let seats = (self.callers.len() + self.visitors.len()) as u8;
@@ -88,7 +89,8 @@ impl House {
 
     // Each seat ends on a shard, where that is shut.
     fn end_where(&mut self, shard: u8, shut: bool, out: &mut Vec<u8>) -> Result<bool, AllocError>
-        ensures came { CameVisits (λ k. shard < k.config.shards) (λ k. ends_where k.config.seats shard shut) self.old out.old.items self.new out.new.items result }
+        ensures came { CameVisits (λ k. shard < k.config.shards) (λ k.
+            ends_where k.config.seats shard shut) self.old out.old.items self.new out.new.items result }
         ensures marks { self.new.directory ≡ self.old.directory }
     {
         if !shut {
@@ -99,7 +101,8 @@ impl House {
 
     // Each seat ends on each shard that is shut.
     fn close_all(&mut self, out: &mut Vec<u8>) -> Result<bool, AllocError>
-        ensures came { CameVisits (λ k. Unit {0}) (λ k. closes k.config.seats (is_shut self.old.directory) k.config.shards) self.old out.old.items self.new out.new.items result }
+        ensures came { CameVisits (λ k. Unit {0}) (λ k. closes k.config.seats
+            (is_shut self.old.directory) k.config.shards) self.old out.old.items self.new out.new.items result }
         ensures marks { self.new.directory ≡ self.old.directory }
     {
         let shards = self.directory.shards();
@@ -133,7 +136,8 @@ impl House {
     // Each shard that isn't held takes, delivers and answers.
     fn serve_all(&mut self, held: &[bool], out: &mut Vec<u8>) -> Result<bool, AllocError>
         ensures marks { self.new.directory ≡ self.old.directory }
-        ensures came { CameVisits (λ k. Unit {0}) (λ k. serves (is_held held.now) k.config.shards) self.old out.old.items self.new out.new.items result }
+        ensures came { CameVisits (λ k. Unit {0}) (λ k. serves
+            (is_held held.now) k.config.shards) self.old out.old.items self.new out.new.items result }
     {
         let shards = self.directory.shards();
         let mut moved = false;
@@ -181,7 +185,8 @@ impl House {
     // A round: whether anything happened.
     fn go_round(&mut self, held: &[bool], out: &mut Vec<u8>) -> Result<bool, AllocError>
         ensures marks { self.new.directory ≡ self.old.directory }
-        ensures came { CameVisits (λ k. Unit {0}) (λ k. round k (is_held held.now) (is_shut self.old.directory)) self.old out.old.items self.new out.new.items result }
+        ensures came { CameVisits (λ k. Unit {0}) (λ k. round k (is_held held.now)
+            (is_shut self.old.directory)) self.old out.old.items self.new out.new.items result }
     {
         let Ok(closed) = self.close_all(out) else {
             return Err(AllocError);
@@ -200,7 +205,8 @@ impl House {
 
     // Rounds, until nothing moves.
     fn go_rounds(&mut self, held: &[bool], out: &mut Vec<u8>) -> Result<(), AllocError>
-        ensures ok { OnOk result (Goes (λ k. Unit {0}) (λ k s t printed. GoesRounds k (is_held held.now) s t printed) self.old out.old.items self.new out.new.items) }
+        ensures ok { OnOk result (Goes (λ k. Unit {0}) (λ k s t printed.
+            GoesRounds k (is_held held.now) s t printed) self.old out.old.items self.new out.new.items) }
         ensures err { OnErr result (Wants (λ k. Unit {0}) self.old out.old.items self.new out.new.items) }
     {
         loop {
@@ -218,8 +224,10 @@ impl House {
     /// shown what is pending, until nothing is.
     /// The one error is want of memory: what happened by then stands.
     pub fn settle(&mut self, held: &[bool], out: &mut Vec<u8>) -> Result<(), AllocError>
-        ensures settles { OnOk result ((k : Setup) (s : scene.Scene) → StandsFor k self.old s → SettledFrom k held.now s self.new out.old.items out.new.items) }
-        ensures no_memory { OnErr result ((k : Setup) (s : scene.Scene) → StandsFor k self.old s → HappenedFrom k s self.new out.old.items out.new.items) }
+        ensures settles { OnOk result ((k : Setup) (s : scene.Scene) → StandsFor k self.old s →
+            SettledFrom k held.now s self.new out.old.items out.new.items) }
+        ensures no_memory { OnErr result ((k : Setup) (s : scene.Scene) → StandsFor k self.old s →
+            HappenedFrom k s self.new out.old.items out.new.items) }
     {
         let Ok(()) = self.go_rounds(held, out) else {
             return Err(AllocError);

@@ -104,7 +104,8 @@ fn print_parts(
     second: &[Change],
     out: &mut Vec<u8>,
 ) -> Result<(), AllocError>
-    ensures ok { OnOk result (out.new.items ≡ out.old.items ++ tail_text word.now (first.now ++ second.now) (base + length (first.now ++ second.now))) }
+    ensures ok { OnOk result (out.new.items ≡ out.old.items ++
+        tail_text word.now (first.now ++ second.now) (base + length (first.now ++ second.now))) }
     ensures err { OnErr result (StartsWith out.new.items out.old.items) }
 {
     print_changes(word, first, out)?;
@@ -122,7 +123,8 @@ pub fn print_tail(
     second: &[Change],
     out: &mut Vec<u8>,
 ) -> Result<(), AllocError>
-    ensures ok { OnOk result (out.new.items ≡ out.old.items ++ tail_text word.now (first.now ++ second.now) (base + length (first.now ++ second.now))) }
+    ensures ok { OnOk result (out.new.items ≡ out.old.items ++
+        tail_text word.now (first.now ++ second.now) (base + length (first.now ++ second.now))) }
     ensures err { OnErr result (out.new.items ≡ out.old.items) }
 {
     let before = out.len();

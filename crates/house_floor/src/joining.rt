@@ -32,7 +32,8 @@ fn lay_floor(
     requires host { length sizes.host.now < 256 }
     requires hall { IsHall directory sizes hall }
     requires lanes { (vec_len lanes ≡ directory.shards) × All (λ q. (capacity_of q ≡ sizes.depth) × (producers_of q ≡ sizes.producers)) lanes.items }
-    requires channels { (vec_len channels ≡ sizes.producers) × All (λ c. (room_of c ≡ reply_room) × (senders_of c ≡ directory.shards)) channels.items }
+    requires channels { (vec_len channels ≡ sizes.producers) ×
+        All (λ c. (room_of c ≡ reply_room) × (senders_of c ≡ directory.shards)) channels.items }
     ensures floor { IsFloor directory sizes.entry result }
     ensures sessions { length result.depot.sessions.items ≡ length directory.homes }
     ensures lanes { result.office.lanes ≡ lanes }

@@ -27,7 +27,8 @@ fn add_folder(
     folders: &mut Vec<Folder>,
 ) -> Result<(), AllocError>
     requires { mailbox < length directory.now.homes }
-    ensures { OnOk result (IfSome (slice_get directory.now.homes mailbox) (λ home. folders.new.items ≡ folders.old.items ++ folders_from mailbox user.now (home ∷ []))) }
+    ensures { OnOk result (IfSome (slice_get directory.now.homes mailbox) (λ home.
+        folders.new.items ≡ folders.old.items ++ folders_from mailbox user.now (home ∷ []))) }
 {
     if user != directory.user_of(mailbox) {
         return Ok(());

@@ -68,7 +68,9 @@ impl SeatedSession {
         folders: Vec<Folder>,
         max_message: Option<u32>,
     ) -> Result<SeatedSession, AllocError>
-        ensures { IfOk result (λ s. (next : Key) (heard : List NotedSpec) → AtLeast next (record { seat = seat; serial = serial; message = 0; recipient = 0 }) → StandsForSeated seat next heard s (seated_greeted serial max_message folders.items)) }
+        ensures { IfOk result (λ s. (next : Key) (heard : List NotedSpec) →
+            AtLeast next (record { seat = seat; serial = serial; message = 0; recipient = 0 }) →
+            StandsForSeated seat next heard s (seated_greeted serial max_message folders.items)) }
     {
         let Ok(verdicts) = Verdicts::with_room(alloc, 1) else {
             return Err(AllocError);
@@ -124,7 +126,8 @@ impl SeatedSession {
     /// The copy of the message at hand, where that is still to be put.
     pub fn next_copy(&self) -> Option<NextCopy<'_>>
         ensures none { result ≡ None → due self.now ≡ [] }
-        ensures some { IfSome result (λ c. (others : List Job) × (due self.now ≡ record { key = c.key; mailbox = c.mailbox; text = c.text.now; flags = c.flags } ∷ others)) }
+        ensures some { IfSome result (λ c. (others : List Job) ×
+            (due self.now ≡ record { key = c.key; mailbox = c.mailbox; text = c.text.now; flags = c.flags } ∷ others)) }
     {
         let Some(append) = self.session.submission() else {
             return None;
@@ -163,8 +166,10 @@ impl SeatedSession {
         requires there { self.old.gone ≡ false }
         requires going { self.old.place.link.session.ended ≡ false }
         requires waits { is_some (submitted_at self.old) ≡ true }
-        ensures ok { OnOk result ((seat : ℕ) (next : Key) (heard : List NotedSpec) (v : spec.SeatedVisitor) → StandsForSeated seat next heard self.old v → Proceeded S.step true seat next heard v store.old store.new self.new) }
-        ensures err { OnErr result ((seat : ℕ) (next : Key) (heard : List NotedSpec) (v : spec.SeatedVisitor) → StandsForSeated seat next heard self.old v → Proceeded S.step false seat next heard v store.old store.new self.new) }
+        ensures ok { OnOk result ((seat : ℕ) (next : Key) (heard : List NotedSpec) (v : spec.SeatedVisitor) →
+            StandsForSeated seat next heard self.old v → Proceeded S.step true seat next heard v store.old store.new self.new) }
+        ensures err { OnErr result ((seat : ℕ) (next : Key) (heard : List NotedSpec) (v : spec.SeatedVisitor) →
+            StandsForSeated seat next heard self.old v → Proceeded S.step false seat next heard v store.old store.new self.new) }
         ensures less { seat_effort self.new ≤ seat_effort self.old }
         ensures asked { Asks S.step store.old store.new }
         ensures gone { self.new.gone ≡ self.old.gone }
@@ -193,8 +198,10 @@ impl SeatedSession {
 
     /// Whether it awaits the verdict on a message, and that isn't known.
     pub fn awaits_verdict(&self) -> bool
-        ensures awaits { result ≡ true → (seat : ℕ) (next : Key) (heard : List NotedSpec) (v : spec.SeatedVisitor) → StandsForSeated seat next heard self.now v → Awaits seat heard v }
-        ensures settled { result ≡ false → (seat : ℕ) (next : Key) (heard : List NotedSpec) (v : spec.SeatedVisitor) → StandsForSeated seat next heard self.now v → IsSettled seat heard v }
+        ensures awaits { result ≡ true → (seat : ℕ) (next : Key) (heard : List NotedSpec) (v : spec.SeatedVisitor) →
+            StandsForSeated seat next heard self.now v → Awaits seat heard v }
+        ensures settled { result ≡ false → (seat : ℕ) (next : Key) (heard : List NotedSpec) (v : spec.SeatedVisitor) →
+            StandsForSeated seat next heard self.now v → IsSettled seat heard v }
     {
         if !self.session.awaits_verdict() {
             return false;
@@ -212,8 +219,10 @@ impl SeatedSession {
     ///
     /// Errors: `AllocError` where memory was refused. What was done stands, and the next call goes on from there.
     pub fn proceed<S: Store>(&mut self, alloc: Global, store: &mut S) -> Result<(), AllocError>
-        ensures ok { OnOk result ((seat : ℕ) (next : Key) (heard : List NotedSpec) (v : spec.SeatedVisitor) → StandsForSeated seat next heard self.old v → Proceeded S.step true seat next heard v store.old store.new self.new) }
-        ensures err { OnErr result ((seat : ℕ) (next : Key) (heard : List NotedSpec) (v : spec.SeatedVisitor) → StandsForSeated seat next heard self.old v → Proceeded S.step false seat next heard v store.old store.new self.new) }
+        ensures ok { OnOk result ((seat : ℕ) (next : Key) (heard : List NotedSpec) (v : spec.SeatedVisitor) →
+            StandsForSeated seat next heard self.old v → Proceeded S.step true seat next heard v store.old store.new self.new) }
+        ensures err { OnErr result ((seat : ℕ) (next : Key) (heard : List NotedSpec) (v : spec.SeatedVisitor) →
+            StandsForSeated seat next heard self.old v → Proceeded S.step false seat next heard v store.old store.new self.new) }
         ensures less { seat_effort self.new ≤ seat_effort self.old }
         ensures asked { Asks S.step store.old store.new }
         ensures gone { self.new.gone ≡ self.old.gone }
@@ -238,7 +247,8 @@ impl SeatedSession {
     /// Errors: `AllocError` where memory was refused. Nothing happened then.
     pub fn idle_turn<S: Store>(&mut self, store: &mut S) -> Result<usize, AllocError>
         requires there { self.old.gone ≡ false }
-        ensures ok { IfOk result (λ count. (seat : ℕ) (next : Key) (heard : List NotedSpec) (v : spec.SeatedVisitor) → StandsForSeated seat next heard self.old v → SeatedTurned S.step count seat next heard v store.old store.new self.new) }
+        ensures ok { IfOk result (λ count. (seat : ℕ) (next : Key) (heard : List NotedSpec) (v : spec.SeatedVisitor) →
+            StandsForSeated seat next heard self.old v → SeatedTurned S.step count seat next heard v store.old store.new self.new) }
         ensures session { IfOk result (λ count. HadTurn S.step self.old.place store.old store.new count self.new.place) }
         ensures few { IfOk result (λ count. count ≤ 64) }
         ensures gone { self.new.gone ≡ self.old.gone }

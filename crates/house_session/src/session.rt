@@ -131,7 +131,8 @@ impl HouseSession {
         ensures err { OnErr result ((v : spec.Visitor) → StandsFor self.old v → Answered S.step false v store.old store.new self.new) }
         ensures asked { Asks S.step store.old store.new }
         ensures fewer { length self.new.came ≤ length self.old.came }
-        ensures moves { self.old.link.session.mailing.sent ≡ None → is_some self.new.link.session.mailing.sent ≡ true → length self.new.came < length self.old.came }
+        ensures moves { self.old.link.session.mailing.sent ≡ None → is_some self.new.link.session.mailing.sent ≡ true →
+            length self.new.came < length self.old.came }
     {
         if self.connection.has_ended() {
             return Ok(());

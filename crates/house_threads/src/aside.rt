@@ -66,7 +66,8 @@ pub(crate) fn step_aside<R: Wait, G: Gate>(
     requires senders { AreSenders depot.now.channels.items stand.stall.shard stand.stall.senders.items }
     requires room { (stand.room.items ≡ []) × (length depot.now.channels.items ≤ vec_capacity stand.room) }
     requires fresh { got stand.stall.seat ≡ [] }
-    ensures { (lane : ShardQueue Job) → IsConsumer lane stand.stall.seat → IsConsumed lane depot.now stand.stall.shard (map sent_on stand.stall.senders.items) result }
+    ensures { (lane : ShardQueue Job) → IsConsumer lane stand.stall.seat →
+        IsConsumed lane depot.now stand.stall.shard (map sent_on stand.stall.senders.items) result }
 {
     let Stand { stall, room } = stand;
     let Stall {

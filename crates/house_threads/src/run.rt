@@ -189,7 +189,8 @@ pub fn run_threads<R: Threads + Wait + Sync, G: Gate + Sync>(
         thread::scope_env(),
         rt,
         |scope| -> Ran
-            requires { IsSync R.row × IsSync G.row × IsHouse floor.now (length plans.now + length visits.now) × AreVisits floor.now visits.now × IsCrew floor.now (length plans.now + length visits.now) (manually_drop_value crew) }
+            requires { IsSync R.row × IsSync G.row × IsHouse floor.now (length plans.now + length visits.now) ×
+                AreVisits floor.now visits.now × IsCrew floor.now (length plans.now + length visits.now) (manually_drop_value crew) }
             ensures consumed { AllAt (IsServiceOf floor.entry.now) 0 result.consumed.items }
             ensures worked { AllAt (IsProduceOf floor.entry.now plans.entry.now visits.entry.now) 0 result.worked.items }
             ensures all { result.started ≡ Started.All → LeavesAll floor.entry.now plans.entry.now visits.entry.now result }

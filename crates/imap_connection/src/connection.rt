@@ -77,7 +77,8 @@ impl ImapConnection {
         folders: Vec<Folder>,
         max_message: Option<u32>,
     ) -> Result<ImapConnection, AllocError>
-        ensures { IfOk result (λ c. StandsFor c (record { standing = record { folders = folders.items; selected = None; idling = None; ended = false; mailing = nothing_sent max_message }; begun = [] })) }
+        ensures { IfOk result (λ c. StandsFor c (record { standing = record { folders = folders.items; selected = None; idling = None;
+            ended = false; mailing = nothing_sent max_message }; begun = [] })) }
     {
         let cutter = LineCutter::new(alloc, MAX_LINE)?;
         Ok(ImapConnection {
@@ -159,7 +160,8 @@ impl ImapConnection {
     ) -> Result<After, SessionFault>
         requires waits { is_some self.old.session.mailing.sent ≡ true }
         ensures session { IfOk result (λ after. AnswersVerdict S.step self.old.session verdict store.old store.new out.old.items out.new.items after self.new.session) }
-        ensures heard { IfOk result (λ after. (d : Dialogue) → StandsFor self.old d → Hears S.step d verdict store.old store.new out.old.items out.new.items after self.new) }
+        ensures heard { IfOk result (λ after. (d : Dialogue) → StandsFor self.old d →
+            Hears S.step d verdict store.old store.new out.old.items out.new.items after self.new) }
         ensures ended { (result ≡ Err SessionFault.Ended) ↔ (self.old.session.ended ≡ true) }
         ensures refused { OnErr result ((self.new ≡ self.old) × (store.new ≡ store.old) × (out.new.items ≡ out.old.items)) }
         ensures memory { result ≡ Err SessionFault.NoMemory → vec_capacity out.old < vec_len out.old + room_for_verdict self.old.session }
@@ -179,14 +181,16 @@ impl ImapConnection {
         out: &mut Vec<u8>,
     ) -> Result<usize, SessionFault>
         ensures session { IfOk result (λ count. IdleTurns S.step self.old.session store.old store.new out.old.items out.new.items count self.new.session) }
-        ensures turned { IfOk result (λ count. (d : Dialogue) → StandsFor self.old d → Turns S.step d store.old store.new out.old.items out.new.items count self.new) }
+        ensures turned { IfOk result (λ count. (d : Dialogue) → StandsFor self.old d →
+            Turns S.step d store.old store.new out.old.items out.new.items count self.new) }
         ensures few { IfOk result (λ count. count ≤ 64) }
         ensures quiet { IfOk result (λ count. count ≡ 0 → self.new.session.ended ≡ false → (self.new ≡ self.old) × (out.new.items ≡ out.old.items)) }
         ensures ended { (result ≡ Err SessionFault.Ended) ↔ (self.old.session.ended ≡ true) }
         ensures over { result ≡ Err SessionFault.Ended → store.new ≡ store.old }
         ensures starved { result ≡ Err SessionFault.NoMemory → Starves S.step store.old store.new }
         // Where `out` has room for a BYE line, the store was asked.
-        ensures asked { result ≡ Err SessionFault.NoMemory → vec_len out.old + 48 ≤ vec_capacity out.old → S.step store.old (Feed most_changes) (Refused MailFault.NoMemory) store.new }
+        ensures asked { result ≡ Err SessionFault.NoMemory → vec_len out.old + 48 ≤ vec_capacity out.old →
+            S.step store.old (Feed most_changes) (Refused MailFault.NoMemory) store.new }
         ensures refused { OnErr result ((self.new ≡ self.old) × (out.new.items ≡ out.old.items)) }
     {
         self.session.idle_turn(store, out)
@@ -228,7 +232,8 @@ impl ImapConnection {
         ensures used { IfOk result (λ fed. fed.used ≤ length piece.now) }
         ensures moves { IfOk result (λ fed. self.old.session.ended ≡ false → 0 < length piece.now → 0 < fed.used) }
         ensures asked { Asks S.step store.old store.new }
-        ensures ok { IfOk result (λ fed. (d : Dialogue) → StandsFor self.old d → Takes S.step d piece.now store.old store.new out.old.items out.new.items fed self.new) }
+        ensures ok { IfOk result (λ fed. (d : Dialogue) → StandsFor self.old d →
+            Takes S.step d piece.now store.old store.new out.old.items out.new.items fed self.new) }
         ensures err { OnErr result ((self.new ≡ self.old) × (store.new ≡ store.old) × (out.new.items ≡ out.old.items)) }
         ensures full { OnErr result (vec_capacity out.new < vec_len out.new + (8272 + tag_len (kept_tag self.new.session))) }
         ensures sends { IfOk result (λ fed. fed.after ≡ may_send self.new.session) }
@@ -296,7 +301,8 @@ impl ImapConnection {
         ensures moves { is_some self.new.session.mailing.sent ≡ true → 0 < result.used }
         ensures asked { Asks S.step store.old store.new }
         ensures sends { IfSome result.after (λ after. after ≡ may_send self.new.session) }
-        ensures took { (d : Dialogue) → StandsFor self.old d → Took S.step d piece.now store.old store.new out.old.items out.new.items result self.new }
+        ensures took { (d : Dialogue) → StandsFor self.old d →
+            Took S.step d piece.now store.old store.new out.old.items out.new.items result self.new }
     {
         if piece.is_empty() {
             return Progress {

@@ -422,7 +422,8 @@ fn put_status_item(
     word: &[u8],
     out: &mut Vec<u8>,
 ) -> Result<bool, AllocError>
-    ensures ok { OnOk result (out.new.items ≡ out.old.items ++ joined first (map (status_text status.now) (option_to_list (status_item_of word.now)))) }
+    ensures ok { OnOk result (out.new.items ≡ out.old.items ++
+        joined first (map (status_text status.now) (option_to_list (status_item_of word.now)))) }
     ensures first { IfOk result (λ f. f ≡ (first && not (is_some (status_item_of word.now)))) }
     ensures err { OnErr result (StartsWith out.new.items out.old.items) }
     ensures room { vec_capacity out.old ≤ vec_capacity out.new }

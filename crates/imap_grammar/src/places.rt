@@ -79,7 +79,8 @@ pub(crate) fn places_of_named_uids(
 ) -> Result<Vec<PlaceRange>, AllocError>
     requires { IsNonDecreasing view.now }
     ensures order { IfOk result (λ v. IsNonDecreasingBy (λ range. range.first) v.items) }
-    ensures named { IfOk result (λ v. (i : ℕ) → i < length view.now → is_covered v.items (i + 1) ≡ is_named ranges.now greatest (slice_index view.now i)) }
+    ensures named { IfOk result (λ v. (i : ℕ) → i < length view.now →
+        is_covered v.items (i + 1) ≡ is_named ranges.now greatest (slice_index view.now i)) }
 {
     let mut places = Vec::new(alloc);
     for range in ranges {

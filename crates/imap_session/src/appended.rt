@@ -42,7 +42,8 @@ fn count_and_show<S: Store>(
     out: &mut Vec<u8>,
 ) -> Result<u32, MailFault>
     requires room { vec_len out.old + keep ≤ vec_capacity out.old }
-    ensures done { (next : ℕ → Exchange) → Does S.step (Count mailbox (λ status. showing selected (next status.uidvalidity))) next store.old store.new out.old.items out.new.items result }
+    ensures done { (next : ℕ → Exchange) → Does S.step
+        (Count mailbox (λ status. showing selected (next status.uidvalidity))) next store.old store.new out.old.items out.new.items result }
     ensures room { vec_len out.new + keep ≤ vec_capacity out.new }
 {
     let status = match store.status(mailbox) {
@@ -81,7 +82,8 @@ fn tell_stored<S: Store>(
     out: &mut Vec<u8>,
 ) -> After
     requires room { vec_len out.old + (length tag.now + STORED) ≤ vec_capacity out.old }
-    ensures plays { (now : Standing) → Plays S.step tag.now now now (on_verdict selected mailbox (Stored uid)) store.old store.new out.old.items out.new.items result }
+    ensures plays { (now : Standing) → Plays S.step tag.now now now
+        (on_verdict selected mailbox (Stored uid)) store.old store.new out.old.items out.new.items result }
     ensures only { (result ≡ After.Go) ⊎ (result ≡ After.Bye) }
 {
     match count_and_show(mailbox, selected, store, tag.len() + STORED, out) {
@@ -103,7 +105,8 @@ pub(crate) fn tell_verdict<S: Store>(
     out: &mut Vec<u8>,
 ) -> After
     requires room { vec_len out.old + (length tag.now + STORED) ≤ vec_capacity out.old }
-    ensures plays { (now : Standing) → Plays S.step tag.now now now (on_verdict selected mailbox verdict) store.old store.new out.old.items out.new.items result }
+    ensures plays { (now : Standing) → Plays S.step tag.now now now
+        (on_verdict selected mailbox verdict) store.old store.new out.old.items out.new.items result }
     ensures only { (result ≡ After.Go) ⊎ (result ≡ After.Bye) }
 {
     match verdict {

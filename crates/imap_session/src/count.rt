@@ -136,7 +136,8 @@ fn write_names(
     out: &mut Vec<u8>,
 ) -> Result<(), MailFault>
     requires room { vec_len out.old + keep ≤ vec_capacity out.old }
-    ensures text { OnOk result (out.new.items ≡ out.old.items ++ list_answer reference.now pattern.now (map (λ (folder : Place). folder.name) folders.now)) }
+    ensures text { OnOk result (out.new.items ≡ out.old.items ++
+        list_answer reference.now pattern.now (map (λ (folder : Place). folder.name) folders.now)) }
     ensures err { OnErr result (out.new.items ≡ out.old.items) }
     ensures fault { IfErr result (λ f. f ≡ MailFault.NoMemory) }
     ensures room { vec_len out.new + keep ≤ vec_capacity out.new }

@@ -43,7 +43,8 @@ fn remove_and_show<S: Store>(
     out: &mut Vec<u8>,
 ) -> Result<(), MailFault>
     requires room { vec_len out.old + keep ≤ vec_capacity out.old }
-    ensures done { (x : Exchange) → Does S.step (Expunge (option_copied uids.entry) (Feed unlimited x)) (λ _. x) store.old store.new out.old.items out.new.items result }
+    ensures done { (x : Exchange) → Does S.step (Expunge (option_copied uids.entry) (Feed unlimited x)) (λ _.
+        x) store.old store.new out.old.items out.new.items result }
     ensures room { vec_len out.new + keep ≤ vec_capacity out.new }
 {
     match purge(uids, store, keep, out) {
@@ -62,7 +63,8 @@ pub(crate) fn expunge_all<S: Store>(
     out: &mut Vec<u8>,
 ) -> Result<&'static [u8], MailFault>
     requires room { vec_len out.old + keep ≤ vec_capacity out.old }
-    ensures done { Does S.step (Expunge None (Feed unlimited (completed commands.Expunge))) last store.old store.new out.old.items out.new.items result }
+    ensures done { Does S.step (Expunge None (Feed unlimited
+        (completed commands.Expunge))) last store.old store.new out.old.items out.new.items result }
     ensures short { IfOk result (λ words. length words.now ≤ 45) }
     ensures room { vec_len out.new + keep ≤ vec_capacity out.new }
 {

@@ -32,7 +32,8 @@ pub fn rest_shows_none()
 /// The verdict on an appended message shows changes right before the tagged OK that tells its UID, where a mailbox is selected. A message that was
 /// refused has no tagged OK, and shows none.
 pub fn verdicts_show_in_place()
-    ensures { (selected : Option Selected) (mailbox : ℕ) (verdict : Verdict) → VerdictShowsInPlace selected verdict (on_verdict selected mailbox verdict) }
+    ensures { (selected : Option Selected) (mailbox : ℕ) (verdict : Verdict) →
+        VerdictShowsInPlace selected verdict (on_verdict selected mailbox verdict) }
 {}
 
 /// A tagged last line begins `OK [APPENDUID` where it answers a verdict that was `Stored`, and nowhere else: not where it ends a command or an IDLE, not
@@ -42,7 +43,8 @@ pub fn verdicts_show_in_place()
 pub fn only_a_stored_verdict_tells_a_uid()
     ensures words { (uidvalidity uid : ℕ) → tells_uid (appended_words uidvalidity uid) ≡ true }
     ensures numbers { WordsTellWhich }
-    ensures verdicts { (selected : Option Selected) (mailbox : ℕ) (verdict : Verdict) → VerdictTellsUid selected mailbox verdict (on_verdict selected mailbox verdict) }
+    ensures verdicts { (selected : Option Selected) (mailbox : ℕ) (verdict : Verdict) →
+        VerdictTellsUid selected mailbox verdict (on_verdict selected mailbox verdict) }
     ensures commands { (now : Standing) (command : Command) → TellsNoUid (on_command now command) }
     ensures idling { (selected : Option Selected) (line : List ℕ) → TellsNoUid (on_idle_line selected line) }
     ensures rest { (mailing : Mailing) (begun : Appending) (ends : Bool) → TellsNoUid (on_rest mailing begun ends) }
@@ -53,5 +55,6 @@ pub fn only_a_stored_verdict_tells_a_uid()
 
 /// However the bytes of a literal are cut, the session comes to stand where it would by all at once.
 pub fn literals_may_be_cut()
-    ensures { (now : Standing) (front back : List ℕ) (kept also_kept : Bool) → with_bytes also_kept back (with_bytes kept front now) ≡ with_bytes (kept && also_kept) (front ++ back) now }
+    ensures { (now : Standing) (front back : List ℕ) (kept also_kept : Bool) →
+        with_bytes also_kept back (with_bytes kept front now) ≡ with_bytes (kept && also_kept) (front ++ back) now }
 {}

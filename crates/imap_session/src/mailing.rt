@@ -128,10 +128,12 @@ pub(crate) fn judge(
     number: u32,
     empty: bool,
 ) -> Result<(u8, Vec<u8>), &'static [u8]>
-    ensures says { IfErr result (λ words. (mailing : MailingSpec) (a : AppendingSpec) → mailing.most ≡ most → mailing.number ≡ number → a.mailbox ≡ mailbox → a.size ≡ size → a.text ≡ option_map (λ t. t.items) text →
+    ensures says { IfErr result (λ words. (mailing : MailingSpec) (a : AppendingSpec) → mailing.most ≡ most → mailing.number ≡ number →
+        a.mailbox ≡ mailbox → a.size ≡ size → a.text ≡ option_map (λ t. t.items) text →
         on_rest mailing a empty ≡ says words.now) }
     ensures short { IfErr result (λ words. length words.now ≤ 45) }
-    ensures ready { IfOk result (λ made. (mailing : MailingSpec) (a : AppendingSpec) → mailing.most ≡ most → mailing.number ≡ number → a.mailbox ≡ mailbox → a.size ≡ size → a.text ≡ option_map (λ t. t.items) text →
+    ensures ready { IfOk result (λ made. (mailing : MailingSpec) (a : AppendingSpec) → mailing.most ≡ most → mailing.number ≡ number →
+        a.mailbox ≡ mailbox → a.size ≡ size → a.text ≡ option_map (λ t. t.items) text →
         on_rest mailing a empty ≡ wanting (Wait [] (ForVerdict made.0 a.flags made.1.items))) }
     ensures numbered { IfOk result (λ made. number < 4294967295) }
 {

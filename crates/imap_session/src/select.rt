@@ -74,7 +74,8 @@ fn leave_previous<S: Store>(
     out: &mut Vec<u8>,
 ) -> Result<(), MailFault>
     requires room { vec_len out.old + keep ≤ vec_capacity out.old }
-    ensures done { (x : Exchange) → Moves S.step selected.old selected.new (closing selected.old x) (λ _. x) store.old store.new out.old.items out.new.items result }
+    ensures done { (x : Exchange) → Moves S.step selected.old selected.new (closing selected.old x) (λ _.
+        x) store.old store.new out.old.items out.new.items result }
     ensures none { OnOk result (selected.new ≡ None) }
     ensures room { vec_len out.new + keep ≤ vec_capacity out.new }
 {
@@ -96,7 +97,8 @@ fn enter_mailbox<S: Store>(
     selected: &mut Option<Selected>,
     store: &mut S,
 ) -> Result<Opening, MailFault>
-    ensures done { (next : OpeningSpec → Exchange) (text : List ℕ) → Moves S.step selected.old selected.new (Enter wanted next) next store.old store.new text text result }
+    ensures done { (next : OpeningSpec → Exchange) (text : List ℕ) →
+        Moves S.step selected.old selected.new (Enter wanted next) next store.old store.new text text result }
     ensures entered { OnOk result (selected.new ≡ Some wanted) }
 {
     match store.enter(wanted.mailbox) {
@@ -114,7 +116,8 @@ pub(crate) fn leave_mailbox<S: Store>(
     selected: &mut Option<Selected>,
     store: &mut S,
 ) -> Result<(), MailFault>
-    ensures done { (x : Exchange) (text : List ℕ) → Moves S.step selected.old selected.new (Leave remove x) (λ _. x) store.old store.new text text result }
+    ensures done { (x : Exchange) (text : List ℕ) → Moves S.step selected.old selected.new (Leave remove x) (λ _.
+        x) store.old store.new text text result }
     ensures none { OnOk result (selected.new ≡ None) }
     ensures err { OnErr result (selected.new ≡ selected.old) }
 {
@@ -149,7 +152,8 @@ fn enter_folder<S: Store>(
     out: &mut Vec<u8>,
 ) -> Result<&'static [u8], MailFault>
     requires room { vec_len out.old + keep ≤ vec_capacity out.old }
-    ensures done { Moves S.step selected.old selected.new (entering read_only folder.now) last store.old store.new out.old.items out.new.items result }
+    ensures done { Moves S.step selected.old selected.new
+        (entering read_only folder.now) last store.old store.new out.old.items out.new.items result }
     ensures short { IfOk result (λ words. length words.now ≤ 45) }
     ensures room { vec_len out.new + keep ≤ vec_capacity out.new }
 {
@@ -178,7 +182,8 @@ fn enter_named<S: Store>(
     out: &mut Vec<u8>,
 ) -> Result<&'static [u8], MailFault>
     requires room { vec_len out.old + keep ≤ vec_capacity out.old }
-    ensures done { Moves S.step selected.old selected.new (on_folder name.now folders.now (entering read_only)) last store.old store.new out.old.items out.new.items result }
+    ensures done { Moves S.step selected.old selected.new
+        (on_folder name.now folders.now (entering read_only)) last store.old store.new out.old.items out.new.items result }
     ensures short { IfOk result (λ words. length words.now ≤ 45) }
     ensures room { vec_len out.new + keep ≤ vec_capacity out.new }
 {
@@ -200,7 +205,9 @@ pub(crate) fn select_mailbox<S: Store>(
     out: &mut Vec<u8>,
 ) -> Result<&'static [u8], MailFault>
     requires room { vec_len out.old + keep ≤ vec_capacity out.old }
-    ensures done { Moves S.step selected.old selected.new (selecting (record { folders = folders.now; selected = selected.old; idling = None; ended = false; mailing = nothing_sent None }) read_only name.now) last store.old store.new out.old.items out.new.items result }
+    ensures done { Moves S.step selected.old selected.new
+        (selecting (record { folders = folders.now; selected = selected.old; idling = None; ended = false;
+        mailing = nothing_sent None }) read_only name.now) last store.old store.new out.old.items out.new.items result }
     ensures short { IfOk result (λ words. length words.now ≤ 45) }
     ensures room { vec_len out.new + keep ≤ vec_capacity out.new }
 {

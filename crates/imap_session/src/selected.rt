@@ -78,7 +78,8 @@ pub(crate) fn store_flags<S: Store>(
     out: &mut Vec<u8>,
 ) -> Result<&'static [u8], MailFault>
     requires room { vec_len out.old + keep ≤ vec_capacity out.old }
-    ensures done { Does S.step (on_found (if_writable (store_messages command.now)) wrong_state selected) last store.old store.new out.old.items out.new.items result }
+    ensures done { Does S.step (on_found (if_writable
+        (store_messages command.now)) wrong_state selected) last store.old store.new out.old.items out.new.items result }
     ensures short { IfOk result (λ words. length words.now ≤ 45) }
     ensures room { vec_len out.new + keep ≤ vec_capacity out.new }
 {
@@ -96,7 +97,8 @@ pub(crate) fn expunge<S: Store>(
     out: &mut Vec<u8>,
 ) -> Result<&'static [u8], MailFault>
     requires room { vec_len out.old + keep ≤ vec_capacity out.old }
-    ensures done { Does S.step (on_found (if_writable (Expunge None (Feed unlimited (completed commands.Expunge)))) wrong_state selected) last store.old store.new out.old.items out.new.items result }
+    ensures done { Does S.step (on_found (if_writable
+        (Expunge None (Feed unlimited (completed commands.Expunge)))) wrong_state selected) last store.old store.new out.old.items out.new.items result }
     ensures short { IfOk result (λ words. length words.now ≤ 45) }
     ensures room { vec_len out.new + keep ≤ vec_capacity out.new }
 {
@@ -116,7 +118,8 @@ pub(crate) fn uid_expunge<S: Store>(
     out: &mut Vec<u8>,
 ) -> Result<&'static [u8], MailFault>
     requires room { vec_len out.old + keep ≤ vec_capacity out.old }
-    ensures done { Does S.step (on_found (if_writable (expunge_set set.now)) wrong_state selected) last store.old store.new out.old.items out.new.items result }
+    ensures done { Does S.step (on_found (if_writable
+        (expunge_set set.now)) wrong_state selected) last store.old store.new out.old.items out.new.items result }
     ensures short { IfOk result (λ words. length words.now ≤ 45) }
     ensures room { vec_len out.new + keep ≤ vec_capacity out.new }
 {

@@ -167,8 +167,10 @@ impl Session {
     // most 32 bytes it isn't asked.
     fn begin_idling(&mut self, alloc: Global, tag: &[u8], out: &mut Vec<u8>) -> After
         requires room { vec_len out.old + (length tag.now + LAST) ≤ vec_capacity out.old }
-        ensures begun { result ≡ After.Idle → (self.new ≡ record self.old { idling = Some tag.now }) × (out.new.items ≡ out.old.items ++ codes "+ idling\r\n") }
-        ensures starved { result ≡ After.Go → (32 < length tag.now) × (self.new ≡ self.old) × (out.new.items ≡ out.old.items ++ tagged tag.now (codes "NO Out of memory")) }
+        ensures begun { result ≡ After.Idle → (self.new ≡ record self.old { idling = Some tag.now }) ×
+            (out.new.items ≡ out.old.items ++ codes "+ idling\r\n") }
+        ensures starved { result ≡ After.Go → (32 < length tag.now) × (self.new ≡ self.old) ×
+            (out.new.items ≡ out.old.items ++ tagged tag.now (codes "NO Out of memory")) }
         ensures only { (result ≡ After.Idle) ⊎ (result ≡ After.Go) }
     {
         let Ok(kept) = Tag::new(alloc, tag) else {
@@ -195,7 +197,8 @@ impl Session {
         requires unsent { self.old.mailing.sent ≡ None }
         requires room { vec_len out.old + (length tag.now + LAST) ≤ vec_capacity out.old }
         requires size { append.now.literal.size < 2 ^ 32 }
-        ensures leads { Leads tag.now self.old (wanting (awaiting (if append.now.literal.waits then codes "+ ready\r\n" else []) mailbox append.now.flags append.now.literal.size)) out.old.items out.new.items result self.new }
+        ensures leads { Leads tag.now self.old (wanting (awaiting
+            (if append.now.literal.waits then codes "+ ready\r\n" else []) mailbox append.now.flags append.now.literal.size)) out.old.items out.new.items result self.new }
         ensures folders { self.new.folders ≡ self.old.folders }
         ensures sends { result ≡ may_send self.new }
     {
@@ -310,7 +313,8 @@ impl Session {
         requires unsent { self.old.mailing.sent ≡ None }
         requires other { is_open command.now ≡ false }
         requires room { vec_len out.old + (length tag.now + LAST + FIRST) ≤ vec_capacity out.old }
-        ensures plays { Plays S.step tag.now self.old (record self.old { selected = self.new.selected }) (on_command self.old command.now) store.old store.new out.old.items out.new.items result }
+        ensures plays { Plays S.step tag.now self.old (record self.old { selected = self.new.selected })
+            (on_command self.old command.now) store.old store.new out.old.items out.new.items result }
         ensures standing { self.new ≡ (closed (record self.old { selected = self.new.selected }) result).standing }
         ensures sends { result ≡ may_send self.new }
     {
@@ -383,7 +387,8 @@ impl Session {
         requires alone { self.old.mailing.begun ≡ None }
         requires unsent { self.old.mailing.sent ≡ None }
         requires room { vec_len out.old + (length tag.now + LAST) ≤ vec_capacity out.old }
-        ensures plays { Plays S.step tag.now self.old self.old (on_idle_line self.old.selected line.now) store.old store.new out.old.items out.new.items result }
+        ensures plays { Plays S.step tag.now self.old self.old
+            (on_idle_line self.old.selected line.now) store.old store.new out.old.items out.new.items result }
         ensures standing { self.new ≡ (closed self.old result).standing }
         ensures sends { result ≡ may_send self.new }
     {
@@ -405,9 +410,11 @@ impl Session {
         requires awake { self.old.idling ≡ None }
         requires alone { self.old.mailing.begun ≡ None }
         requires unsent { self.old.mailing.sent ≡ None }
-        ensures answered { IfOk result (λ after. Answers S.step (record self.old { idling = Some tag }) line.now store.old store.new out.old.items out.new.items after self.new) }
+        ensures answered { IfOk result (λ after. Answers S.step
+            (record self.old { idling = Some tag }) line.now store.old store.new out.old.items out.new.items after self.new) }
         ensures lasts { result ≢ Err SessionFault.Ended }
-        ensures refused { OnErr result ((self.new ≡ record self.old { idling = Some tag }) × (store.new ≡ store.old) × (out.new.items ≡ out.old.items)) }
+        ensures refused { OnErr result ((self.new ≡ record self.old { idling = Some tag }) × (store.new ≡ store.old) ×
+            (out.new.items ≡ out.old.items)) }
         ensures memory { OnErr result (vec_capacity out.old < vec_len out.old + (length tag + 48)) }
         ensures folders { self.new.folders ≡ self.old.folders }
         ensures sends { IfOk result (λ after. after ≡ may_send self.new) }
@@ -514,9 +521,11 @@ impl Session {
         requires going { self.old.ended ≡ false }
         requires alone { self.old.mailing.begun ≡ None }
         requires unsent { self.old.mailing.sent ≡ None }
-        ensures answered { IfOk result (λ after. Leads begun.tag (record self.old { idling = None }) (on_rest self.old.mailing (appending_of begun) (length line.now == 0)) out.old.items out.new.items after self.new) }
+        ensures answered { IfOk result (λ after. Leads begun.tag (record self.old { idling = None })
+            (on_rest self.old.mailing (appending_of begun) (length line.now == 0)) out.old.items out.new.items after self.new) }
         ensures lasts { result ≢ Err SessionFault.Ended }
-        ensures refused { OnErr result ((self.new ≡ record self.old { mailing = record self.old.mailing { begun = Some (appending_of begun) } }) × (out.new.items ≡ out.old.items)) }
+        ensures refused { OnErr result ((self.new ≡ record self.old { mailing = record self.old.mailing { begun = Some
+            (appending_of begun) } }) × (out.new.items ≡ out.old.items)) }
         ensures memory { OnErr result (vec_capacity out.old < vec_len out.old + (length begun.tag + 48)) }
         ensures folders { self.new.folders ≡ self.old.folders }
         ensures sends { IfOk result (λ after. after ≡ may_send self.new) }
@@ -589,7 +598,8 @@ impl Session {
         requires alone { self.old.mailing.begun ≡ None }
         requires unsent { self.old.mailing.sent ≡ None }
         requires room { vec_len out.old + (length tag.now + STORED) ≤ vec_capacity out.old }
-        ensures plays { Plays S.step tag.now self.old self.old (on_verdict self.old.selected mailbox verdict) store.old store.new out.old.items out.new.items result }
+        ensures plays { Plays S.step tag.now self.old self.old
+            (on_verdict self.old.selected mailbox verdict) store.old store.new out.old.items out.new.items result }
         ensures standing { self.new ≡ (closed self.old result).standing }
         ensures mailing { self.new.mailing ≡ self.old.mailing }
         ensures sends { result ≡ may_send self.new }
@@ -609,9 +619,12 @@ impl Session {
     ) -> Result<After, SessionFault>
         requires going { self.old.ended ≡ false }
         requires unsent { self.old.mailing.sent ≡ None }
-        ensures answered { IfOk result (λ after. AnswersVerdict S.step (record self.old { mailing = record self.old.mailing { sent = Some (sent_of sent) } }) verdict store.old store.new out.old.items out.new.items after self.new) }
+        ensures answered { IfOk result (λ after. AnswersVerdict S.step
+            (record self.old { mailing = record self.old.mailing { sent = Some
+            (sent_of sent) } }) verdict store.old store.new out.old.items out.new.items after self.new) }
         ensures lasts { result ≢ Err SessionFault.Ended }
-        ensures refused { OnErr result ((self.new ≡ record self.old { mailing = record self.old.mailing { sent = Some (sent_of sent) } }) × (store.new ≡ store.old) × (out.new.items ≡ out.old.items)) }
+        ensures refused { OnErr result ((self.new ≡ record self.old { mailing = record self.old.mailing { sent = Some (sent_of sent) } }) ×
+            (store.new ≡ store.old) × (out.new.items ≡ out.old.items)) }
         ensures memory { OnErr result (vec_capacity out.old < vec_len out.old + (length sent.tag + STORED)) }
         ensures done { OnOk result ((self.new.mailing.begun ≡ None) × (self.new.mailing.sent ≡ None)) }
         ensures folders { self.new.folders ≡ self.old.folders }
@@ -749,7 +762,8 @@ impl Session {
         ensures over { result ≡ Err SessionFault.Ended → store.new ≡ store.old }
         ensures starved { result ≡ Err SessionFault.NoMemory → Starves S.step store.old store.new }
         // Where `out` has room for a BYE line, the store was asked.
-        ensures asked { result ≡ Err SessionFault.NoMemory → vec_len out.old + 48 ≤ vec_capacity out.old → S.step store.old (Feed most_changes) (Refused MailFault.NoMemory) store.new }
+        ensures asked { result ≡ Err SessionFault.NoMemory → vec_len out.old + 48 ≤ vec_capacity out.old →
+            S.step store.old (Feed most_changes) (Refused MailFault.NoMemory) store.new }
         ensures refused { OnErr result ((self.new ≡ self.old) × (out.new.items ≡ out.old.items)) }
     {
         if self.ended {

@@ -79,7 +79,8 @@ fn write_stored(
     out: &mut Vec<u8>,
 ) -> Result<(), MailFault>
     requires room { vec_len out.old + keep ≤ vec_capacity out.old }
-    ensures text { OnOk result (out.new.items ≡ out.old.items ++ (if command.now.silent then [] else flags_answer command.now.by_uid message.place message.uid flags)) }
+    ensures text { OnOk result (out.new.items ≡ out.old.items ++
+        (if command.now.silent then [] else flags_answer command.now.by_uid message.place message.uid flags)) }
     ensures err { OnErr result (out.new.items ≡ out.old.items) }
     ensures fault { IfErr result (λ f. f ≡ MailFault.NoMemory) }
     ensures room { vec_len out.new + keep ≤ vec_capacity out.new }

@@ -61,7 +61,8 @@ pub(crate) fn purge<S: Store>(
     out: &mut Vec<u8>,
 ) -> Result<(), MailFault>
     requires room { vec_len out.old + keep ≤ vec_capacity out.old }
-    ensures done { (x : Exchange) → Does S.step (Expunge (option_copied uids.entry) x) (λ _. x) store.old store.new out.old.items out.new.items result }
+    ensures done { (x : Exchange) → Does S.step (Expunge (option_copied uids.entry) x) (λ _.
+        x) store.old store.new out.old.items out.new.items result }
     ensures room { vec_len out.new + keep ≤ vec_capacity out.new }
 {
     let start = out.len();

@@ -41,7 +41,8 @@ fn flush<W: Sink>(output: &mut W, written: &mut Vec<u8>) -> Result<(), VisitFaul
     requires { W.failed output.old ≡ false }
     ensures ok { OnOk result (Appends (W.taken output.old) (W.taken output.new) written.old.items) }
     ensures live { OnOk result (W.failed output.new ≡ false) }
-    ensures err { OnErr result ((sent : ℕ) × (sent < length written.old.items) × Appends (W.taken output.old) (W.taken output.new) (take sent written.old.items)) }
+    ensures err { OnErr result ((sent : ℕ) × (sent < length written.old.items) ×
+        Appends (W.taken output.old) (W.taken output.new) (take sent written.old.items)) }
     ensures failed { OnErr result (W.failed output.new ≡ true) }
     ensures cleared { (written.new.items ≡ []) × (vec_capacity written.new ≡ vec_capacity written.old) }
     ensures fault { IfErr result (λ fault. fault ≡ VisitFault.Write) }
@@ -117,7 +118,8 @@ impl<'a, R: Wait, G: Gate, W: Sink> Visit<'a, R, G, W> {
         ensures ok { IfOk result (λ visit. IsGreeted most folders.items desk.entry (W.taken output) visit) }
         ensures untorn { IfErr result (λ stop. stop.1 ≢ VisitFault.Torn) }
         ensures short { IfErr result (λ stop. stop.1 ≡ VisitFault.NoMemory → stop.0 ≡ output) }
-        ensures cut { IfErr result (λ stop. stop.1 ≡ VisitFault.Write → (sent : ℕ) × (sent < length greeting) × Appends (W.taken output) (W.taken stop.0) (take sent greeting)) }
+        ensures cut { IfErr result (λ stop. stop.1 ≡ VisitFault.Write →
+            (sent : ℕ) × (sent < length greeting) × Appends (W.taken output) (W.taken stop.0) (take sent greeting)) }
         ensures failed { IfErr result (λ stop. stop.1 ≡ VisitFault.Write → W.failed stop.0 ≡ true) }
     {
         let Ok(connection) = ImapConnection::new(alloc, folders, most) else {
@@ -244,7 +246,8 @@ impl<'a, R: Wait, G: Gate, W: Sink> Visit<'a, R, G, W> {
         ensures untorn { IfErr result (λ fault. fault ≢ VisitFault.Torn) }
         ensures waits { result ≡ Err VisitFault.NoMemory → self.new.closed ≡ self.old.closed }
         ensures short { result ≡ Err VisitFault.NoMemory → Tells (ShowsInPart self.new.room) SendsAll self.old self.new }
-        ensures cut { result ≡ Err VisitFault.Write → Tells ShowsAll SendsFirst self.old self.new ⊎ Tells (ShowsInPart self.new.room) SendsFirst self.old self.new }
+        ensures cut { result ≡ Err VisitFault.Write → Tells ShowsAll SendsFirst self.old self.new ⊎
+            Tells (ShowsInPart self.new.room) SendsFirst self.old self.new }
     {
         if self.is_over() {
             return Ok(After::Bye);

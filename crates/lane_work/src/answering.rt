@@ -97,7 +97,8 @@ pub fn serve_copy<R: Wait, G: Gate>(
     requires senders { AreSenders depot.now.channels.items shard senders.old.items }
     ensures senders { AreSenders depot.now.channels.items shard senders.new.items }
     ensures known { result ≡ is_ours (length depot.now.mailboxes.items) (length depot.now.channels.items) producer job.now }
-    ensures served { Serves (length depot.now.mailboxes.items) (length depot.now.channels.items) shard producer job.now (map sent_on senders.old.items) (map sent_on senders.new.items) }
+    ensures served { Serves (length depot.now.mailboxes.items) (length depot.now.channels.items) shard producer job.now
+        (map sent_on senders.old.items) (map sent_on senders.new.items) }
 {
     let place = usize::from(producer);
     if place >= depot.channels.len() {

@@ -62,7 +62,8 @@ fn judge<R: Wait, G: Gate, S: Summons>(
     ensures live { AreLive desk.new.seats.items }
     ensures ends { CountsEnds desk.old desk.new }
     ensures grew { IsStartOf (received desk.old.receiver) (received desk.new.receiver) }
-    ensures judged { IfOk result (λ verdict. WasJudged office.now.directory (rooms_of office.now.lanes.items) desk.old.number (record { key = key; mailbox = mailbox; text = text.now; flags = flags }) verdict
+    ensures judged { IfOk result (λ verdict. WasJudged office.now.directory (rooms_of office.now.lanes.items) desk.old.number
+        (record { key = key; mailbox = mailbox; text = text.now; flags = flags }) verdict
         (received desk.new.receiver) (map put_by desk.old.seats.items) (map put_by desk.new.seats.items)) }
 {
     match put_copy(rt, pace, office, summons, desk, key, mailbox, text, flags) {

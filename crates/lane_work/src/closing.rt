@@ -90,7 +90,8 @@ fn end_where_shut<R: Wait, G: Gate, S: Summons>(
     requires { AreSeated directory.now office.now.lanes.items desk.old.number desk.old.seats.items }
     ensures seats { AreSeated directory.now office.now.lanes.items desk.old.number desk.new.seats.items }
     ensures kept { KeepsDesk desk.old desk.new }
-    ensures over { (lane : ℕ) → lane < length office.now.lanes.items → is_shut directory.now lane ≡ true → slice_index_or (overs desk.new.seats.items) lane false ≡ true }
+    ensures over { (lane : ℕ) → lane < length office.now.lanes.items → is_shut directory.now lane ≡ true →
+        slice_index_or (overs desk.new.seats.items) lane false ≡ true }
 {
     for lane in 0..office.lanes.len() {
         let seat = desk.seats.remove(0);
@@ -118,7 +119,8 @@ pub(crate) fn close_due<R: Wait, G: Gate, S: Summons>(
     ensures seats { AreSeated directory.new office.now.lanes.items desk.old.number desk.new.seats.items }
     ensures kept { KeepsDesk desk.old desk.new }
     ensures marks { Marks connection (closings_at office.now desk.old.number) directory.old directory.new }
-    ensures over { (lane : ℕ) → lane < length office.now.lanes.items → is_shut directory.new lane ≡ true → slice_index_or (overs desk.new.seats.items) lane false ≡ true }
+    ensures over { (lane : ℕ) → lane < length office.now.lanes.items → is_shut directory.new lane ≡ true →
+        slice_index_or (overs desk.new.seats.items) lane false ≡ true }
 {
     mark_due(closings_of(office, desk.number), connection, directory);
     end_where_shut(rt, pace, office, summons, desk, directory);

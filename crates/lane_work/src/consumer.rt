@@ -97,7 +97,8 @@ fn serve_all<R: Wait, G: Gate>(
     ensures shard { stall.new.shard ≡ stall.old.shard }
     ensures seat { IsConsumer lane.now stall.new.seat }
     ensures senders { AreSenders depot.now.channels.items stall.old.shard stall.new.senders.items }
-    ensures answered { HaveAnswered (length depot.now.mailboxes.items) (length depot.now.channels.items) stall.old.shard (got stall.new.seat) (map sent_on stall.old.senders.items) (map sent_on stall.new.senders.items) }
+    ensures answered { HaveAnswered (length depot.now.mailboxes.items) (length depot.now.channels.items) stall.old.shard
+        (got stall.new.seat) (map sent_on stall.old.senders.items) (map sent_on stall.new.senders.items) }
     ensures ends { producers ≤ ends_in (got stall.new.seat) }
     ensures torn { result.torn ≡ list_any (is_nobodys (length depot.now.mailboxes.items) (length depot.now.channels.items)) (got stall.new.seat) }
     ensures kept { result.kept ≡ true → copies.new.items ≡ items_of (got stall.new.seat) }

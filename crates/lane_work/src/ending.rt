@@ -51,7 +51,8 @@ pub fn end_seat<R: Wait, G: Gate>(
     seat: LaneSeat,
 ) -> Ended<Job>
     requires { IsSeat lane.now seat }
-    ensures { IsEnded lane.now result × (ended_number result ≡ seat_number seat) × (said result ≡ put_by seat ++ entries.End (seat_number seat) ∷ []) }
+    ensures { IsEnded lane.now result × (ended_number result ≡ seat_number seat) ×
+        (said result ≡ put_by seat ++ entries.End (seat_number seat) ∷ []) }
 {
     match seat {
         LaneSeat::Live(live) => end_one(rt, pace, lane, live),
@@ -97,7 +98,8 @@ pub fn hear_ends<R: Wait, G: Gate>(
     requires { IsReceiver channel.now receiver.old }
     ensures receiver { IsReceiver channel.now receiver.new }
     ensures grew { IsStartOf (received receiver.old) (received receiver.new) }
-    ensures quiet { result ≡ true → length (received receiver.new) + ends_in (received receiver.old) ≡ length (received receiver.old) + ends_in (received receiver.new) }
+    ensures quiet { result ≡ true → length (received receiver.new) + ends_in (received receiver.old) ≡ length
+        (received receiver.old) + ends_in (received receiver.new) }
     ensures ends { shards + ends_in (received receiver.old) ≤ heard + ends_in (received receiver.new) }
 {
     let mut quiet = true;
@@ -123,7 +125,8 @@ pub fn end_sender<R: Wait, G: Gate>(
     mut seat: SenderSeat<Noted>,
 ) -> SenderEnded<Noted>
     requires { IsSender channel.now seat }
-    ensures { IsSenderEnded channel.now result × (sender_ended_number result ≡ sender_number seat) × (said_on result ≡ sent_on seat ++ entries.End (sender_number seat) ∷ []) }
+    ensures { IsSenderEnded channel.now result × (sender_ended_number result ≡ sender_number seat) ×
+        (said_on result ≡ sent_on seat ++ entries.End (sender_number seat) ∷ []) }
 {
     for _ in rt.forever() {
         pace.pass();

@@ -38,13 +38,15 @@ pub trait Notebook {
         requires verdicts { length verdicts.now ≡ vec_len message.now.keys }
         requires room { has_room self.old (length verdicts.now) }
         ensures owner { owner self.new ≡ owner self.old }
-        ensures tells { (copies : List (Job × Verdict)) → tells self.old copies → tells self.new (copies ++ zip (copies_of (submission_of message.now)) verdicts.now) };
+        ensures tells { (copies : List (Job × Verdict)) → tells self.old copies →
+            tells self.new (copies ++ zip (copies_of (submission_of message.now)) verdicts.now) };
 
     /// Notes the verdict on one copy, in room that was reserved.
     fn note_one(&mut self, key: CopyKey, mailbox: u8, verdict: Verdict)
         requires room { has_room self.old 1 }
         ensures owner { owner self.new ≡ owner self.old }
-        ensures tells { (copy : Job) (copies : List (Job × Verdict)) → copy.key ≡ key → copy.mailbox ≡ mailbox → tells self.old copies → tells self.new (copies ++ (copy, verdict) ∷ []) };
+        ensures tells { (copy : Job) (copies : List (Job × Verdict)) → copy.key ≡ key → copy.mailbox ≡ mailbox → tells self.old copies →
+            tells self.new (copies ++ (copy, verdict) ∷ []) };
 }
 
 /// A log notes each verdict.

@@ -87,9 +87,12 @@ fn settle<R: Wait, G: Gate, S: Summons, N: Notebook>(
     ensures owner { N.owner book.new ≡ N.owner book.old }
     ensures verdicts { IfOk result (λ vs. vec_len vs ≡ vec_len message.now.keys) }
     // Where no seat is over that a copy is for.
-    ensures books { IfOk result (λ vs. AreOpenTo office.now.directory message.now.mailboxes.items desk.old.seats.items → (judged : List Judged) → AreBooks office.now.directory (rooms_of office.now.lanes.items) desk.old.number judged (N.tells book.old) (received desk.old.receiver) (map put_by desk.old.seats.items)
+    ensures books { IfOk result (λ vs. AreOpenTo office.now.directory message.now.mailboxes.items desk.old.seats.items →
+        (judged : List Judged) → AreBooks office.now.directory (rooms_of office.now.lanes.items) desk.old.number judged (N.tells book.old)
+        (received desk.old.receiver) (map put_by desk.old.seats.items)
         → AreBooks office.now.directory (rooms_of office.now.lanes.items) desk.old.number (judged ++ record { message = submission_of message.now; verdicts = vs.items } ∷ []) (N.tells book.new) (received desk.new.receiver) (map put_by desk.new.seats.items)) }
-    ensures err { result ≡ Err Stop.NoMemory → (map put_by desk.new.seats.items ≡ map put_by desk.old.seats.items) × (received desk.new.receiver ≡ received desk.old.receiver) }
+    ensures err { result ≡ Err Stop.NoMemory → (map put_by desk.new.seats.items ≡ map put_by desk.old.seats.items) ×
+        (received desk.new.receiver ≡ received desk.old.receiver) }
     ensures noted { result ≡ Err Stop.NoMemory → (copies : List (Job × Verdict)) → N.tells book.old copies → N.tells book.new copies }
     ensures torn { result ≡ Err Stop.Torn → length (received desk.old.receiver) < length (received desk.new.receiver) }
     ensures grew { IsStartOf (received desk.old.receiver) (received desk.new.receiver) }
@@ -156,7 +159,8 @@ pub fn turn<R: Wait, G: Gate, S: Summons, N: Notebook>(
     ensures kept { OnErr result ((done : List Judged) (bytes told : List ℕ)
         → Stands directory.now office.now.directory (rooms_of office.now.lanes.items) desk.old.number done bytes false machine.old (told ++ out.old.items) (N.tells book.old) (received desk.old.receiver) (map put_by desk.old.seats.items)
         → StartsWith out.new.items out.old.items) }
-    ensures err { result ≡ Err Stop.NoMemory → (map put_by desk.new.seats.items ≡ map put_by desk.old.seats.items) × (received desk.new.receiver ≡ received desk.old.receiver) }
+    ensures err { result ≡ Err Stop.NoMemory → (map put_by desk.new.seats.items ≡ map put_by desk.old.seats.items) ×
+        (received desk.new.receiver ≡ received desk.old.receiver) }
     ensures noted { result ≡ Err Stop.NoMemory → (copies : List (Job × Verdict)) → N.tells book.old copies → N.tells book.new copies }
     ensures torn { result ≡ Err Stop.Torn → length (received desk.old.receiver) < length (received desk.new.receiver) }
     ensures grew { IsStartOf (received desk.old.receiver) (received desk.new.receiver) }
@@ -342,14 +346,16 @@ fn go_through<R: Wait, G: Gate, S: Summons>(
     requires receiver { IsReceiver channel.now desk.old.receiver }
     requires lanes { office.now.directory.shards ≡ length office.now.lanes.items }
     requires host { length office.now.host.items < 256 }
-    requires begun { (replies.old.items ≡ []) × AreBooks office.now.directory (rooms_of office.now.lanes.items) desk.old.number [] (notes_tell log.old.notes) (received desk.old.receiver) (map put_by desk.old.seats.items) }
+    requires begun { (replies.old.items ≡ []) × AreBooks office.now.directory (rooms_of office.now.lanes.items) desk.old.number []
+        (notes_tell log.old.notes) (received desk.old.receiver) (map put_by desk.old.seats.items) }
     ensures seats { AreSeats office.now.lanes.items desk.old.number desk.new.seats.items }
     ensures receiver { IsReceiver channel.now desk.new.receiver }
     ensures number { desk.new.number ≡ desk.old.number }
     ensures ends { CountsEnds desk.old desk.new }
     ensures seat { log.new.seat ≡ log.old.seat }
     ensures began { result ≢ Fate.NotBegun }
-    ensures whole { result ≡ Fate.Whole → HasServed (premises_of office.now) desk.old.number (map (λ b. b.items) connections.now) (map (λ b. b.items) replies.new.items) (notes_tell log.new.notes) (received desk.new.receiver) (map put_by desk.new.seats.items) }
+    ensures whole { result ≡ Fate.Whole → HasServed (premises_of office.now) desk.old.number (map (λ b. b.items) connections.now)
+        (map (λ b. b.items) replies.new.items) (notes_tell log.new.notes) (received desk.new.receiver) (map put_by desk.new.seats.items) }
 {
     let Ok(mut directory) = office.directory.copy(alloc) else {
         return Fate::NoMemory;
@@ -457,7 +463,8 @@ pub fn finish<R: Wait, G: Gate, S: Summons>(
     ensures heard { length office.now.lanes.items + ends_in (received desk.receiver) ≤ desk.ends + ends_in (received result.receiver) }
     ensures kept { (result.log ≡ log) × (result.replies ≡ replies) }
     ensures whole { result.fate ≡ Fate.Whole → fate ≡ Fate.Whole }
-    ensures quiet { result.fate ≡ Fate.Whole → length (received result.receiver) + ends_in (received desk.receiver) ≡ length (received desk.receiver) + ends_in (received result.receiver) }
+    ensures quiet { result.fate ≡ Fate.Whole → length (received result.receiver) + ends_in (received desk.receiver) ≡ length
+        (received desk.receiver) + ends_in (received result.receiver) }
     ensures began { fate ≢ Fate.NotBegun → result.fate ≢ Fate.NotBegun }
 {
     let Desk {

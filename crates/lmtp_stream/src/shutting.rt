@@ -14,7 +14,8 @@ use std::alloc::AllocError;
 
 // Says that the server shuts down, where the dialogue goes on and isn't within a message's data.
 fn say_last(machine: &mut LmtpMachine, out: &mut Vec<u8>) -> Result<(), AllocError>
-    ensures said { OnOk result ((c : Conversation) → StandsFor machine.old c → out.new.items ≡ out.old.items ++ wire machine.old.host (last_words c.standing.phase)) }
+    ensures said { OnOk result ((c : Conversation) → StandsFor machine.old c →
+        out.new.items ≡ out.old.items ++ wire machine.old.host (last_words c.standing.phase)) }
     ensures err { OnErr result (out.new.items ≡ out.old.items) }
 {
     if machine.has_ended() {
@@ -44,7 +45,8 @@ pub(crate) fn shut_down<O: Sink>(
     out: &mut Vec<u8>,
 ) -> Result<Ending, TalkFault>
     requires live { O.failed output.old ≡ false }
-    ensures last { (c : Conversation) → StandsFor machine.old c → SaysLast (O.taken output.old) (O.taken output.new) (O.failed output.new) machine.old.host out.old.items c.standing.phase result }
+    ensures last { (c : Conversation) → StandsFor machine.old c →
+        SaysLast (O.taken output.old) (O.taken output.new) (O.failed output.new) machine.old.host out.old.items c.standing.phase result }
     ensures live { OnOk result (O.failed output.new ≡ false) }
     ensures torn { result ≢ Err TalkFault.Torn }
     ensures failed { result ≡ Err TalkFault.Write → O.failed output.new ≡ true }

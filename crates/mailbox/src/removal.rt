@@ -91,7 +91,8 @@ impl Mailbox {
     ) -> Result<usize, MailFault>
         ensures stranger { (result ≡ Err MailFault.Stranger) ↔ IsStranger self.old seat.old }
         ensures lapped { (result ≡ Err MailFault.Lapped) ↔ IsLapped self.old seat.old }
-        ensures spent { (result ≡ Err MailFault.Spent) ↔ (IsCurrent self.old seat.old × IsTooMany self.old (removals (in_set (option_map (λ uids. uids.now) set.entry)) (rows self.old))) }
+        ensures spent { (result ≡ Err MailFault.Spent) ↔ (IsCurrent self.old seat.old ×
+            IsTooMany self.old (removals (in_set (option_map (λ uids. uids.now) set.entry)) (rows self.old))) }
         ensures memory { (result ≡ Err MailFault.NoMemory) → seat.old.at < total self.old.window }
         ensures err { OnErr result ((self.new ≡ self.old) × (seat.new ≡ seat.old) × (out.new.items ≡ out.old.items)) }
 
@@ -104,9 +105,11 @@ impl Mailbox {
             (option_map (after_showing (changes_from seat.old.at self.old.window)) (held self.old.cursors seat.old))) }
 
         ensures logged { OnOk result (Logs self.old self.new (removals (in_set (option_map (λ uids. uids.now) set.entry)) (rows self.old))) }
-        ensures window { OnOk result (Moves self.new.cursors self.old.window self.new.window (removals (in_set (option_map (λ uids. uids.now) set.entry)) (rows self.old))) }
+        ensures window { OnOk result (Moves self.new.cursors self.old.window self.new.window
+            (removals (in_set (option_map (λ uids. uids.now) set.entry)) (rows self.old))) }
         ensures messages { OnOk result (self.new.messages ≡ remaining (in_set (option_map (λ uids. uids.now) set.entry)) self.old.messages) }
-        ensures rest { OnOk result (self.new ≡ record self.old { messages = self.new.messages; window = self.new.window; cursors = self.new.cursors }) }
+        ensures rest { OnOk result (self.new ≡ record self.old { messages = self.new.messages; window = self.new.window;
+            cursors = self.new.cursors }) }
         ensures next { self.new.cursors.next ≡ self.old.cursors.next }
         ensures count { IfOk result (λ n. n ≡ length (removals (in_set (option_map (λ uids. uids.now) set.entry)) (rows self.old))) }
 
@@ -177,14 +180,16 @@ impl Mailbox {
         remove: bool,
     ) -> Result<usize, (CursorSeat, MailFault)>
         ensures stranger { (result ≡ Err (seat, MailFault.Stranger)) ↔ IsStranger self.old seat }
-        ensures spent { (result ≡ Err (seat, MailFault.Spent)) ↔ (IsSome (held self.old.cursors seat) × IsTooMany self.old (removals_if remove (rows self.old))) }
+        ensures spent { (result ≡ Err (seat, MailFault.Spent)) ↔ (IsSome (held self.old.cursors seat) ×
+            IsTooMany self.old (removals_if remove (rows self.old))) }
         ensures only { IfErr result (λ e. (e.0 ≡ seat) × ((e.1 ≡ MailFault.Stranger) ⊎ (e.1 ≡ MailFault.Spent)) × (self.new ≡ self.old)) }
 
         ensures logged { OnOk result (Logs self.old self.new (removals_if remove (rows self.old))) }
         ensures window { OnOk result (Moves self.new.cursors self.old.window self.new.window (removals_if remove (rows self.old))) }
         ensures messages { OnOk result (self.new.messages ≡ (if remove then remaining (λ uid. true) self.old.messages else self.old.messages)) }
         ensures closed { OnOk result (Updates self.old.cursors self.new.cursors seat.slot None) }
-        ensures rest { OnOk result (self.new ≡ record self.old { messages = self.new.messages; window = self.new.window; cursors = self.new.cursors }) }
+        ensures rest { OnOk result (self.new ≡ record self.old { messages = self.new.messages; window = self.new.window;
+            cursors = self.new.cursors }) }
         ensures next { self.new.cursors.next ≡ self.old.cursors.next }
         ensures count { IfOk result (λ n. n ≡ length (removals_if remove (rows self.old))) }
     {

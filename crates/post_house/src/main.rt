@@ -78,8 +78,10 @@ fn play<R: BufRead, W: Sink>(
 ) -> Result<(), Failure>
     requires range { IsInRange config.now }
     requires live { W.failed output.old ≡ false }
-    ensures played { (bytes : List ℕ) → R.remaining input.old ≡ Some bytes → Played config.now (script_of bytes) (W.failed output.new) result (W.taken output.old) (W.taken output.new) }
-    ensures once { (bytes : List ℕ) → R.remaining input.old ≡ Some bytes → WroteOnce (setup_of config.now) (script_of bytes) (W.taken output.old) (W.taken output.new) }
+    ensures played { (bytes : List ℕ) → R.remaining input.old ≡ Some bytes →
+        Played config.now (script_of bytes) (W.failed output.new) result (W.taken output.old) (W.taken output.new) }
+    ensures once { (bytes : List ℕ) → R.remaining input.old ≡ Some bytes →
+        WroteOnce (setup_of config.now) (script_of bytes) (W.taken output.old) (W.taken output.new) }
     ensures fault { (fault : ConfigFault) → result ≡ Err (Failure.Config fault) → config_fault config.now ≡ Some fault }
     ensures not_set { (fault : ConfigFault) → result ≡ Err (Failure.Config fault) → output.new ≡ output.old }
 {
@@ -106,7 +108,8 @@ fn run_script<I: BufRead, W: Sink, F: Write>(
     ensures status { IsStatus result }
     ensures not_asked { result ≡ NOT_ASKED_RIGHT → ⊥ }
     ensures not_set { result ≡ 3 → output.new ≡ output.old }
-    ensures ran { (bytes : List ℕ) → I.remaining input.old ≡ Some bytes → RanScript config.now bytes (W.failed output.new) result (W.taken output.old) (W.taken output.new) }
+    ensures ran { (bytes : List ℕ) → I.remaining input.old ≡ Some bytes →
+        RanScript config.now bytes (W.failed output.new) result (W.taken output.old) (W.taken output.new) }
 {
     match play(alloc, config, input, output) {
         Ok(()) => DONE,
@@ -182,7 +185,8 @@ fn command<
     ensures not_asked { result ≡ NOT_ASKED_RIGHT → output.new ≡ output.old }
     ensures not_set { result ≡ 3 → output.new ≡ output.old }
     // Where the input was touched, what the words asked for was done.
-    ensures ran { (input.new ≡ input.old) ⊎ HasDoneAsked (I.remaining input.old) (W.failed output.new) result (W.taken output.old) (W.taken output.new) }
+    ensures ran { (input.new ≡ input.old) ⊎ HasDoneAsked (I.remaining input.old) (W.failed output.new) result (W.taken output.old)
+        (W.taken output.new) }
 {
     let asked = match asked_of(alloc, words) {
         Ok(asked) => asked,

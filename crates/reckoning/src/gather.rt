@@ -70,8 +70,10 @@ fn lay_worker(worked: Worked, into: &mut FromWorkers) -> Fate
     requires replies { vec_len into.old.replies < vec_capacity into.old.replies }
     requires logs { vec_len into.old.logs < vec_capacity into.old.logs }
     ensures hands { (into.new.hands.items ≡ into.old.hands.items ++ worked.ended ∷ []) × (vec_capacity into.new.hands ≡ vec_capacity into.old.hands) }
-    ensures receivers { (into.new.receivers.items ≡ into.old.receivers.items ++ worked.receiver ∷ []) × (vec_capacity into.new.receivers ≡ vec_capacity into.old.receivers) }
-    ensures replies { (into.new.replies.items ≡ into.old.replies.items ++ worked.replies ∷ []) × (vec_capacity into.new.replies ≡ vec_capacity into.old.replies) }
+    ensures receivers { (into.new.receivers.items ≡ into.old.receivers.items ++ worked.receiver ∷ []) ×
+        (vec_capacity into.new.receivers ≡ vec_capacity into.old.receivers) }
+    ensures replies { (into.new.replies.items ≡ into.old.replies.items ++ worked.replies ∷ []) ×
+        (vec_capacity into.new.replies ≡ vec_capacity into.old.replies) }
     ensures logs { (into.new.logs.items ≡ into.old.logs.items ++ worked.log ∷ []) × (vec_capacity into.new.logs ≡ vec_capacity into.old.logs) }
     ensures fate { result ≡ worked.fate }
 {
@@ -110,9 +112,12 @@ fn lay_consumer(consumed: Consumed, into: &mut FromConsumers) -> Option<Fault>
     requires seats { vec_len into.old.seats < vec_capacity into.old.seats }
     requires hands { vec_len into.old.hands < vec_capacity into.old.hands }
     requires copies { vec_len into.old.copies < vec_capacity into.old.copies }
-    ensures seats { (into.new.seats.items ≡ into.old.seats.items ++ consumed.seat ∷ []) × (vec_capacity into.new.seats ≡ vec_capacity into.old.seats) }
-    ensures hands { (into.new.hands.items ≡ into.old.hands.items ++ consumed.senders ∷ []) × (vec_capacity into.new.hands ≡ vec_capacity into.old.hands) }
-    ensures copies { (into.new.copies.items ≡ into.old.copies.items ++ consumed.copies ∷ []) × (vec_capacity into.new.copies ≡ vec_capacity into.old.copies) }
+    ensures seats { (into.new.seats.items ≡ into.old.seats.items ++ consumed.seat ∷ []) ×
+        (vec_capacity into.new.seats ≡ vec_capacity into.old.seats) }
+    ensures hands { (into.new.hands.items ≡ into.old.hands.items ++ consumed.senders ∷ []) ×
+        (vec_capacity into.new.hands ≡ vec_capacity into.old.hands) }
+    ensures copies { (into.new.copies.items ≡ into.old.copies.items ++ consumed.copies ∷ []) ×
+        (vec_capacity into.new.copies ≡ vec_capacity into.old.copies) }
     ensures fault { result ≡ fault_of_consumer consumed }
 {
     let Consumed {

@@ -58,7 +58,8 @@ fn compare(
     sessions: Vec<Vec<u8>>,
 ) -> Result<Report, WorkFault>
     requires { directory.now.shards ≤ vec_len books.copies }
-    ensures lists { IfOk result (λ r. ListsAgree directory.now whole (notes_of r) (map (λ c. c.items) books.copies.items) (accepted_of r) (texts_of r)) }
+    ensures lists { IfOk result (λ r. ListsAgree directory.now whole (notes_of r) (map (λ c. c.items) books.copies.items) (accepted_of r)
+        (texts_of r)) }
     ensures same { IfOk result (λ r. (r.replies ≡ books.replies) × (r.logs ≡ books.logs) × (r.sessions ≡ sessions) × (r.closed ≡ books.closed)) }
     ensures fault { IfErr result (λ fault. (fault ≡ WorkFault.NoMemory) ⊎ (fault ≡ WorkFault.Torn)) }
 {

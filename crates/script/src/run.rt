@@ -100,8 +100,10 @@ fn hear_bytes(
     bytes: &[u8],
     out: &mut Vec<u8>,
 ) -> Result<(), AllocError>
-    ensures done { OnOk result ((k : Setup) (s : scene.Scene) → StandsFor k house.old s → LineDone k number (spec.Sends connection bytes.now) s house.new out.old.items out.new.items) }
-    ensures wanting { OnErr result ((k : Setup) (s : scene.Scene) → StandsFor k house.old s → LineWanting k (spec.Sends connection bytes.now) s house.new) }
+    ensures done { OnOk result ((k : Setup) (s : scene.Scene) → StandsFor k house.old s →
+        LineDone k number (spec.Sends connection bytes.now) s house.new out.old.items out.new.items) }
+    ensures wanting { OnErr result ((k : Setup) (s : scene.Scene) → StandsFor k house.old s →
+        LineWanting k (spec.Sends connection bytes.now) s house.new) }
 {
     match house.step(Event::Bytes(connection, bytes), out) {
         Ok(()) => Ok(()),
@@ -120,8 +122,10 @@ fn hear_line(
     piece: &mut Vec<u8>,
     out: &mut Vec<u8>,
 ) -> Result<(), AllocError>
-    ensures done { OnOk result ((k : Setup) (s : scene.Scene) → StandsFor k house.old s → LineDone k number (spec.Sends connection (text.now ++ crlf)) s house.new out.old.items out.new.items) }
-    ensures wanting { OnErr result ((k : Setup) (s : scene.Scene) → StandsFor k house.old s → LineWanting k (spec.Sends connection (text.now ++ crlf)) s house.new) }
+    ensures done { OnOk result ((k : Setup) (s : scene.Scene) → StandsFor k house.old s →
+        LineDone k number (spec.Sends connection (text.now ++ crlf)) s house.new out.old.items out.new.items) }
+    ensures wanting { OnErr result ((k : Setup) (s : scene.Scene) → StandsFor k house.old s →
+        LineWanting k (spec.Sends connection (text.now ++ crlf)) s house.new) }
 {
     put_line(text, piece)?;
     hear_bytes(house, number, connection, piece, out)
@@ -159,8 +163,10 @@ fn hear_hex(
     digits: &[u8],
     out: &mut Vec<u8>,
 ) -> Result<(), AllocError>
-    ensures done { OnOk result ((k : Setup) (s : scene.Scene) → StandsFor k house.old s → LineDone k number (brought (spec.Sends connection) (decode_of digits.now)) s house.new out.old.items out.new.items) }
-    ensures wanting { OnErr result ((k : Setup) (s : scene.Scene) → StandsFor k house.old s → LineWanting k (brought (spec.Sends connection) (decode_of digits.now)) s house.new) }
+    ensures done { OnOk result ((k : Setup) (s : scene.Scene) → StandsFor k house.old s →
+        LineDone k number (brought (spec.Sends connection) (decode_of digits.now)) s house.new out.old.items out.new.items) }
+    ensures wanting { OnErr result ((k : Setup) (s : scene.Scene) → StandsFor k house.old s →
+        LineWanting k (brought (spec.Sends connection) (decode_of digits.now)) s house.new) }
 {
     match bytes_of(alloc, digits)? {
         Some(bytes) => hear_bytes(house, number, connection, &bytes, out),
@@ -175,7 +181,8 @@ fn lose_peer(
     connection: u8,
     out: &mut Vec<u8>,
 ) -> Result<(), AllocError>
-    ensures done { OnOk result ((k : Setup) (s : scene.Scene) → StandsFor k house.old s → LineDone k number (spec.Vanishes connection) s house.new out.old.items out.new.items) }
+    ensures done { OnOk result ((k : Setup) (s : scene.Scene) → StandsFor k house.old s →
+        LineDone k number (spec.Vanishes connection) s house.new out.old.items out.new.items) }
     ensures wanting { OnErr result ((k : Setup) (s : scene.Scene) → StandsFor k house.old s → LineWanting k (spec.Vanishes connection) s house.new) }
 {
     match house.step(Event::Vanish(connection), out) {
@@ -238,8 +245,10 @@ fn close_shard(
     out: &mut Vec<u8>,
 ) -> Result<(), AllocError>
     requires digits { list_all is_digit digits.now ≡ true }
-    ensures done { OnOk result ((k : Setup) (s : scene.Scene) → StandsFor k house.old s → LineDone k number (spec.Closes (digits_value 10 digits.now)) s house.new out.old.items out.new.items) }
-    ensures wanting { OnErr result ((k : Setup) (s : scene.Scene) → StandsFor k house.old s → LineWanting k (spec.Closes (digits_value 10 digits.now)) s house.new) }
+    ensures done { OnOk result ((k : Setup) (s : scene.Scene) → StandsFor k house.old s →
+        LineDone k number (spec.Closes (digits_value 10 digits.now)) s house.new out.old.items out.new.items) }
+    ensures wanting { OnErr result ((k : Setup) (s : scene.Scene) → StandsFor k house.old s →
+        LineWanting k (spec.Closes (digits_value 10 digits.now)) s house.new) }
 {
     let shard = clipped_number(digits);
     if shard >= usize::from(house.shards()) {
@@ -260,8 +269,10 @@ fn enter_session(
     user: &[u8],
     out: &mut Vec<u8>,
 ) -> Result<(), AllocError>
-    ensures done { OnOk result ((k : Setup) (s : scene.Scene) → StandsFor k house.old s → LineDone k number (spec.Enters session user.now) s house.new out.old.items out.new.items) }
-    ensures wanting { OnErr result ((k : Setup) (s : scene.Scene) → StandsFor k house.old s → LineWanting k (spec.Enters session user.now) s house.new) }
+    ensures done { OnOk result ((k : Setup) (s : scene.Scene) → StandsFor k house.old s →
+        LineDone k number (spec.Enters session user.now) s house.new out.old.items out.new.items) }
+    ensures wanting { OnErr result ((k : Setup) (s : scene.Scene) → StandsFor k house.old s →
+        LineWanting k (spec.Enters session user.now) s house.new) }
 {
     match house.step(Event::Enter(session, user), out) {
         Ok(()) => Ok(()),
@@ -279,8 +290,10 @@ fn ask_bytes(
     bytes: &[u8],
     out: &mut Vec<u8>,
 ) -> Result<(), AllocError>
-    ensures done { OnOk result ((k : Setup) (s : scene.Scene) → StandsFor k house.old s → LineDone k number (spec.Asks session bytes.now) s house.new out.old.items out.new.items) }
-    ensures wanting { OnErr result ((k : Setup) (s : scene.Scene) → StandsFor k house.old s → LineWanting k (spec.Asks session bytes.now) s house.new) }
+    ensures done { OnOk result ((k : Setup) (s : scene.Scene) → StandsFor k house.old s →
+        LineDone k number (spec.Asks session bytes.now) s house.new out.old.items out.new.items) }
+    ensures wanting { OnErr result ((k : Setup) (s : scene.Scene) → StandsFor k house.old s →
+        LineWanting k (spec.Asks session bytes.now) s house.new) }
 {
     match house.step(Event::Say(session, bytes), out) {
         Ok(()) => Ok(()),
@@ -299,8 +312,10 @@ fn ask_line(
     piece: &mut Vec<u8>,
     out: &mut Vec<u8>,
 ) -> Result<(), AllocError>
-    ensures done { OnOk result ((k : Setup) (s : scene.Scene) → StandsFor k house.old s → LineDone k number (spec.Asks session (text.now ++ crlf)) s house.new out.old.items out.new.items) }
-    ensures wanting { OnErr result ((k : Setup) (s : scene.Scene) → StandsFor k house.old s → LineWanting k (spec.Asks session (text.now ++ crlf)) s house.new) }
+    ensures done { OnOk result ((k : Setup) (s : scene.Scene) → StandsFor k house.old s →
+        LineDone k number (spec.Asks session (text.now ++ crlf)) s house.new out.old.items out.new.items) }
+    ensures wanting { OnErr result ((k : Setup) (s : scene.Scene) → StandsFor k house.old s →
+        LineWanting k (spec.Asks session (text.now ++ crlf)) s house.new) }
 {
     put_line(text, piece)?;
     ask_bytes(house, number, session, piece, out)
@@ -315,8 +330,10 @@ fn ask_hex(
     digits: &[u8],
     out: &mut Vec<u8>,
 ) -> Result<(), AllocError>
-    ensures done { OnOk result ((k : Setup) (s : scene.Scene) → StandsFor k house.old s → LineDone k number (brought (spec.Asks session) (decode_of digits.now)) s house.new out.old.items out.new.items) }
-    ensures wanting { OnErr result ((k : Setup) (s : scene.Scene) → StandsFor k house.old s → LineWanting k (brought (spec.Asks session) (decode_of digits.now)) s house.new) }
+    ensures done { OnOk result ((k : Setup) (s : scene.Scene) → StandsFor k house.old s →
+        LineDone k number (brought (spec.Asks session) (decode_of digits.now)) s house.new out.old.items out.new.items) }
+    ensures wanting { OnErr result ((k : Setup) (s : scene.Scene) → StandsFor k house.old s →
+        LineWanting k (brought (spec.Asks session) (decode_of digits.now)) s house.new) }
 {
     match bytes_of(alloc, digits)? {
         Some(bytes) => ask_bytes(house, number, session, &bytes, out),
@@ -331,7 +348,8 @@ fn leave_session(
     session: u8,
     out: &mut Vec<u8>,
 ) -> Result<(), AllocError>
-    ensures done { OnOk result ((k : Setup) (s : scene.Scene) → StandsFor k house.old s → LineDone k number (spec.Leaves session) s house.new out.old.items out.new.items) }
+    ensures done { OnOk result ((k : Setup) (s : scene.Scene) → StandsFor k house.old s →
+        LineDone k number (spec.Leaves session) s house.new out.old.items out.new.items) }
     ensures wanting { OnErr result ((k : Setup) (s : scene.Scene) → StandsFor k house.old s → LineWanting k (spec.Leaves session) s house.new) }
 {
     match house.step(Event::Leave(session), out) {
@@ -344,7 +362,8 @@ fn leave_session(
 
 // The window of the mailbox with this word is printed.
 fn show_tail(house: &House, number: u64, word: &[u8], out: &mut Vec<u8>) -> Result<(), AllocError>
-    ensures { OnOk result ((k : Setup) (s : scene.Scene) → StandsFor k house.now s → LineDone k number (spec.Tail word.now) s house.now out.old.items out.new.items) }
+    ensures { OnOk result ((k : Setup) (s : scene.Scene) → StandsFor k house.now s →
+        LineDone k number (spec.Tail word.now) s house.now out.old.items out.new.items) }
 {
     match house.tail(word, out) {
         Ok(()) => Ok(()),
@@ -363,7 +382,8 @@ fn do_line(
     out: &mut Vec<u8>,
 ) -> Result<(), AllocError>
     requires { length held.old.items ≤ 256 }
-    ensures done { OnOk result ((k : Setup) (s : scene.Scene) → StandsFor k house.old s → length held.old.items ≡ k.config.shards → LineDone k number (asked line.now) s house.new out.old.items out.new.items) }
+    ensures done { OnOk result ((k : Setup) (s : scene.Scene) → StandsFor k house.old s → length held.old.items ≡ k.config.shards →
+        LineDone k number (asked line.now) s house.new out.old.items out.new.items) }
     ensures wanting { OnErr result ((k : Setup) (s : scene.Scene) → StandsFor k house.old s → LineWanting k (asked line.now) s house.new) }
     ensures held { OnOk result (held.new.items ≡ held_after held.old.items (asked line.now)) }
     ensures places { length held.new.items ≡ length held.old.items }
@@ -453,7 +473,8 @@ fn take_turn<R: BufRead, W: Sink>(
 ) -> Result<Option<usize>, TurnFault>
     requires live { W.failed writer.old ≡ false }
     requires few { length room.old.held.items ≤ 256 }
-    ensures tells { (k : Setup) (s : scene.Scene) (input : List ℕ) → StandsFor k house.old s → length room.old.held.items ≡ k.config.shards → R.remaining reader.old ≡ Some input →
+    ensures tells { (k : Setup) (s : scene.Scene) (input : List ℕ) → StandsFor k house.old s →
+        length room.old.held.items ≡ k.config.shards → R.remaining reader.old ≡ Some input →
         TurnTells k number room.old.held.items s input house.new room.new.held.items (R.remaining reader.new) (W.taken writer.old) (W.taken writer.new) result }
     ensures live { OnOk result (W.failed writer.new ≡ false) }
     ensures places { length room.new.held.items ≡ length room.old.held.items }
@@ -495,13 +516,17 @@ pub fn drive<R: BufRead, W: Sink>(
     requires { W.failed writer.old ≡ false }
     ensures ok { OnOk result ((k : Setup) (input : List ℕ) → StandsFor k house.old (empty_scene k) → R.remaining reader.old ≡ Some input →
         Writes k (script_of input) house.new (W.taken writer.old) (W.taken writer.new)) }
-    ensures write { (sent : ℕ) → result ≡ Err (RunFault.Write sent) → (k : Setup) (input : List ℕ) → StandsFor k house.old (empty_scene k) → R.remaining reader.old ≡ Some input →
+    ensures write { (sent : ℕ) → result ≡ Err (RunFault.Write sent) → (k : Setup) (input : List ℕ) → StandsFor k house.old (empty_scene k) →
+        R.remaining reader.old ≡ Some input →
         WritesFirst k (script_of input) sent house.new (W.taken writer.old) (W.taken writer.new) }
     ensures failed { (sent : ℕ) → result ≡ Err (RunFault.Write sent) → W.failed writer.new ≡ true }
-    ensures no_memory { result ≡ Err RunFault.NoMemory → (k : Setup) (input : List ℕ) → StandsFor k house.old (empty_scene k) → R.remaining reader.old ≡ Some input →
+    ensures no_memory { result ≡ Err RunFault.NoMemory → (k : Setup) (input : List ℕ) → StandsFor k house.old (empty_scene k) →
+        R.remaining reader.old ≡ Some input →
         WritesBeginning k (script_of input) (IsLeftWanting k house.new) (W.taken writer.old) (W.taken writer.new) }
-    ensures once { (k : Setup) (input : List ℕ) → StandsFor k house.old (empty_scene k) → R.remaining reader.old ≡ Some input → WroteOnce k (script_of input) (W.taken writer.old) (W.taken writer.new) }
-    ensures read { result ≡ Err RunFault.Read → (k : Setup) (input : List ℕ) → StandsFor k house.old (empty_scene k) → R.remaining reader.old ≡ Some input →
+    ensures once { (k : Setup) (input : List ℕ) → StandsFor k house.old (empty_scene k) → R.remaining reader.old ≡ Some input →
+        WroteOnce k (script_of input) (W.taken writer.old) (W.taken writer.new) }
+    ensures read { result ≡ Err RunFault.Read → (k : Setup) (input : List ℕ) → StandsFor k house.old (empty_scene k) →
+        R.remaining reader.old ≡ Some input →
         WritesBeginning k (script_of input) (IsLeft k house.new) (W.taken writer.old) (W.taken writer.new) }
 {
     let Ok(held) = none_held(alloc, house.shards()) else {

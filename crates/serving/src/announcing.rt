@@ -48,7 +48,8 @@ fn announce_mailbox(
 ) -> Result<usize, AllocError>
     requires there { mailbox < length directory.now.homes }
     requires port { port < 131072 }
-    ensures line { OnOk result (IfSome (slice_get directory.now.homes mailbox) (λ home. out.new.items ≡ out.old.items ++ imap_lines port (users_of (home ∷ [])))) }
+    ensures line { OnOk result (IfSome (slice_get directory.now.homes mailbox) (λ home.
+        out.new.items ≡ out.old.items ++ imap_lines port (users_of (home ∷ [])))) }
     ensures next { IfOk result (λ next. IfSome (slice_get directory.now.homes mailbox) (λ home. next ≡ port + length (users_of (home ∷ [])))) }
     ensures bound { IfOk result (λ next. next ≤ port + 1) }
 {

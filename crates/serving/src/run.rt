@@ -66,13 +66,17 @@ fn in_scope<'s, E, H: Hall + Send, R: Threads + Wait + Sync, I: Read + Drop>(
     requires depot { H.depot ≡ Some floor.now.depot }
     requires house { IsHouse floor.now (length floor.now.depot.channels.items) }
     requires slots { length mail_slots.now + length visits.now ≡ length floor.now.depot.channels.items }
-    requires posts { AllAt (IsPost floor.now) 0 (manually_drop_value posts).items × (vec_len (manually_drop_value posts) ≡ length floor.now.depot.channels.items) }
-    requires served { ((manually_drop_value served).items ≡ []) × (length floor.now.depot.channels.items ≤ vec_capacity (manually_drop_value served)) }
+    requires posts { AllAt (IsPost floor.now) 0 (manually_drop_value posts).items ×
+        (vec_len (manually_drop_value posts) ≡ length floor.now.depot.channels.items) }
+    requires served { ((manually_drop_value served).items ≡ []) ×
+        (length floor.now.depot.channels.items ≤ vec_capacity (manually_drop_value served)) }
     requires buffers { All (λ b. 0 < length b.input.items) buffers.items × (vec_len buffers ≡ length mail_slots.now) }
     requires client_slots { length client_slots.now ≡ length visits.now }
     requires bells { (vec_len bells ≡ length visits.now) × (vec_len client_buffers ≡ length visits.now) }
-    ensures served { result.short ≡ false → AllAt (IsServed floor.now) 0 result.served.items × (vec_len result.served ≡ length floor.now.depot.channels.items) × (result.posts.items ≡ []) }
-    ensures short { result.short ≡ true → AllAt (IsPost floor.now) 0 result.posts.items × (vec_len result.posts ≡ length floor.now.depot.channels.items) × (result.served.items ≡ []) }
+    ensures served { result.short ≡ false → AllAt (IsServed floor.now) 0 result.served.items ×
+        (vec_len result.served ≡ length floor.now.depot.channels.items) × (result.posts.items ≡ []) }
+    ensures short { result.short ≡ true → AllAt (IsPost floor.now) 0 result.posts.items ×
+        (vec_len result.posts ≡ length floor.now.depot.channels.items) × (result.served.items ≡ []) }
 {
     let (posts, served) = (
         ManuallyDrop::into_inner(posts),
@@ -162,10 +166,13 @@ fn serve_in_threads<H: Hall + Send, R: Threads + Wait + Sync, I: Read + Drop>(
     requires posts { AllAt (IsPost floor.now) 0 posts.items × (vec_len posts ≡ length floor.now.depot.channels.items) }
     requires served { (served.items ≡ []) × (length floor.now.depot.channels.items ≤ vec_capacity served) }
     requires buffers { All (λ b. 0 < length b.input.items) equipment.buffers.items × (vec_len equipment.buffers ≡ vec_len equipment.mail_slots) }
-    requires slots { (vec_len equipment.mail_slots + length visits.now ≡ length floor.now.depot.channels.items) × (vec_len equipment.client_slots ≡ length visits.now) }
+    requires slots { (vec_len equipment.mail_slots + length visits.now ≡ length floor.now.depot.channels.items) ×
+        (vec_len equipment.client_slots ≡ length visits.now) }
     requires bells { (vec_len bells ≡ length visits.now) × (vec_len equipment.client_buffers ≡ length visits.now) }
-    ensures served { result.short ≡ false → AllAt (IsServed floor.now) 0 result.served.items × (vec_len result.served ≡ length floor.now.depot.channels.items) × (result.posts.items ≡ []) }
-    ensures short { result.short ≡ true → AllAt (IsPost floor.now) 0 result.posts.items × (vec_len result.posts ≡ length floor.now.depot.channels.items) × (result.served.items ≡ []) }
+    ensures served { result.short ≡ false → AllAt (IsServed floor.now) 0 result.served.items ×
+        (vec_len result.served ≡ length floor.now.depot.channels.items) × (result.posts.items ≡ []) }
+    ensures short { result.short ≡ true → AllAt (IsPost floor.now) 0 result.posts.items ×
+        (vec_len result.posts ≡ length floor.now.depot.channels.items) × (result.served.items ≡ []) }
 {
     let Equipment {
         buffers,
@@ -182,14 +189,19 @@ fn serve_in_threads<H: Hall + Send, R: Threads + Wait + Sync, I: Read + Drop>(
         rt,
         |scope| -> Over
             requires hall { IsSync R.row × (H.lanes ≡ Some floor.now.office.lanes.items) × (H.depot ≡ Some floor.now.depot) }
-            requires house { IsHouse floor.now (length floor.now.depot.channels.items) × (length mail_slots.now + length visits.now ≡ length floor.now.depot.channels.items) }
-            requires posts { AllAt (IsPost floor.now) 0 (manually_drop_value posts).items × (vec_len (manually_drop_value posts) ≡ length floor.now.depot.channels.items) }
-            requires served { ((manually_drop_value served).items ≡ []) × (length floor.now.depot.channels.items ≤ vec_capacity (manually_drop_value served)) }
+            requires house { IsHouse floor.now (length floor.now.depot.channels.items) ×
+                (length mail_slots.now + length visits.now ≡ length floor.now.depot.channels.items) }
+            requires posts { AllAt (IsPost floor.now) 0 (manually_drop_value posts).items ×
+                (vec_len (manually_drop_value posts) ≡ length floor.now.depot.channels.items) }
+            requires served { ((manually_drop_value served).items ≡ []) ×
+                (length floor.now.depot.channels.items ≤ vec_capacity (manually_drop_value served)) }
             requires buffers { All (λ b. 0 < length b.input.items) buffers.items × (vec_len buffers ≡ length mail_slots.now) }
             requires client_slots { length client_slots.now ≡ length visits.now }
             requires bells { (vec_len bells ≡ length visits.now) × (vec_len client_buffers ≡ length visits.now) }
-            ensures served { result.short ≡ false → AllAt (IsServed floor.entry.now) 0 result.served.items × (vec_len result.served ≡ length floor.entry.now.depot.channels.items) × (result.posts.items ≡ []) }
-            ensures short { result.short ≡ true → AllAt (IsPost floor.entry.now) 0 result.posts.items × (vec_len result.posts ≡ length floor.entry.now.depot.channels.items) × (result.served.items ≡ []) }
+            ensures served { result.short ≡ false → AllAt (IsServed floor.entry.now) 0 result.served.items ×
+                (vec_len result.served ≡ length floor.entry.now.depot.channels.items) × (result.posts.items ≡ []) }
+            ensures short { result.short ≡ true → AllAt (IsPost floor.entry.now) 0 result.posts.items ×
+                (vec_len result.posts ≡ length floor.entry.now.depot.channels.items) × (result.served.items ≡ []) }
         {
             in_scope(
                 scope,
@@ -308,8 +320,10 @@ fn close_or_spend<H: Hall, R: Wait>(
     requires clerks { vec_len staff.clerks ≡ length floor.office.lanes.items }
     requires rooms { AreRooms (length floor.office.lanes.items) (length floor.depot.channels.items) staff.rooms }
     requires stands { (staff.stands.items ≡ []) × (length floor.office.lanes.items ≤ vec_capacity staff.stands) }
-    requires served { over.short ≡ false → AllAt (IsServed floor) 0 over.served.items × (vec_len over.served ≡ length floor.depot.channels.items) × (over.posts.items ≡ []) }
-    requires short { over.short ≡ true → AllAt (IsPost floor) 0 over.posts.items × (vec_len over.posts ≡ length floor.depot.channels.items) × (over.served.items ≡ []) }
+    requires served { over.short ≡ false → AllAt (IsServed floor) 0 over.served.items ×
+        (vec_len over.served ≡ length floor.depot.channels.items) × (over.posts.items ≡ []) }
+    requires short { over.short ≡ true → AllAt (IsPost floor) 0 over.posts.items ×
+        (vec_len over.posts ≡ length floor.depot.channels.items) × (over.served.items ≡ []) }
     requires worked { (worked.items ≡ []) × (length floor.depot.channels.items ≤ vec_capacity worked) }
     requires consumed { (consumed.items ≡ []) × (length floor.office.lanes.items ≤ vec_capacity consumed) }
     requires baskets { AreBaskets (length floor.depot.channels.items) (length floor.office.lanes.items) baskets }

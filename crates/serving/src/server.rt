@@ -94,8 +94,10 @@ pub fn serve<
     ensures not_set { (fault : ConfigFault) → result ≡ Err (ServeFault.Config fault) → output.new ≡ output.old }
     ensures right { OnOk result (server_fault config.now ≡ None) }
     // Nothing but a beginning of the lines was written, and all of them where it served.
-    ensures told { (n : ℕ) × Appends (W.taken output.old) (W.taken output.new) (take n (announcement config.now.lmtp_port config.now.imap_port (setup_of config.now).directory.homes uidvalidity)) }
-    ensures all { OnOk result (Appends (W.taken output.old) (W.taken output.new) (announcement config.now.lmtp_port config.now.imap_port (setup_of config.now).directory.homes uidvalidity)) }
+    ensures told { (n : ℕ) × Appends (W.taken output.old) (W.taken output.new)
+        (take n (announcement config.now.lmtp_port config.now.imap_port (setup_of config.now).directory.homes uidvalidity)) }
+    ensures all { OnOk result (Appends (W.taken output.old) (W.taken output.new)
+        (announcement config.now.lmtp_port config.now.imap_port (setup_of config.now).directory.homes uidvalidity)) }
 {
     let directory = directory_of(alloc, config)?;
     let visits = places_for(alloc, &directory, config.sessions)?;

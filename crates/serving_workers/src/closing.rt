@@ -150,7 +150,8 @@ pub fn close_house<R: Wait>(
     requires room { (worked.items ≡ []) × (vec_len served ≤ vec_capacity worked) }
     requires consumed { vec_len dismissed.consumed ≡ length floor.office.lanes.items }
     requires seats { dismissed.in_order ≡ true → AreConsumers floor.office.lanes.items (map (λ c. c.seat) dismissed.consumed.items) }
-    requires hands { dismissed.in_order ≡ true → AreSenderEndedHands floor.depot.channels.items 0 (map (λ c. c.senders.items) dismissed.consumed.items) }
+    requires hands { dismissed.in_order ≡ true → AreSenderEndedHands floor.depot.channels.items 0
+        (map (λ c. c.senders.items) dismissed.consumed.items) }
     requires senders { All (λ c. vec_len c.senders ≡ length floor.depot.channels.items) dismissed.consumed.items }
     requires baskets { AreBaskets (vec_len served) (length floor.office.lanes.items) baskets }
 {

@@ -113,7 +113,8 @@ impl<'a, R: Wait, G: Gate> LockedDesk<'a, R, G> {
         requires ready { C.ready courier.old }
         ensures ready { C.ready courier.new }
         ensures kept { (first : C) → C.kept first courier.old → C.kept first courier.new }
-        ensures carried { IfOk result (λ verdict. (done : List Carried) → C.carried courier.old done → C.carried courier.new (done ++ carried_of append.now verdict ∷ [])) }
+        ensures carried { IfOk result (λ verdict. (done : List Carried) → C.carried courier.old done →
+            C.carried courier.new (done ++ carried_of append.now verdict ∷ [])) }
         ensures same { self.new ≡ self.old }
     {
         courier.carry(

@@ -105,7 +105,8 @@ fn make<R: Wait, G: Gate, C: Courier>(
     requires ready { C.ready courier.old }
     ensures ready { C.ready courier.new }
     ensures kept { (first : C) → C.kept first courier.old → C.kept first courier.new }
-    ensures ok { OnOk result ((carried : List Carried) × ((done : List Carried) → C.carried courier.old done → C.carried courier.new (done ++ carried))
+    ensures ok { OnOk result ((carried : List Carried) ×
+        ((done : List Carried) → C.carried courier.old done → C.carried courier.new (done ++ carried))
         × ((d : Dialogue) → StandsFor connection.old d → (next : Dialogue) × StandsFor connection.new next
         × Steps turns step.now carried (moment d desk.old out.old.items) (moment next desk.new out.new.items))) }
     ensures err { IfErr result (λ why. (d : Dialogue) → StandsFor connection.old d → (next : Dialogue) × StandsFor connection.new next
@@ -136,7 +137,8 @@ fn make_all<R: Wait, G: Gate, C: Courier>(
     requires ready { C.ready courier.old }
     ensures ready { C.ready courier.new }
     ensures kept { (first : C) → C.kept first courier.old → C.kept first courier.new }
-    ensures ok { OnOk result ((carried : List Carried) × ((done : List Carried) → C.carried courier.old done → C.carried courier.new (done ++ carried))
+    ensures ok { OnOk result ((carried : List Carried) ×
+        ((done : List Carried) → C.carried courier.old done → C.carried courier.new (done ++ carried))
         × ((d : Dialogue) → StandsFor connection.old d → (next : Dialogue) × StandsFor connection.new next
         × Lives turns (moment d desk.old out.old.items) steps.now carried (moment next desk.new out.new.items))) }
     ensures err { IfErr result (λ why. (d : Dialogue) → StandsFor connection.old d → (next : Dialogue) × StandsFor connection.new next
@@ -176,7 +178,8 @@ pub fn live<R: Wait, G: Gate, C: Courier>(
     requires ready { C.ready courier.old }
     ensures ready { C.ready courier.new }
     ensures kept { (first : C) → C.kept first courier.old → C.kept first courier.new }
-    ensures ok { OnOk result ((carried : List Carried) × ((done : List Carried) → C.carried courier.old done → C.carried courier.new (done ++ carried))
+    ensures ok { OnOk result ((carried : List Carried) ×
+        ((done : List Carried) → C.carried courier.old done → C.carried courier.new (done ++ carried))
         × ((last : Moment) × Lives turns (greeted_at most folders.items desk.old (out.old.items ++ greeting)) steps.now carried last
         × (out.new.items ≡ last.text) × Departs last.place desk.new)) }
     ensures err { IfErr result (λ why. (desk.new ≡ desk.old) × (out.new.items ≡ out.old.items) × (why ≡ Lost.NoMemory)

@@ -80,7 +80,8 @@ pub fn answer<R: Wait, G: Gate, C: Courier>(
     requires ready { C.ready courier.old }
     ensures ready { C.ready courier.new }
     ensures kept { (first : C) → C.kept first courier.old → C.kept first courier.new }
-    ensures ok { OnOk result ((carried : List Carried) × ((done : List Carried) → C.carried courier.old done → C.carried courier.new (done ++ carried))
+    ensures ok { OnOk result ((carried : List Carried) ×
+        ((done : List Carried) → C.carried courier.old done → C.carried courier.new (done ++ carried))
         × ((d : Dialogue) → StandsFor connection.old d → (next : Dialogue) × StandsFor connection.new next
         × Says bytes.now carried (moment d desk.old out.old.items) (moment next desk.new out.new.items))) }
     ensures err { IfErr result (λ why. (d : Dialogue) → StandsFor connection.old d → (next : Dialogue) × StandsFor connection.new next

@@ -552,9 +552,12 @@ fn spend_room(room: Room)
 }
 
 fn reserve(room: &mut Room) -> Result<(), AllocError>
-    requires { (room.old.lanes.items ≡ []) × (room.old.hand.items ≡ []) × (room.old.live.items ≡ []) × (room.old.ended.items ≡ []) × (room.old.back.items ≡ []) }
-    ensures empty { (room.new.lanes.items ≡ []) × (room.new.hand.items ≡ []) × (room.new.live.items ≡ []) × (room.new.ended.items ≡ []) × (room.new.back.items ≡ []) }
-    ensures room { OnOk result ((1 ≤ vec_capacity room.new.lanes) × (1 ≤ vec_capacity room.new.hand) × (1 ≤ vec_capacity room.new.live) × (1 ≤ vec_capacity room.new.ended) × (1 ≤ vec_capacity room.new.back)) }
+    requires { (room.old.lanes.items ≡ []) × (room.old.hand.items ≡ []) × (room.old.live.items ≡ []) × (room.old.ended.items ≡ []) ×
+        (room.old.back.items ≡ []) }
+    ensures empty { (room.new.lanes.items ≡ []) × (room.new.hand.items ≡ []) × (room.new.live.items ≡ []) × (room.new.ended.items ≡ []) ×
+        (room.new.back.items ≡ []) }
+    ensures room { OnOk result ((1 ≤ vec_capacity room.new.lanes) × (1 ≤ vec_capacity room.new.hand) × (1 ≤ vec_capacity room.new.live) ×
+        (1 ≤ vec_capacity room.new.ended) × (1 ≤ vec_capacity room.new.back)) }
 {
     room.lanes.reserve(1)?;
     room.hand.reserve(1)?;
@@ -566,7 +569,8 @@ fn reserve(room: &mut Room) -> Result<(), AllocError>
 
 fn make_room(alloc: Global) -> Result<Room, AllocError>
     ensures empty { IfOk result (λ r. (r.lanes.items ≡ []) × (r.hand.items ≡ []) × (r.live.items ≡ []) × (r.ended.items ≡ []) × (r.back.items ≡ [])) }
-    ensures room { IfOk result (λ r. (1 ≤ vec_capacity r.lanes) × (1 ≤ vec_capacity r.hand) × (1 ≤ vec_capacity r.live) × (1 ≤ vec_capacity r.ended) × (1 ≤ vec_capacity r.back)) }
+    ensures room { IfOk result (λ r. (1 ≤ vec_capacity r.lanes) × (1 ≤ vec_capacity r.hand) × (1 ≤ vec_capacity r.live) ×
+        (1 ≤ vec_capacity r.ended) × (1 ≤ vec_capacity r.back)) }
 {
     let mut room = no_room(alloc);
     match reserve(&mut room) {
@@ -650,7 +654,8 @@ fn play_in<R: Wait>(
     requires shards { directory.shards ≡ 1 }
     requires host { vec_len host < 256 }
     requires empty { (room.lanes.items ≡ []) × (room.hand.items ≡ []) × (room.live.items ≡ []) × (room.ended.items ≡ []) × (room.back.items ≡ []) }
-    requires room { (1 ≤ vec_capacity room.lanes) × (1 ≤ vec_capacity room.hand) × (1 ≤ vec_capacity room.live) × (1 ≤ vec_capacity room.ended) × (1 ≤ vec_capacity room.back) }
+    requires room { (1 ≤ vec_capacity room.lanes) × (1 ≤ vec_capacity room.hand) × (1 ≤ vec_capacity room.live) ×
+        (1 ≤ vec_capacity room.ended) × (1 ≤ vec_capacity room.back) }
     requires producer { IsProducer seats.lane seats.producer × (number_of seats.producer ≡ 0) }
     requires seat { IsConsumer seats.lane seats.seat }
     requires sender { IsSender seats.channel seats.sender }
