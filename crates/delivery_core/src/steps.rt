@@ -235,8 +235,12 @@ impl DeliveryCore {
         requires mailbox { mailbox < length self.old.boxes }
         requires shards { 0 < length self.old.lanes }
         ensures follows { OnOk result ((k : Config) → Follows k self.old
-            (Put key.seat (mailbox % length self.old.lanes) (record { key = key; mailbox = mailbox; text = text.now;
-            flags = flags }) ∷ []) self.new) }
+            (Put key.seat (mailbox % length self.old.lanes) (record {
+              key = key;
+              mailbox = mailbox;
+              text = text.now;
+              flags = flags;
+            }) ∷ []) self.new) }
         ensures next { OnOk result (self.new.next ≡ slice_set self.old.next key.seat (past key)) }
         ensures memory { OnErr result ((d : WorkerLog) → (slice_index_or self.old.heard key.seat d).spare ≡ 0) }
         ensures shut { IfOk result (λ why. (why ≡ Some Refusal.Shut) ↔

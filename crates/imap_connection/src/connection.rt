@@ -77,8 +77,16 @@ impl ImapConnection {
         folders: Vec<Folder>,
         max_message: Option<u32>,
     ) -> Result<ImapConnection, AllocError>
-        ensures { IfOk result (λ c. StandsFor c (record { standing = record { folders = folders.items; selected = None; idling = None;
-            ended = false; mailing = nothing_sent max_message }; begun = [] })) }
+        ensures { IfOk result (λ c. StandsFor c (record {
+          standing = record {
+            folders = folders.items;
+            selected = None;
+            idling = None;
+            ended = false;
+            mailing = nothing_sent max_message;
+          };
+          begun = [];
+        })) }
     {
         let cutter = LineCutter::new(alloc, MAX_LINE)?;
         Ok(ImapConnection {

@@ -206,8 +206,13 @@ pub(crate) fn select_mailbox<S: Store>(
 ) -> Result<&'static [u8], MailFault>
     requires room { vec_len out.old + keep ≤ vec_capacity out.old }
     ensures done { Moves S.step selected.old selected.new
-        (selecting (record { folders = folders.now; selected = selected.old; idling = None; ended = false;
-        mailing = nothing_sent None }) read_only name.now) last store.old store.new out.old.items out.new.items result }
+        (selecting (record {
+          folders = folders.now;
+          selected = selected.old;
+          idling = None;
+          ended = false;
+          mailing = nothing_sent None;
+        }) read_only name.now) last store.old store.new out.old.items out.new.items result }
     ensures short { IfOk result (λ words. length words.now ≤ 45) }
     ensures room { vec_len out.new + keep ≤ vec_capacity out.new }
 {

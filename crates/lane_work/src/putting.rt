@@ -37,7 +37,7 @@ fn put_on<R: Wait>(
     ensures seat { IsProducer lane.now seat.new × (number_of seat.new ≡ number_of seat.old) }
     ensures put { MatchOption result
         (sent seat.new ≡ sent seat.old ++ entries.Item (number_of seat.old)
-            (record { key = key; mailbox = mailbox; text = text.now; flags = flags }) ∷ [])
+        (record { key = key; mailbox = mailbox; text = text.now; flags = flags }) ∷ [])
         (λ v. (sent seat.new ≡ sent seat.old) × IsAtOnce (FoundFull (room_of lane.now) (number_of seat.old) (sent seat.old)) v) }
 {
     let Ok(text) = text.copy() else {
@@ -69,7 +69,7 @@ fn put_at<R: Wait>(
     ensures seat { IsSeat lane.now seat.new × (seat_number seat.new ≡ seat_number seat.old) × (is_over seat.new ≡ is_over seat.old) }
     ensures put { is_over seat.old ≡ false → MatchOption result
         (put_by seat.new ≡ put_by seat.old ++ entries.Item (seat_number seat.old)
-            (record { key = key; mailbox = mailbox; text = text.now; flags = flags }) ∷ [])
+        (record { key = key; mailbox = mailbox; text = text.now; flags = flags }) ∷ [])
         (λ v. (put_by seat.new ≡ put_by seat.old) × IsAtOnce (FoundFull (room_of lane.now) (seat_number seat.old) (put_by seat.old)) v) }
     ensures over { is_over seat.old ≡ true → (result ≡ Some (verdicts.Refused refusals.Shut)) × (seat.new ≡ seat.old) }
 {

@@ -82,15 +82,22 @@ impl Mailbox {
         ensures rest { self.new ≡ record self.old { cursors = self.new.cursors } }
 
         // The seat is new, and its slot was vacant.
-        ensures seat { IfOk result (λ r. r.0 ≡ record { number = self.old.number; slot = r.0.slot; serial = self.old.cursors.next;
-            at = total self.old.window }) }
+        ensures seat { IfOk result (λ r. r.0 ≡ record {
+          number = self.old.number;
+          slot = r.0.slot;
+          serial = self.old.cursors.next;
+          at = total self.old.window;
+        }) }
         ensures vacant { IfOk result (λ r. in_slot self.old.cursors r.0.slot ≡ None) }
         ensures known { IfOk result (λ r. IsSome (held self.new.cursors r.0)) }
         ensures opened { IfOk result (λ r. Updates self.old.cursors self.new.cursors r.0.slot
             (Some (record { serial = self.old.cursors.next; at = total self.old.window; view = uids_of self.old.messages }))) }
         ensures next { OnOk result (self.new.cursors.next ≡ self.old.cursors.next + 1) }
-        ensures opening { IfOk result (λ r. r.1 ≡ record { count = length self.old.messages; uidnext = next_uid self.old;
-            uidvalidity = self.old.uidvalidity }) }
+        ensures opening { IfOk result (λ r. r.1 ≡ record {
+          count = length self.old.messages;
+          uidnext = next_uid self.old;
+          uidvalidity = self.old.uidvalidity;
+        }) }
     {
         let Ok(uids) = self.messages.uids() else {
             return Err(NoMemory);

@@ -134,8 +134,12 @@ impl Mailbox {
         ensures settings { IfOk result (λ m. (m.number ≡ number) × (m.uidvalidity ≡ uidvalidity) × (m.first_uid ≡ first_uid) ×
             (m.limit ≡ limits.messages) × (m.history ≡ history)) }
         ensures empty { IfOk result (λ m. (m.messages ≡ []) × (m.accepted ≡ []) × (m.cursors ≡ record { number = number; next = 0; slots = [] })) }
-        ensures window { IfOk result (λ m. m.window ≡ record { base = 0; changes = []; capacity = limits.ring;
-            max = max limits.ring limits.ring_max }) }
+        ensures window { IfOk result (λ m. m.window ≡ record {
+          base = 0;
+          changes = [];
+          capacity = limits.ring;
+          max = max limits.ring limits.ring_max;
+        }) }
     {
         let most = limits.ring.max(limits.ring_max);
         let ring = ChangeRing::new(alloc, limits.ring, most)?;
@@ -180,10 +184,17 @@ impl Mailbox {
             record { uid = next_uid self.old; flags = no_flags; text = job.now.text } ∷ []) }
         ensures rising { OnOk result (IsStrictlyIncreasing (uids_of self.new.messages)) }
         ensures window { OnOk result (Moves self.old.cursors self.old.window self.new.window (Change.Add (next_uid self.old) ∷ [])) }
-        ensures rest { OnOk result (self.new ≡ record self.old { messages = self.new.messages; window = self.new.window;
-            accepted = self.old.accepted ++ (job.now.key, next_uid self.old) ∷ [] }) }
-        ensures receipt { IfOk result (λ r. r ≡ record { mailbox = self.old.number; key = job.now.key; uid = next_uid self.old;
-            place = length self.old.accepted }) }
+        ensures rest { OnOk result (self.new ≡ record self.old {
+          messages = self.new.messages;
+          window = self.new.window;
+          accepted = self.old.accepted ++ (job.now.key, next_uid self.old) ∷ [];
+        }) }
+        ensures receipt { IfOk result (λ r. r ≡ record {
+          mailbox = self.old.number;
+          key = job.now.key;
+          uid = next_uid self.old;
+          place = length self.old.accepted;
+        }) }
     {
         if self.messages.len() >= self.limit {
             return Err(Refusal::MailboxFull);
@@ -234,8 +245,12 @@ impl Mailbox {
         ensures window { OnOk result (Moves self.old.cursors self.old.window self.new.window (arrival (next_uid self.old) job.now.flags)) }
         ensures cursors { OnOk result (self.new.cursors ≡ self.old.cursors) }
         ensures same { OnOk result (SameMailbox self.old self.new) }
-        ensures receipt { IfOk result (λ r. r ≡ record { mailbox = self.old.number; key = job.now.key; uid = next_uid self.old;
-            place = length self.old.accepted }) }
+        ensures receipt { IfOk result (λ r. r ≡ record {
+          mailbox = self.old.number;
+          key = job.now.key;
+          uid = next_uid self.old;
+          place = length self.old.accepted;
+        }) }
     {
         if self.is_spent(job.flags) {
             return Err(Refusal::UidSpent);

@@ -108,8 +108,11 @@ impl Mailbox {
         ensures window { OnOk result (Moves self.new.cursors self.old.window self.new.window
             (removals (in_set (option_map (λ uids. uids.now) set.entry)) (rows self.old))) }
         ensures messages { OnOk result (self.new.messages ≡ remaining (in_set (option_map (λ uids. uids.now) set.entry)) self.old.messages) }
-        ensures rest { OnOk result (self.new ≡ record self.old { messages = self.new.messages; window = self.new.window;
-            cursors = self.new.cursors }) }
+        ensures rest { OnOk result (self.new ≡ record self.old {
+          messages = self.new.messages;
+          window = self.new.window;
+          cursors = self.new.cursors;
+        }) }
         ensures next { self.new.cursors.next ≡ self.old.cursors.next }
         ensures count { IfOk result (λ n. n ≡ length (removals (in_set (option_map (λ uids. uids.now) set.entry)) (rows self.old))) }
 
@@ -188,8 +191,11 @@ impl Mailbox {
         ensures window { OnOk result (Moves self.new.cursors self.old.window self.new.window (removals_if remove (rows self.old))) }
         ensures messages { OnOk result (self.new.messages ≡ (if remove then remaining (λ uid. true) self.old.messages else self.old.messages)) }
         ensures closed { OnOk result (Updates self.old.cursors self.new.cursors seat.slot None) }
-        ensures rest { OnOk result (self.new ≡ record self.old { messages = self.new.messages; window = self.new.window;
-            cursors = self.new.cursors }) }
+        ensures rest { OnOk result (self.new ≡ record self.old {
+          messages = self.new.messages;
+          window = self.new.window;
+          cursors = self.new.cursors;
+        }) }
         ensures next { self.new.cursors.next ≡ self.old.cursors.next }
         ensures count { IfOk result (λ n. n ≡ length (removals_if remove (rows self.old))) }
     {
