@@ -1,22 +1,23 @@
--- What letters, whose UIDs rise, say of the messages, and what is counted of these.
-use Rattle.std.proofs.Common.{◌≡◌, ◌≢◌, ℕ, zero, suc, ◌+◌, ◌*◌, ◌<◌, ◌≤◌, Bool, true, false, cond, ◌==◌, not, List, [], ◌∷◌, ◌++◌, length, filter, get_or, ltb, Option, Some, None, All, refl, sym, ap, subst, ◌∙◌, inl, inr, arith, eq-eqb}
-use Rattle.std.specs.Prelude.{if◌then◌else◌, option_map, slice_get, slice_set, sum_by, is_some}
+-- What letters and their UIDs, which rise, say of the messages, and what is counted of these.
+use Rattle.std.proofs.Common.{◌≡◌, ◌≢◌, ℕ, zero, suc, ◌+◌, ◌*◌, ◌<◌, ◌≤◌, Bool, true, false, cond, ◌==◌, not, List, [], ◌∷◌, ◌++◌, length, filter, get_or, take, drop, ltb, Option, Some, None, All, refl, sym, ap, subst, ◌∙◌, inl, inr, arith, eq-eqb}
+use Rattle.std.specs.Prelude.{if◌then◌else◌, option_map, slice_get, slice_set, sum_by, is_some, Contains}
 use Rattle.std.specs.Int.{from_bool}
 use Rattle.std.specs.List.{AllByRecursion}
 use Rattle.std.specs.List.Sorted.{IsPartitionPoint, IsStrictlyIncreasing}
 use Rattle.std.specs.Global.{Vec}
-use Rattle.std.proofs.lemmas.Bool.{ltb-true, ltb-false}
+use Rattle.std.proofs.lemmas.Bool.{cases_lt, ltb-true, ltb-false}
 use Rattle.std.proofs.lemmas.Bool.Decides.{eqb_tells}
-use Rattle.std.proofs.lemmas.List.{length-map}
+use Rattle.std.proofs.lemmas.List.{append_assoc, drop-set-lt, drop_more, get_or_default, length-set, take_more_set}
 use Rattle.std.proofs.lemmas.List.Elements.{All-from_recursion, All-push, recursion_from_All}
 use Rattle.std.proofs.lemmas.List.Sums.{count_by-le-length, sum_by-cons, sum_by-le, sum_by_push}
+use Rattle.std.proofs.lemmas.Option.{slice_get-get_or, slice_get_within}
 use Rattle.change_ring.specs.declared.change.Flags.{Flags}
-use Rattle.cursor_set.proofs.Places.{Rises, Rises-from, Rises-to}
+use Rattle.cursor_set.proofs.Places.{Rises, Rises-first, Rises-from, Rises-to}
 use Rattle.mailbox.proofs.MarkLaws.{length_reflagged, not_falling}
 use Rattle.mailbox.specs.Counts.{bytes_in_all, unseen_count}
 use Rattle.mailbox.specs.declared.letters.Letter.{Letter}
 use Rattle.mailbox.specs.declared.letters.Letters.TheInside.{Inside}
-use Rattle.mailbox.specs.inner.Letters.{AreCounted, in_front, letter_uids, message_of, messages_of, reflagged, without_message}
+use Rattle.mailbox.specs.inner.Letters.{AreCounted, Placed, in_front, letter_uids, message_of, messages_of, placed, reflagged, under, without_message}
 use Rattle.mailbox.specs.Mailbox.{Message, message_with, uids_of}
 
 -- 1 where it is so
@@ -67,7 +68,7 @@ front_reflagged uid u new flags None ms off = refl
 front_reflagged uid u new flags (Some t) ms off = ap (λ (b : Bool). if b then record (message_of u flags t) { flags = new } ∷ ms else message_of u flags t ∷ reflagged uid new ms) off
 
 -- none is there that is above it
-none_above : (uid : ℕ) (ls : List Letter) → AllByRecursion (λ v. uid < v) (letter_uids ls) → message_with uid (messages_of ls) ≡ None
+none_above : (uid : ℕ) (ls : List Placed) → AllByRecursion (λ v. uid < v) (letter_uids ls) → message_with uid (messages_of ls) ≡ None
 none_above uid [] h = refl
 none_above uid (l ∷ ls) h = front_with uid l.uid l.flags l.text (messages_of ls) (eqb_above l.uid uid h.0) ∙ none_above uid ls h.1
 
@@ -92,23 +93,17 @@ reflagged_none uid flags (m ∷ ms) none = by_case (m.uid == uid) none (λ f. re
 
 -- ---- a letter at a place
 
--- what its UID tells
-pub placed : (ls : List Letter) (place uid : ℕ) → option_map (λ (l : Letter). l.uid) (slice_get ls place) ≡ Some uid → (place < length ls) × ((d : Letter) → (get_or ls place d).uid ≡ uid)
-placed [] place uid at = cc
-placed (l ∷ ls) zero uid at = (omega arith, λ d. cc)
-placed (l ∷ ls) (suc k) uid at = let rest = placed ls k uid at in (omega (arith, rest.0), rest.1)
-
 -- the first one is below it
-low : (u : ℕ) (ls : List Letter) (k : ℕ) (l : Letter) → AllByRecursion (λ v. u < v) (letter_uids ls) → k < length ls → get_or ls k l ≡ l → u < l.uid
+low : (u : ℕ) (ls : List Placed) (k : ℕ) (l : Placed) → AllByRecursion (λ v. u < v) (letter_uids ls) → k < length ls → get_or ls k l ≡ l → u < l.uid
 low u [] k l up within at = absurd (omega (arith, within))
-low u (x ∷ ls) zero l up within at = subst (λ (y : Letter). u < y.uid) at up.0
+low u (x ∷ ls) zero l up within at = subst (λ (y : Placed). u < y.uid) at up.0
 low u (x ∷ ls) (suc k) l up within at = low u ls k l up.1 (omega (arith, within)) at
 
 -- what is found
-pub with_at : (ls : List Letter) (place : ℕ) (l : Letter) → Rises (letter_uids ls) → place < length ls → get_or ls place l ≡ l →
+pub with_at : (ls : List Placed) (place : ℕ) (l : Placed) → Rises (letter_uids ls) → place < length ls → get_or ls place l ≡ l →
     message_with l.uid (messages_of ls) ≡ option_map (λ (t : List ℕ). message_of l.uid l.flags t) l.text
 with_at [] place l up within at = absurd (omega (arith, within))
-with_at (x ∷ ls) zero l up within at = subst (λ (y : Letter). message_with y.uid (messages_of (x ∷ ls)) ≡ option_map (λ (t : List ℕ). message_of y.uid y.flags t) y.text) at (by_case x.text)
+with_at (x ∷ ls) zero l up within at = subst (λ (y : Placed). message_with y.uid (messages_of (x ∷ ls)) ≡ option_map (λ (t : List ℕ). message_of y.uid y.flags t) y.text) at (by_case x.text)
   where
     by_case : (t : Option (List ℕ)) → message_with x.uid (in_front x.uid x.flags t (messages_of ls)) ≡ option_map (λ (y : List ℕ). message_of x.uid x.flags y) t
     by_case None = none_above x.uid ls up.0
@@ -117,11 +112,11 @@ with_at (x ∷ ls) (suc k) l up within at =
     front_with l.uid x.uid x.flags x.text (messages_of ls) (eqb_below x.uid l.uid (low x.uid ls k l up.0 (omega (arith, within)) at)) ∙ with_at ls k l up.1 (omega (arith, within)) at
 
 -- its flags are set
-pub reflagged_at : (flags : Flags) (ls : List Letter) (place : ℕ) (l : Letter) → Rises (letter_uids ls) → place < length ls → get_or ls place l ≡ l →
+pub reflagged_at : (flags : Flags) (ls : List Placed) (place : ℕ) (l : Placed) → Rises (letter_uids ls) → place < length ls → get_or ls place l ≡ l →
     messages_of (slice_set ls place (record { uid = l.uid; flags = flags; text = l.text })) ≡ reflagged l.uid flags (messages_of ls)
 reflagged_at flags [] place l up within at = absurd (omega (arith, within))
 reflagged_at flags (x ∷ ls) zero l up within at =
-    subst (λ (y : Letter). messages_of (slice_set (x ∷ ls) 0 (record { uid = y.uid; flags = flags; text = y.text })) ≡ reflagged y.uid flags (messages_of (x ∷ ls))) at (by_case x.text)
+    subst (λ (y : Placed). messages_of (slice_set (x ∷ ls) 0 (record { uid = y.uid; flags = flags; text = y.text })) ≡ reflagged y.uid flags (messages_of (x ∷ ls))) at (by_case x.text)
   where
     by_case : (t : Option (List ℕ)) → in_front x.uid flags t (messages_of ls) ≡ reflagged x.uid flags (in_front x.uid x.flags t (messages_of ls))
     by_case None = sym (reflagged_none x.uid flags (messages_of ls) (none_above x.uid ls up.0))
@@ -131,11 +126,11 @@ reflagged_at flags (x ∷ ls) (suc k) l up within at =
     ∙ sym (front_reflagged l.uid x.uid flags x.flags x.text (messages_of ls) (eqb_below x.uid l.uid (low x.uid ls k l up.0 (omega (arith, within)) at)))
 
 -- its text is taken
-pub without_at : (ls : List Letter) (place : ℕ) (l : Letter) → Rises (letter_uids ls) → place < length ls → get_or ls place l ≡ l →
+pub without_at : (ls : List Placed) (place : ℕ) (l : Placed) → Rises (letter_uids ls) → place < length ls → get_or ls place l ≡ l →
     messages_of (slice_set ls place (record { uid = l.uid; flags = l.flags; text = None })) ≡ without_message l.uid (messages_of ls)
 without_at [] place l up within at = absurd (omega (arith, within))
 without_at (x ∷ ls) zero l up within at =
-    subst (λ (y : Letter). messages_of (slice_set (x ∷ ls) 0 (record { uid = y.uid; flags = y.flags; text = None })) ≡ without_message y.uid (messages_of (x ∷ ls))) at (by_case x.text)
+    subst (λ (y : Placed). messages_of (slice_set (x ∷ ls) 0 (record { uid = y.uid; flags = y.flags; text = None })) ≡ without_message y.uid (messages_of (x ∷ ls))) at (by_case x.text)
   where
     by_case : (t : Option (List ℕ)) → messages_of ls ≡ without_message x.uid (in_front x.uid x.flags t (messages_of ls))
     by_case None = sym (without_none x.uid (messages_of ls) (none_above x.uid ls up.0))
@@ -144,70 +139,89 @@ without_at (x ∷ ls) (suc k) l up within at =
     ap (in_front x.uid x.flags x.text) (without_at ls k l up.1 (omega (arith, within)) at)
     ∙ sym (front_without l.uid x.uid x.flags x.text (messages_of ls) (eqb_below x.uid l.uid (low x.uid ls k l up.0 (omega (arith, within)) at)))
 
--- the UIDs stay
-pub uids_at : (new l : Letter) (ls : List Letter) (place : ℕ) → get_or ls place l ≡ l → new.uid ≡ l.uid → letter_uids (slice_set ls place new) ≡ letter_uids ls
-uids_at new l [] place at same = refl
-uids_at new l (x ∷ ls) zero at same = ap (λ (u : ℕ). u ∷ letter_uids ls) (same ∙ ap (λ (y : Letter). y.uid) (sym at))
-uids_at new l (x ∷ ls) (suc k) at same = ap (λ (us : List ℕ). x.uid ∷ us) (uids_at new l ls k at same)
+-- ---- letters and UIDs, place by place
 
--- they don't fall
-uid_get : (ls : List Letter) (place : ℕ) (d : Letter) → get_or (letter_uids ls) place d.uid ≡ (get_or ls place d).uid
-uid_get [] place d = refl
-uid_get (l ∷ ls) zero d = refl
-uid_get (l ∷ ls) (suc k) d = uid_get ls k d
+pub uids_placed : (us : List ℕ) (ls : List Letter) → length ls ≡ length us → letter_uids (placed us ls) ≡ us
+uids_placed [] ls beside = refl
+uids_placed (u ∷ us) [] beside = absurd (omega (arith, beside))
+uids_placed (u ∷ us) (l ∷ ls) beside = ap (λ (vs : List ℕ). u ∷ vs) (uids_placed us ls (omega (arith, beside)))
 
-pub uids_do_not_fall : (ls : List Letter) → IsStrictlyIncreasing (letter_uids ls) → (i j : ℕ) (d : Letter) → i ≤ j → j < length ls → (get_or ls i d).uid ≤ (get_or ls j d).uid
-uids_do_not_fall ls up i j d l m = omega (arith, not_falling (letter_uids ls) up i j d.uid l (omega (arith, m, length-map ls (λ (x : Letter). x.uid))), uid_get ls i d, uid_get ls j d)
+pub length_placed : (us : List ℕ) (ls : List Letter) → length ls ≡ length us → length (placed us ls) ≡ length us
+length_placed [] ls beside = refl
+length_placed (u ∷ us) [] beside = absurd (omega (arith, beside))
+length_placed (u ∷ us) (l ∷ ls) beside = ap suc (length_placed us ls (omega (arith, beside)))
 
--- no letter has the UID where it would stand
-pub absent : (uid : ℕ) (ls : List Letter) (place : ℕ) → Rises (letter_uids ls) →
-    IsPartitionPoint (λ (l : Letter). ltb l.uid uid ≡ true) (λ (l : Letter). ltb l.uid uid ≡ false) ls place → place ≤ length ls →
-    option_map (λ (l : Letter). l.uid) (slice_get ls place) ≢ Some uid → message_with uid (messages_of ls) ≡ None
-absent uid [] place up point within other = refl
-absent uid (l ∷ ls) zero up point within other = elim (eqb_tells l.uid uid) [
-  | inl t ↦ absurd (other (ap Some t.1))
-  | inr t ↦
-      let least = ltb-false l.uid uid (point.1 0 l (omega arith) (omega arith)) in
-      front_with uid l.uid l.flags l.text (messages_of ls) t.0 ∙ none_above uid ls (all_above l.uid (letter_uids ls) least up.0)
+same_uid : {u v : ℕ} → Some u ≡ Some v → u ≡ v
+same_uid e = cc
+
+placed_get : (us : List ℕ) (ls : List Letter) (place uid : ℕ) (l : Letter) → length ls ≡ length us → slice_get us place ≡ Some uid → get_or ls place l ≡ l → get_or (placed us ls) place (under uid l) ≡ under uid l
+placed_get [] ls place uid l beside found at = refl
+placed_get (u ∷ us) [] place uid l beside found at = refl
+placed_get (u ∷ us) (x ∷ ls) zero uid l beside found at = ap (λ (v : ℕ). under v x) (same_uid found) ∙ ap (under uid) at
+placed_get (u ∷ us) (x ∷ ls) (suc k) uid l beside found at = placed_get us ls k uid l (omega (arith, beside)) found at
+
+placed_set : (us : List ℕ) (ls : List Letter) (place uid : ℕ) (new : Letter) → slice_get us place ≡ Some uid → placed us (slice_set ls place new) ≡ slice_set (placed us ls) place (under uid new)
+placed_set [] ls place uid new found = cc
+placed_set (u ∷ us) [] place uid new found = refl
+placed_set (u ∷ us) (x ∷ ls) zero uid new found = ap (λ (v : ℕ). under v new ∷ placed us ls) (same_uid found)
+placed_set (u ∷ us) (x ∷ ls) (suc k) uid new found = ap (λ (ps : List Placed). under u x ∷ ps) (placed_set us ls k uid new found)
+
+placed_more : (us : List ℕ) (ls : List Letter) (uid : ℕ) (l : Letter) → length ls ≡ length us → placed (us ++ uid ∷ []) (ls ++ l ∷ []) ≡ placed us ls ++ under uid l ∷ []
+placed_more [] [] uid l beside = refl
+placed_more [] (x ∷ ls) uid l beside = absurd (omega (arith, beside))
+placed_more (u ∷ us) [] uid l beside = absurd (omega (arith, beside))
+placed_more (u ∷ us) (x ∷ ls) uid l beside = ap (λ (ps : List Placed). under u x ∷ ps) (placed_more us ls uid l (omega (arith, beside)))
+
+-- ---- where a UID is, and where it isn't
+
+-- no place has the UID that isn't where it would stand
+pub absent : (uid : ℕ) (us : List ℕ) (place : ℕ) → IsStrictlyIncreasing us → IsPartitionPoint (λ (u : ℕ). ltb u uid ≡ true) (λ (u : ℕ). ltb u uid ≡ false) us place →
+    slice_get us place ≢ Some uid → Contains us uid → ⊥
+absent uid us place up point other there = elim (cases_lt there.0 place) [
+  | inl before ↦ let less = ltb-true (get_or us there.0 uid) uid (point.0 there.0 uid (omega arith) before) in omega (arith, less, there.2)
+  | inr behind ↦
+      let within : place < length us = omega (arith, behind, there.1) in
+      let least = ltb-false (get_or us place uid) uid (point.1 place uid (omega arith) within) in
+      let same : get_or us place uid ≡ uid = omega (arith, least, not_falling us up place there.0 uid behind there.1, there.2) in
+      other (slice_get-get_or us place uid within ∙ ap Some same)
 ]
-  where
-    all_above : (u : ℕ) (us : List ℕ) → uid ≤ u → AllByRecursion (λ v. u < v) us → AllByRecursion (λ v. uid < v) us
-    all_above u [] le h = tt
-    all_above u (v ∷ us) le h = (omega (arith, le, h.0), all_above u us le h.1)
-absent uid (l ∷ ls) (suc place) up point within other =
-    front_with uid l.uid l.flags l.text (messages_of ls) (eqb_below l.uid uid (ltb-true l.uid uid (point.0 0 l (omega arith) (omega arith))))
-    ∙ absent uid ls place up.1 (λ k d z l. point.0 (suc k) d (omega arith) (omega (arith, l)), λ k d l m. point.1 (suc k) d (omega (arith, l)) (omega (arith, m))) (omega (arith, within)) other
+
+pub none_there : (uid : ℕ) (us : List ℕ) (ls : List Letter) → (Contains us uid → ⊥) → message_with uid (messages_of (placed us ls)) ≡ None
+none_there uid [] ls none = refl
+none_there uid (u ∷ us) [] none = refl
+none_there uid (u ∷ us) (l ∷ ls) none = elim (eqb_tells u uid) [
+  | inl t ↦ absurd (none (0, omega arith, t.1))
+  | inr t ↦ front_with uid u l.flags l.text (messages_of (placed us ls)) t.0 ∙ none_there uid us ls (λ there. none (suc there.0, omega (arith, there.1), there.2))
+]
 
 -- what is known of the letter at a place that has a UID
-pub record IsAt (ls : List Letter) (place uid : ℕ) (l : Letter) : Type 0 where
-  pub within : place < length ls
-  pub same : l.uid ≡ uid
-  pub found : message_with uid (messages_of ls) ≡ option_map (λ (t : List ℕ). message_of uid l.flags t) l.text
-  pub set : (flags : Flags) → messages_of (slice_set ls place (record { uid = l.uid; flags = flags; text = l.text })) ≡ reflagged uid flags (messages_of ls)
-  pub taken : messages_of (slice_set ls place (record { uid = l.uid; flags = l.flags; text = None })) ≡ without_message uid (messages_of ls)
-  pub uids : (new : Letter) → new.uid ≡ l.uid → letter_uids (slice_set ls place new) ≡ letter_uids ls
+pub record IsAt (us : List ℕ) (ls : List Letter) (place uid : ℕ) (l : Letter) : Type 0 where
+  pub found : message_with uid (messages_of (placed us ls)) ≡ option_map (λ (t : List ℕ). message_of uid l.flags t) l.text
+  pub set : (flags : Flags) → messages_of (placed us (slice_set ls place (record { flags = flags; text = l.text }))) ≡ reflagged uid flags (messages_of (placed us ls))
+  pub taken : messages_of (placed us (slice_set ls place (record { flags = l.flags; text = None }))) ≡ without_message uid (messages_of (placed us ls))
 
-pub at_place : (ls seen : List Letter) (place uid : ℕ) (l : Letter) → seen ≡ ls → IsStrictlyIncreasing (letter_uids ls) → option_map (λ (x : Letter). x.uid) (slice_get seen place) ≡ Some uid →
-    l ≡ get_or ls place l → IsAt ls place uid l
-at_place ls seen place uid l same rising found is =
-    let here = placed ls place uid (subst (λ (xs : List Letter). option_map (λ (x : Letter). x.uid) (slice_get xs place) ≡ Some uid) same found) in
-    let up = Rises-from (letter_uids ls) rising in
-    let own : l.uid ≡ uid = ap (λ (x : Letter). x.uid) is ∙ here.1 l in
+pub at_place : (us : List ℕ) (ls : List Letter) (place uid : ℕ) (l : Letter) → IsStrictlyIncreasing us → length ls ≡ length us → slice_get us place ≡ Some uid → l ≡ get_or ls place l → IsAt us ls place uid l
+at_place us ls place uid l rising beside found is =
+    let ps = placed us ls in
+    let up = Rises-from (letter_uids ps) (subst IsStrictlyIncreasing (sym (uids_placed us ls beside)) rising) in
+    let few = slice_get_within us place uid found in
+    let within : place < length ps = omega (arith, few, length_placed us ls beside) in
+    let here = placed_get us ls place uid l beside found (sym is) in
     record {
-      within = here.0;
-      same = own;
-      found = subst (λ (u : ℕ). message_with u (messages_of ls) ≡ option_map (λ (t : List ℕ). message_of u l.flags t) l.text) own (with_at ls place l up here.0 (sym is));
-      set = λ flags. subst (λ (u : ℕ). messages_of (slice_set ls place (record { uid = l.uid; flags = flags; text = l.text })) ≡ reflagged u flags (messages_of ls)) own
-          (reflagged_at flags ls place l up here.0 (sym is));
-      taken = subst (λ (u : ℕ). messages_of (slice_set ls place (record { uid = l.uid; flags = l.flags; text = None })) ≡ without_message u (messages_of ls)) own
-          (without_at ls place l up here.0 (sym is));
-      uids = λ new kept. uids_at new l ls place (sym is) kept;
+      found = with_at ps place (under uid l) up within here;
+      set = λ flags. ap messages_of (placed_set us ls place uid (record { flags = flags; text = l.text }) found) ∙ reflagged_at flags ps place (under uid l) up within here;
+      taken = ap messages_of (placed_set us ls place uid (record { flags = l.flags; text = None }) found) ∙ without_at ps place (under uid l) up within here;
     }
 
 -- its text was taken
 pub text_gone : (t : Option (List ℕ)) → is_some t ≡ false → t ≡ None
 text_gone None e = refl
 text_gone (Some t) e = cc
+
+-- and where it wasn't it is there
+pub text_there : (t : Option (List ℕ)) → is_some t ≡ true → (x : List ℕ) × (t ≡ Some x)
+text_there None e = cc
+text_there (Some x) e = (x, refl)
 
 -- ---- one more UID
 
@@ -222,9 +236,12 @@ rises_push (u ∷ us) uid below up = (all_push us up.0, rises_push us uid below.
 pub rising_more : (us : List ℕ) (uid : ℕ) → All (λ u. u < uid) us → IsStrictlyIncreasing us → IsStrictlyIncreasing (us ++ uid ∷ [])
 rising_more us uid below up = Rises-to (us ++ uid ∷ []) (rises_push us uid (recursion_from_All (λ u. u < uid) us below) (Rises-from us up))
 
+pub rising_first : (us : List ℕ) (uid : ℕ) → IsStrictlyIncreasing (us ++ uid ∷ []) → IsStrictlyIncreasing us
+rising_first us uid up = Rises-to us (Rises-first us (uid ∷ []) (Rises-from (us ++ uid ∷ []) up))
+
 -- ---- letters come and go
 
-pub messages_more : (ls : List Letter) (l : Letter) → messages_of (ls ++ l ∷ []) ≡ messages_of ls ++ in_front l.uid l.flags l.text []
+messages_more : (ls : List Placed) (l : Placed) → messages_of (ls ++ l ∷ []) ≡ messages_of ls ++ in_front l.uid l.flags l.text []
 messages_more [] l = refl
 messages_more (x ∷ ls) l = by_case x.text (messages_more ls l)
   where
@@ -233,33 +250,43 @@ messages_more (x ∷ ls) l = by_case x.text (messages_more ls l)
     by_case None h = h
     by_case (Some t) h = ap (λ (ms : List Message). message_of x.uid x.flags t ∷ ms) h
 
-pub uids_more : (ls : List Letter) (l : Letter) → letter_uids (ls ++ l ∷ []) ≡ letter_uids ls ++ l.uid ∷ []
-uids_more [] l = refl
-uids_more (x ∷ ls) l = ap (λ (us : List ℕ). x.uid ∷ us) (uids_more ls l)
+-- one letter more
+pub messages_added : (us more : List ℕ) (ls after : List Letter) (uid : ℕ) (l : Letter) → length ls ≡ length us → more ≡ us ++ uid ∷ [] → after ≡ ls ++ l ∷ [] →
+    messages_of (placed more after) ≡ messages_of (placed us ls) ++ in_front uid l.flags l.text []
+messages_added us more ls after uid l beside is at =
+    ap (λ (vs : List ℕ). messages_of (placed vs after)) is ∙ ap (λ (xs : List Letter). messages_of (placed (us ++ uid ∷ []) xs)) at ∙ ap messages_of (placed_more us ls uid l beside)
+    ∙ messages_more (placed us ls) (under uid l)
 
 -- those whose text is there
 abbrev pub there : List Letter → List Letter
 there ls = filter (λ (l : Letter). is_some l.text) ls
 
-pub messages_there : (ls : List Letter) → messages_of (there ls) ≡ messages_of ls
-messages_there [] = refl
-messages_there (l ∷ ls) = by_case l.text refl (messages_there ls)
+-- they are the same messages under the messages' UIDs
+pub messages_there : (us : List ℕ) (ls : List Letter) → messages_of (placed (uids_of (messages_of (placed us ls))) (there ls)) ≡ messages_of (placed us ls)
+messages_there [] ls = refl
+messages_there (u ∷ us) [] = refl
+messages_there (u ∷ us) (l ∷ ls) = by_case l.text refl (messages_there us ls)
   where
-    by_case : (t : Option (List ℕ)) → l.text ≡ t → messages_of (there ls) ≡ messages_of ls → messages_of (cond (is_some t) (l ∷ there ls) (there ls)) ≡ in_front l.uid l.flags t (messages_of ls)
+    by_case : (t : Option (List ℕ)) → l.text ≡ t → messages_of (placed (uids_of (messages_of (placed us ls))) (there ls)) ≡ messages_of (placed us ls) →
+        messages_of (placed (uids_of (in_front u l.flags t (messages_of (placed us ls)))) (cond (is_some t) (l ∷ there ls) (there ls))) ≡ in_front u l.flags t (messages_of (placed us ls))
     by_case None is h = h
-    by_case (Some t) is h = ap (λ (x : Option (List ℕ)). in_front l.uid l.flags x (messages_of (there ls))) is ∙ ap (λ (ms : List Message). message_of l.uid l.flags t ∷ ms) h
+    by_case (Some t) is h =
+        ap (λ (x : Option (List ℕ)). in_front u l.flags x (messages_of (placed (uids_of (messages_of (placed us ls))) (there ls)))) is ∙ ap (λ (ms : List Message). message_of u l.flags t ∷ ms) h
 
-pub uids_there : (ls : List Letter) → letter_uids (there ls) ≡ uids_of (messages_of ls)
-uids_there [] = refl
-uids_there (l ∷ ls) = by_case l.text (uids_there ls)
+-- and as many
+pub length_there : (us : List ℕ) (ls : List Letter) → length ls ≡ length us → length (there ls) ≡ length (messages_of (placed us ls))
+length_there [] [] beside = refl
+length_there [] (l ∷ ls) beside = absurd (omega (arith, beside))
+length_there (u ∷ us) [] beside = absurd (omega (arith, beside))
+length_there (u ∷ us) (l ∷ ls) beside = by_case l.text (length_there us ls (omega (arith, beside)))
   where
-    by_case : (t : Option (List ℕ)) → letter_uids (there ls) ≡ uids_of (messages_of ls) → letter_uids (cond (is_some t) (l ∷ there ls) (there ls)) ≡ uids_of (in_front l.uid l.flags t (messages_of ls))
+    by_case : (t : Option (List ℕ)) → length (there ls) ≡ length (messages_of (placed us ls)) → length (cond (is_some t) (l ∷ there ls) (there ls)) ≡ length (in_front u l.flags t (messages_of (placed us ls)))
     by_case None h = h
-    by_case (Some t) h = ap (λ (us : List ℕ). l.uid ∷ us) h
+    by_case (Some t) h = ap suc h
 
 -- the messages' UIDs rise
 module _ (P : ℕ → Type 0) where
-  all_there : (ls : List Letter) → AllByRecursion P (letter_uids ls) → AllByRecursion P (uids_of (messages_of ls))
+  all_there : (ls : List Placed) → AllByRecursion P (letter_uids ls) → AllByRecursion P (uids_of (messages_of ls))
   all_there [] h = tt
   all_there (l ∷ ls) h = by_case l.text (all_there ls h.1)
     where
@@ -267,7 +294,7 @@ module _ (P : ℕ → Type 0) where
       by_case None rest = rest
       by_case (Some t) rest = (h.0, rest)
 
-rising_there : (ls : List Letter) → Rises (letter_uids ls) → Rises (uids_of (messages_of ls))
+rising_there : (ls : List Placed) → Rises (letter_uids ls) → Rises (uids_of (messages_of ls))
 rising_there [] up = tt
 rising_there (l ∷ ls) up = by_case l.text (rising_there ls up.1)
   where
@@ -275,16 +302,85 @@ rising_there (l ∷ ls) up = by_case l.text (rising_there ls up.1)
     by_case None rest = rest
     by_case (Some t) rest = (all_there (λ v. l.uid < v) ls up.0, rest)
 
-pub messages_rise : (ls : List Letter) → IsStrictlyIncreasing (letter_uids ls) → IsStrictlyIncreasing (uids_of (messages_of ls))
-messages_rise ls up = Rises-to (uids_of (messages_of ls)) (rising_there ls (Rises-from (letter_uids ls) up))
+pub messages_rise : (us : List ℕ) (ls : List Letter) → length ls ≡ length us → IsStrictlyIncreasing us → IsStrictlyIncreasing (uids_of (messages_of (placed us ls)))
+messages_rise us ls beside up =
+    let ps = placed us ls in
+    Rises-to (uids_of (messages_of ps)) (rising_there ps (subst Rises (sym (uids_placed us ls beside)) (Rises-from us up)))
 
-pub messages_few : (ls : List Letter) → length (messages_of ls) ≤ length ls
-messages_few [] = omega arith
-messages_few (l ∷ ls) = by_case l.text (messages_few ls)
+pub messages_few : (us : List ℕ) (ls : List Letter) → length (messages_of (placed us ls)) ≤ length us
+messages_few [] ls = omega arith
+messages_few (u ∷ us) [] = omega arith
+messages_few (u ∷ us) (l ∷ ls) = by_case l.text (messages_few us ls)
   where
-    by_case : (t : Option (List ℕ)) → length (messages_of ls) ≤ length ls → length (in_front l.uid l.flags t (messages_of ls)) ≤ suc (length ls)
+    by_case : (t : Option (List ℕ)) → length (messages_of (placed us ls)) ≤ length us → length (in_front u l.flags t (messages_of (placed us ls))) ≤ suc (length us)
     by_case None h = omega (arith, h)
     by_case (Some t) h = omega (arith, h)
+
+-- where no place was given up, each UID is a message's
+pub each_there : (us : List ℕ) (ls : List Letter) → length (messages_of (placed us ls)) ≡ length us → uids_of (messages_of (placed us ls)) ≡ us
+each_there [] ls full = refl
+each_there (u ∷ us) [] full = absurd (omega (arith, full))
+each_there (u ∷ us) (l ∷ ls) full = by_case l.text full (messages_few us ls) (λ e. each_there us ls e)
+  where
+    by_case : (t : Option (List ℕ)) → length (in_front u l.flags t (messages_of (placed us ls))) ≡ suc (length us) → length (messages_of (placed us ls)) ≤ length us →
+        (length (messages_of (placed us ls)) ≡ length us → uids_of (messages_of (placed us ls)) ≡ us) → uids_of (in_front u l.flags t (messages_of (placed us ls))) ≡ u ∷ us
+    by_case None full few h = absurd (omega (arith, full, few))
+    by_case (Some t) full few h = ap (λ (vs : List ℕ). u ∷ vs) (h (omega (arith, full)))
+
+-- what is to come begins with the letter at this place
+comes : (us : List ℕ) (ls : List Letter) (place u : ℕ) (l : Letter) → place < length us → length ls ≡ length us → u ≡ get_or us place u → l ≡ get_or ls place l →
+    messages_of (placed (drop place us) (drop place ls)) ≡ in_front u l.flags l.text (messages_of (placed (drop (place + 1) us) (drop (place + 1) ls)))
+comes us ls place u l within beside is at =
+    let uids : drop place us ≡ u ∷ drop (place + 1) us = drop_more us place u within ∙ ap (λ (v : ℕ). v ∷ drop (place + 1) us) (sym is) in
+    let letters : drop place ls ≡ l ∷ drop (place + 1) ls = drop_more ls place l (omega (arith, within, beside)) ∙ ap (λ (x : Letter). x ∷ drop (place + 1) ls) (sym at) in
+    ap (λ (vs : List ℕ). messages_of (placed vs (drop place ls))) uids ∙ ap (λ (xs : List Letter). messages_of (placed (u ∷ drop (place + 1) us) xs)) letters
+
+-- where its text is there it is a message
+pub comes_one : (us : List ℕ) (ls : List Letter) (place u : ℕ) (l : Letter) (t : List ℕ) → place < length us → length ls ≡ length us → u ≡ get_or us place u → l ≡ get_or ls place l →
+    l.text ≡ Some t → messages_of (placed (drop place us) (drop place ls)) ≡ message_of u l.flags t ∷ messages_of (placed (drop (place + 1) us) (drop (place + 1) ls))
+comes_one us ls place u l t within beside is at there =
+    comes us ls place u l within beside is at ∙ ap (λ (x : Option (List ℕ)). in_front u l.flags x (messages_of (placed (drop (place + 1) us) (drop (place + 1) ls)))) there
+
+-- and where it was taken none
+pub comes_none : (us : List ℕ) (ls : List Letter) (place : ℕ) (l : Letter) → place < length us → length ls ≡ length us → l ≡ get_or ls place l → l.text ≡ None →
+    messages_of (placed (drop place us) (drop place ls)) ≡ messages_of (placed (drop (place + 1) us) (drop (place + 1) ls))
+comes_none us ls place l within beside at gone =
+    let u = get_or us place 0 in
+    comes us ls place u l within beside (get_or_default us place 0 u within) at
+    ∙ ap (λ (x : Option (List ℕ)). in_front u l.flags x (messages_of (placed (drop (place + 1) us) (drop (place + 1) ls)))) gone
+
+-- ---- the UIDs close up
+
+-- the UIDs that are kept, with those of the messages to come, are all
+pub record IsClosing (whole now : List ℕ) (ls : List Letter) (kept place : ℕ) : Type 0 where
+  pub told : take kept now ++ uids_of (messages_of (placed (drop place now) (drop place ls))) ≡ whole
+  pub behind : kept ≤ place
+  pub beside : length ls ≡ length now
+
+-- a place that was given up
+pub closing_past : (whole now : List ℕ) (ls : List Letter) (kept place : ℕ) (l : Letter) → IsClosing whole now ls kept place → place < length now → l ≡ get_or ls place l → is_some l.text ≡ false →
+    IsClosing whole now ls kept (place + 1)
+closing_past whole now ls kept place l h within at gone = record {
+  told = ap (λ (ms : List Message). take kept now ++ uids_of ms) (sym (comes_none now ls place l within h.beside at (text_gone l.text gone))) ∙ h.told;
+  behind = omega (arith, h.behind);
+  beside = h.beside;
+}
+
+-- a message's UID moves up
+pub closing_more : (whole now : List ℕ) (ls : List Letter) (kept place u : ℕ) (l : Letter) → IsClosing whole now ls kept place → place < length now → u ≡ get_or now place u → l ≡ get_or ls place l →
+    is_some l.text ≡ true → IsClosing whole (slice_set now kept u) ls (kept + 1) (place + 1)
+closing_more whole now ls kept place u l h within is at there =
+    let left = uids_of (messages_of (placed (drop (place + 1) now) (drop (place + 1) ls))) in
+    let front : take (kept + 1) (slice_set now kept u) ≡ take kept now ++ u ∷ [] = take_more_set now kept u (omega (arith, within, h.behind)) in
+    let rest : drop (place + 1) (slice_set now kept u) ≡ drop (place + 1) now = drop-set-lt (place + 1) now kept u (omega (arith, h.behind)) in
+    let text = text_there l.text there in
+    record {
+      told =
+          ap (λ (vs : List ℕ). take (kept + 1) (slice_set now kept u) ++ uids_of (messages_of (placed vs (drop (place + 1) ls)))) rest ∙ ap (λ (vs : List ℕ). vs ++ left) front
+          ∙ append_assoc (take kept now) (u ∷ []) left ∙ ap (λ (ms : List Message). take kept now ++ uids_of ms) (sym (comes_one now ls place u l text.0 within h.beside is at text.1)) ∙ h.told;
+      behind = omega (arith, h.behind);
+      beside = omega (arith, h.beside, length-set now kept u);
+    }
 
 -- ---- sums over the messages
 
@@ -364,14 +460,15 @@ uids_reflagged uid flags (m ∷ ms) = by_case (m.uid == uid) (uids_reflagged uid
 pub bytes_few : (ms : List Message) → All (λ (m : Message). length m.text ≤ 0xffff_ffff_ffff_ffff) ms → bytes_in_all ms ≤ length ms * 0xffff_ffff_ffff_ffff
 bytes_few ms small = sum_by-le (λ (m : Message). length m.text) 0xffff_ffff_ffff_ffff ms small
 
-pub AreCounted-add : (b : Inside) (new : Vec Letter) (x : Message) → AreCounted b → IsStrictlyIncreasing (letter_uids new.items) →
-    messages_of new.items ≡ messages_of b.letters.items ++ x ∷ [] → x.flags.seen ≡ false → length x.text ≤ 0xffff_ffff_ffff_ffff →
-    AreCounted (record { letters = new; count = b.count + 1; unseen = b.unseen + 1; bytes = b.bytes + length x.text })
-AreCounted-add b new x h rising is off short =
-    let ms = messages_of b.letters.items in
+pub AreCounted-add : (b : Inside) (us : Vec ℕ) (ls : Vec Letter) (x : Message) → AreCounted b → IsStrictlyIncreasing us.items → length ls.items ≡ length us.items →
+    messages_of (placed us.items ls.items) ≡ messages_of (placed b.uids.items b.letters.items) ++ x ∷ [] → x.flags.seen ≡ false → length x.text ≤ 0xffff_ffff_ffff_ffff →
+    AreCounted (record { uids = us; letters = ls; count = b.count + 1; unseen = b.unseen + 1; bytes = b.bytes + length x.text })
+AreCounted-add b us ls x h rising beside is off short =
+    let ms = messages_of (placed b.uids.items b.letters.items) in
     let one : one_if (not x.flags.seen) ≡ 1 = ap (λ (s : Bool). one_if (not s)) off in
     record {
       rising = rising;
+      beside = beside;
       count = omega (arith, h.count, ap length is, length_push ms x);
       unseen = omega (arith, h.unseen, ap unseen_count is, sum_by_push (λ (m : Message). one_if (not m.flags.seen)) ms x, one);
       bytes = omega (arith, h.bytes, ap bytes_in_all is, sum_by_push (λ (m : Message). length m.text) ms x);
@@ -382,26 +479,28 @@ AreCounted-add b new x h rising is off short =
     length_push [] x = refl
     length_push (m ∷ ms) x = omega (arith, length_push ms x)
 
-pub AreCounted-set : (b : Inside) (new : Vec Letter) (uid : ℕ) (flags : Flags) (x : Message) (unseen : ℕ) → AreCounted b → letter_uids new.items ≡ letter_uids b.letters.items →
-    messages_of new.items ≡ reflagged uid flags (messages_of b.letters.items) → message_with uid (messages_of b.letters.items) ≡ Some x →
-    unseen + one_if (not x.flags.seen) ≡ b.unseen + one_if (not flags.seen) → AreCounted (record { letters = new; count = b.count; unseen = unseen; bytes = b.bytes })
-AreCounted-set b new uid flags x unseen h uids is found counts =
-    let ms = messages_of b.letters.items in
+pub AreCounted-set : (b : Inside) (new : Vec Letter) (uid : ℕ) (flags : Flags) (x : Message) (unseen : ℕ) → AreCounted b → length new.items ≡ length b.uids.items →
+    messages_of (placed b.uids.items new.items) ≡ reflagged uid flags (messages_of (placed b.uids.items b.letters.items)) → message_with uid (messages_of (placed b.uids.items b.letters.items)) ≡ Some x →
+    unseen + one_if (not x.flags.seen) ≡ b.unseen + one_if (not flags.seen) → AreCounted (record { uids = b.uids; letters = new; count = b.count; unseen = unseen; bytes = b.bytes })
+AreCounted-set b new uid flags x unseen h beside is found counts =
+    let ms = messages_of (placed b.uids.items b.letters.items) in
     record {
-      rising = subst IsStrictlyIncreasing (sym uids) h.rising;
+      rising = h.rising;
+      beside = beside;
       count = omega (arith, h.count, ap length is, length_reflagged uid flags ms);
       unseen = omega (arith, counts, h.unseen, ap unseen_count is, sum_reflagged (λ (m : Message). one_if (not m.flags.seen)) uid flags ms x found);
       bytes = omega (arith, h.bytes, ap bytes_in_all is, sum_reflagged (λ (m : Message). length m.text) uid flags ms x found);
       small = subst (All (λ (m : Message). length m.text ≤ 0xffff_ffff_ffff_ffff)) (sym is) (all_reflagged (λ (t : List ℕ). length t ≤ 0xffff_ffff_ffff_ffff) uid flags ms h.small);
     }
 
-pub AreCounted-remove : (b : Inside) (new : Vec Letter) (uid : ℕ) (x : Message) (count unseen bytes : ℕ) → AreCounted b → letter_uids new.items ≡ letter_uids b.letters.items →
-    messages_of new.items ≡ without_message uid (messages_of b.letters.items) → message_with uid (messages_of b.letters.items) ≡ Some x →
-    count + 1 ≡ b.count → unseen + one_if (not x.flags.seen) ≡ b.unseen → bytes + length x.text ≡ b.bytes → AreCounted (record { letters = new; count = count; unseen = unseen; bytes = bytes })
-AreCounted-remove b new uid x count unseen bytes h uids is found less counts sums =
-    let ms = messages_of b.letters.items in
+pub AreCounted-remove : (b : Inside) (new : Vec Letter) (uid : ℕ) (x : Message) (count unseen bytes : ℕ) → AreCounted b → length new.items ≡ length b.uids.items →
+    messages_of (placed b.uids.items new.items) ≡ without_message uid (messages_of (placed b.uids.items b.letters.items)) → message_with uid (messages_of (placed b.uids.items b.letters.items)) ≡ Some x →
+    count + 1 ≡ b.count → unseen + one_if (not x.flags.seen) ≡ b.unseen → bytes + length x.text ≡ b.bytes → AreCounted (record { uids = b.uids; letters = new; count = count; unseen = unseen; bytes = bytes })
+AreCounted-remove b new uid x count unseen bytes h beside is found less counts sums =
+    let ms = messages_of (placed b.uids.items b.letters.items) in
     record {
-      rising = subst IsStrictlyIncreasing (sym uids) h.rising;
+      rising = h.rising;
+      beside = beside;
       count = omega (arith, less, h.count, ap length is, length_without uid ms x found);
       unseen = omega (arith, counts, h.unseen, ap unseen_count is, sum_without (λ (m : Message). one_if (not m.flags.seen)) uid ms x found);
       bytes = omega (arith, sums, h.bytes, ap bytes_in_all is, sum_without (λ (m : Message). length m.text) uid ms x found);
@@ -409,10 +508,11 @@ AreCounted-remove b new uid x count unseen bytes h uids is found less counts sum
     }
 
 -- the same messages in other letters
-pub AreCounted-same : (b : Inside) (new : Vec Letter) → AreCounted b → IsStrictlyIncreasing (letter_uids new.items) → messages_of new.items ≡ messages_of b.letters.items →
-    AreCounted (record { letters = new; count = b.count; unseen = b.unseen; bytes = b.bytes })
-AreCounted-same b new h rising is = record {
+pub AreCounted-same : (b : Inside) (us : Vec ℕ) (ls : Vec Letter) → AreCounted b → IsStrictlyIncreasing us.items → length ls.items ≡ length us.items →
+    messages_of (placed us.items ls.items) ≡ messages_of (placed b.uids.items b.letters.items) → AreCounted (record { uids = us; letters = ls; count = b.count; unseen = b.unseen; bytes = b.bytes })
+AreCounted-same b us ls h rising beside is = record {
   rising = rising;
+  beside = beside;
   count = h.count ∙ sym (ap length is);
   unseen = h.unseen ∙ sym (ap unseen_count is);
   bytes = h.bytes ∙ sym (ap bytes_in_all is);

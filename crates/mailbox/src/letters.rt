@@ -1,15 +1,17 @@
 //! The messages that are there, by their UIDs, and what is counted of them. Which of them have
 //! \Deleted is told in `messages`; changes and cursors are not told here.
 //!
-//! They stand in a vector, by rising UIDs. One that is taken out loses its text at once, and its place
-//! as soon as more than half of all places are such: so neither a removal nor what is added moves others,
-//! and a message mostly stands as far from the first one as its UID is above that one's.
+//! Their UIDs stand in a vector, rising, and what else is known of each at the same place of another:
+//! so all UIDs are one run of numbers, which is searched by itself and copied whole where no place was
+//! given up. One that is taken out loses its text at once, and its place in both as soon as more than
+//! half of all places are such: so neither a removal nor what is added moves others, and a message
+//! mostly stands as far from the first one as its UID is above that one's.
 
-ghost use Rattle.std.specs.Prelude.{◌≡◌, ◌^◌, ◌<◌, ◌-◌, false, true, [], ◌∷◌, ◌++◌, List, length, All, IfOk, OnOk, OnErr, IfSome, IfNone, Some, None, option_map, slice_get};
+ghost use Rattle.std.specs.Prelude.{◌≡◌, ◌^◌, ◌<◌, ◌-◌, false, true, [], ◌∷◌, ◌++◌, List, length, map, filter, All, Contains, IfOk, OnOk, OnErr, IfSome, IfNone, Some, None, option_map, slice_get, slice_index_or};
 ghost use Rattle.std.specs.List.Sorted.{IsStrictlyIncreasing};
 ghost use Rattle.change_ring.specs.Log.{no_flags};
 ghost use Rattle.mailbox.specs.Counts.{unseen_count, bytes_in_all};
-ghost use Rattle.mailbox.specs.inner.Letters.{letter_uids, message_of, messages_of, reflagged, without_message};
+ghost use Rattle.mailbox.specs.inner.Letters.{message_of, messages_of, placed, reflagged, without_message};
 ghost use Rattle.mailbox.specs.Mailbox.{message_with, texts_of, uids_of};
 
 use change_ring::{Flags, NO_FLAGS};
@@ -17,18 +19,18 @@ use delivery_token::Text;
 use std::alloc::{AllocError, Global};
 use std::marker::Model;
 
-// A message, or the place of one that was taken out: that has no text any more.
+// A message but for its UID, or the place of one that was taken out: that has no text any more.
 #[derive(Drop)]
 pub(crate) struct Letter {
-    uid: u32,
     flags: Flags,
     text: Option<Text>,
 }
 
-// The letters, whose UIDs rise; how many of them are messages, how many of these are without \Seen, and
-// the bytes of their texts.
+// The letters' UIDs, which rise, and at the same places the letters; how many of them are messages,
+// how many of these are without \Seen, and the bytes of their texts.
 #[derive(Drop)]
 pub(crate) struct Letters {
+    uids: Vec<u32>,
     letters: Vec<Letter>,
     count: usize,
     unseen: usize,
@@ -37,45 +39,38 @@ pub(crate) struct Letters {
 
 impl Model for Letters {
     ghost use Rattle.std.specs.Prelude.{List};
-    ghost use Rattle.mailbox.specs.inner.Letters.{AreCounted, messages_of};
+    ghost use Rattle.mailbox.specs.inner.Letters.{AreCounted, messages_of, placed};
     ghost use Rattle.mailbox.specs.Mailbox.{Message};
 
     ghost Value = { List Message };
 
-    ghost view = { λ b. messages_of b.letters.items };
+    ghost view = { λ b. messages_of (placed b.uids.items b.letters.items) };
 
     ghost invariant = { AreCounted };
 }
 
-// The UID at a place.
-fn uid_at(letters: &[Letter], place: usize) -> Option<u32>
-    ensures { result ≡ option_map (λ l. l.uid) (slice_get letters.now place) }
+// How far a UID is above the first one: its place, where no UID is missing before it.
+fn distance(uids: &[u32], uid: u32) -> usize
+    ensures { result ≡ uid - slice_index_or uids.now 0 uid }
 {
-    Some(letters.get(place)?.uid)
-}
-
-// How far a UID is above the first letter's: its place, where no UID is missing before it.
-fn distance(letters: &[Letter], uid: u32) -> usize
-    ensures { (l : Letter) (ls : List Letter) → letters.now ≡ l ∷ ls → result ≡ uid - l.uid }
-{
-    match letters.first() {
-        Some(first) => uid.saturating_sub(first.uid) as usize,
+    match uids.first() {
+        Some(first) => uid.saturating_sub(*first) as usize,
         None => 0,
     }
 }
 
-// The place of a UID. None only where no message has it.
-fn place_of(letters: &[Letter], uid: u32) -> Option<usize>
-    requires { IsStrictlyIncreasing (letter_uids letters.now) }
-    ensures found { IfSome result (λ place. option_map (λ l. l.uid) (slice_get letters.now place) ≡ Some uid) }
-    ensures none { IfNone result (message_with uid (messages_of letters.now) ≡ None) }
+// The place of a UID. None only where no place has it.
+fn place_of(uids: &[u32], uid: u32) -> Option<usize>
+    requires { IsStrictlyIncreasing uids.now }
+    ensures found { IfSome result (λ place. slice_get uids.now place ≡ Some uid) }
+    ensures none { IfNone result (Contains uids.now uid → ⊥) }
 {
-    let near = distance(letters, uid);
-    if uid_at(letters, near) == Some(uid) {
+    let near = distance(uids, uid);
+    if uids.get(near).copied() == Some(uid) {
         return Some(near);
     }
-    let place = letters.partition_point(|letter| letter.uid < uid);
-    if uid_at(letters, place) == Some(uid) {
+    let place = uids.partition_point(|other| *other < uid);
+    if uids.get(place).copied() == Some(uid) {
         Some(place)
     } else {
         None
@@ -83,13 +78,14 @@ fn place_of(letters: &[Letter], uid: u32) -> Option<usize>
 }
 
 // Sets the flags of the message of a UID. None where there is none; else the flags that it had.
-fn replace_flags(letters: &mut Vec<Letter>, uid: u32, flags: Flags) -> Option<Flags>
-    requires { IsStrictlyIncreasing (letter_uids letters.old.items) }
-    ensures was { result ≡ option_map (λ m. m.flags) (message_with uid (messages_of letters.old.items)) }
-    ensures messages { messages_of letters.new.items ≡ reflagged uid flags (messages_of letters.old.items) }
-    ensures uids { letter_uids letters.new.items ≡ letter_uids letters.old.items }
+fn replace_flags(uids: &[u32], letters: &mut Vec<Letter>, uid: u32, flags: Flags) -> Option<Flags>
+    requires rising { IsStrictlyIncreasing uids.now }
+    requires beside { length letters.old.items ≡ length uids.now }
+    ensures was { result ≡ option_map (λ m. m.flags) (message_with uid (messages_of (placed uids.now letters.old.items))) }
+    ensures messages { messages_of (placed uids.now letters.new.items) ≡ reflagged uid flags (messages_of (placed uids.now letters.old.items)) }
+    ensures beside { length letters.new.items ≡ length uids.now }
 {
-    let place = place_of(letters, uid)?;
+    let place = place_of(uids, uid)?;
     let letter = &mut letters[place];
     if letter.text.is_none() {
         return None;
@@ -100,72 +96,105 @@ fn replace_flags(letters: &mut Vec<Letter>, uid: u32, flags: Flags) -> Option<Fl
 }
 
 // Takes the text of the message of a UID. None where there is none; else its flags and its text.
-fn take_text(letters: &mut Vec<Letter>, uid: u32) -> Option<(Flags, Text)>
-    requires { IsStrictlyIncreasing (letter_uids letters.old.items) }
-    ensures was { option_map (λ p. message_of uid p.0 p.1) result ≡ message_with uid (messages_of letters.old.items) }
-    ensures messages { messages_of letters.new.items ≡ without_message uid (messages_of letters.old.items) }
-    ensures uids { letter_uids letters.new.items ≡ letter_uids letters.old.items }
+fn take_text(uids: &[u32], letters: &mut Vec<Letter>, uid: u32) -> Option<(Flags, Text)>
+    requires rising { IsStrictlyIncreasing uids.now }
+    requires beside { length letters.old.items ≡ length uids.now }
+    ensures was { option_map (λ p. message_of uid p.0 p.1) result ≡ message_with uid (messages_of (placed uids.now letters.old.items)) }
+    ensures messages { messages_of (placed uids.now letters.new.items) ≡ without_message uid (messages_of (placed uids.now letters.old.items)) }
+    ensures beside { length letters.new.items ≡ length uids.now }
 {
-    let place = place_of(letters, uid)?;
+    let place = place_of(uids, uid)?;
     let letter = &mut letters[place];
     let text = letter.text.take()?;
     Some((letter.flags, text))
 }
 
-// Gives up the places of those that were taken out.
-fn close_up(letters: &mut Vec<Letter>)
-    ensures messages { messages_of letters.new.items ≡ messages_of letters.old.items }
-    ensures uids { letter_uids letters.new.items ≡ uids_of (messages_of letters.old.items) }
+// Closes up the UIDs of those that are messages.
+fn close_uids(uids: &mut Vec<u32>, letters: &[Letter])
+    requires { length letters.now ≡ length uids.old.items }
+    ensures { uids.new.items ≡ uids_of (messages_of (placed uids.old.items letters.now)) }
 {
+    let mut kept = 0;
+    for place in 0..uids.len() {
+        if letters[place].text.is_some() {
+            uids[kept] = uids[place];
+            kept += 1;
+        }
+    }
+    uids.truncate(kept);
+}
+
+// Gives up the places of those that were taken out.
+fn close_up(uids: &mut Vec<u32>, letters: &mut Vec<Letter>)
+    requires { length letters.old.items ≡ length uids.old.items }
+    ensures messages { messages_of (placed uids.new.items letters.new.items) ≡ messages_of (placed uids.old.items letters.old.items) }
+    ensures uids { uids.new.items ≡ uids_of (messages_of (placed uids.old.items letters.old.items)) }
+    ensures beside { length letters.new.items ≡ length uids.new.items }
+{
+    close_uids(uids, letters);
     letters.retain(|letter| letter.text.is_some());
 }
 
 // Whether the last place has a UID that is not below this one.
-fn is_behind(letters: &[Letter], uid: u32) -> bool
-    ensures above { result ≡ false → IsStrictlyIncreasing (letter_uids letters.now) → IsStrictlyIncreasing (letter_uids letters.now ++ uid ∷ []) }
-    ensures needed { result ≡ true → All (λ u. u < uid) (letter_uids letters.now) → ⊥ }
+fn is_behind(uids: &[u32], uid: u32) -> bool
+    ensures above { result ≡ false → IsStrictlyIncreasing uids.now → IsStrictlyIncreasing (uids.now ++ uid ∷ []) }
+    ensures needed { result ≡ true → All (λ u. u < uid) uids.now → ⊥ }
 {
-    match letters.last() {
-        Some(last) => last.uid >= uid,
+    match uids.last() {
+        Some(last) => *last >= uid,
         None => false,
     }
 }
 
 // Makes way for a UID above all messages': no place that was given up is at or above it.
-fn make_way(letters: &mut Vec<Letter>, uid: u32)
-    requires rising { IsStrictlyIncreasing (letter_uids letters.old.items) }
-    requires above { All (λ u. u < uid) (uids_of (messages_of letters.old.items)) }
-    ensures messages { messages_of letters.new.items ≡ messages_of letters.old.items }
-    ensures rising { IsStrictlyIncreasing (letter_uids letters.new.items ++ uid ∷ []) }
+fn make_way(uids: &mut Vec<u32>, letters: &mut Vec<Letter>, uid: u32)
+    requires rising { IsStrictlyIncreasing uids.old.items }
+    requires beside { length letters.old.items ≡ length uids.old.items }
+    requires above { All (λ u. u < uid) (uids_of (messages_of (placed uids.old.items letters.old.items))) }
+    ensures messages { messages_of (placed uids.new.items letters.new.items) ≡ messages_of (placed uids.old.items letters.old.items) }
+    ensures rising { IsStrictlyIncreasing (uids.new.items ++ uid ∷ []) }
+    ensures beside { length letters.new.items ≡ length uids.new.items }
 {
-    if is_behind(letters, uid) {
-        close_up(letters);
+    if is_behind(uids, uid) {
+        close_up(uids, letters);
     }
 }
 
 // The UIDs of those that are messages, of which there are so many.
-fn uids_in(letters: &[Letter], count: usize, alloc: Global) -> Result<Vec<u32>, AllocError>
-    requires { count ≡ length (messages_of letters.now) }
-    ensures { IfOk result (λ uids. uids.items ≡ uids_of (messages_of letters.now)) }
+fn uids_in(
+    uids: &[u32],
+    letters: &[Letter],
+    count: usize,
+    alloc: Global,
+) -> Result<Vec<u32>, AllocError>
+    requires beside { length letters.now ≡ length uids.now }
+    requires count { count ≡ length (messages_of (placed uids.now letters.now)) }
+    ensures { IfOk result (λ found. found.items ≡ uids_of (messages_of (placed uids.now letters.now))) }
 {
-    let mut uids = Vec::with_capacity(alloc, count)?;
-    for letter in letters {
-        if letter.text.is_some() {
-            uids.push_reserved(letter.uid);
+    let mut found = Vec::with_capacity(alloc, count)?;
+    for place in 0..uids.len() {
+        if letters[place].text.is_some() {
+            found.push_reserved(uids[place]);
         }
     }
-    Ok(uids)
+    Ok(found)
 }
 
 // UID and text of those that are messages, of which there are so many.
-fn texts_in(letters: &[Letter], count: usize, alloc: Global) -> Result<Vec<(u32, Text)>, AllocError>
-    requires { count ≡ length (messages_of letters.now) }
-    ensures { IfOk result (λ texts. texts.items ≡ texts_of (messages_of letters.now)) }
+fn texts_in(
+    uids: &[u32],
+    letters: &[Letter],
+    count: usize,
+    alloc: Global,
+) -> Result<Vec<(u32, Text)>, AllocError>
+    requires beside { length letters.now ≡ length uids.now }
+    requires count { count ≡ length (messages_of (placed uids.now letters.now)) }
+    ensures { IfOk result (λ texts. texts.items ≡ texts_of (messages_of (placed uids.now letters.now))) }
 {
     let mut texts = Vec::with_capacity(alloc, count)?;
-    for letter in letters {
-        if let Some(text) = &letter.text {
-            texts.push_reserved((letter.uid, text.copy()?));
+    for place in 0..uids.len() {
+        if let Some(text) = &letters[place].text {
+            texts.push_reserved((uids[place], text.copy()?));
         }
     }
     Ok(texts)
@@ -177,6 +206,7 @@ impl Letters {
         ensures { result ≡ [] }
     {
         Letters {
+            uids: Vec::new(alloc),
             letters: Vec::new(alloc),
             count: 0,
             unseen: 0,
@@ -191,7 +221,7 @@ impl Letters {
         ensures rising { IsStrictlyIncreasing (uids_of self.now) }
     {
         // Read for its bound: fewer than 2^63 are there.
-        let _len = self.letters.len();
+        let _len = self.uids.len();
         self.count
     }
 
@@ -213,7 +243,7 @@ impl Letters {
     pub(crate) fn get(&self, uid: u32) -> Option<(Flags, &Text)>
         ensures { option_map (λ p. message_of uid p.0 p.1.now) result ≡ message_with uid self.now }
     {
-        let place = place_of(&self.letters, uid)?;
+        let place = place_of(&self.uids, uid)?;
         let letter = &self.letters[place];
         Some((letter.flags, letter.text.as_ref()?))
     }
@@ -222,14 +252,17 @@ impl Letters {
     pub(crate) fn uids(&self, alloc: Global) -> Result<Vec<u32>, AllocError>
         ensures { IfOk result (λ uids. uids.items ≡ uids_of self.now) }
     {
-        uids_in(&self.letters, self.count, alloc)
+        if self.count == self.uids.len() {
+            return Vec::from_slice(alloc, &self.uids);
+        }
+        uids_in(&self.uids, &self.letters, self.count, alloc)
     }
 
     // UID and text of each.
     pub(crate) fn texts(&self, alloc: Global) -> Result<Vec<(u32, Text)>, AllocError>
         ensures { IfOk result (λ texts. texts.items ≡ texts_of self.now) }
     {
-        texts_in(&self.letters, self.count, alloc)
+        texts_in(&self.uids, &self.letters, self.count, alloc)
     }
 
     // One more, whose UID is above all others. An error where memory is refused; nothing is then
@@ -240,15 +273,14 @@ impl Letters {
         ensures err { OnErr result (self.new ≡ self.old) }
     {
         let size = text.as_slice().len() as u128;
-        make_way(&mut self.letters, uid);
-        let letter = Letter {
-            uid,
+        make_way(&mut self.uids, &mut self.letters, uid);
+        self.uids.reserve(1)?;
+        self.letters.reserve(1)?;
+        self.uids.push_reserved(uid);
+        self.letters.push_reserved(Letter {
             flags: NO_FLAGS,
             text: Some(text),
-        };
-        let Ok(()) = self.letters.push(letter) else {
-            return Err(AllocError);
-        };
+        });
         self.count += 1;
         self.unseen += 1;
         self.bytes += size;
@@ -261,8 +293,8 @@ impl Letters {
         ensures messages { self.new ≡ reflagged uid flags self.old }
     {
         // Read for its bound: fewer than 2^63 are there.
-        let _len = self.letters.len();
-        let Some(old) = replace_flags(&mut self.letters, uid, flags) else {
+        let _len = self.uids.len();
+        let Some(old) = replace_flags(&self.uids, &mut self.letters, uid, flags) else {
             return None;
         };
         self.unseen = self.unseen + usize::from(!flags.seen) - usize::from(!old.seen);
@@ -273,7 +305,7 @@ impl Letters {
     pub(crate) fn remove(&mut self, uid: u32)
         ensures { self.new ≡ without_message uid self.old }
     {
-        let Some((flags, text)) = take_text(&mut self.letters, uid) else {
+        let Some((flags, text)) = take_text(&self.uids, &mut self.letters, uid) else {
             return;
         };
         self.count -= 1;
@@ -285,8 +317,8 @@ impl Letters {
     pub(crate) fn tidy(&mut self)
         ensures { self.new ≡ self.old }
     {
-        if self.count < self.letters.len() / 2 {
-            close_up(&mut self.letters);
+        if self.count < self.uids.len() / 2 {
+            close_up(&mut self.uids, &mut self.letters);
         }
     }
 }

@@ -1,19 +1,36 @@
-use Rattle.std.proofs.Common.{ℕ, ap, sym, ◌∙◌, List}
-use Rattle.std.specs.Prelude.{option_map}
+use Rattle.std.proofs.Common.{ℕ, ap, sym, ◌∙◌, ◌≡◌, List, Some, arith}
+use Rattle.std.specs.Prelude.{option_map, slice_get}
+use Rattle.std.proofs.lemmas.Option.{slice_get_within}
 use Rattle.mailbox.specs.inner.Letters.{message_of}
-use Rattle.mailbox.specs.Mailbox.{Message, message_with}
-use Rattle.mailbox.proofs.LetterLaws.{at_place}
+use Rattle.mailbox.specs.Mailbox.{message_with}
+use Rattle.mailbox.proofs.LetterLaws.{at_place, none_there}
 use Rattle.mailbox.proofs.letters.Letters.get.Goals as goal
+
+pub returns-in_err-place : goal.returns-in_err-place
+returns-in_err-place c =
+    let b = c.self.inside in
+    let none = none_there c.args.uid b.uids.items b.letters.items (rw c.deref.ensures.value at c.in_err-place.ensures.none) in
+    ap (option_map _) c.from_residual.ensures ∙ sym none ∙ ap (message_with c.args.uid) c.self.view_is
+
+pub index-letter-requires : goal.index-letter-requires
+index-letter-requires c =
+    let b = c.self.inside in
+    let found : slice_get b.uids.items c.in_ok-place.place ≡ Some c.args.uid = rw c.deref.ensures.value at c.in_ok-place.ensures.found in
+    omega (arith, slice_get_within b.uids.items c.in_ok-place.place c.args.uid found, c.self.invariant.beside, b.letters.ok.0)
 
 pub returns-in_err-as_ref : goal.returns-in_err-as_ref
 returns-in_err-as_ref c =
+    let b = c.self.inside in
     let l = c.index-letter.result.now in
-    let at = at_place c.self.inside.letters.items c.deref.result.now c.in_ok-place.place c.args.uid l c.deref.ensures.value c.self.invariant.rising c.in_ok-place.ensures.found c.index-letter.ensures in
+    let found : slice_get b.uids.items c.in_ok-place.place ≡ Some c.args.uid = rw c.deref.ensures.value at c.in_ok-place.ensures.found in
+    let at = at_place b.uids.items b.letters.items c.in_ok-place.place c.args.uid l c.self.invariant.rising c.self.invariant.beside found c.index-letter.ensures in
     ap (option_map _) c.from_residual-in_err-as_ref.ensures ∙ ap (option_map (λ (t : List ℕ). message_of c.args.uid l.flags t)) c.in_err-as_ref.ensures.value
-    ∙ sym at.found ∙ ap (λ (ms : List Message). message_with c.args.uid ms) c.self.view_is
+    ∙ sym at.found ∙ ap (message_with c.args.uid) c.self.view_is
 
 pub returns : goal.returns
 returns c =
+    let b = c.self.inside in
     let l = c.index-letter.result.now in
-    let at = at_place c.self.inside.letters.items c.deref.result.now c.in_ok-place.place c.args.uid l c.deref.ensures.value c.self.invariant.rising c.in_ok-place.ensures.found c.index-letter.ensures in
-    ap (option_map (λ t. message_of c.args.uid l.flags t)) c.in_ok-as_ref.ensures.value ∙ sym at.found ∙ ap (λ (ms : List Message). message_with c.args.uid ms) c.self.view_is
+    let found : slice_get b.uids.items c.in_ok-place.place ≡ Some c.args.uid = rw c.deref.ensures.value at c.in_ok-place.ensures.found in
+    let at = at_place b.uids.items b.letters.items c.in_ok-place.place c.args.uid l c.self.invariant.rising c.self.invariant.beside found c.index-letter.ensures in
+    ap (option_map (λ t. message_of c.args.uid l.flags t)) c.in_ok-as_ref.ensures.value ∙ sym at.found ∙ ap (message_with c.args.uid) c.self.view_is
