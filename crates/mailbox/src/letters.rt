@@ -7,7 +7,7 @@
 //! half of all places are such: so neither a removal nor what is added moves others, and a message
 //! mostly stands as far from the first one as its UID is above that one's.
 
-ghost use Rattle.std.specs.Prelude.{◌≡◌, ◌^◌, ◌<◌, ◌-◌, false, true, [], ◌∷◌, ◌++◌, List, length, map, filter, All, Contains, IfOk, OnOk, OnErr, IfSome, IfNone, Some, None, option_map, slice_get, slice_index_or};
+ghost use Rattle.std.specs.Prelude.{◌≡◌, ◌^◌, ◌<◌, ◌-◌, false, true, [], ◌∷◌, ◌++◌, List, length, All, Contains, IfOk, OnOk, OnErr, IfSome, IfNone, Some, None, option_map, slice_get, slice_index_or};
 ghost use Rattle.std.specs.List.Sorted.{IsStrictlyIncreasing};
 ghost use Rattle.change_ring.specs.Log.{no_flags};
 ghost use Rattle.mailbox.specs.Counts.{unseen_count, bytes_in_all};

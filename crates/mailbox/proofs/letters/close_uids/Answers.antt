@@ -2,7 +2,7 @@ use Rattle.std.proofs.Common.{◌≡◌, ◌<◌, ap, sym, ◌∙◌, length, ar
 use Rattle.std.specs.Prelude.{is_some}
 use Rattle.mailbox.specs.declared.letters.Letter.{Letter}
 use Rattle.mailbox.specs.inner.Letters.{messages_of, placed}
-use Rattle.mailbox.specs.Mail.{uids_of}
+use Rattle.mailbox.specs.Mailbox.{uids_of}
 use Rattle.mailbox.proofs.LetterLaws.{closing_more, closing_past}
 use Rattle.mailbox.proofs.letters.close_uids.Goals as goal
 use Rattle.mailbox.proofs.letters.close_uids.Goals.{then-is_some, else-is_some}

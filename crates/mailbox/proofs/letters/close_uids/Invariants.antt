@@ -1,5 +1,5 @@
 use Rattle.mailbox.specs.inner.Letters.{messages_of, placed}
-use Rattle.mailbox.specs.Mail.{uids_of}
+use Rattle.mailbox.specs.Mailbox.{uids_of}
 use Rattle.mailbox.proofs.LetterLaws.{IsClosing}
 use Rattle.mailbox.proofs.letters.close_uids.Given as goal
 

@@ -4,7 +4,7 @@ use Rattle.std.proofs.lemmas.Fn.{filter_same}
 use Rattle.std.proofs.lemmas.List.{length-map}
 use Rattle.mailbox.specs.declared.letters.Letter.{Letter}
 use Rattle.mailbox.specs.inner.Letters.{messages_of, placed}
-use Rattle.mailbox.specs.Mail.{Message, uids_of}
+use Rattle.mailbox.specs.Mailbox.{Message, uids_of}
 use Rattle.mailbox.proofs.LetterLaws.{length_there, messages_there, there}
 use Rattle.mailbox.proofs.letters.close_up.Goals as goal
 

@@ -2,7 +2,7 @@ use Rattle.std.proofs.Common.{◌≡◌, ◌+◌, ◌++◌, ◌∷◌, [], ℕ, 
 use Rattle.std.proofs.lemmas.List.{get_or_default}
 use Rattle.mailbox.specs.declared.letters.Letter.{Letter}
 use Rattle.mailbox.specs.inner.Letters.{messages_of, placed}
-use Rattle.mailbox.specs.Mail.{Message, texts_of}
+use Rattle.mailbox.specs.Mailbox.{Message, texts_of}
 use Rattle.mailbox.proofs.LetterLaws.{comes_none, comes_one}
 use Rattle.mailbox.proofs.letters.texts_in.Goals as goal
 use Rattle.mailbox.proofs.letters.texts_in.Goals.{in-Some+in_ok-copy, in_default}

@@ -3,7 +3,7 @@ use Rattle.std.specs.Prelude.{is_some}
 use Rattle.std.proofs.lemmas.List.{get_or_default}
 use Rattle.mailbox.specs.declared.letters.Letter.{Letter}
 use Rattle.mailbox.specs.inner.Letters.{messages_of, placed}
-use Rattle.mailbox.specs.Mail.{Message, uids_of}
+use Rattle.mailbox.specs.Mailbox.{Message, uids_of}
 use Rattle.mailbox.proofs.LetterLaws.{comes_none, comes_one, text_gone, text_there}
 use Rattle.mailbox.proofs.letters.uids_in.Goals as goal
 use Rattle.mailbox.proofs.letters.uids_in.Goals.{then-is_some, else-is_some}

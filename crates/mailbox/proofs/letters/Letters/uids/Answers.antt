@@ -2,7 +2,7 @@ use Rattle.std.proofs.Common.{◌≡◌, ◌∙◌, ap, sym, subst, length, List
 use Rattle.std.specs.Prelude.{IfOk}
 use Rattle.std.specs.Global.{Vec}
 use Rattle.mailbox.specs.inner.Letters.{messages_of, placed}
-use Rattle.mailbox.specs.Mail.{uids_of}
+use Rattle.mailbox.specs.Mailbox.{uids_of}
 use Rattle.mailbox.proofs.LetterLaws.{each_there}
 use Rattle.mailbox.proofs.letters.Letters.uids.Goals as goal
 
