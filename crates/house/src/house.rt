@@ -330,7 +330,8 @@ impl House {
             Ok(noted) => noted,
             Err(HearFault::NoMemory) => return Err(HouseFault::NoMemory),
             Err(HearFault::Nothing) => return Err(HouseFault::Nothing),
-            Err(HearFault::Nobody) => return Err(HouseFault::Nobody),
+            // The core has a seat for each number: this doesn't come.
+            Err(HearFault::Nobody) => return Err(HouseFault::Nothing),
         };
         let place = &mut self.callers[seat];
         caller_hears(place, &noted);
@@ -532,7 +533,8 @@ impl House {
         match self.desk.core.end(number - 1, shard) {
             Ok(()) => {}
             Err(Fault::Nothing) => return Err(HouseFault::Nothing),
-            Err(Fault::Nobody) => return Err(HouseFault::Nobody),
+            // The core has a seat for each number: this doesn't come.
+            Err(Fault::Nobody) => return Err(HouseFault::Nothing),
         }
         Ok(())
     }

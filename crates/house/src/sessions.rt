@@ -396,7 +396,8 @@ impl House {
             Ok(noted) => noted,
             Err(HearFault::NoMemory) => return Err(HouseFault::NoMemory),
             Err(HearFault::Nothing) => return Err(HouseFault::Nothing),
-            Err(HearFault::Nobody) => return Err(HouseFault::Nobody),
+            // The core has a seat for each number: this doesn't come.
+            Err(HearFault::Nobody) => return Err(HouseFault::Nothing),
         };
         let here = &mut self.visitors[place];
         visitor_hears(here, &noted);
