@@ -12,7 +12,7 @@ use Rattle.house.specs.Printing.{ConnectionGoes}
 use Rattle.house.specs.Scene.{BytesPlay, ConnectionHears, ConnectionPuts, HearPlay, Moves, Plays, PutPlay, Scene, SessionHears, SessionPuts, VanishPlay, connection_hears, connection_puts, empty_scene, goes_on, opens, place_of, seat_of, session_hears, session_puts}
 use Rattle.house.specs.Setup.{Setup, session_seat, terms_of}
 use Rattle.house.specs.declared.event.Event.{Event}
-use Rattle.house.specs.declared.event.Event.TheVariants.{Bytes, Vanish, Put, Take, Deliver, Answer, Hear, End, Close, Enter, Say, Between, Leave}
+use Rattle.house.specs.declared.event.Event.TheVariants.{Bytes, Vanish, Put, Take, Deliver, Answer, Hear, End, Close, Enter, Say, Idle, Leave}
 use Rattle.relay_replies.specs.Laws.{IsInLine}
 use Rattle.exactly_once.specs.Promise.{Entry, IsOwn, IsRecord, Lines, Piece, Replies, Said, Silence, serial_of, text_of}
 use Rattle.relay_records.specs.Record.{came_for, came_in, has_vanished, is_meant, told_in, told_to, vanishes_in}
@@ -277,12 +277,12 @@ event_known k pasts s (Say session bytes) piece t in_line h own p =
           (record { came = λ seat n. refl; gone = λ seat n. refl })
           (no_replies k s piece (λ seat said e. subst (IsOwn k s (Say session bytes) t) e own));
     })
-event_known k pasts s (Between session) piece t in_line h own p =
+event_known k pasts s (Idle session) piece t in_line h own p =
     rw p.after (record {
-      seats = nobody_known k pasts s (Between session) piece p.moved h
+      seats = nobody_known k pasts s (Idle session) piece p.moved h
           (bears_still k.connections s.world p.moved (idles_still k false (place_of session) s.world p.visitor p.moved p.left (text_of k piece) p.goes))
           (record { came = λ seat n. refl; gone = λ seat n. refl })
-          (no_replies k s piece (λ seat said e. subst (IsOwn k s (Between session) t) e own));
+          (no_replies k s piece (λ seat said e. subst (IsOwn k s (Idle session) t) e own));
     })
 event_known k pasts s (Leave session) piece t in_line h own p =
     rw p.after (record {
