@@ -39,12 +39,19 @@ const REFUSED: &[&[&str]] = &[
     ],
 ];
 
-// The place of the first of these words that are not refused with a mistake.
+// Whether these words are refused with a mistake.
+fn is_refused(alloc: Global, words: &[&str]) -> bool {
+    let Err(error) = asked_of(alloc, words) else {
+        return false;
+    };
+    error.use_stderr()
+}
+
+// The place of the first of these words that are not refused.
 fn first_taken(alloc: Global) -> Option<usize> {
     for (place, words) in REFUSED.iter().enumerate() {
-        match asked_of(alloc, words) {
-            Err(error) if error.use_stderr() => {}
-            _ => return Some(place),
+        if !is_refused(alloc, words) {
+            return Some(place);
         }
     }
     None
