@@ -10,6 +10,7 @@ use Rattle.mailbox.specs.declared.clients.Row.{Row}
 use Rattle.imap_grammar.specs.Answers.{marks_seen, row_answer}
 use Rattle.imap_grammar.specs.Reading.{read, is_done}
 use Rattle.imap_grammar.specs.Sets.{named_in}
+use Rattle.imap_grammar.specs.Verbs.{verb_of}
 use Rattle.imap_grammar.specs.declared.set.SeqRange.{SeqRange}
 use Rattle.imap_grammar.specs.declared.command.Command.{Command}
 use Rattle.imap_grammar.specs.declared.command.Command.TheVariants as commands
@@ -24,7 +25,7 @@ use Rattle.imap_grammar.specs.declared.command.ImapFault.{ImapFault}
 use Rattle.imap_session.specs.declared.standing.After.TheVariants.{Go}
 use Rattle.imap_session.specs.declared.standing.Selected.{Selected}
 use Rattle.imap_session.specs.Exchange.{Alter, Altered, Answer, Appending, Exchange, Expunge, Feed, Folder, ForNothing, ForVerdict, Found, Mailing, Read, Sent, Standing, Turn, Wait, Write, bye, kept_behind}
-use Rattle.imap_session.specs.Commands.{appended_words, appending, awaiting, last_number, most_unasked, nowhere, number_named, on_rest, on_text, on_verdict, is_over, over, turn_behind, turn_with, wanting, without_begun, without_sent, completed, counting, expunge_set, fault_text, fetch_messages, fetched, fetching, flags_answer, folder_of, in_selected, in_writable, messages_done, on_chosen, on_command, on_found, on_idle_line, on_read, on_set, only_says, says, showing, store_messages, stored, storing, turn_while, unlimited, wrong_state}
+use Rattle.imap_session.specs.Commands.{appended_words, appending, awaiting, last_number, most_unasked, nowhere, number_named, on_rest, on_text, on_verdict, is_over, over, turn_behind, turn_with, wanting, without_begun, without_sent, completed, counting, expunge_set, fault_text, fetch_messages, fetched, fetching, flags_answer, folder_of, in_selected, in_writable, messages_done, on_chosen, on_command, on_found, on_idle_line, on_read, on_set, only_says, says, showing, store_messages, stored, storing, turn_while, unlimited, verb_text, wrong_state}
 use Rattle.client_list.specs.Turns.{IsPlain, IsTag}
 use Rattle.client_list.specs.Fetches.{AreToldParts, IsNumbered}
 use Rattle.client_list.specs.Commands.{AreNames, IsFollowed, IsPrinted, MayAnswer, MayAsk}
@@ -246,15 +247,15 @@ verdict_says tag p selected mailbox (verdicts.Refused Shut) t u = last tag p (co
 
 -- ---- all of them
 
+-- a command's tagged OK but for its last byte
+done_front : Command → List ℕ
+done_front command = codes "OK " ++ verb_text (verb_of command) ++ codes " complete"
+
 command_says : (tag : List ℕ) (p : Point) (now : Standing) (command : Command) → IsTag tag → MayAsk now (counted p) command → SaysFlags tag p (on_command now command)
-command_says tag p now commands.Capability t may =
-    (leaves p _ (λ messages. refl), last tag p (codes "OK CAPABILITY complete") 100 t (plain_words (codes "OK CAPABILITY complete") 100 refl refl))
 command_says tag p now commands.Noop t may =
     shows_then tag p now.selected (completed commands.Noop) (λ q. last tag q (codes "OK NOOP complete") 100 t (plain_words (codes "OK NOOP complete") 100 refl refl))
 command_says tag p now commands.Logout t may =
     (leaves p _ (λ messages. refl), leaves p _ (tagged_tells_nothing tag (codes "OK LOGOUT completed") t (plain_words (codes "OK LOGOUT complete") 100 refl refl)))
-command_says tag p now commands.Namespace t may =
-    (leaves p _ (λ messages. refl), last tag p (codes "OK NAMESPACE complete") 100 t (plain_words (codes "OK NAMESPACE complete") 100 refl refl))
 command_says tag p now commands.Idle t may = leaves p _ (λ messages. refl)
 command_says tag p now commands.Login t may = wrong tag p t
 command_says tag p now commands.Authenticate t may = wrong tag p t
@@ -270,6 +271,7 @@ command_says tag p now (commands.UidExpunge set) t may = writable tag p now.sele
 command_says tag p now (commands.Fetch fetch) t may = selected_says tag p now.selected now (fetch_messages fetch) refl t (λ selected. fetch_says tag p fetch selected t may.parts may.numbered)
 command_says tag p now (commands.Store store) t may = writable tag p now.selected now (store_messages store) refl t (store_says tag p store t may.numbered)
 command_says tag p now (commands.Append append) t may = append_says tag p now.mailing.most now.folders append t
+command_says tag p now command t may = (leaves p _ (λ messages. refl), last tag p (done_front command) 100 t (plain_words (done_front command) 100 refl refl))
 
 -- ---- lines that are no commands
 

@@ -10,6 +10,7 @@ use Rattle.mailbox.specs.declared.clients.Row.{Row}
 use Rattle.imap_grammar.specs.Answers.{marks_seen}
 use Rattle.imap_grammar.specs.Reading.{read, is_done}
 use Rattle.imap_grammar.specs.Sets.{named_in}
+use Rattle.imap_grammar.specs.Verbs.{verb_of}
 use Rattle.imap_grammar.specs.declared.set.SeqRange.{SeqRange}
 use Rattle.imap_grammar.specs.declared.command.Command.{Command}
 use Rattle.imap_grammar.specs.declared.command.Command.TheVariants as commands
@@ -25,7 +26,7 @@ use Rattle.imap_grammar.specs.declared.command.ImapFault.TheVariants.{NoTag, Unk
 use Rattle.imap_session.specs.declared.standing.After.TheVariants.{Go}
 use Rattle.imap_session.specs.declared.standing.Selected.{Selected}
 use Rattle.imap_session.specs.Exchange.{Answer, Appending, Exchange, Expunge, Feed, Folder, ForNothing, ForVerdict, Mailing, Sent, Standing, Turn, Wait, Write, bye, kept_behind, tagged}
-use Rattle.imap_session.specs.Commands.{appended_words, appending, awaiting, last_number, long_idle_text, long_rest_words, long_text, most_unasked, nowhere, number_named, on_rest, on_text, on_verdict, is_over, over, turn_behind, turn_with, wanting, without_begun, without_sent, completed, counting, expunge_set, fault_text, fetch_messages, fetched, fetching, flags_answer, folder_of, in_selected, in_writable, messages_done, on_chosen, on_command, on_found, on_idle_line, on_read, on_set, only_says, says, showing, store_messages, stored, storing, turn_while, unlimited, wrong_state}
+use Rattle.imap_session.specs.Commands.{appended_words, appending, awaiting, last_number, long_idle_text, long_rest_words, long_text, most_unasked, nowhere, number_named, on_rest, on_text, on_verdict, is_over, over, turn_behind, turn_with, wanting, without_begun, without_sent, completed, counting, expunge_set, fault_text, fetch_messages, fetched, fetching, flags_answer, folder_of, in_selected, in_writable, messages_done, on_chosen, on_command, on_found, on_idle_line, on_read, on_set, only_says, says, showing, store_messages, stored, storing, turn_while, unlimited, verb_text, wrong_state}
 use Rattle.client_list.specs.Beliefs.{Leads, Leaves, TellsNothing}
 use Rattle.client_list.specs.Turns.{is_inner, IsPlain, IsRowOf, IsTag, Says, SeesAll}
 use Rattle.client_list.specs.Fetches.{AreToldParts, IsNumbered}
@@ -244,15 +245,15 @@ verdict_says tag view selected mailbox (verdicts.Refused Shut) t u = last tag vi
 
 -- ---- all of them
 
+-- a command's tagged OK but for its last byte
+done_front : Command → List ℕ
+done_front command = codes "OK " ++ verb_text (verb_of command) ++ codes " complete"
+
 command_says : (tag view : List ℕ) (now : Standing) (command : Command) → IsTag tag → MayAsk now view command → Says tag view (on_command now command)
-command_says tag view now commands.Capability t may =
-    (leaves view _ (λ messages. refl), last tag view (codes "OK CAPABILITY complete") 100 t (plain_words (codes "OK CAPABILITY complete") 100 refl refl))
 command_says tag view now commands.Noop t may =
     shows_then tag view now.selected (completed commands.Noop) (λ new. last tag new (codes "OK NOOP complete") 100 t (plain_words (codes "OK NOOP complete") 100 refl refl))
 command_says tag view now commands.Logout t may =
     (leaves view _ (λ messages. refl), leaves view _ (tagged_tells_nothing tag (codes "OK LOGOUT completed") t (plain_words (codes "OK LOGOUT complete") 100 refl refl)))
-command_says tag view now commands.Namespace t may =
-    (leaves view _ (λ messages. refl), last tag view (codes "OK NAMESPACE complete") 100 t (plain_words (codes "OK NAMESPACE complete") 100 refl refl))
 command_says tag view now commands.Idle t may = leaves view _ (λ messages. refl)
 command_says tag view now commands.Login t may = wrong tag view t
 command_says tag view now commands.Authenticate t may = wrong tag view t
@@ -268,6 +269,7 @@ command_says tag view now (commands.UidExpunge set) t may = writable tag view no
 command_says tag view now (commands.Fetch fetch) t may = selected_says tag view now.selected now (fetch_messages fetch) refl t (λ selected. fetch_says tag view fetch selected t may.parts may.numbered)
 command_says tag view now (commands.Store store) t may = writable tag view now.selected now (store_messages store) refl t (store_says tag view store t may.numbered)
 command_says tag view now (commands.Append append) t may = append_says tag view now.mailing.most now.folders append t
+command_says tag view now command t may = (leaves view _ (λ messages. refl), last tag view (done_front command) 100 t (plain_words (done_front command) 100 refl refl))
 
 -- ---- lines that are no commands
 

@@ -42,21 +42,7 @@ command_known k n now w tag commands.Close answers turn v client h S stands t e 
     closes_right k n tag (codes "OK CLOSE completed") now w (λ s. not s.read_only) now.selected answers turn v client t (tagged_has tag (codes "OK CLOSE completed") t) e met right
 command_known k n now w tag commands.Unselect answers turn v client h S stands t e met right more =
     closes_right k n tag (codes "OK UNSELECT completed") now w (λ s. false) now.selected answers turn v client t (tagged_has tag (codes "OK UNSELECT completed") t) e met right
-command_known k n now w tag commands.Capability answers turn v client h S stands t e met right more = more refl
-command_known k n now w tag commands.Noop answers turn v client h S stands t e met right more = more refl
-command_known k n now w tag commands.Logout answers turn v client h S stands t e met right more = more refl
-command_known k n now w tag commands.Namespace answers turn v client h S stands t e met right more = more refl
-command_known k n now w tag commands.Idle answers turn v client h S stands t e met right more = more refl
-command_known k n now w tag commands.Login answers turn v client h S stands t e met right more = more refl
-command_known k n now w tag commands.Authenticate answers turn v client h S stands t e met right more = more refl
-command_known k n now w tag commands.StartTls answers turn v client h S stands t e met right more = more refl
-command_known k n now w tag (commands.List reference pattern) answers turn v client h S stands t e met right more = more refl
-command_known k n now w tag (commands.Status name items) answers turn v client h S stands t e met right more = more refl
-command_known k n now w tag commands.Expunge answers turn v client h S stands t e met right more = more refl
-command_known k n now w tag (commands.UidExpunge set) answers turn v client h S stands t e met right more = more refl
-command_known k n now w tag (commands.Fetch fetch) answers turn v client h S stands t e met right more = more refl
-command_known k n now w tag (commands.Store store) answers turn v client h S stands t e met right more = more refl
-command_known k n now w tag (commands.Append append) answers turn v client h S stands t e met right more = more refl
+command_known k n now w tag _ answers turn v client h S stands t e met right more = more refl
 
 read_known : (k : Config) (n : ℕ) (now : Standing) (w : World) (r : Result (List ℕ × Command) ImapFault) (answers : List StoreAnswer) (turn : Turn) (v : World) (client : Option Client)
     → HasSmallNumbers k → Sound k w → Stands now → IsNumbered (view_of w n) → Tagged r → HasTold r → on_read now r answers ≡ Some turn → Met (Calls k n) w turn.events v → IsRightAbout (view_of w n) client

@@ -281,14 +281,7 @@ fit_append most o folders a =
     (fit_if most (nat_lt most_unasked a.literal.size) (Wait (codes "* BYE Literal too big\r\n") ForNothing) (wanting (awaiting [] (number_named a.name folders) a.flags a.literal.size)) tt tt)
 
 fit_command : (most : ℕ) (now : Standing) (command : Command) → TextsFit most (on_command now command)
-fit_command most now commands.Capability = tt
 fit_command most now commands.Noop = fit_showing most now.selected (completed commands.Noop) tt
-fit_command most now commands.Logout = tt
-fit_command most now commands.Namespace = tt
-fit_command most now commands.Idle = tt
-fit_command most now commands.Login = tt
-fit_command most now commands.Authenticate = tt
-fit_command most now commands.StartTls = tt
 fit_command most now (commands.Select name) = fit_selecting most now false name
 fit_command most now (commands.Examine name) = fit_selecting most now true name
 fit_command most now (commands.List reference pattern) = fit_showing most now.selected (completed (commands.List reference pattern)) tt
@@ -307,6 +300,7 @@ fit_command most now (commands.Store store) = fit_writable most now (store_messa
     (fit_chosen most store.by_uid store.set (λ view uids. storing store view (messages_done (commands.Store store) store.by_uid) uids false)
     (λ view uids. fit_storing most store view (messages_done (commands.Store store) store.by_uid) uids false (λ b. fit_messages most (commands.Store store) store.by_uid b)))
 fit_command most now (commands.Append append) = fit_append most now.mailing.most now.folders append
+fit_command most now _ = tt
 
 -- ---- what stands behind a literal
 

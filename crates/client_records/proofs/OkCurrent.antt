@@ -17,7 +17,7 @@ use Rattle.world.specs.World.{Config, World}
 use Rattle.world.proofs.Always.{kept_always}
 use Rattle.world.proofs.Kept.{Kept}
 use Rattle.imap_grammar.specs.Answers.{marks_seen}
-use Rattle.imap_grammar.specs.Grammar.{verb_of}
+use Rattle.imap_grammar.specs.Verbs.{verb_of}
 use Rattle.imap_grammar.specs.Reading.{read}
 use Rattle.imap_grammar.specs.declared.command.ImapFault.{ImapFault}
 use Rattle.imap_grammar.specs.Sets.{named_in}
@@ -346,18 +346,7 @@ command_last now selected (commands.Fetch fetch) is e = found_last (fetch_messag
 command_last now selected (commands.Store store) is e = writable_last now (store_messages store)
     (chosen_last store.by_uid store.set (λ view uids. storing store view (messages_done (commands.Store store) store.by_uid) uids false)
     (λ view uids. storing_last store view (messages_done (commands.Store store) store.by_uid) uids false (λ b. messages_last (commands.Store store) store.by_uid b e)))
-command_last now selected commands.Capability is e = never e
-command_last now selected commands.Logout is e = never e
-command_last now selected commands.Namespace is e = never e
-command_last now selected commands.Idle is e = never e
-command_last now selected commands.Login is e = never e
-command_last now selected commands.Authenticate is e = never e
-command_last now selected commands.StartTls is e = never e
-command_last now selected (commands.Select name) is e = never e
-command_last now selected (commands.Examine name) is e = never e
-command_last now selected commands.Close is e = never e
-command_last now selected commands.Unselect is e = never e
-command_last now selected (commands.Append append) is e = never e
+command_last now selected _ is e = never e
 
 -- ---- their answers
 
@@ -393,25 +382,11 @@ done_commands_make_current k events n now line tag command w turn v front is a k
 
 -- such a command asks for no mailbox and leaves none
 neither_shows : (tag : List ℕ) (command : Command) → shows_all command ≡ true → asked_by tag command ≡ Neither
-neither_shows tag commands.Capability e = refl
-neither_shows tag commands.Noop e = refl
-neither_shows tag commands.Logout e = refl
-neither_shows tag commands.Namespace e = refl
-neither_shows tag commands.Idle e = refl
-neither_shows tag commands.Login e = refl
-neither_shows tag commands.Authenticate e = refl
-neither_shows tag commands.StartTls e = refl
 neither_shows tag (commands.Select name) e = absurd (false≢true e)
 neither_shows tag (commands.Examine name) e = absurd (false≢true e)
-neither_shows tag (commands.List reference pattern) e = refl
-neither_shows tag (commands.Status name items) e = refl
 neither_shows tag commands.Close e = absurd (false≢true e)
 neither_shows tag commands.Unselect e = absurd (false≢true e)
-neither_shows tag commands.Expunge e = refl
-neither_shows tag (commands.UidExpunge set) e = refl
-neither_shows tag (commands.Fetch fetch) e = refl
-neither_shows tag (commands.Store store) e = refl
-neither_shows tag (commands.Append append) e = refl
+neither_shows tag _ e = refl
 
 -- a client that is right about a view has a list
 has_list : (view : List ℕ) (client : Client) (heard : Option Client) → heard ≡ Some client → IsRightAbout view (Some client) → (list : List Known) × (heard ≡ Some (knowing (Some list))) × IsRight view list

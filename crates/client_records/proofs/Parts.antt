@@ -33,25 +33,8 @@ items_told items text (inl (item, is, one)) = subst (λ (xs : List FetchItem). A
 items_told items text (inr many) = separated_told items many.second.front many.second.first
 
 line_told : (tag : List ℕ) (command : Command) (line : List ℕ) → Line tag command line → HasToldParts command
-line_told tag commands.Capability line is = tt
-line_told tag commands.Noop line is = tt
-line_told tag commands.Logout line is = tt
-line_told tag commands.Namespace line is = tt
-line_told tag commands.Idle line is = tt
-line_told tag commands.Login line is = tt
-line_told tag commands.Authenticate line is = tt
-line_told tag commands.StartTls line is = tt
-line_told tag (commands.Select name) line is = tt
-line_told tag (commands.Examine name) line is = tt
-line_told tag (commands.List reference pattern) line is = tt
-line_told tag (commands.Status name items) line is = tt
-line_told tag commands.Close line is = tt
-line_told tag commands.Unselect line is = tt
-line_told tag commands.Expunge line is = tt
-line_told tag (commands.UidExpunge set) line is = tt
 line_told tag (commands.Fetch f) line is = items_told f.items _ is.second.second.second.first.second.second.second
-line_told tag (commands.Store store) line is = tt
-line_told tag (commands.Append append) line is = tt
+line_told tag _ line is = tt
 
 abbrev pub HasTold : Result (List ℕ × Command) ImapFault → Type 0
 HasTold (Ok line) = HasToldParts line.1

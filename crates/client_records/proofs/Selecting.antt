@@ -274,14 +274,7 @@ in_append o folders a =
     (in_if (nat_lt most_unasked a.literal.size) (Wait (codes "* BYE Literal too big\r\n") ForNothing) (wanting (awaiting [] (number_named a.name folders) a.flags a.literal.size)) tt tt)
 
 in_command : (now : Standing) (command : Command) → stays command ≡ true → StaysIn (on_command now command)
-in_command now commands.Capability e = tt
 in_command now commands.Noop e = in_showing now.selected (completed commands.Noop) tt
-in_command now commands.Logout e = tt
-in_command now commands.Namespace e = tt
-in_command now commands.Idle e = tt
-in_command now commands.Login e = tt
-in_command now commands.Authenticate e = tt
-in_command now commands.StartTls e = tt
 in_command now (commands.Select name) e = absurd (false≢true e)
 in_command now (commands.Examine name) e = absurd (false≢true e)
 in_command now (commands.List reference pattern) e = in_showing now.selected (completed (commands.List reference pattern)) tt
@@ -300,6 +293,7 @@ in_command now (commands.Store store) e = stay_writable now (store_messages stor
     (in_chosen store.by_uid store.set (λ view uids. storing store view (messages_done (commands.Store store) store.by_uid) uids false)
     (λ view uids. in_storing store view (messages_done (commands.Store store) store.by_uid) uids false (λ b. in_messages (commands.Store store) store.by_uid b)))
 in_command now (commands.Append append) e = in_append now.mailing.most now.folders append
+in_command now _ e = tt
 
 in_rest : (mailing : Mailing) (a : Appending) (empty : Bool) → StaysIn (on_rest mailing a empty)
 in_rest mailing a empty =
@@ -467,21 +461,7 @@ command_sel now tag (commands.Select name) answers turn client t e k more = sele
 command_sel now tag (commands.Examine name) answers turn client t e k more = selecting_sel tag now true name answers turn client t e
 command_sel now tag commands.Close answers turn client t e k more = closes_sel tag (codes "OK CLOSE completed") now (λ s. not s.read_only) now.selected answers turn client t (tagged_has tag (codes "OK CLOSE completed") t) e k
 command_sel now tag commands.Unselect answers turn client t e k more = closes_sel tag (codes "OK UNSELECT completed") now (λ s. false) now.selected answers turn client t (tagged_has tag (codes "OK UNSELECT completed") t) e k
-command_sel now tag commands.Capability answers turn client t e k more = more refl
-command_sel now tag commands.Noop answers turn client t e k more = more refl
-command_sel now tag commands.Logout answers turn client t e k more = more refl
-command_sel now tag commands.Namespace answers turn client t e k more = more refl
-command_sel now tag commands.Idle answers turn client t e k more = more refl
-command_sel now tag commands.Login answers turn client t e k more = more refl
-command_sel now tag commands.Authenticate answers turn client t e k more = more refl
-command_sel now tag commands.StartTls answers turn client t e k more = more refl
-command_sel now tag (commands.List reference pattern) answers turn client t e k more = more refl
-command_sel now tag (commands.Status name items) answers turn client t e k more = more refl
-command_sel now tag commands.Expunge answers turn client t e k more = more refl
-command_sel now tag (commands.UidExpunge set) answers turn client t e k more = more refl
-command_sel now tag (commands.Fetch fetch) answers turn client t e k more = more refl
-command_sel now tag (commands.Store store) answers turn client t e k more = more refl
-command_sel now tag (commands.Append append) answers turn client t e k more = more refl
+command_sel now tag _ answers turn client t e k more = more refl
 
 fault_sel : (now : Standing) (text : List ℕ) (answers : List Answer) (turn : Turn) → only_says text now answers ≡ Some turn → turn.standing.selected ≡ now.selected
 fault_sel now text [] turn e = told now (saying text) (λ s. refl) Go turn e

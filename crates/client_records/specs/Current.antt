@@ -6,7 +6,7 @@ use Rattle.imap_grammar.specs.Reading.{is_done, read}
 use Rattle.imap_grammar.specs.declared.command.Command.TheVariants.{Noop}
 use Rattle.imap_grammar.specs.declared.command.Command.TheVariants as commands
 use Rattle.imap_grammar.specs.declared.command.Command.{Command}
-use Rattle.imap_grammar.specs.Grammar.{verb_of}
+use Rattle.imap_grammar.specs.Verbs.{verb_of}
 use Rattle.imap_session.specs.declared.standing.Selected.{Selected}
 use Rattle.imap_session.specs.Exchange.{Call, Answer, Event as Happened, Fed, Feed, Standing, Turn, kept_tag, tagged}
 use Rattle.imap_session.specs.Commands.{turn_of, unlimited, verb_text}

@@ -31,7 +31,7 @@ use Rattle.imap_session.specs.declared.standing.After.TheVariants as afters
 use Rattle.imap_session.specs.declared.standing.Selected.{Selected}
 use Rattle.imap_session.specs.Exchange as ex
 use Rattle.imap_session.specs.Exchange.{Answer, Appending, ForVerdict, Mailing, Call, Entered, Looked, Found, Counted, Altered, Expunged, Fed, Left, Refused, Starved, Exchange, Folder, Standing, Turn, played, refused, refusal_text, refusal_after, saying, having, closed, tagged, bye, is_idling}
-use Rattle.imap_session.specs.Commands.{all_flags, appending, is_over, last_number, most_unasked, nowhere, number_named, on_rest, on_text, over, wanting, closing, completed, counting, entering, expunge_set, fetch_messages, fetched, fetching, flags_answer, folder_of, greeting, idle_turn_in, messages_done, on_chosen, on_command, on_found, on_idle_line, opening_text, says, showing, store_messages, storing, unlimited, wrong_state}
+use Rattle.imap_session.specs.Commands.{all_flags, appending, is_over, last_number, most_unasked, nowhere, number_named, on_rest, on_text, over, wanting, closing, completed, counting, entering, expunge_set, fetch_messages, fetched, fetching, flags_answer, folder_of, greeting, idle_turn_in, messages_done, on_chosen, on_command, on_found, on_idle_line, opening_text, says, showing, store_messages, storing, unlimited, wrong_state, notice, noticing}
 use Rattle.imap_session.specs.Commands as commands_of
 use Rattle.imap_session.specs.Store.{AnswersVerdict, IdleTurns}
 use Rattle.delivery_token.specs.declared.Verdict.{Verdict}
@@ -370,11 +370,13 @@ in_rest mailing a empty =
     in_found _ (says (codes "NO Out of memory"))
     (λ (text : List ℕ). in_either empty (on_found (on_text mailing a text) nowhere a.mailbox) (says (codes "BAD Invalid arguments")) (in_found (on_text mailing a text) nowhere (in_text mailing a text) tt a.mailbox) tt) tt a.text
 
+in_notice : (said : Option (List ℕ)) (x : Exchange) → SaysWhole x → SaysWhole (noticing said x)
+in_notice None x whole = whole
+in_notice (Some words) x whole = (ends (codes "* ") words, whole)
+
 command_whole : (now : Standing) (command : Command) → SaysWhole (on_command now command)
-command_whole now commands.Capability = (inr (codes "* CAPABILITY IMAP4rev2 IDLE", refl), tt)
 command_whole now commands.Noop = in_showing now.selected _ tt
 command_whole now commands.Logout = (bye_whole (codes "Logging out"), tt)
-command_whole now commands.Namespace = (inr (codes "* NAMESPACE ((\"\" \"/\")) NIL NIL", refl), tt)
 command_whole now commands.Idle = inr (codes "+ idling", refl)
 command_whole now commands.Login = tt
 command_whole now commands.Authenticate = tt
@@ -399,6 +401,7 @@ command_whole now (commands.Store store) =
     (λ (s : Selected). in_either s.read_only _ (store_messages store) tt
     (λ view. in_chosen (named_in store.by_uid store.set view) _ (λ uids. in_storing store view (messages_done (commands.Store store) store.by_uid) (in_done (commands.Store store) store.by_uid) uids false))) tt now.selected
 command_whole now (commands.Append append) = in_append now.mailing.most now.folders append
+command_whole now command = in_notice (notice command) (completed command) tt
 
 -- ---- lines
 

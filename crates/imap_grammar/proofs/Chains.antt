@@ -1,5 +1,5 @@
 -- Parts of a command, one after the other: gaps, names, and the end of the line.
-use Rattle.std.proofs.Common.{◌≡◌, ℕ, Bool, true, false, cond, List, [], ◌∷◌, ◌++◌, refl, ap, sym, subst, ◌∙◌, append_assoc}
+use Rattle.std.proofs.Common.{◌≡◌, ℕ, Bool, true, false, cond, List, [], ◌++◌, refl, ap, sym, subst, ◌∙◌, append_assoc}
 use Rattle.std.specs.Prelude.{Some, None, ◌==◌}
 use Rattle.envelope.proofs.Begins.{gap_stops}
 use Rattle.envelope.proofs.Sound.{guard_some}

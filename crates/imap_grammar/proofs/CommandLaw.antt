@@ -1,6 +1,6 @@
 -- What follows a verb: what is spelled is read, and what is read is spelled.
 use Rattle.std.proofs.Common.{◌≡◌, ℕ, zero, suc, Bool, true, false, cond, List, [], ◌∷◌, ◌++◌, length, take, drop, refl, ap, sym, subst, ◌∙◌, arith, append_assoc}
-use Rattle.std.specs.Prelude.{Option, Some, None, codes, ◌==◌, map}
+use Rattle.std.specs.Prelude.{Option, Some, None, IfSome, codes, map}
 use Rattle.std.specs.Char.{to_ascii_lowercase}
 use Rattle.std.specs.Str.{bytes_eq, str_eq_ignore_ascii_case as is_same}
 use Rattle.std.proofs.lemmas.List.{length-map, map-append, take_at, drop_at, take-append-drop}
@@ -16,9 +16,10 @@ use Rattle.envelope.specs.Bytes.{is_space, is_not_space}
 use Rattle.envelope.specs.Grammar.{Many, Some1, Spaces, Gap, Exactly, Keyword, Anything, AfterGap, Joined}
 use Rattle.envelope.specs.Reading.{◌>>=◌}
 use Rattle.imap_grammar.specs.Bytes.{is_atom, is_pattern}
-use Rattle.imap_grammar.specs.Grammar.{GivenDate, GivenFlags, LiteralIs, Name, Pattern, SetIs, ItemsAre, StatusItemIs, Separated, Parenthesized, FlagsAre, operation_word, flags_of, ChangeIs, verb_of, ArgumentsOf}
+use Rattle.imap_grammar.specs.Grammar.{GivenDate, GivenFlags, LiteralIs, Name, Pattern, SetIs, ItemsAre, StatusItemIs, Separated, Parenthesized, FlagsAre, operation_word, flags_of, ChangeIs, ArgumentsOf}
 use Rattle.imap_grammar.specs.Items.{status_item_of}
 use Rattle.imap_grammar.specs.Reading.{past_gap, word_at, string_at, if_end, in_parentheses, set_at, name_alone, fetch_items_at, status_items_in, flags_at, operation_of, change_with, fetch_at, store_at, set_alone, list_at, status_at, command_at}
+use Rattle.imap_grammar.specs.Verbs.{alone, verb_of}
 use Rattle.imap_grammar.specs.declared.arguments.Operation.{Operation}
 use Rattle.imap_grammar.specs.declared.arguments.Operation.TheVariants as operations
 use Rattle.imap_grammar.specs.declared.set.SeqRange.{SeqRange}
@@ -499,11 +500,6 @@ append_ungroup a rest q =
 
 pub command_again : (c : Command) (rest : List ℕ) → Joined (ArgumentsOf c) Spaces rest → command_at (verb_of c) rest ≡ Some c
 unfolding ListIs StatusIs FetchIs fetch_made store_made
-command_again say.Capability rest q = nothing_again say.Capability rest q
-command_again say.Noop rest q = nothing_again say.Noop rest q
-command_again say.Logout rest q = nothing_again say.Logout rest q
-command_again say.Namespace rest q = nothing_again say.Namespace rest q
-command_again say.Idle rest q = nothing_again say.Idle rest q
 command_again say.Login rest q = refl
 command_again say.Authenticate rest q = refl
 command_again say.StartTls rest q = refl
@@ -515,9 +511,6 @@ command_again (say.List reference pattern) rest q =
 command_again (say.Status name items) rest q =
     status_reads name items rest
     (behind Gap _ _ (λ l p. behind (Name name) _ _ (λ l p. regroup Gap (Parenthesized (Separated Gap StatusItemIs items)) Spaces l p) l (regroup _ _ Spaces l p)) rest (regroup _ _ Spaces rest q))
-command_again say.Close rest q = nothing_again say.Close rest q
-command_again say.Unselect rest q = nothing_again say.Unselect rest q
-command_again say.Expunge rest q = nothing_again say.Expunge rest q
 command_again (say.UidExpunge set) rest q = expunge_again set rest (regroup Gap (SetIs set) Spaces rest q)
 command_again (say.Fetch f) rest q =
     fetch_verb f.by_uid rest
@@ -525,14 +518,15 @@ command_again (say.Fetch f) rest q =
     (behind Gap _ _ (λ l p. behind (SetIs f.set) _ _ (λ l p. regroup Gap (ItemsAre f.items) Spaces l p) l (regroup _ _ Spaces l p)) rest (regroup _ _ Spaces rest q))
 command_again (say.Store s) rest q = store_verb s.by_uid rest ∙ store_again s.by_uid s.set s.silent s.change rest (store_regroup s.set s.silent s.change rest q)
 command_again (say.Append a) rest q = append_again a rest (append_regroup a rest q)
+command_again c rest q = nothing_again c rest q
 
 -- a command of this verb, and what it is spelled with
 pub record Fits (v : Verb) (c : Command) (rest : List ℕ) : Type 0 where
   pub verb : verb_of c ≡ v
   pub is : Joined (ArgumentsOf c) Spaces rest
 
-alone : (rest : List ℕ) → Spaces rest → Joined (Exactly []) Spaces rest
-alone rest s = record { front = []; back = rest; parts = refl; first = refl; second = s }
+nothing : (rest : List ℕ) → Spaces rest → Joined (Exactly []) Spaces rest
+nothing rest s = record { front = []; back = rest; parts = refl; first = refl; second = s }
 
 any_rest : (rest : List ℕ) → Stops is_not_space rest → Joined (AfterGap Anything) Spaces rest
 any_rest rest s = record { front = rest; back = []; parts = sym (append_none rest); first = stopped_gap rest s; second = tt }
@@ -555,13 +549,44 @@ store_fits v s x rest e h q = subst (λ y. Fits v y rest) (inside (say.Store s) 
 ended : (v : Verb) (x c : Command) (rest : List ℕ) → (Spaces rest → Fits v x rest) → if_end x rest ≡ Some c → Fits v c rest
 ended v x c rest f e = let k = end_sound x c rest e in subst (λ y. Fits v y rest) k.0 (f k.1)
 
+-- what a verb is with nothing after it
+abbrev IsAlone : Verb → Option Command → Type 0
+IsAlone v o = IfSome o (λ x. (verb_of x ≡ v) × ((rest : List ℕ) → Spaces rest → Joined (ArgumentsOf x) Spaces rest))
+
+alone_fits : (v : Verb) → IsAlone v (alone v)
+alone_fits verbs.Login = tt
+alone_fits verbs.Authenticate = tt
+alone_fits verbs.StartTls = tt
+alone_fits verbs.Select = tt
+alone_fits verbs.Examine = tt
+alone_fits verbs.List = tt
+alone_fits verbs.Status = tt
+alone_fits verbs.Fetch = tt
+alone_fits verbs.Store = tt
+alone_fits verbs.UidFetch = tt
+alone_fits verbs.UidStore = tt
+alone_fits verbs.UidExpunge = tt
+alone_fits verbs.Append = tt
+alone_fits verbs.Create = tt
+alone_fits verbs.Delete = tt
+alone_fits verbs.Rename = tt
+alone_fits verbs.Subscribe = tt
+alone_fits verbs.Unsubscribe = tt
+alone_fits verbs.Copy = tt
+alone_fits verbs.Move = tt
+alone_fits verbs.Search = tt
+alone_fits verbs.Enable = tt
+alone_fits verbs.UidCopy = tt
+alone_fits verbs.UidMove = tt
+alone_fits verbs.UidSearch = tt
+alone_fits _ = (refl, nothing)
+
+alone_sound : (v : Verb) (o : Option Command) (c : Command) (rest : List ℕ) → IsAlone v o → (o >>= λ x. if_end x rest) ≡ Some c → Fits v c rest
+alone_sound v None c rest f e = absurd cc
+alone_sound v (Some x) c rest f e = ended v x c rest (λ b. record { verb = f.0; is = f.1 rest b }) e
+
 pub command_sound : (v : Verb) (c : Command) (rest : List ℕ) → Stops is_not_space rest → command_at v rest ≡ Some c → Fits v c rest
 unfolding ListIs StatusIs fetch_made store_made
-command_sound verbs.Capability c rest s e = ended verbs.Capability say.Capability c rest (λ b. record { verb = refl; is = alone rest b }) e
-command_sound verbs.Noop c rest s e = ended verbs.Noop say.Noop c rest (λ b. record { verb = refl; is = alone rest b }) e
-command_sound verbs.Logout c rest s e = ended verbs.Logout say.Logout c rest (λ b. record { verb = refl; is = alone rest b }) e
-command_sound verbs.Namespace c rest s e = ended verbs.Namespace say.Namespace c rest (λ b. record { verb = refl; is = alone rest b }) e
-command_sound verbs.Idle c rest s e = ended verbs.Idle say.Idle c rest (λ b. record { verb = refl; is = alone rest b }) e
 command_sound verbs.Login c rest s e = subst (λ y. Fits verbs.Login y rest) (inside say.Login c e) (record { verb = refl; is = any_rest rest s })
 command_sound verbs.Authenticate c rest s e = subst (λ y. Fits verbs.Authenticate y rest) (inside say.Authenticate c e) (record { verb = refl; is = any_rest rest s })
 command_sound verbs.StartTls c rest s e = subst (λ y. Fits verbs.StartTls y rest) (inside say.StartTls c e) (record { verb = refl; is = any_rest rest s })
@@ -579,9 +604,6 @@ command_sound verbs.Status c rest s e =
       verb = refl;
       is = ungroup _ _ Spaces rest (behind Gap _ _ (λ l p. ungroup _ _ Spaces l (behind (Name k.0) _ _ (λ l p. ungroup Gap (Parenthesized (Separated Gap StatusItemIs k.1)) Spaces l p) l p)) rest k.3);
     })
-command_sound verbs.Close c rest s e = ended verbs.Close say.Close c rest (λ b. record { verb = refl; is = alone rest b }) e
-command_sound verbs.Unselect c rest s e = ended verbs.Unselect say.Unselect c rest (λ b. record { verb = refl; is = alone rest b }) e
-command_sound verbs.Expunge c rest s e = ended verbs.Expunge say.Expunge c rest (λ b. record { verb = refl; is = alone rest b }) e
 command_sound verbs.UidExpunge c rest s e =
     let k = expunge_sound c rest e in
     subst (λ y. Fits verbs.UidExpunge y rest) k.1 (record { verb = refl; is = ungroup Gap (SetIs k.0) Spaces rest k.2 })
@@ -592,4 +614,4 @@ command_sound verbs.UidStore c rest s e = let k = store_sound true c rest e in l
 command_sound verbs.Append c rest s e =
     let k = append_sound c rest e in
     subst (λ y. Fits verbs.Append y rest) k.1 (record { verb = refl; is = append_ungroup k.0 rest k.2 })
-command_sound _ c rest s e = absurd (let bad : None ≡ Some c = e in cc)
+command_sound v c rest s e = alone_sound v (alone v) c rest (alone_fits v) e

@@ -8,10 +8,10 @@ use Rattle.envelope.specs.Bytes.{is_space, is_not_space}
 use Rattle.envelope.specs.Grammar.{Some1, Spaces, Gap, Exactly, Anything, AfterGap, Joined}
 use Rattle.envelope.specs.Reading.{after_spaces}
 use Rattle.imap_grammar.specs.Bytes.{is_tag}
-use Rattle.imap_grammar.specs.Grammar.{TagIs, VerbIs, verb_of, ArgumentsOf, Line, BeginsWith, IsFault, Reads}
+use Rattle.imap_grammar.specs.Grammar.{TagIs, VerbIs, ArgumentsOf, Line, BeginsWith, IsFault, Reads}
 use Rattle.imap_grammar.specs.Items.{is_word_of}
 use Rattle.imap_grammar.specs.Reading.{word_at, verb_at, command_at, of_command, of_verb, read}
-use Rattle.imap_grammar.specs.Verbs.{is_left_out}
+use Rattle.imap_grammar.specs.Verbs.{is_left_out, verb_of}
 use Rattle.imap_grammar.specs.declared.command.Verb.{Verb}
 use Rattle.imap_grammar.specs.declared.command.Verb.TheVariants as verbs
 use Rattle.imap_grammar.specs.declared.command.Command.{Command}
@@ -65,11 +65,6 @@ any_first l front back e (inl h) s = subst (Stops is_not_space) (sym (e ∙ ap (
 any_first l front back e (inr q) s = gap_stops q.front (q.back ++ back) l (e ∙ ap (λ x. x ++ back) q.parts ∙ append_assoc q.front q.back back) q.first
 
 arguments_first : (c : Command) (l : List ℕ) → Joined (ArgumentsOf c) Spaces l → Stops is_not_space l
-arguments_first say.Capability l q = none_first l q
-arguments_first say.Noop l q = none_first l q
-arguments_first say.Logout l q = none_first l q
-arguments_first say.Namespace l q = none_first l q
-arguments_first say.Idle l q = none_first l q
 arguments_first say.Login l q = any_first l q.front q.back q.parts q.first q.second
 arguments_first say.Authenticate l q = any_first l q.front q.back q.parts q.first q.second
 arguments_first say.StartTls l q = any_first l q.front q.back q.parts q.first q.second
@@ -77,13 +72,11 @@ arguments_first (say.Select name) l q = gap_first _ l q
 arguments_first (say.Examine name) l q = gap_first _ l q
 arguments_first (say.List reference pattern) l q = gap_first _ l q
 arguments_first (say.Status name items) l q = gap_first _ l q
-arguments_first say.Close l q = none_first l q
-arguments_first say.Unselect l q = none_first l q
-arguments_first say.Expunge l q = none_first l q
 arguments_first (say.UidExpunge set) l q = gap_first _ l q
 arguments_first (say.Fetch f) l q = gap_first _ l q
 arguments_first (say.Store s) l q = gap_first _ l q
 arguments_first (say.Append a) l q = gap_first _ l q
+arguments_first _ l q = none_first l q
 
 kept_fetch : (by_uid : Bool) → is_left_out (cond by_uid verbs.UidFetch verbs.Fetch) ≡ false
 kept_fetch true = refl
@@ -94,25 +87,9 @@ kept_store true = refl
 kept_store false = refl
 
 kept : (c : Command) → is_left_out (verb_of c) ≡ false
-kept say.Capability = refl
-kept say.Noop = refl
-kept say.Logout = refl
-kept say.Namespace = refl
-kept say.Idle = refl
-kept say.Login = refl
-kept say.Authenticate = refl
-kept say.StartTls = refl
-kept (say.Select name) = refl
-kept (say.Examine name) = refl
-kept (say.List reference pattern) = refl
-kept (say.Status name items) = refl
-kept say.Close = refl
-kept say.Unselect = refl
-kept say.Expunge = refl
-kept (say.UidExpunge set) = refl
 kept (say.Fetch f) = kept_fetch f.by_uid
 kept (say.Store s) = kept_store s.by_uid
-kept (say.Append a) = refl
+kept _ = refl
 
 -- what is read behind a verb
 abbrev outcome : List ℕ → Verb → List ℕ → Result (List ℕ × Command) ImapFault

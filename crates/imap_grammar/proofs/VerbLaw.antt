@@ -14,189 +14,44 @@ use Rattle.envelope.specs.Bytes.{is_space, is_not_space}
 use Rattle.envelope.specs.Grammar.{Some1, Gap, Keyword}
 use Rattle.envelope.specs.Reading.{◌>>=◌, after_spaces}
 use Rattle.imap_grammar.specs.Grammar.{VerbWords, VerbIs}
-use Rattle.imap_grammar.specs.Reading.{word_at, verb_among, offered, left_out, behind_uid, or_else, verb_alone, second_at, verb_at}
-use Rattle.imap_grammar.specs.Verbs.{word_of, stands_behind_uid}
+use Rattle.imap_grammar.specs.Reading.{word_at, verb_among, or_else, verb_alone, second_at, verb_at}
+use Rattle.imap_grammar.specs.Verbs.{word_of, stands_behind_uid, offered, left_out, behind_uid}
 use Rattle.imap_grammar.specs.declared.command.Verb.{Verb}
 use Rattle.imap_grammar.specs.declared.command.Verb.TheVariants as verbs
 use Rattle.imap_grammar.proofs.Keywords.{word_length, word_clean, same_sound}
 use Rattle.imap_grammar.proofs.Tokens.{not_true, starts, spaced_first, spaces_over, some_gap, word_again, word_parts}
 
--- ---- the words of verbs
+-- ---- the words of verbs. What holds of each is said of one, and then of any other
 
 alone_known : (v : Verb) → stands_behind_uid v ≡ false → verb_alone (word_of v) ≡ Some v
-alone_known verbs.Capability e = refl
-alone_known verbs.Noop e = refl
-alone_known verbs.Logout e = refl
-alone_known verbs.Namespace e = refl
-alone_known verbs.Idle e = refl
-alone_known verbs.Login e = refl
-alone_known verbs.Authenticate e = refl
-alone_known verbs.StartTls e = refl
-alone_known verbs.Select e = refl
-alone_known verbs.Examine e = refl
-alone_known verbs.List e = refl
-alone_known verbs.Status e = refl
-alone_known verbs.Close e = refl
-alone_known verbs.Unselect e = refl
-alone_known verbs.Expunge e = refl
-alone_known verbs.Fetch e = refl
-alone_known verbs.Store e = refl
 alone_known verbs.UidFetch e = absurd cc
 alone_known verbs.UidStore e = absurd cc
 alone_known verbs.UidExpunge e = absurd cc
-alone_known verbs.Append e = refl
-alone_known verbs.Create e = refl
-alone_known verbs.Delete e = refl
-alone_known verbs.Rename e = refl
-alone_known verbs.Subscribe e = refl
-alone_known verbs.Unsubscribe e = refl
-alone_known verbs.Copy e = refl
-alone_known verbs.Move e = refl
-alone_known verbs.Search e = refl
-alone_known verbs.Enable e = refl
 alone_known verbs.UidCopy e = absurd cc
 alone_known verbs.UidMove e = absurd cc
 alone_known verbs.UidSearch e = absurd cc
+alone_known _ e = refl
 
 uid_known : (v : Verb) → stands_behind_uid v ≡ true → verb_among behind_uid (word_of v) ≡ Some v
-uid_known verbs.Capability e = absurd cc
-uid_known verbs.Noop e = absurd cc
-uid_known verbs.Logout e = absurd cc
-uid_known verbs.Namespace e = absurd cc
-uid_known verbs.Idle e = absurd cc
-uid_known verbs.Login e = absurd cc
-uid_known verbs.Authenticate e = absurd cc
-uid_known verbs.StartTls e = absurd cc
-uid_known verbs.Select e = absurd cc
-uid_known verbs.Examine e = absurd cc
-uid_known verbs.List e = absurd cc
-uid_known verbs.Status e = absurd cc
-uid_known verbs.Close e = absurd cc
-uid_known verbs.Unselect e = absurd cc
-uid_known verbs.Expunge e = absurd cc
-uid_known verbs.Fetch e = absurd cc
-uid_known verbs.Store e = absurd cc
 uid_known verbs.UidFetch e = refl
 uid_known verbs.UidStore e = refl
 uid_known verbs.UidExpunge e = refl
-uid_known verbs.Append e = absurd cc
-uid_known verbs.Create e = absurd cc
-uid_known verbs.Delete e = absurd cc
-uid_known verbs.Rename e = absurd cc
-uid_known verbs.Subscribe e = absurd cc
-uid_known verbs.Unsubscribe e = absurd cc
-uid_known verbs.Copy e = absurd cc
-uid_known verbs.Move e = absurd cc
-uid_known verbs.Search e = absurd cc
-uid_known verbs.Enable e = absurd cc
 uid_known verbs.UidCopy e = refl
 uid_known verbs.UidMove e = refl
 uid_known verbs.UidSearch e = refl
+uid_known _ e = absurd cc
 
 uid_apart : (v : Verb) → is_same (word_of v) (codes "UID") ≡ false
-uid_apart verbs.Capability = refl
 uid_apart verbs.Noop = refl
-uid_apart verbs.Logout = refl
-uid_apart verbs.Namespace = refl
-uid_apart verbs.Idle = refl
-uid_apart verbs.Login = refl
-uid_apart verbs.Authenticate = refl
-uid_apart verbs.StartTls = refl
-uid_apart verbs.Select = refl
-uid_apart verbs.Examine = refl
-uid_apart verbs.List = refl
-uid_apart verbs.Status = refl
-uid_apart verbs.Close = refl
-uid_apart verbs.Unselect = refl
-uid_apart verbs.Expunge = refl
-uid_apart verbs.Fetch = refl
-uid_apart verbs.Store = refl
-uid_apart verbs.UidFetch = refl
-uid_apart verbs.UidStore = refl
-uid_apart verbs.UidExpunge = refl
-uid_apart verbs.Append = refl
-uid_apart verbs.Create = refl
-uid_apart verbs.Delete = refl
-uid_apart verbs.Rename = refl
-uid_apart verbs.Subscribe = refl
-uid_apart verbs.Unsubscribe = refl
-uid_apart verbs.Copy = refl
-uid_apart verbs.Move = refl
-uid_apart verbs.Search = refl
-uid_apart verbs.Enable = refl
-uid_apart verbs.UidCopy = refl
-uid_apart verbs.UidMove = refl
-uid_apart verbs.UidSearch = refl
+uid_apart _ = refl
 
 unspaced : (v : Verb) → list_all is_not_space (map to_ascii_lowercase (word_of v)) ≡ true
-unspaced verbs.Capability = refl
 unspaced verbs.Noop = refl
-unspaced verbs.Logout = refl
-unspaced verbs.Namespace = refl
-unspaced verbs.Idle = refl
-unspaced verbs.Login = refl
-unspaced verbs.Authenticate = refl
-unspaced verbs.StartTls = refl
-unspaced verbs.Select = refl
-unspaced verbs.Examine = refl
-unspaced verbs.List = refl
-unspaced verbs.Status = refl
-unspaced verbs.Close = refl
-unspaced verbs.Unselect = refl
-unspaced verbs.Expunge = refl
-unspaced verbs.Fetch = refl
-unspaced verbs.Store = refl
-unspaced verbs.UidFetch = refl
-unspaced verbs.UidStore = refl
-unspaced verbs.UidExpunge = refl
-unspaced verbs.Append = refl
-unspaced verbs.Create = refl
-unspaced verbs.Delete = refl
-unspaced verbs.Rename = refl
-unspaced verbs.Subscribe = refl
-unspaced verbs.Unsubscribe = refl
-unspaced verbs.Copy = refl
-unspaced verbs.Move = refl
-unspaced verbs.Search = refl
-unspaced verbs.Enable = refl
-unspaced verbs.UidCopy = refl
-unspaced verbs.UidMove = refl
-unspaced verbs.UidSearch = refl
+unspaced _ = refl
 
 some_word : (v : Verb) → 0 < length (word_of v)
-some_word verbs.Capability = omega arith
 some_word verbs.Noop = omega arith
-some_word verbs.Logout = omega arith
-some_word verbs.Namespace = omega arith
-some_word verbs.Idle = omega arith
-some_word verbs.Login = omega arith
-some_word verbs.Authenticate = omega arith
-some_word verbs.StartTls = omega arith
-some_word verbs.Select = omega arith
-some_word verbs.Examine = omega arith
-some_word verbs.List = omega arith
-some_word verbs.Status = omega arith
-some_word verbs.Close = omega arith
-some_word verbs.Unselect = omega arith
-some_word verbs.Expunge = omega arith
-some_word verbs.Fetch = omega arith
-some_word verbs.Store = omega arith
-some_word verbs.UidFetch = omega arith
-some_word verbs.UidStore = omega arith
-some_word verbs.UidExpunge = omega arith
-some_word verbs.Append = omega arith
-some_word verbs.Create = omega arith
-some_word verbs.Delete = omega arith
-some_word verbs.Rename = omega arith
-some_word verbs.Subscribe = omega arith
-some_word verbs.Unsubscribe = omega arith
-some_word verbs.Copy = omega arith
-some_word verbs.Move = omega arith
-some_word verbs.Search = omega arith
-some_word verbs.Enable = omega arith
-some_word verbs.UidCopy = omega arith
-some_word verbs.UidMove = omega arith
-some_word verbs.UidSearch = omega arith
+some_word v = omega arith
 
 pub verb_bare : (v : Verb) (text : List ℕ) → Keyword (word_of v) text → Some1 is_not_space text
 verb_bare v text h = (let n = word_length (word_of v) text h in omega (arith, n, some_word v), word_clean 32 refl text _ h (each_of is_not_space _ (unspaced v)))

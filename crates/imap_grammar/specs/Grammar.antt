@@ -10,7 +10,7 @@ use Rattle.imap_grammar.specs.Bytes.{is_tag, is_atom, is_pattern, is_digit, is_q
 use Rattle.imap_grammar.specs.Numbers.{most_size, number_of}
 use Rattle.imap_grammar.specs.declared.command.Literal.{Literal}
 use Rattle.imap_grammar.specs.Items.{flags_among}
-use Rattle.imap_grammar.specs.Verbs.{word_of, stands_behind_uid, is_left_out}
+use Rattle.imap_grammar.specs.Verbs.{word_of, stands_behind_uid, is_left_out, verb_of}
 use Rattle.imap_grammar.specs.declared.set.SeqNumber.{SeqNumber}
 use Rattle.imap_grammar.specs.declared.set.SeqNumber.TheVariants.{Number, Star}
 use Rattle.imap_grammar.specs.declared.set.SeqRange.{SeqRange}
@@ -22,7 +22,6 @@ use Rattle.imap_grammar.specs.declared.items.FetchItem.TheVariants as fetch
 use Rattle.imap_grammar.specs.declared.items.StatusItem.{StatusItem}
 use Rattle.imap_grammar.specs.declared.items.StatusItem.TheVariants as status
 use Rattle.imap_grammar.specs.declared.command.Verb.{Verb}
-use Rattle.imap_grammar.specs.declared.command.Verb.TheVariants as verbs
 use Rattle.imap_grammar.specs.declared.command.Command.{Command}
 use Rattle.imap_grammar.specs.declared.command.Command.TheVariants as say
 use Rattle.imap_grammar.specs.declared.command.ImapFault.{ImapFault}
@@ -189,34 +188,8 @@ VerbWords false word = Keyword word
 abbrev pub VerbIs : Verb → Rule
 VerbIs verb = VerbWords (stands_behind_uid verb) (word_of verb)
 
-abbrev pub verb_of : Command → Verb
-verb_of say.Capability = verbs.Capability
-verb_of say.Noop = verbs.Noop
-verb_of say.Logout = verbs.Logout
-verb_of say.Namespace = verbs.Namespace
-verb_of say.Idle = verbs.Idle
-verb_of say.Login = verbs.Login
-verb_of say.Authenticate = verbs.Authenticate
-verb_of say.StartTls = verbs.StartTls
-verb_of (say.Select name) = verbs.Select
-verb_of (say.Examine name) = verbs.Examine
-verb_of (say.List reference pattern) = verbs.List
-verb_of (say.Status name items) = verbs.Status
-verb_of say.Close = verbs.Close
-verb_of say.Unselect = verbs.Unselect
-verb_of say.Expunge = verbs.Expunge
-verb_of (say.UidExpunge set) = verbs.UidExpunge
-verb_of (say.Fetch fetch) = if fetch.by_uid then verbs.UidFetch else verbs.Fetch
-verb_of (say.Store store) = if store.by_uid then verbs.UidStore else verbs.Store
-verb_of (say.Append append) = verbs.Append
-
--- what follows the verb
+-- what follows the verb. A command that isn't here stands alone
 abbrev pub ArgumentsOf : Command → Rule
-ArgumentsOf say.Capability = Exactly []
-ArgumentsOf say.Noop = Exactly []
-ArgumentsOf say.Logout = Exactly []
-ArgumentsOf say.Namespace = Exactly []
-ArgumentsOf say.Idle = Exactly []
 ArgumentsOf say.Login = AfterGap Anything
 ArgumentsOf say.Authenticate = AfterGap Anything
 ArgumentsOf say.StartTls = AfterGap Anything
@@ -224,13 +197,11 @@ ArgumentsOf (say.Select name) = Gap ⨾ Name name
 ArgumentsOf (say.Examine name) = Gap ⨾ Name name
 ArgumentsOf (say.List reference pattern) = Gap ⨾ Name reference ⨾ Gap ⨾ Pattern pattern
 ArgumentsOf (say.Status name items) = Gap ⨾ Name name ⨾ Gap ⨾ Parenthesized (Separated Gap StatusItemIs items)
-ArgumentsOf say.Close = Exactly []
-ArgumentsOf say.Unselect = Exactly []
-ArgumentsOf say.Expunge = Exactly []
 ArgumentsOf (say.UidExpunge set) = Gap ⨾ SetIs set
 ArgumentsOf (say.Fetch fetch) = Gap ⨾ SetIs fetch.set ⨾ Gap ⨾ ItemsAre fetch.items
 ArgumentsOf (say.Store store) = Gap ⨾ SetIs store.set ⨾ Gap ⨾ ChangeIs store.silent store.change
 ArgumentsOf (say.Append append) = Gap ⨾ Name append.name ⨾ Gap ⨾ GivenFlags append.flags ⨾ GivenDate ⨾ LiteralIs append.literal
+ArgumentsOf _ = Exactly []
 
 -- a line that is this command under this tag. Spaces at its end say nothing
 abbrev pub Line : List ℕ → Command → Rule

@@ -17,7 +17,7 @@ use Rattle.imap_grammar.specs.Numbers.{most_size, number_of}
 use Rattle.imap_grammar.specs.declared.command.Literal.{Literal}
 use Rattle.imap_grammar.specs.Sets.{range_of, ranges_of}
 use Rattle.imap_grammar.specs.Items.{fetch_item_of, fetch_items_of, status_item_of, status_items_of, is_flag, is_word_of, flags_among}
-use Rattle.imap_grammar.specs.Verbs.{word_of, is_left_out}
+use Rattle.imap_grammar.specs.Verbs.{word_of, is_left_out, offered, left_out, behind_uid, alone}
 use Rattle.imap_grammar.specs.declared.set.SeqRange.{SeqRange}
 use Rattle.imap_grammar.specs.declared.items.FetchItem.{FetchItem}
 use Rattle.imap_grammar.specs.declared.items.StatusItem.{StatusItem}
@@ -234,11 +234,6 @@ append_at bytes = do
 
 -- what a verb says with what comes after it. What is left out says nothing
 abbrev pub command_at : Verb → List ℕ → Option Command
-command_at verbs.Capability rest = if_end say.Capability rest
-command_at verbs.Noop rest = if_end say.Noop rest
-command_at verbs.Logout rest = if_end say.Logout rest
-command_at verbs.Namespace rest = if_end say.Namespace rest
-command_at verbs.Idle rest = if_end say.Idle rest
 command_at verbs.Login rest = Some say.Login
 command_at verbs.Authenticate rest = Some say.Authenticate
 command_at verbs.StartTls rest = Some say.StartTls
@@ -246,35 +241,19 @@ command_at verbs.Select rest = name_alone say.Select rest
 command_at verbs.Examine rest = name_alone say.Examine rest
 command_at verbs.List rest = list_at rest
 command_at verbs.Status rest = status_at rest
-command_at verbs.Close rest = if_end say.Close rest
-command_at verbs.Unselect rest = if_end say.Unselect rest
-command_at verbs.Expunge rest = if_end say.Expunge rest
 command_at verbs.Fetch rest = fetch_at false rest
 command_at verbs.Store rest = store_at false rest
 command_at verbs.UidFetch rest = fetch_at true rest
 command_at verbs.UidStore rest = store_at true rest
 command_at verbs.UidExpunge rest = set_alone rest
 command_at verbs.Append rest = append_at rest
-command_at _ rest = None
+command_at verb rest = alone verb >>= λ command. if_end command rest
 
 -- ---- the line
 
 abbrev pub verb_among : List Verb → List ℕ → Option Verb
 verb_among [] word = None
 verb_among (v ∷ vs) word = if is_same word (word_of v) then Some v else verb_among vs word
-
-abbrev pub offered : List Verb
-offered =
-    verbs.Capability ∷ verbs.Noop ∷ verbs.Logout ∷ verbs.Namespace ∷ verbs.Idle ∷ verbs.Login ∷ verbs.Authenticate ∷ verbs.StartTls ∷ verbs.Select ∷ verbs.Examine
-    ∷ verbs.List ∷ verbs.Status ∷ verbs.Close ∷ verbs.Unselect ∷ verbs.Expunge ∷ verbs.Fetch ∷ verbs.Store ∷ verbs.Append ∷ []
-
-abbrev pub left_out : List Verb
-left_out =
-    verbs.Create ∷ verbs.Delete ∷ verbs.Rename ∷ verbs.Subscribe ∷ verbs.Unsubscribe ∷ verbs.Copy ∷ verbs.Move
-    ∷ verbs.Search ∷ verbs.Enable ∷ []
-
-abbrev pub behind_uid : List Verb
-behind_uid = verbs.UidFetch ∷ verbs.UidStore ∷ verbs.UidExpunge ∷ verbs.UidCopy ∷ verbs.UidMove ∷ verbs.UidSearch ∷ []
 
 abbrev pub or_else : {A : Type 0} → Option A → Option A → Option A
 or_else (Some x) other = Some x

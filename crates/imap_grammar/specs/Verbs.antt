@@ -1,7 +1,9 @@
--- The verbs and their words.
-use Rattle.std.specs.Prelude.{ℕ, Bool, true, false, codes, List}
+-- The verbs: the word of each, whether it stands behind UID, whether it is offered here, and the command that it is.
+use Rattle.std.specs.Prelude.{ℕ, Bool, true, false, codes, List, [], ◌∷◌, Option, Some, None, if◌then◌else◌}
 use Rattle.imap_grammar.specs.declared.command.Verb.{Verb}
 use Rattle.imap_grammar.specs.declared.command.Verb.TheVariants.{Capability, Noop, Logout, Namespace, Idle, Login, Authenticate, StartTls, Select, Examine, List as ListNames, Status, Close, Unselect, Expunge, Fetch, Store, UidFetch, UidStore, UidExpunge, Append, Create, Delete, Rename, Subscribe, Unsubscribe, Copy, Move, Search, Enable, UidCopy, UidMove, UidSearch}
+use Rattle.imap_grammar.specs.declared.command.Command.{Command}
+use Rattle.imap_grammar.specs.declared.command.Command.TheVariants as say
 
 -- the verb's own word, behind UID where that stands before it
 abbrev pub word_of : Verb → List ℕ
@@ -64,3 +66,53 @@ is_left_out UidCopy = true
 is_left_out UidMove = true
 is_left_out UidSearch = true
 is_left_out _ = false
+
+-- the verbs of one word that are offered
+abbrev pub offered : List Verb
+offered =
+    Capability ∷ Noop ∷ Logout ∷ Namespace ∷ Idle ∷ Login ∷ Authenticate ∷ StartTls ∷ Select ∷ Examine
+    ∷ ListNames ∷ Status ∷ Close ∷ Unselect ∷ Expunge ∷ Fetch ∷ Store ∷ Append ∷ []
+
+-- those of one word that aren't
+abbrev pub left_out : List Verb
+left_out =
+    Create ∷ Delete ∷ Rename ∷ Subscribe ∷ Unsubscribe ∷ Copy ∷ Move
+    ∷ Search ∷ Enable ∷ []
+
+-- those of UID and a second word
+abbrev pub behind_uid : List Verb
+behind_uid = UidFetch ∷ UidStore ∷ UidExpunge ∷ UidCopy ∷ UidMove ∷ UidSearch ∷ []
+
+-- the command that a verb is with nothing after it
+abbrev pub alone : Verb → Option Command
+alone Capability = Some say.Capability
+alone Noop = Some say.Noop
+alone Logout = Some say.Logout
+alone Namespace = Some say.Namespace
+alone Idle = Some say.Idle
+alone Close = Some say.Close
+alone Unselect = Some say.Unselect
+alone Expunge = Some say.Expunge
+alone _ = None
+
+-- the verb of a command
+abbrev pub verb_of : Command → Verb
+verb_of say.Capability = Capability
+verb_of say.Noop = Noop
+verb_of say.Logout = Logout
+verb_of say.Namespace = Namespace
+verb_of say.Idle = Idle
+verb_of say.Login = Login
+verb_of say.Authenticate = Authenticate
+verb_of say.StartTls = StartTls
+verb_of (say.Select name) = Select
+verb_of (say.Examine name) = Examine
+verb_of (say.List reference pattern) = ListNames
+verb_of (say.Status name items) = Status
+verb_of say.Close = Close
+verb_of say.Unselect = Unselect
+verb_of say.Expunge = Expunge
+verb_of (say.UidExpunge set) = UidExpunge
+verb_of (say.Fetch fetch) = if fetch.by_uid then UidFetch else Fetch
+verb_of (say.Store store) = if store.by_uid then UidStore else Store
+verb_of (say.Append append) = Append

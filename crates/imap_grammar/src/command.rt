@@ -1,7 +1,9 @@
-//! What a line says: commands and faults, as plain values that borrow from the line.
-//! Nothing here reads bytes.
+//! What a line says: verbs, commands and faults, as plain values that borrow from the line; and the table of the verbs, by their words.
+//! Nothing here reads a line.
 
 ghost use Rattle.std.specs.Prelude.{◌≡◌};
+ghost use Rattle.imap_grammar.specs.Reading.{verb_among};
+ghost use Rattle.imap_grammar.specs.Verbs.{alone, behind_uid, is_left_out, left_out, offered};
 
 use crate::items::{FetchItems, StatusItems};
 use crate::name::Name;
@@ -155,4 +157,135 @@ pub enum ImapFault<'a> {
     LeftOut(Tag<'a>),
     /// What follows the verb isn't right for it.
     Arguments(Tag<'a>),
+}
+
+/// The verb of one word that is offered here.
+pub(crate) fn offered(word: &[u8]) -> Option<Verb>
+    ensures { result ≡ verb_among offered word.now }
+{
+    if word.eq_ignore_ascii_case(b"CAPABILITY") {
+        Some(Verb::Capability)
+    } else if word.eq_ignore_ascii_case(b"NOOP") {
+        Some(Verb::Noop)
+    } else if word.eq_ignore_ascii_case(b"LOGOUT") {
+        Some(Verb::Logout)
+    } else if word.eq_ignore_ascii_case(b"NAMESPACE") {
+        Some(Verb::Namespace)
+    } else if word.eq_ignore_ascii_case(b"IDLE") {
+        Some(Verb::Idle)
+    } else if word.eq_ignore_ascii_case(b"LOGIN") {
+        Some(Verb::Login)
+    } else if word.eq_ignore_ascii_case(b"AUTHENTICATE") {
+        Some(Verb::Authenticate)
+    } else if word.eq_ignore_ascii_case(b"STARTTLS") {
+        Some(Verb::StartTls)
+    } else if word.eq_ignore_ascii_case(b"SELECT") {
+        Some(Verb::Select)
+    } else if word.eq_ignore_ascii_case(b"EXAMINE") {
+        Some(Verb::Examine)
+    } else if word.eq_ignore_ascii_case(b"LIST") {
+        Some(Verb::List)
+    } else if word.eq_ignore_ascii_case(b"STATUS") {
+        Some(Verb::Status)
+    } else if word.eq_ignore_ascii_case(b"CLOSE") {
+        Some(Verb::Close)
+    } else if word.eq_ignore_ascii_case(b"UNSELECT") {
+        Some(Verb::Unselect)
+    } else if word.eq_ignore_ascii_case(b"EXPUNGE") {
+        Some(Verb::Expunge)
+    } else if word.eq_ignore_ascii_case(b"FETCH") {
+        Some(Verb::Fetch)
+    } else if word.eq_ignore_ascii_case(b"STORE") {
+        Some(Verb::Store)
+    } else if word.eq_ignore_ascii_case(b"APPEND") {
+        Some(Verb::Append)
+    } else {
+        None
+    }
+}
+
+/// The verb of one word that isn't.
+pub(crate) fn left_out(word: &[u8]) -> Option<Verb>
+    ensures { result ≡ verb_among left_out word.now }
+{
+    if word.eq_ignore_ascii_case(b"CREATE") {
+        Some(Verb::Create)
+    } else if word.eq_ignore_ascii_case(b"DELETE") {
+        Some(Verb::Delete)
+    } else if word.eq_ignore_ascii_case(b"RENAME") {
+        Some(Verb::Rename)
+    } else if word.eq_ignore_ascii_case(b"SUBSCRIBE") {
+        Some(Verb::Subscribe)
+    } else if word.eq_ignore_ascii_case(b"UNSUBSCRIBE") {
+        Some(Verb::Unsubscribe)
+    } else if word.eq_ignore_ascii_case(b"COPY") {
+        Some(Verb::Copy)
+    } else if word.eq_ignore_ascii_case(b"MOVE") {
+        Some(Verb::Move)
+    } else if word.eq_ignore_ascii_case(b"SEARCH") {
+        Some(Verb::Search)
+    } else if word.eq_ignore_ascii_case(b"ENABLE") {
+        Some(Verb::Enable)
+    } else {
+        None
+    }
+}
+
+/// The verb that UID and this word are.
+pub(crate) fn behind_uid(word: &[u8]) -> Option<Verb>
+    ensures { result ≡ verb_among behind_uid word.now }
+{
+    if word.eq_ignore_ascii_case(b"FETCH") {
+        Some(Verb::UidFetch)
+    } else if word.eq_ignore_ascii_case(b"STORE") {
+        Some(Verb::UidStore)
+    } else if word.eq_ignore_ascii_case(b"EXPUNGE") {
+        Some(Verb::UidExpunge)
+    } else if word.eq_ignore_ascii_case(b"COPY") {
+        Some(Verb::UidCopy)
+    } else if word.eq_ignore_ascii_case(b"MOVE") {
+        Some(Verb::UidMove)
+    } else if word.eq_ignore_ascii_case(b"SEARCH") {
+        Some(Verb::UidSearch)
+    } else {
+        None
+    }
+}
+
+/// Whether a verb of IMAP isn't offered here.
+pub(crate) fn is_left_out(verb: Verb) -> bool
+    ensures { result ≡ is_left_out verb }
+{
+    matches!(
+        verb,
+        Verb::Create
+            | Verb::Delete
+            | Verb::Rename
+            | Verb::Subscribe
+            | Verb::Unsubscribe
+            | Verb::Copy
+            | Verb::Move
+            | Verb::Search
+            | Verb::Enable
+            | Verb::UidCopy
+            | Verb::UidMove
+            | Verb::UidSearch
+    )
+}
+
+/// The command that a verb is with nothing after it.
+pub(crate) fn alone<'a>(verb: Verb) -> Option<Command<'a>>
+    ensures { result ≡ alone verb }
+{
+    match verb {
+        Verb::Capability => Some(Command::Capability),
+        Verb::Noop => Some(Command::Noop),
+        Verb::Logout => Some(Command::Logout),
+        Verb::Namespace => Some(Command::Namespace),
+        Verb::Idle => Some(Command::Idle),
+        Verb::Close => Some(Command::Close),
+        Verb::Unselect => Some(Command::Unselect),
+        Verb::Expunge => Some(Command::Expunge),
+        _ => None,
+    }
 }

@@ -116,10 +116,7 @@ in_append now most a found =
     (inr (inr refl), refl) (inl refl, (inl refl, refl)))
 
 pub shown_in_place : (now : Standing) (command : Command) → ShowsInPlace now command (on_command now command)
-shown_in_place now commands.Capability = (refl, λ must. absurd (may_not false (is_some now.selected) refl must))
 shown_in_place now commands.Noop = in_showing now commands.Noop refl now.selected refl
-shown_in_place now commands.Logout = (refl, λ must. absurd (may_not false (is_some now.selected) refl must))
-shown_in_place now commands.Namespace = (refl, λ must. absurd (may_not false (is_some now.selected) refl must))
 shown_in_place now commands.Idle = (refl, may_not_be (is_some now.selected))
 shown_in_place now commands.Login = λ must. refl
 shown_in_place now commands.Authenticate = λ must. refl
@@ -157,6 +154,7 @@ shown_in_place now (commands.Store store) =
     (λ uids. in_storing now (commands.Store store) store view _ (λ gone. in_done now (commands.Store store) store.by_uid gone refl)
     (λ uid flags. in_silence store.silent (flags_answer store.by_uid (place uid view) uid flags) (flags_form store.by_uid (place uid view) uid flags)) uids false))
 shown_in_place now (commands.Append append) = in_append now now.mailing.most append (number_named append.name now.folders)
+shown_in_place now _ = (refl, λ must. absurd (may_not false (is_some now.selected) refl must))
 
 in_idle_line : (b : Bool) (selected : Option Selected)
     → ShowsBefore (completed commands.Idle) (λ bytes. ⊥) b (b && is_some selected) false (if b then showing selected (completed commands.Idle) else says (codes "BAD Expected DONE"))

@@ -107,14 +107,8 @@ append_tells_none most a found =
     (in_either (nat_lt most_unasked a.literal.size) (Wait (bye (codes "Literal too big")) ForNothing) (wanting (awaiting [] found a.flags a.literal.size)) tt tt)
 
 pub command_tells_none : (now : Standing) (command : Command) → TellsNoUid (on_command now command)
-command_tells_none now commands.Capability = refl
 command_tells_none now commands.Noop = in_showing now.selected (completed commands.Noop) refl
-command_tells_none now commands.Logout = refl
-command_tells_none now commands.Namespace = refl
 command_tells_none now commands.Idle = tt
-command_tells_none now commands.Login = refl
-command_tells_none now commands.Authenticate = refl
-command_tells_none now commands.StartTls = refl
 command_tells_none now (commands.Select name) = selecting_tells_none now false name
 command_tells_none now (commands.Examine name) = selecting_tells_none now true name
 command_tells_none now (commands.List reference pattern) = in_showing now.selected (completed (commands.List reference pattern)) refl
@@ -135,6 +129,7 @@ command_tells_none now (commands.Store store) =
     (λ view. in_chosen (named_in store.by_uid store.set view) _
     (λ uids. in_storing store view _ (λ gone. in_done (commands.Store store) store.by_uid gone (store_words store.by_uid)) uids false))
 command_tells_none now (commands.Append append) = append_tells_none now.mailing.most append (number_named append.name now.folders)
+command_tells_none now _ = refl
 
 -- ---- other lines
 

@@ -23,8 +23,7 @@ use Rattle.imap_grammar.specs.declared.command.Verb.{Verb}
 use Rattle.imap_grammar.specs.declared.command.ImapFault.{ImapFault}
 use Rattle.imap_grammar.specs.declared.command.ImapFault.TheVariants as faults
 use Rattle.imap_grammar.specs.Sets.{named_in}
-use Rattle.imap_grammar.specs.Verbs.{word_of, stands_behind_uid}
-use Rattle.imap_grammar.specs.Grammar.{verb_of}
+use Rattle.imap_grammar.specs.Verbs.{word_of, stands_behind_uid, verb_of}
 use Rattle.imap_grammar.specs.Reading.{is_done, read}
 use Rattle.imap_grammar.specs.Answers.{crlf, row_answer, status_answer, list_answer, is_inbox, marks_seen}
 use Rattle.imap_session.specs.declared.standing.After.TheVariants.{Go, Bye}
@@ -262,11 +261,20 @@ abbrev pub on_verdict : Option Selected → ℕ → Verdict → Exchange
 on_verdict selected mailbox (verdicts.Stored uid) = Count mailbox (λ status. showing selected (says (appended_words status.uidvalidity uid)))
 on_verdict selected mailbox (verdicts.Refused why) = says (refused_words why)
 
+-- What a command says of the server, whatever the state (RFC 9051, 6.1.1 and 6.3.10). One that isn't here says nothing of it.
+abbrev pub notice : Command → Option (List ℕ)
+notice commands.Capability = Some (codes "CAPABILITY IMAP4rev2 IDLE")
+notice commands.Namespace = Some (codes "NAMESPACE ((\"\" \"/\")) NIL NIL")
+notice _ = None
+
+-- what is said of the server, where something is, and then this
+abbrev pub noticing : Option (List ℕ) → Exchange → Exchange
+noticing None x = x
+noticing (Some words) x = untagged_in_room words x
+
 abbrev pub on_command : Standing → Command → Exchange
-on_command now commands.Capability = untagged_in_room (codes "CAPABILITY IMAP4rev2 IDLE") (completed commands.Capability)
 on_command now commands.Noop = showing now.selected (completed commands.Noop)
 on_command now commands.Logout = Put (bye (codes "Logging out")) (Done (codes "OK LOGOUT completed") Bye)
-on_command now commands.Namespace = untagged_in_room (codes "NAMESPACE ((\"\" \"/\")) NIL NIL") (completed commands.Namespace)
 on_command now commands.Idle = begins_idling
 on_command now commands.Login = wrong_state
 on_command now commands.Authenticate = wrong_state
@@ -285,6 +293,7 @@ on_command now (commands.UidExpunge set) = in_writable now (expunge_set set)
 on_command now (commands.Fetch fetch) = in_selected now (fetch_messages fetch)
 on_command now (commands.Store store) = in_writable now (store_messages store)
 on_command now (commands.Append append) = appending now.mailing.most now.folders append
+on_command now command = noticing (notice command) (completed command)
 
 -- ---- lines
 

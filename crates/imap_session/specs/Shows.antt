@@ -1,5 +1,5 @@
 -- Where a session may show what others did to the mailbox (RFC 9051, 5.2 and 7.5.1).
-use Rattle.std.specs.Prelude.{◌≡◌, ◌⊎◌, ◌&&◌, ℕ, Bool, true, false, codes, decimal, is_some, take, map, List, [], ◌++◌, Option}
+use Rattle.std.specs.Prelude.{◌≡◌, ◌⊎◌, ◌&&◌, ℕ, Bool, true, false, codes, decimal, is_some, take, map, List, [], ◌++◌, Option, Some, None}
 use Rattle.std.specs.Str.{bytes_eq}
 use Rattle.change_ring.specs.declared.change.Flags.{Flags}
 use Rattle.mailbox.specs.declared.clients.Opening.{Opening}
@@ -10,11 +10,11 @@ use Rattle.imap_grammar.specs.declared.command.Command.TheVariants as commands
 use Rattle.imap_grammar.specs.Reading.{is_done}
 use Rattle.delivery_token.specs.declared.Verdict.{Verdict}
 use Rattle.delivery_token.specs.declared.Verdict.TheVariants.{Stored, Refused}
-use Rattle.imap_grammar.specs.Answers.{list_answer}
+use Rattle.imap_grammar.specs.Answers.{crlf, list_answer}
 use Rattle.imap_session.specs.declared.standing.After.TheVariants.{Submit}
 use Rattle.imap_session.specs.declared.standing.Selected.{Selected}
 use Rattle.imap_session.specs.Exchange.{Exchange, Folder, Standing, Done, Wait, Write, Put, Enter, Look, Read, Count, Alter, Expunge, Feed, Leave, after_waiting, bye}
-use Rattle.imap_session.specs.Commands.{appended_words, completed, opening_text, says as last_line, unlimited}
+use Rattle.imap_session.specs.Commands.{appended_words, completed, notice, opening_text, says as last_line, unlimited}
 
 -- the command may show changes right before its tagged OK
 abbrev pub may_show : Command → Bool
@@ -45,11 +45,15 @@ IsOfSelect read_only bytes =
     (bytes ≡ []) ⊎ (bytes ≡ codes "* OK [CLOSED] Previous mailbox is closed\r\n")
     ⊎ ((name : List ℕ) × (opening : Opening) × (bytes ≡ opening_text read_only name opening))
 
+-- a line about the server, of a command that has one
+abbrev pub IsNotice : Option (List ℕ) → List ℕ → Type 0
+IsNotice None bytes = ⊥
+IsNotice (Some words) bytes = bytes ≡ codes "* " ++ words ++ crlf
+
 -- The kinds of lines that a command says beside its last one and beside the changes that it shows. None of them shows a change: those that
--- tell of messages are FETCH lines under FETCH and STORE, and the EXISTS line of a mailbox that is entered. A command that isn't here says none.
+-- tell of messages are FETCH lines under FETCH and STORE, and the EXISTS line of a mailbox that is entered. A command that isn't here says what it
+-- has to say of the server, or nothing.
 abbrev pub MaySay : Standing → Command → List ℕ → Type 0
-MaySay now commands.Capability bytes = bytes ≡ codes "* CAPABILITY IMAP4rev2 IDLE\r\n"
-MaySay now commands.Namespace bytes = bytes ≡ codes "* NAMESPACE ((\"\" \"/\")) NIL NIL\r\n"
 MaySay now commands.Logout bytes = bytes ≡ codes "* BYE Logging out\r\n"
 MaySay now (commands.Select name) bytes = IsOfSelect false bytes
 MaySay now (commands.Examine name) bytes = IsOfSelect true bytes
@@ -59,7 +63,7 @@ MaySay now (commands.Fetch fetch) bytes = IsFetchLine bytes
 MaySay now (commands.Store store) bytes = (bytes ≡ []) ⊎ IsFetchLine bytes
 MaySay now commands.Idle bytes = bytes ≡ codes "+ idling\r\n"
 MaySay now (commands.Append append) bytes = (bytes ≡ []) ⊎ (bytes ≡ codes "+ ready\r\n") ⊎ (bytes ≡ bye (codes "Literal too big"))
-MaySay now _ bytes = ⊥
+MaySay now command bytes = IsNotice (notice command) bytes
 
 -- ---- where
 
