@@ -28,7 +28,8 @@ impl Model for Block {
 
     ghost view = { λ b. record { written = b.cells.written; places = b.places } };
 
-    ghost invariant = { λ b. (b.cells.at ≡ b.base.ptr) × (b.cells.places ≡ b.places) × (b.cells.alloc ≡ b.alloc) × (length b.cells.written ≡ b.used) × (b.used ≤ b.places) };
+    ghost invariant = { λ b. (b.cells.at ≡ b.base.ptr) × (b.cells.places ≡ b.places) × (b.cells.alloc ≡ b.alloc)
+        × (length b.cells.written ≡ b.used) × (b.used ≤ b.places) };
 }
 
 impl Drop for Block {

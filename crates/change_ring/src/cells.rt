@@ -103,7 +103,8 @@ pub(crate) fn grow<T, A: Allocator>(
     more: usize,
     cells: &mut Cells<T, A>,
 ) -> Result<Base<T>, AllocError>
-    requires { (cells.old.at ≡ base.ptr) × (cells.old.places ≡ places) × (cells.old.alloc ≡ alloc.now) × (length cells.old.written ≡ used) × (used ≤ places) × (places ≤ more) × FitsInBlock T.row more }
+    requires { (cells.old.at ≡ base.ptr) × (cells.old.places ≡ places) × (cells.old.alloc ≡ alloc.now) × (length cells.old.written ≡ used)
+        × (used ≤ places) × (places ≤ more) × FitsInBlock T.row more }
     ensures ok { IfOk result (λ b. cells.new ≡ record cells.old { at = b.ptr; places = more }) }
     ensures err { OnErr result (cells.new ≡ cells.old) }
 {

@@ -42,7 +42,8 @@ impl Model for ChangeRing {
 
     ghost view = { λ r. record { base = r.base; changes = around r.start r.block.written; capacity = r.block.places; max = r.max } };
 
-    ghost invariant = { λ r. (r.base + length r.block.written ≤ 2 ^ 62) × (length r.block.written ≤ r.block.places) × (r.start < r.block.places) × (0 < r.start → length r.block.written ≡ r.block.places) × (r.block.places ≤ r.max) };
+    ghost invariant = { λ r. (r.base + length r.block.written ≤ 2 ^ 62) × (length r.block.written ≤ r.block.places) × (r.start < r.block.places)
+        × (0 < r.start → length r.block.written ≡ r.block.places) × (r.block.places ≤ r.max) };
 }
 
 impl ChangeRing {
@@ -133,7 +134,8 @@ impl ChangeRing {
     fn make_room(&mut self, keep_from: u64)
         ensures same { self.new ≡ record self.old { capacity = self.new.capacity } }
         ensures capacity { (self.new.capacity ≡ self.old.capacity)
-            ⊎ ((length self.old.changes ≡ self.old.capacity) × (keep_from ≤ self.old.base) × (self.old.capacity < self.new.capacity) × (self.new.capacity ≡ min (2 * self.old.capacity) self.old.max)) }
+            ⊎ ((length self.old.changes ≡ self.old.capacity) × (keep_from ≤ self.old.base) × (self.old.capacity < self.new.capacity)
+            × (self.new.capacity ≡ min (2 * self.old.capacity) self.old.max)) }
     {
         let held = self.block.used();
         let capacity = self.block.places();
@@ -170,7 +172,8 @@ impl ChangeRing {
     fn grow(&mut self)
         requires { self.old.capacity < self.old.max }
         ensures same { self.new ≡ record self.old { capacity = self.new.capacity } }
-        ensures capacity { (self.new.capacity ≡ self.old.capacity) ⊎ ((self.old.capacity < self.new.capacity) × (self.new.capacity ≡ min (2 * self.old.capacity) self.old.max)) }
+        ensures capacity { (self.new.capacity ≡ self.old.capacity)
+            ⊎ ((self.old.capacity < self.new.capacity) × (self.new.capacity ≡ min (2 * self.old.capacity) self.old.max)) }
     {
         let held = self.block.places();
         let capacity = if held <= self.max - held {

@@ -111,7 +111,8 @@ fn show_change(change: Change, leaving: &mut Leaving, view: &mut Vec<u32>, out: 
 
     ensures gone { AreIn leaving.new.gone.items view.new.items }
     ensures view { counted leaving.new.gone.items view.new.items ≡ shown (counted leaving.old.gone.items view.old.items) change }
-    ensures rising { (later : List Change) → IsStrictlyIncreasing (view.old.items ++ added (change ∷ later)) → IsStrictlyIncreasing (view.new.items ++ added later) }
+    ensures rising { (later : List Change) → IsStrictlyIncreasing (view.old.items ++ added (change ∷ later))
+        → IsStrictlyIncreasing (view.new.items ++ added later) }
     ensures text { out.new.items ≡ out.old.items ++ line (counted leaving.old.gone.items view.old.items) change }
 
     ensures view_len { vec_len view.new ≤ vec_len view.old + 1 }

@@ -112,7 +112,8 @@ fn show_in(
     requires legal { (c : Cursor) → get slots.old slot ≡ Some c → IsLegalOn c.view.items (first.now ++ rest.now) }
     requires small { (c : Cursor) → get slots.old slot ≡ Some c → c.at + length (first.now ++ rest.now) < 2 ^ 64 }
     requires counted { length first.now + length rest.now < 2 ^ 64 }
-    ensures cursor { OnOk result (option_map open_of (get slots.new slot) ≡ option_map (λ c. after_showing (first.now ++ rest.now) (open_of c)) (get slots.old slot)) }
+    ensures cursor { OnOk result (option_map open_of (get slots.new slot)
+        ≡ option_map (λ c. after_showing (first.now ++ rest.now) (open_of c)) (get slots.old slot)) }
     ensures others { (other : ℕ) → other ≢ slot → get slots.new other ≡ get slots.old other }
     ensures text { OnOk result (IfSome (get slots.old slot) (λ c. out.new.items ≡ out.old.items ++ lines c.view.items (first.now ++ rest.now))) }
     ensures err { OnErr result (opened slots.new.slots ≡ opened slots.old.slots) }
@@ -215,7 +216,8 @@ impl CursorSet {
         requires { self.old.next < 2 ^ 64 - 1 }
         ensures seat { IfOk result (λ seat. (seat.number ≡ self.old.number) × (seat.serial ≡ self.old.next) × (seat.at ≡ at)) }
         ensures vacant { IfOk result (λ seat. in_slot self.old seat.slot ≡ None) }
-        ensures opened { IfOk result (λ seat. Updates self.old self.new seat.slot (Some (record { serial = self.old.next; at = at; view = uids.now }))) }
+        ensures opened { IfOk result (λ seat. Updates self.old self.new seat.slot
+            (Some (record { serial = self.old.next; at = at; view = uids.now }))) }
         ensures next { OnOk result (self.new.next ≡ self.old.next + 1) }
         ensures err { OnErr result (self.new ≡ self.old) }
     {

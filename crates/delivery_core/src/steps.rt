@@ -74,9 +74,18 @@ impl Model for DeliveryCore {
 
     ghost Value = { DeliveryCore };
 
-    ghost view = { λ p. record { lanes = p.lanes.items; hands = p.hands.items; replies = p.replies.items; heard = p.heard.items; boxes = p.boxes.items; next = p.next.items; clients = p.clients.items } };
+    ghost view = { λ p. record {
+      lanes = p.lanes.items;
+      hands = p.hands.items;
+      replies = p.replies.items;
+      heard = p.heard.items;
+      boxes = p.boxes.items;
+      next = p.next.items;
+      clients = p.clients.items;
+    } };
 
-    ghost invariant = { λ p. (length p.hands.items ≡ length p.lanes.items) × (length p.heard.items ≡ length p.replies.items) × (length p.next.items ≡ length p.replies.items) × AreSeated (cursors_of p.boxes.items) p.clients.items × AreKept p.boxes.items };
+    ghost invariant = { λ p. (length p.hands.items ≡ length p.lanes.items) × (length p.heard.items ≡ length p.replies.items)
+        × (length p.next.items ≡ length p.replies.items) × AreSeated (cursors_of p.boxes.items) p.clients.items × AreKept p.boxes.items };
 }
 
 // Whether a seat may put no more into this lane.
@@ -180,7 +189,9 @@ impl DeliveryCore {
         ensures seats { IfOk result (λ h. length h.replies ≡ settings.seats) }
         ensures shards { IfOk result (λ h. length h.lanes ≡ settings.shards) }
         ensures mailboxes { IfOk result (λ h. length h.boxes ≡ settings.mailboxes) }
-        ensures boxes { IfOk result (λ h. EachAt (λ m b. IsNewBox m settings.uidvalidity settings.first_uid settings.limits.messages settings.limits.ring (max settings.limits.ring settings.limits.ring_max) b) h.boxes) }
+        ensures boxes { IfOk result (λ h. EachAt
+            (λ m b. IsNewBox m settings.uidvalidity settings.first_uid settings.limits.messages settings.limits.ring
+            (max settings.limits.ring settings.limits.ring_max) b) h.boxes) }
         ensures clients { IfOk result (λ h. h.clients ≡ replicate settings.sessions None) }
         ensures next { IfOk result (λ h. (p : ℕ) (d : CopyKey) → p < settings.seats → slice_index_or h.next p d ≡ first_key p) }
     {

@@ -15,7 +15,8 @@ use std::marker::Model;
 fn before_dot(finder: &Finder<'_>, piece: &[u8]) -> usize
     requires { finder.now ≡ 13 ∷ 10 ∷ 46 ∷ [] }
     ensures within { result ≤ length piece.now }
-    ensures none { (k : ℕ) → k + 2 < result → slice_index piece.now k ≡ 13 → slice_index piece.now (k + 1) ≡ 10 → slice_index piece.now (k + 2) ≡ 46 → ⊥ }
+    ensures none { (k : ℕ) → k + 2 < result → slice_index piece.now k ≡ 13 → slice_index piece.now (k + 1) ≡ 10
+        → slice_index piece.now (k + 2) ≡ 46 → ⊥ }
 {
     match finder.find(piece) {
         Some(at) => at + 2,

@@ -65,7 +65,8 @@ impl Model for House {
       max_message = h.max_message;
     } };
 
-    ghost invariant = { λ h. (length h.serials.items ≡ length h.callers.items) × (length h.host.items < 256) × (length h.callers.items + length h.visitors.items < 256)
+    ghost invariant = { λ h. (length h.serials.items ≡ length h.callers.items) × (length h.host.items < 256)
+        × (length h.callers.items + length h.visitors.items < 256)
         × (length h.entered.items ≡ length h.visitors.items) × (h.max_message < 4294967296) };
 }
 
@@ -116,7 +117,8 @@ fn opened(
     requires { length limits.host.now < 256 }
     ensures { IfOk result (λ h. (k : Terms) (next : CopyKey) (heard : List Noted) → k.host ≡ limits.entry.host.now →
         k.max_message ≡ limits.entry.max_message
-        → AtLeast next (record { seat = seat; serial = serial; message = 0; recipient = 0 }) → StandsForConnection k seat next heard h (more_waits (greeted k seat serial) piece.now)) }
+        → AtLeast next (record { seat = seat; serial = serial; message = 0; recipient = 0 })
+        → StandsForConnection k seat next heard h (more_waits (greeted k seat serial) piece.now)) }
 {
     let Ok(mut caller) = HouseConnection::open(alloc, seat, serial, limits) else {
         return Err(AllocError);

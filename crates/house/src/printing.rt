@@ -117,9 +117,11 @@ pub(crate) fn go_on(
     ensures delivery { SameDelivery desk.old.core desk.new.core }
     ensures gone { visitor.new.gone ≡ false }
     ensures ok { OnOk result ((seat : ℕ) (next : CopyKey) (heard : List Noted) (v : session.SeatedVisitor) →
-        StandsForSeated seat next heard visitor.old v → WentOn Serves true seat number next heard v desk.old desk.new out.old.items out.new.items visitor.new) }
+        StandsForSeated seat next heard visitor.old v
+        → WentOn Serves true seat number next heard v desk.old desk.new out.old.items out.new.items visitor.new) }
     ensures err { OnErr result ((seat : ℕ) (next : CopyKey) (heard : List Noted) (v : session.SeatedVisitor) →
-        StandsForSeated seat next heard visitor.old v → WentOn Serves false seat number next heard v desk.old desk.new out.old.items out.new.items visitor.new) }
+        StandsForSeated seat next heard visitor.old v
+        → WentOn Serves false seat number next heard v desk.old desk.new out.old.items out.new.items visitor.new) }
 {
     let Ok(()) = visitor.proceed(alloc, desk) else {
         let _ = print_session(visitor, number, out);
@@ -141,10 +143,12 @@ pub(crate) fn take_turn(
     requires there { visitor.old.gone ≡ false }
     ensures gone { visitor.new.gone ≡ false }
     ensures ok { IfOk result (λ count. (seat : ℕ) (next : CopyKey) (heard : List Noted) (v : session.SeatedVisitor) →
-        StandsForSeated seat next heard visitor.old v → Idled Serves true seat number count next heard v desk.old desk.new out.old.items out.new.items visitor.new) }
+        StandsForSeated seat next heard visitor.old v
+        → Idled Serves true seat number count next heard v desk.old desk.new out.old.items out.new.items visitor.new) }
     ensures session { IfOk result (λ count. HadTurn Serves visitor.old.place desk.old desk.new count visitor.new.place) }
     ensures err { OnErr result ((seat : ℕ) (next : CopyKey) (heard : List Noted) (v : session.SeatedVisitor) →
-        StandsForSeated seat next heard visitor.old v → IdledInPart Serves seat number next heard v desk.old desk.new out.old.items out.new.items visitor.new) }
+        StandsForSeated seat next heard visitor.old v
+        → IdledInPart Serves seat number next heard v desk.old desk.new out.old.items out.new.items visitor.new) }
 {
     let Ok(count) = visitor.idle_turn(desk) else {
         return Err(AllocError);

@@ -91,7 +91,8 @@ fn take_all(
     ensures most { AreFew machine.new.pending }
     ensures same { (machine.new.setting ≡ machine.old.setting) × (machine.new.host ≡ machine.old.host) }
     ensures taken { (c : Conversation) → StandsFor machine.old c → IsAwaited [] c.standing.phase →
-        TakenBy (StandsFor machine.new) machine.old.setting machine.old.host directory.now c (take result.used piece.now) out.old.items out.new.items result.what machine.new.pending }
+        TakenBy (StandsFor machine.new) machine.old.setting machine.old.host directory.now c (take result.used piece.now) out.old.items
+        out.new.items result.what machine.new.pending }
 {
     let mut used = 0;
     loop {
@@ -149,8 +150,10 @@ impl HouseConnection {
         limits: Limits<'_>,
     ) -> Result<HouseConnection, AllocError>
         requires { length limits.host.now < 256 }
-        ensures { IfOk result (λ h. (k : Terms) (next : CopyKey) (heard : List Noted) → k.host ≡ limits.entry.host.now → k.max_message ≡ limits.entry.max_message
-            → AtLeast next (record { seat = seat; serial = serial; message = 0; recipient = 0 }) → StandsForConnection k seat next heard h (greeted k seat serial)) }
+        ensures { IfOk result (λ h. (k : Terms) (next : CopyKey) (heard : List Noted) → k.host ≡ limits.entry.host.now
+            → k.max_message ≡ limits.entry.max_message
+            → AtLeast next (record { seat = seat; serial = serial; message = 0; recipient = 0 })
+            → StandsForConnection k seat next heard h (greeted k seat serial)) }
     {
         let Ok(verdicts) = Verdicts::with_room(alloc, MOST_RECIPIENTS) else {
             return Err(AllocError);
@@ -193,9 +196,11 @@ impl HouseConnection {
         requires read { self.old.gone ≡ false }
         ensures same { self.new.gone ≡ self.old.gone }
         ensures less { line_effort self.new ≤ line_effort self.old }
-        ensures ok { IfOk result (λ what. (k : Terms) (seat : ℕ) (next : CopyKey) (heard : List Noted) (b : spec.Caller) → directory.now ≡ k.directory → StandsForConnection k seat next heard self.old b →
+        ensures ok { IfOk result (λ what. (k : Terms) (seat : ℕ) (next : CopyKey) (heard : List Noted) (b : spec.Caller)
+            → directory.now ≡ k.directory → StandsForConnection k seat next heard self.old b →
             WorkedOff k true seat next heard b what self.new) }
-        ensures err { OnErr result ((k : Terms) (seat : ℕ) (next : CopyKey) (heard : List Noted) (b : spec.Caller) → directory.now ≡ k.directory → StandsForConnection k seat next heard self.old b →
+        ensures err { OnErr result ((k : Terms) (seat : ℕ) (next : CopyKey) (heard : List Noted) (b : spec.Caller) → directory.now ≡ k.directory
+            → StandsForConnection k seat next heard self.old b →
             (what : What) × WorkedOff k false seat next heard b what self.new) }
         ensures asks { OnErr result (IsCalm self.old → ⊥) }
     {
@@ -225,9 +230,11 @@ impl HouseConnection {
         requires read { self.old.gone ≡ false }
         ensures same { self.new.gone ≡ self.old.gone }
         ensures less { line_effort self.new ≤ line_effort self.old }
-        ensures ok { IfOk result (λ what. (k : Terms) (seat : ℕ) (next : CopyKey) (heard : List Noted) (b : spec.Caller) → directory.now ≡ k.directory → StandsForConnection k seat next heard self.old b →
+        ensures ok { IfOk result (λ what. (k : Terms) (seat : ℕ) (next : CopyKey) (heard : List Noted) (b : spec.Caller)
+            → directory.now ≡ k.directory → StandsForConnection k seat next heard self.old b →
             WentOn k true seat next heard b what self.new) }
-        ensures err { OnErr result ((k : Terms) (seat : ℕ) (next : CopyKey) (heard : List Noted) (b : spec.Caller) → directory.now ≡ k.directory → StandsForConnection k seat next heard self.old b →
+        ensures err { OnErr result ((k : Terms) (seat : ℕ) (next : CopyKey) (heard : List Noted) (b : spec.Caller) → directory.now ≡ k.directory
+            → StandsForConnection k seat next heard self.old b →
             (what : What) × WentOn k false seat next heard b what self.new) }
         ensures asks { OnErr result (HasWork self.old) }
     {
@@ -246,9 +253,11 @@ impl HouseConnection {
         requires read { self.old.gone ≡ false }
         ensures same { self.new.gone ≡ self.old.gone }
         ensures less { line_effort self.new ≤ line_effort self.old }
-        ensures ok { IfOk result (λ what. (k : Terms) (seat : ℕ) (next : CopyKey) (heard : List Noted) (b : spec.Caller) → directory.now ≡ k.directory → StandsForConnection k seat next heard self.old b →
+        ensures ok { IfOk result (λ what. (k : Terms) (seat : ℕ) (next : CopyKey) (heard : List Noted) (b : spec.Caller)
+            → directory.now ≡ k.directory → StandsForConnection k seat next heard self.old b →
             WentOn k true seat next heard b what self.new) }
-        ensures err { OnErr result ((k : Terms) (seat : ℕ) (next : CopyKey) (heard : List Noted) (b : spec.Caller) → directory.now ≡ k.directory → StandsForConnection k seat next heard self.old b →
+        ensures err { OnErr result ((k : Terms) (seat : ℕ) (next : CopyKey) (heard : List Noted) (b : spec.Caller) → directory.now ≡ k.directory
+            → StandsForConnection k seat next heard self.old b →
             (what : What) × WentOn k false seat next heard b what self.new) }
         ensures asks { OnErr result (IsPatient self.old → ⊥) }
     {
@@ -276,7 +285,8 @@ impl HouseConnection {
         ensures err { OnErr result (self.new ≡ self.old) }
         ensures quiet { OnOk result (self.new.machine.pending ≡ []) }
         ensures read { self.new.gone ≡ false }
-        ensures ok { OnOk result ((k : Terms) (seat : ℕ) (next : CopyKey) (heard : List Noted) (b : spec.Caller) → StandsForConnection k seat next heard self.old b → 0 < length b.talk.pending →
+        ensures ok { OnOk result ((k : Terms) (seat : ℕ) (next : CopyKey) (heard : List Noted) (b : spec.Caller)
+            → StandsForConnection k seat next heard self.old b → 0 < length b.talk.pending →
             SaidVerdicts k seat next heard b verdicts.now self.new) }
     {
         self.machine.answer(verdicts, &mut self.unsaid)?;
@@ -321,9 +331,11 @@ impl HouseConnection {
     pub fn proceed(&mut self, directory: &Directory) -> Result<What, AllocError>
         ensures same { self.new.gone ≡ self.old.gone }
         ensures less { line_effort self.new ≤ line_effort self.old }
-        ensures ok { IfOk result (λ what. (k : Terms) (seat : ℕ) (next : CopyKey) (heard : List Noted) (b : spec.Caller) → directory.now ≡ k.directory → StandsForConnection k seat next heard self.old b →
+        ensures ok { IfOk result (λ what. (k : Terms) (seat : ℕ) (next : CopyKey) (heard : List Noted) (b : spec.Caller)
+            → directory.now ≡ k.directory → StandsForConnection k seat next heard self.old b →
             Proceeded k true seat next heard b what self.new) }
-        ensures err { OnErr result ((k : Terms) (seat : ℕ) (next : CopyKey) (heard : List Noted) (b : spec.Caller) → directory.now ≡ k.directory → StandsForConnection k seat next heard self.old b →
+        ensures err { OnErr result ((k : Terms) (seat : ℕ) (next : CopyKey) (heard : List Noted) (b : spec.Caller) → directory.now ≡ k.directory
+            → StandsForConnection k seat next heard self.old b →
             (what : What) × Proceeded k false seat next heard b what self.new) }
         ensures asks { OnErr result ((self.old.gone ≡ false) × HasWork self.old) }
     {
@@ -358,7 +370,8 @@ impl HouseConnection {
     /// The next copy of the message at hand that is to be put. None where all are put, or no message waits.
     pub fn next_copy(&self) -> Option<NextCopy<'_>>
         ensures none { result ≡ None → due self.now ≡ [] }
-        ensures some { IfSome result (λ c. (others : List Job) × (due self.now ≡ record { key = c.key; mailbox = c.mailbox; text = c.text.now; flags = c.flags } ∷ others)) }
+        ensures some { IfSome result (λ c. (others : List Job)
+            × (due self.now ≡ record { key = c.key; mailbox = c.mailbox; text = c.text.now; flags = c.flags } ∷ others)) }
     {
         if !self.is_waiting {
             return None;

@@ -47,7 +47,8 @@ fn live_through<R: Wait, G: Gate>(
     requires ready { IsReady courier.old.office.now courier.old.channel.now courier.old.desk }
     requires empty { replies.old.items ≡ [] }
     ensures ready { IsReady courier.new.office.now courier.new.channel.now courier.new.desk }
-    ensures same { IsSameDesk courier.old.office.now courier.new.office.now courier.old.channel.now courier.new.channel.now courier.old.desk courier.new.desk }
+    ensures same { IsSameDesk courier.old.office.now courier.new.office.now courier.old.channel.now courier.new.channel.now courier.old.desk
+        courier.new.desk }
     ensures serial { courier.new.serial ≡ courier.old.serial }
     ensures book { courier.new.book.seat ≡ courier.old.book.seat }
     ensures began { result ≢ Fate.NotBegun }

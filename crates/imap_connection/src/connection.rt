@@ -167,7 +167,8 @@ impl ImapConnection {
         out: &mut Vec<u8>,
     ) -> Result<After, SessionFault>
         requires waits { is_some self.old.session.mailing.sent ≡ true }
-        ensures session { IfOk result (λ after. AnswersVerdict S.step self.old.session verdict store.old store.new out.old.items out.new.items after self.new.session) }
+        ensures session { IfOk result (λ after. AnswersVerdict S.step self.old.session verdict store.old store.new out.old.items out.new.items
+            after self.new.session) }
         ensures heard { IfOk result (λ after. (d : Dialogue) → StandsFor self.old d →
             Hears S.step d verdict store.old store.new out.old.items out.new.items after self.new) }
         ensures ended { (result ≡ Err SessionFault.Ended) ↔ (self.old.session.ended ≡ true) }
@@ -188,7 +189,8 @@ impl ImapConnection {
         store: &mut S,
         out: &mut Vec<u8>,
     ) -> Result<usize, SessionFault>
-        ensures session { IfOk result (λ count. IdleTurns S.step self.old.session store.old store.new out.old.items out.new.items count self.new.session) }
+        ensures session { IfOk result (λ count. IdleTurns S.step self.old.session store.old store.new out.old.items out.new.items count
+            self.new.session) }
         ensures turned { IfOk result (λ count. (d : Dialogue) → StandsFor self.old d →
             Turns S.step d store.old store.new out.old.items out.new.items count self.new) }
         ensures few { IfOk result (λ count. count ≤ 64) }

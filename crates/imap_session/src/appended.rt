@@ -12,7 +12,7 @@ use crate::expunge::show_pending;
 use crate::say::put;
 use crate::standing::{After, Selected};
 use crate::store::Store;
-use crate::turn::conclude;
+use crate::turn::{MOST_WORDS, conclude};
 use delivery_token::{Refusal, Verdict};
 use mailbox::MailFault;
 
@@ -22,7 +22,7 @@ pub(crate) const STORED: usize = 56;
 // What the last line says where the message was refused.
 fn refused_words(why: Refusal) -> &'static [u8]
     ensures words { result.now ≡ refused_words why }
-    ensures short { length result.now ≤ 45 }
+    ensures short { length result.now ≤ MOST_WORDS }
 {
     match why {
         Refusal::Full => b"NO Shard full",

@@ -13,6 +13,7 @@ use crate::folders::find_folder;
 use crate::say::hold_room;
 use crate::standing::{Folder, Selected};
 use crate::store::Store;
+use crate::turn::MOST_WORDS;
 use imap_grammar::{Name, StatusItems, write_list, write_status};
 use mailbox::{MailFault, Status};
 use std::alloc::{AllocError, Global};
@@ -75,9 +76,11 @@ fn count_named<S: Store>(
 ) -> Result<&'static [u8], MailFault>
     requires room { vec_len out.old + keep ≤ vec_capacity out.old }
     ensures done { Does S.step
-        (on_folder name.now folders.now (counting (record { folders = folders.now; selected = selected; idling = None; ended = false; mailing = nothing_sent None }) name.now items.now))
+        (on_folder name.now folders.now
+        (counting (record { folders = folders.now; selected = selected; idling = None; ended = false; mailing = nothing_sent None })
+        name.now items.now))
         last store.old store.new out.old.items out.new.items result }
-    ensures short { IfOk result (λ words. length words.now ≤ 45) }
+    ensures short { IfOk result (λ words. length words.now ≤ MOST_WORDS) }
     ensures room { vec_len out.new + keep ≤ vec_capacity out.new }
 {
     match find_folder(name, folders) {
@@ -102,9 +105,11 @@ pub(crate) fn count_mailbox<S: Store>(
 ) -> Result<&'static [u8], MailFault>
     requires room { vec_len out.old + keep ≤ vec_capacity out.old }
     ensures done { Does S.step
-        (wanting (on_folder name.now folders.now (counting (record { folders = folders.now; selected = selected; idling = None; ended = false; mailing = nothing_sent None }) name.now items.now)))
+        (wanting (on_folder name.now folders.now
+        (counting (record { folders = folders.now; selected = selected; idling = None; ended = false; mailing = nothing_sent None })
+        name.now items.now)))
         last store.old store.new out.old.items out.new.items result }
-    ensures short { IfOk result (λ words. length words.now ≤ 45) }
+    ensures short { IfOk result (λ words. length words.now ≤ MOST_WORDS) }
     ensures room { vec_len out.new + keep ≤ vec_capacity out.new }
 {
     let Ok(name) = name.to_bytes(alloc) else {
@@ -168,7 +173,7 @@ pub(crate) fn list_folders<S: Store>(
         (Write (list_answer reference.now pattern.now (map (λ (folder : Place). folder.name) folders.now))
         (showing selected (completed (commands.List reference.now pattern.now))))
         last store.old store.new out.old.items out.new.items result }
-    ensures short { IfOk result (λ words. length words.now ≤ 45) }
+    ensures short { IfOk result (λ words. length words.now ≤ MOST_WORDS) }
     ensures room { vec_len out.new + keep ≤ vec_capacity out.new }
 {
     match write_names(alloc, folders, reference, pattern, keep, out) {

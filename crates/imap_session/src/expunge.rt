@@ -11,6 +11,7 @@ ghost use Rattle.imap_session.specs.inner.Store.{Does, last};
 use crate::show::{purge, show};
 use crate::standing::Selected;
 use crate::store::Store;
+use crate::turn::MOST_WORDS;
 use imap_grammar::{Named, SeqSet};
 use mailbox::MailFault;
 use std::alloc::{AllocError, Global};
@@ -65,7 +66,7 @@ pub(crate) fn expunge_all<S: Store>(
     requires room { vec_len out.old + keep ≤ vec_capacity out.old }
     ensures done { Does S.step (Expunge None (Feed unlimited
         (completed commands.Expunge))) last store.old store.new out.old.items out.new.items result }
-    ensures short { IfOk result (λ words. length words.now ≤ 45) }
+    ensures short { IfOk result (λ words. length words.now ≤ MOST_WORDS) }
     ensures room { vec_len out.new + keep ≤ vec_capacity out.new }
 {
     match remove_and_show(None, store, keep, out) {
@@ -91,7 +92,7 @@ pub(crate) fn expunge_set<S: Store>(
 ) -> Result<&'static [u8], MailFault>
     requires room { vec_len out.old + keep ≤ vec_capacity out.old }
     ensures done { Does S.step (expunge_set set.now) last store.old store.new out.old.items out.new.items result }
-    ensures short { IfOk result (λ words. length words.now ≤ 45) }
+    ensures short { IfOk result (λ words. length words.now ≤ MOST_WORDS) }
     ensures room { vec_len out.new + keep ≤ vec_capacity out.new }
 {
     let messages = match store.choose(alloc, set, true) {

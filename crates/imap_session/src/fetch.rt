@@ -12,6 +12,7 @@ ghost use Rattle.imap_grammar.specs.declared.command.Command.TheVariants as comm
 use crate::say::hold_room;
 use crate::show::show;
 use crate::store::Store;
+use crate::turn::MOST_WORDS;
 use imap_grammar::{Fetch, FetchItem, Named, write_row};
 use mailbox::{MailFault, Row};
 use std::alloc::{AllocError, Global};
@@ -104,8 +105,9 @@ fn finish_fetch<S: Store>(
     out: &mut Vec<u8>,
 ) -> Result<&'static [u8], MailFault>
     requires room { vec_len out.old + keep ≤ vec_capacity out.old }
-    ensures done { Does S.step (messages_done (commands.Fetch fetch.now) fetch.now.by_uid gone) last store.old store.new out.old.items out.new.items result }
-    ensures short { IfOk result (λ words. length words.now ≤ 45) }
+    ensures done { Does S.step
+        (messages_done (commands.Fetch fetch.now) fetch.now.by_uid gone) last store.old store.new out.old.items out.new.items result }
+    ensures short { IfOk result (λ words. length words.now ≤ MOST_WORDS) }
     ensures room { vec_len out.new + keep ≤ vec_capacity out.new }
 {
     if fetch.by_uid {
@@ -131,9 +133,10 @@ pub(crate) fn fetch_messages<S: Store>(
 ) -> Result<&'static [u8], MailFault>
     requires room { vec_len out.old + keep ≤ vec_capacity out.old }
     ensures done { Does S.step
-        (on_set fetch.now.by_uid fetch.now.set (λ view uids. fetching fetch.now mark view (messages_done (commands.Fetch fetch.now) fetch.now.by_uid) uids false))
+        (on_set fetch.now.by_uid fetch.now.set (λ view uids. fetching fetch.now mark view
+        (messages_done (commands.Fetch fetch.now) fetch.now.by_uid) uids false))
         last store.old store.new out.old.items out.new.items result }
-    ensures short { IfOk result (λ words. length words.now ≤ 45) }
+    ensures short { IfOk result (λ words. length words.now ≤ MOST_WORDS) }
     ensures room { vec_len out.new + keep ≤ vec_capacity out.new }
 {
     let items = match fetch.items.list(alloc) {

@@ -10,6 +10,7 @@ ghost use Rattle.imap_session.specs.inner.Seen.{appending_of};
 
 use crate::standing::Append;
 use crate::tag::Tag;
+use crate::turn::MOST_WORDS;
 use change_ring::Flags;
 use std::alloc::Global;
 use std::marker::Model;
@@ -108,7 +109,7 @@ pub(crate) fn refused_size(most: Option<u32>, size: u64) -> Option<&'static [u8]
     ensures taken { result ≡ None → is_over most size ≡ false }
     ensures fits { result ≡ None → size < 2 ^ 32 }
     ensures refused { IfSome result (λ words. (is_over most size ≡ true) × (over most ≡ says words.now)) }
-    ensures short { IfSome result (λ words. length words.now ≤ 45) }
+    ensures short { IfSome result (λ words. length words.now ≤ MOST_WORDS) }
 {
     let Some(most) = most else {
         return Some(b"NO [CANNOT] Not offered here");
@@ -131,7 +132,7 @@ pub(crate) fn judge(
     ensures says { IfErr result (λ words. (mailing : MailingSpec) (a : AppendingSpec) → mailing.most ≡ most → mailing.number ≡ number →
         a.mailbox ≡ mailbox → a.size ≡ size → a.text ≡ option_map (λ t. t.items) text →
         on_rest mailing a empty ≡ says words.now) }
-    ensures short { IfErr result (λ words. length words.now ≤ 45) }
+    ensures short { IfErr result (λ words. length words.now ≤ MOST_WORDS) }
     ensures ready { IfOk result (λ made. (mailing : MailingSpec) (a : AppendingSpec) → mailing.most ≡ most → mailing.number ≡ number →
         a.mailbox ≡ mailbox → a.size ≡ size → a.text ≡ option_map (λ t. t.items) text →
         on_rest mailing a empty ≡ wanting (Wait [] (ForVerdict made.0 a.flags made.1.items))) }

@@ -1,4 +1,4 @@
-//! Lines, written: in room that was reserved, or with room left for the last line.
+//! Lines, written: in room that was reserved, or with room left for the last line; and what a session says whatever its line was.
 
 ghost use Rattle.std.specs.Prelude.{◌≡◌, ◌+◌, ◌≤◌, ◌++◌, OnOk, OnErr, IfErr, vec_len, length, flat_map, take};
 ghost use Rattle.std.specs.Vec.{vec_capacity};
@@ -6,6 +6,16 @@ ghost use Rattle.imap_session.specs.Exchange.{tagged};
 
 use line_io::append_parts;
 use mailbox::MailFault;
+
+pub(crate) const GREETING: &[u8] = b"* PREAUTH IMAP4rev2 server ready\r\n";
+
+pub(crate) const LONG_LINE: &[u8] = b"* BAD Line too long\r\n";
+
+pub(crate) const IDLING: &[u8] = b"+ idling\r\n";
+
+pub(crate) const NOT_DONE: &[u8] = b"BAD Expected DONE";
+
+pub(crate) const READY: &[u8] = b"+ ready\r\n";
 
 // Writes text in room that was reserved.
 pub(crate) fn put(text: &[u8], out: &mut Vec<u8>)

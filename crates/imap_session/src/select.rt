@@ -11,6 +11,7 @@ use crate::folders::find_folder;
 use crate::say::{write_line, write_parts};
 use crate::standing::{Folder, Selected};
 use crate::store::Store;
+use crate::turn::MOST_WORDS;
 use imap_grammar::Name;
 use itoa::Buffer;
 use mailbox::{MailFault, Opening};
@@ -133,7 +134,7 @@ pub(crate) fn leave_mailbox<S: Store>(
 // What the last line says after a mailbox was entered.
 fn entered_words(read_only: bool) -> &'static [u8]
     ensures words { result.now ≡ (if read_only then codes "OK [READ-ONLY] EXAMINE completed" else codes "OK [READ-WRITE] SELECT completed") }
-    ensures short { length result.now ≤ 45 }
+    ensures short { length result.now ≤ MOST_WORDS }
 {
     if read_only {
         b"OK [READ-ONLY] EXAMINE completed"
@@ -154,7 +155,7 @@ fn enter_folder<S: Store>(
     requires room { vec_len out.old + keep ≤ vec_capacity out.old }
     ensures done { Moves S.step selected.old selected.new
         (entering read_only folder.now) last store.old store.new out.old.items out.new.items result }
-    ensures short { IfOk result (λ words. length words.now ≤ 45) }
+    ensures short { IfOk result (λ words. length words.now ≤ MOST_WORDS) }
     ensures room { vec_len out.new + keep ≤ vec_capacity out.new }
 {
     let wanted = Selected {
@@ -184,7 +185,7 @@ fn enter_named<S: Store>(
     requires room { vec_len out.old + keep ≤ vec_capacity out.old }
     ensures done { Moves S.step selected.old selected.new
         (on_folder name.now folders.now (entering read_only)) last store.old store.new out.old.items out.new.items result }
-    ensures short { IfOk result (λ words. length words.now ≤ 45) }
+    ensures short { IfOk result (λ words. length words.now ≤ MOST_WORDS) }
     ensures room { vec_len out.new + keep ≤ vec_capacity out.new }
 {
     match find_folder(name, folders) {
@@ -213,7 +214,7 @@ pub(crate) fn select_mailbox<S: Store>(
           ended = false;
           mailing = nothing_sent None;
         }) read_only name.now) last store.old store.new out.old.items out.new.items result }
-    ensures short { IfOk result (λ words. length words.now ≤ 45) }
+    ensures short { IfOk result (λ words. length words.now ≤ MOST_WORDS) }
     ensures room { vec_len out.new + keep ≤ vec_capacity out.new }
 {
     let Ok(name) = name.to_bytes(alloc) else {

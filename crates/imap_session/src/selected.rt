@@ -16,6 +16,7 @@ use crate::select::leave_mailbox;
 use crate::set_flags::store_messages;
 use crate::standing::Selected;
 use crate::store::Store;
+use crate::turn::MOST_WORDS;
 use imap_grammar::{Fetch, SeqSet, Store as StoreCommand};
 use mailbox::MailFault;
 use std::alloc::Global;
@@ -31,7 +32,7 @@ fn sets_seen(command: &Fetch<'_>, mailbox: Selected) -> bool
 fn refusal(selected: Option<Selected>) -> Option<&'static [u8]>
     ensures refused { IfSome result (λ words. (x : Exchange) → on_found (if_writable x) wrong_state selected ≡ says words.now) }
     ensures taken { IfNone result ((x : Exchange) → on_found (if_writable x) wrong_state selected ≡ x) }
-    ensures short { IfSome result (λ words. length words.now ≤ 45) }
+    ensures short { IfSome result (λ words. length words.now ≤ MOST_WORDS) }
 {
     match selected {
         None => Some(b"BAD Wrong state"),
@@ -55,8 +56,9 @@ pub(crate) fn fetch<S: Store>(
     out: &mut Vec<u8>,
 ) -> Result<&'static [u8], MailFault>
     requires room { vec_len out.old + keep ≤ vec_capacity out.old }
-    ensures done { Does S.step (on_found (fetch_messages command.now) wrong_state selected) last store.old store.new out.old.items out.new.items result }
-    ensures short { IfOk result (λ words. length words.now ≤ 45) }
+    ensures done { Does S.step
+        (on_found (fetch_messages command.now) wrong_state selected) last store.old store.new out.old.items out.new.items result }
+    ensures short { IfOk result (λ words. length words.now ≤ MOST_WORDS) }
     ensures room { vec_len out.new + keep ≤ vec_capacity out.new }
 {
     match selected {
@@ -80,7 +82,7 @@ pub(crate) fn store_flags<S: Store>(
     requires room { vec_len out.old + keep ≤ vec_capacity out.old }
     ensures done { Does S.step (on_found (if_writable
         (store_messages command.now)) wrong_state selected) last store.old store.new out.old.items out.new.items result }
-    ensures short { IfOk result (λ words. length words.now ≤ 45) }
+    ensures short { IfOk result (λ words. length words.now ≤ MOST_WORDS) }
     ensures room { vec_len out.new + keep ≤ vec_capacity out.new }
 {
     match refusal(selected) {
@@ -98,8 +100,9 @@ pub(crate) fn expunge<S: Store>(
 ) -> Result<&'static [u8], MailFault>
     requires room { vec_len out.old + keep ≤ vec_capacity out.old }
     ensures done { Does S.step (on_found (if_writable
-        (Expunge None (Feed unlimited (completed commands.Expunge)))) wrong_state selected) last store.old store.new out.old.items out.new.items result }
-    ensures short { IfOk result (λ words. length words.now ≤ 45) }
+        (Expunge None (Feed unlimited (completed commands.Expunge)))) wrong_state selected)
+        last store.old store.new out.old.items out.new.items result }
+    ensures short { IfOk result (λ words. length words.now ≤ MOST_WORDS) }
     ensures room { vec_len out.new + keep ≤ vec_capacity out.new }
 {
     match refusal(selected) {
@@ -120,7 +123,7 @@ pub(crate) fn uid_expunge<S: Store>(
     requires room { vec_len out.old + keep ≤ vec_capacity out.old }
     ensures done { Does S.step (on_found (if_writable
         (expunge_set set.now)) wrong_state selected) last store.old store.new out.old.items out.new.items result }
-    ensures short { IfOk result (λ words. length words.now ≤ 45) }
+    ensures short { IfOk result (λ words. length words.now ≤ MOST_WORDS) }
     ensures room { vec_len out.new + keep ≤ vec_capacity out.new }
 {
     match refusal(selected) {
@@ -135,8 +138,9 @@ pub(crate) fn close<S: Store>(
     store: &mut S,
 ) -> Result<&'static [u8], MailFault>
     ensures done { (text : List ℕ) → Moves S.step selected.old selected.new
-        (on_found (λ mailbox. Leave (not mailbox.read_only) (completed commands.Close)) wrong_state selected.old) last store.old store.new text text result }
-    ensures short { IfOk result (λ words. length words.now ≤ 45) }
+        (on_found (λ mailbox. Leave (not mailbox.read_only) (completed commands.Close)) wrong_state selected.old)
+        last store.old store.new text text result }
+    ensures short { IfOk result (λ words. length words.now ≤ MOST_WORDS) }
 {
     match *selected {
         None => Ok(b"BAD Wrong state"),
@@ -154,7 +158,7 @@ pub(crate) fn unselect<S: Store>(
 ) -> Result<&'static [u8], MailFault>
     ensures done { (text : List ℕ) → Moves S.step selected.old selected.new
         (on_found (λ mailbox. Leave false (completed commands.Unselect)) wrong_state selected.old) last store.old store.new text text result }
-    ensures short { IfOk result (λ words. length words.now ≤ 45) }
+    ensures short { IfOk result (λ words. length words.now ≤ MOST_WORDS) }
 {
     match *selected {
         None => Ok(b"BAD Wrong state"),

@@ -4,7 +4,7 @@
 use crate::appended::{STORED, tell_verdict};
 use crate::folders::find_folder;
 use crate::mailing::{Appending, Mailing, Sent, begin_text, judge, refused_size};
-use crate::say::{put, put_tagged};
+use crate::say::{GREETING, IDLING, LONG_LINE, NOT_DONE, READY, put, put_tagged};
 use crate::show::show;
 use crate::standing::{After, Append, Folder, Selected, SessionFault};
 use crate::store::Store;
@@ -17,16 +17,6 @@ use imap_grammar::{Append as AppendCommand, Command, Name, read_line};
 use mailbox::MailFault;
 use std::alloc::{AllocError, Global};
 use std::marker::Model;
-
-const GREETING: &[u8] = b"* PREAUTH IMAP4rev2 server ready\r\n";
-
-const LONG_LINE: &[u8] = b"* BAD Line too long\r\n";
-
-const IDLING: &[u8] = b"+ idling\r\n";
-
-const NOT_DONE: &[u8] = b"BAD Expected DONE";
-
-const READY: &[u8] = b"+ ready\r\n";
 
 /// A literal that the client sends without being asked has at most so many bytes.
 const MOST_UNASKED: u64 = 4_096;
@@ -198,7 +188,8 @@ impl Session {
         requires room { vec_len out.old + (length tag.now + LAST) ≤ vec_capacity out.old }
         requires size { append.now.literal.size < 2 ^ 32 }
         ensures leads { Leads tag.now self.old (wanting (awaiting
-            (if append.now.literal.waits then codes "+ ready\r\n" else []) mailbox append.now.flags append.now.literal.size)) out.old.items out.new.items result self.new }
+            (if append.now.literal.waits then codes "+ ready\r\n" else []) mailbox append.now.flags append.now.literal.size))
+            out.old.items out.new.items result self.new }
         ensures folders { self.new.folders ≡ self.old.folders }
         ensures sends { result ≡ may_send self.new }
     {
@@ -247,7 +238,8 @@ impl Session {
         requires unsent { self.old.mailing.sent ≡ None }
         requires room { vec_len out.old + (length tag.now + LAST) ≤ vec_capacity out.old }
         requires waits { append.now.literal.waits ≡ true }
-        ensures leads { Leads tag.now self.old (appending self.old.mailing.most self.old.folders append.now) out.old.items out.new.items result self.new }
+        ensures leads { Leads tag.now self.old
+            (appending self.old.mailing.most self.old.folders append.now) out.old.items out.new.items result self.new }
         ensures folders { self.new.folders ≡ self.old.folders }
         ensures sends { result ≡ may_send self.new }
     {
@@ -279,7 +271,8 @@ impl Session {
         requires alone { self.old.mailing.begun ≡ None }
         requires unsent { self.old.mailing.sent ≡ None }
         requires room { vec_len out.old + (length tag.now + LAST) ≤ vec_capacity out.old }
-        ensures leads { Leads tag.now self.old (appending self.old.mailing.most self.old.folders append.now) out.old.items out.new.items result self.new }
+        ensures leads { Leads tag.now self.old
+            (appending self.old.mailing.most self.old.folders append.now) out.old.items out.new.items result self.new }
         ensures folders { self.new.folders ≡ self.old.folders }
         ensures sends { result ≡ may_send self.new }
     {
@@ -676,7 +669,8 @@ impl Session {
         out: &mut Vec<u8>,
     ) -> Result<After, SessionFault>
         requires waits { is_some self.old.mailing.sent ≡ true }
-        ensures answered { IfOk result (λ after. AnswersVerdict S.step self.old verdict store.old store.new out.old.items out.new.items after self.new) }
+        ensures answered { IfOk result (λ after. AnswersVerdict S.step self.old verdict
+            store.old store.new out.old.items out.new.items after self.new) }
         ensures ended { (result ≡ Err SessionFault.Ended) ↔ (self.old.ended ≡ true) }
         ensures refused { OnErr result ((self.new ≡ self.old) × (store.new ≡ store.old) × (out.new.items ≡ out.old.items)) }
         ensures memory { result ≡ Err SessionFault.NoMemory → vec_capacity out.old < vec_len out.old + room_for_verdict self.old }

@@ -13,6 +13,7 @@ ghost use Rattle.imap_session.specs.inner.Store.{Does, last};
 use crate::say::hold_room;
 use crate::show::show;
 use crate::store::Store;
+use crate::turn::MOST_WORDS;
 use change_ring::Flags;
 use cursor_set::{FLAGS_ROOM, put_flags};
 use imap_grammar::{Named, Store as StoreCommand};
@@ -156,8 +157,9 @@ fn finish_store<S: Store>(
     out: &mut Vec<u8>,
 ) -> Result<&'static [u8], MailFault>
     requires room { vec_len out.old + keep ≤ vec_capacity out.old }
-    ensures done { Does S.step (messages_done (commands.Store command.now) command.now.by_uid gone) last store.old store.new out.old.items out.new.items result }
-    ensures short { IfOk result (λ words. length words.now ≤ 45) }
+    ensures done { Does S.step
+        (messages_done (commands.Store command.now) command.now.by_uid gone) last store.old store.new out.old.items out.new.items result }
+    ensures short { IfOk result (λ words. length words.now ≤ MOST_WORDS) }
     ensures room { vec_len out.new + keep ≤ vec_capacity out.new }
 {
     if command.by_uid {
@@ -182,9 +184,10 @@ pub(crate) fn store_messages<S: Store>(
 ) -> Result<&'static [u8], MailFault>
     requires room { vec_len out.old + keep ≤ vec_capacity out.old }
     ensures done { Does S.step
-        (on_set command.now.by_uid command.now.set (λ view uids. storing command.now view (messages_done (commands.Store command.now) command.now.by_uid) uids false))
+        (on_set command.now.by_uid command.now.set (λ view uids. storing command.now view
+        (messages_done (commands.Store command.now) command.now.by_uid) uids false))
         last store.old store.new out.old.items out.new.items result }
-    ensures short { IfOk result (λ words. length words.now ≤ 45) }
+    ensures short { IfOk result (λ words. length words.now ≤ MOST_WORDS) }
     ensures room { vec_len out.new + keep ≤ vec_capacity out.new }
 {
     let messages = match store.choose(alloc, &command.set, command.by_uid) {

@@ -19,7 +19,10 @@ use imap_grammar::{Append, Command, ImapFault, is_done};
 use mailbox::MailFault;
 use std::alloc::Global;
 
-/// Room for the last line of any answer beside its tag, and for a line that says BYE.
+/// What a last line says behind its tag has at most so many bytes.
+pub(crate) const MOST_WORDS: usize = 45;
+
+/// Room for the last line of any answer beside its tag, a space and CRLF among it; and for a line that says BYE.
 pub(crate) const LAST: usize = 48;
 
 /// Room for the line that CAPABILITY, NAMESPACE or LOGOUT writes before its last one.
@@ -37,7 +40,7 @@ pub(crate) fn conclude(
     out: &mut Vec<u8>,
 ) -> After
     requires room { vec_len out.old + (length tag.now + LAST) ≤ vec_capacity out.old }
-    requires short { IfOk done (λ words. length words.now ≤ 45) }
+    requires short { IfOk done (λ words. length words.now ≤ MOST_WORDS) }
     ensures text { out.new.items ≡ out.old.items ++ last_words tag.now done.entry }
     ensures after { result ≡ after_result after done.entry }
 {
@@ -117,7 +120,7 @@ pub(crate) fn end_idle<S: Store>(
 ) -> Result<&'static [u8], MailFault>
     requires room { vec_len out.old + keep ≤ vec_capacity out.old }
     ensures done { Does S.step (on_idle_line selected line.now) last store.old store.new out.old.items out.new.items result }
-    ensures short { IfOk result (λ words. length words.now ≤ 45) }
+    ensures short { IfOk result (λ words. length words.now ≤ MOST_WORDS) }
     ensures room { vec_len out.new + keep ≤ vec_capacity out.new }
 {
     if !is_done(line) {
@@ -136,7 +139,7 @@ fn note_nothing<S: Store>(
 ) -> Result<&'static [u8], MailFault>
     requires room { vec_len out.old + keep ≤ vec_capacity out.old }
     ensures done { Does S.step (showing selected (completed commands.Noop)) last store.old store.new out.old.items out.new.items result }
-    ensures short { IfOk result (λ words. length words.now ≤ 45) }
+    ensures short { IfOk result (λ words. length words.now ≤ MOST_WORDS) }
     ensures room { vec_len out.new + keep ≤ vec_capacity out.new }
 {
     match show_pending(selected, store, keep, out) {
@@ -160,7 +163,7 @@ pub(crate) fn carry_out<S: Store>(
     ensures done { (mailing : Mailing) → Moves S.step selected.old selected.new
         (on_command (record { folders = folders.now; selected = selected.old; idling = None; ended = false; mailing = mailing }) command.now)
         (ending (after_command command.now)) store.old store.new out.old.items out.new.items result }
-    ensures short { IfOk result (λ words. length words.now ≤ 45) }
+    ensures short { IfOk result (λ words. length words.now ≤ MOST_WORDS) }
     ensures room { vec_len out.new + keep ≤ vec_capacity out.new }
 {
     match command {

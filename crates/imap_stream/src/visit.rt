@@ -194,14 +194,16 @@ impl<'a, R: Wait, G: Gate, W: Sink> Visit<'a, R, G, W> {
         ensures kept { (first : C) → C.kept first courier.old → C.kept first courier.new }
         ensures over { takes_bytes self.old ≡ false → (result ≡ Ok (awaited self.old)) × (self.new ≡ self.old) × (courier.new ≡ courier.old) }
         ensures ok { OnOk result (takes_bytes self.old ≡ true
-            → (carried : List Carried) × ((done : List Carried) → C.carried courier.old done → C.carried courier.new (done ++ carried)) × Tells (Hears piece.now carried) SendsAll self.old self.new) }
+            → (carried : List Carried) × ((done : List Carried) → C.carried courier.old done → C.carried courier.new (done ++ carried))
+            × Tells (Hears piece.now carried) SendsAll self.old self.new) }
         ensures next { IfOk result (λ after. after ≡ awaited self.new) }
         ensures goes_on { OnOk result (self.new.closed ≡ self.old.closed) }
         ensures ends { OnErr result (self.new.closed ≡ true) }
         ensures short { result ≡ Err VisitFault.NoMemory → Tells (HearsInPart self.new.room piece.now Lost.NoMemory) SendsAll self.old self.new }
         ensures torn { result ≡ Err VisitFault.Torn → Tells (HearsInPart self.new.room piece.now Lost.Torn) SendsAll self.old self.new }
         ensures cut { result ≡ Err VisitFault.Write
-            → ((carried : List Carried) × ((done : List Carried) → C.carried courier.old done → C.carried courier.new (done ++ carried)) × Tells (Hears piece.now carried) SendsFirst self.old self.new)
+            → ((carried : List Carried) × ((done : List Carried) → C.carried courier.old done → C.carried courier.new (done ++ carried))
+            × Tells (Hears piece.now carried) SendsFirst self.old self.new)
             ⊎ ((why : Lost) × Tells (HearsInPart self.new.room piece.now why) SendsFirst self.old self.new) }
     {
         if !self.takes_bytes() {

@@ -98,7 +98,8 @@ pub(crate) fn put_copy<R: Wait, G: Gate, S: Summons>(
     ensures within { shard_of office.now.directory mailbox < length office.now.lanes.items }
     ensures put { slice_index_or (overs desk.old.seats.items) (shard_of office.now.directory mailbox) false ≡ false → MatchOption result
         (map put_by desk.new.seats.items ≡ slice_set (map put_by desk.old.seats.items) (shard_of office.now.directory mailbox)
-        (slice_index_or (map put_by desk.old.seats.items) (shard_of office.now.directory mailbox) [] ++ entries.Item desk.old.number (record { key = key; mailbox = mailbox; text = text.now; flags = flags }) ∷ []))
+        (slice_index_or (map put_by desk.old.seats.items) (shard_of office.now.directory mailbox) []
+        ++ entries.Item desk.old.number (record { key = key; mailbox = mailbox; text = text.now; flags = flags }) ∷ []))
         (λ v. (map put_by desk.new.seats.items ≡ map put_by desk.old.seats.items)
         × IsAtOnce (FoundFull (room_at (rooms_of office.now.lanes.items) (shard_of office.now.directory mailbox)) desk.old.number
         (slice_index_or (map put_by desk.old.seats.items) (shard_of office.now.directory mailbox) [])) v) }
@@ -140,9 +141,11 @@ pub(crate) fn put_all<R: Wait, G: Gate, S: Summons>(
     ensures slots { vec_len slots.new ≡ vec_len message.now.keys }
     // Where no seat is over that a copy is for.
     ensures tried { AreOpenTo office.now.directory message.now.mailboxes.items desk.old.seats.items
-        → WereTried office.now.directory (rooms_of office.now.lanes.items) desk.old.number (copies_of (submission_of message.now)) slots.new.items (map put_by desk.old.seats.items) }
+        → WereTried office.now.directory (rooms_of office.now.lanes.items) desk.old.number (copies_of (submission_of message.now)) slots.new.items
+        (map put_by desk.old.seats.items) }
     ensures put { AreOpenTo office.now.directory message.now.mailboxes.items desk.old.seats.items
-        → HavePut office.now.directory desk.old.number (copies_of (submission_of message.now)) slots.new.items (map put_by desk.old.seats.items) (map put_by desk.new.seats.items) }
+        → HavePut office.now.directory desk.old.number (copies_of (submission_of message.now)) slots.new.items (map put_by desk.old.seats.items)
+        (map put_by desk.new.seats.items) }
 {
     for i in 0..message.keys.len() {
         let verdict = put_copy(

@@ -90,7 +90,9 @@ fn settle<R: Wait, G: Gate, S: Summons, N: Notebook>(
     ensures books { IfOk result (λ vs. AreOpenTo office.now.directory message.now.mailboxes.items desk.old.seats.items →
         (judged : List Judged) → AreBooks office.now.directory (rooms_of office.now.lanes.items) desk.old.number judged (N.tells book.old)
         (received desk.old.receiver) (map put_by desk.old.seats.items)
-        → AreBooks office.now.directory (rooms_of office.now.lanes.items) desk.old.number (judged ++ record { message = submission_of message.now; verdicts = vs.items } ∷ []) (N.tells book.new) (received desk.new.receiver) (map put_by desk.new.seats.items)) }
+        → AreBooks office.now.directory (rooms_of office.now.lanes.items) desk.old.number (judged
+        ++ record { message = submission_of message.now; verdicts = vs.items } ∷ []) (N.tells book.new) (received desk.new.receiver)
+        (map put_by desk.new.seats.items)) }
     ensures err { result ≡ Err Stop.NoMemory → (map put_by desk.new.seats.items ≡ map put_by desk.old.seats.items) ×
         (received desk.new.receiver ≡ received desk.old.receiver) }
     ensures noted { result ≡ Err Stop.NoMemory → (copies : List (Job × Verdict)) → N.tells book.old copies → N.tells book.new copies }
@@ -154,10 +156,13 @@ pub fn turn<R: Wait, G: Gate, S: Summons, N: Notebook>(
     ensures used { IfOk result (λ fed. fed.used ≤ length piece.now) }
     ensures moves { IfOk result (λ fed. Moves fed.used fed.what piece.now) }
     ensures stands { IfOk result (λ fed. (done : List Judged) (bytes told : List ℕ)
-        → Stands directory.now office.now.directory (rooms_of office.now.lanes.items) desk.old.number done bytes false machine.old (told ++ out.old.items) (N.tells book.old) (received desk.old.receiver) (map put_by desk.old.seats.items)
-        → Stands directory.now office.now.directory (rooms_of office.now.lanes.items) desk.old.number done (bytes ++ take fed.used piece.now) (is_quit fed.what) machine.new (told ++ out.new.items) (N.tells book.new) (received desk.new.receiver) (map put_by desk.new.seats.items)) }
+        → Stands directory.now office.now.directory (rooms_of office.now.lanes.items) desk.old.number done bytes false machine.old (told
+        ++ out.old.items) (N.tells book.old) (received desk.old.receiver) (map put_by desk.old.seats.items)
+        → Stands directory.now office.now.directory (rooms_of office.now.lanes.items) desk.old.number done (bytes ++ take fed.used piece.now)
+        (is_quit fed.what) machine.new (told ++ out.new.items) (N.tells book.new) (received desk.new.receiver) (map put_by desk.new.seats.items)) }
     ensures kept { OnErr result ((done : List Judged) (bytes told : List ℕ)
-        → Stands directory.now office.now.directory (rooms_of office.now.lanes.items) desk.old.number done bytes false machine.old (told ++ out.old.items) (N.tells book.old) (received desk.old.receiver) (map put_by desk.old.seats.items)
+        → Stands directory.now office.now.directory (rooms_of office.now.lanes.items) desk.old.number done bytes false machine.old (told
+        ++ out.old.items) (N.tells book.old) (received desk.old.receiver) (map put_by desk.old.seats.items)
         → StartsWith out.new.items out.old.items) }
     ensures err { result ≡ Err Stop.NoMemory → (map put_by desk.new.seats.items ≡ map put_by desk.old.seats.items) ×
         (received desk.new.receiver ≡ received desk.old.receiver) }
@@ -222,8 +227,11 @@ fn speak<R: Wait, G: Gate, S: Summons>(
     ensures ends { CountsEnds desk.old desk.new }
     ensures seat { log.new.seat ≡ log.old.seat }
     ensures spoke { OnOk result ((done : List Judged)
-        → Stands directory.now office.now.directory (rooms_of office.now.lanes.items) desk.old.number done [] false machine.old out.old.items (notes_tell log.old.notes) (received desk.old.receiver) (map put_by desk.old.seats.items)
-        → Spoke directory.now office.now.directory (rooms_of office.now.lanes.items) desk.old.number done bytes.now machine.old.setting machine.old.host out.new.items (notes_tell log.new.notes) (received desk.new.receiver) (map put_by desk.new.seats.items)) }
+        → Stands directory.now office.now.directory (rooms_of office.now.lanes.items) desk.old.number done [] false machine.old out.old.items
+        (notes_tell log.old.notes) (received desk.old.receiver) (map put_by desk.old.seats.items)
+        → Spoke directory.now office.now.directory
+        (rooms_of office.now.lanes.items) desk.old.number done bytes.now machine.old.setting machine.old.host out.new.items
+        (notes_tell log.new.notes) (received desk.new.receiver) (map put_by desk.new.seats.items)) }
 {
     let mut used = 0;
     loop {
@@ -282,8 +290,11 @@ fn converse<R: Wait, G: Gate, S: Summons>(
     ensures ends { CountsEnds desk.old desk.new }
     ensures seat { log.new.seat ≡ log.old.seat }
     ensures spoke { IfOk result (λ reply. (done : List Judged)
-        → AreBooks office.now.directory (rooms_of office.now.lanes.items) desk.old.number done (notes_tell log.old.notes) (received desk.old.receiver) (map put_by desk.old.seats.items)
-        → Spoke directory.now office.now.directory (rooms_of office.now.lanes.items) desk.old.number done bytes.now (setting_at (premises_of office.now) desk.old.number serial) office.now.host.items reply.items (notes_tell log.new.notes) (received desk.new.receiver) (map put_by desk.new.seats.items)) }
+        → AreBooks office.now.directory (rooms_of office.now.lanes.items) desk.old.number done (notes_tell log.old.notes)
+        (received desk.old.receiver) (map put_by desk.old.seats.items)
+        → Spoke directory.now office.now.directory (rooms_of office.now.lanes.items) desk.old.number done bytes.now
+        (setting_at (premises_of office.now) desk.old.number serial) office.now.host.items reply.items (notes_tell log.new.notes)
+        (received desk.new.receiver) (map put_by desk.new.seats.items)) }
 {
     let limits = Limits {
         host: office.host.as_slice(),

@@ -157,7 +157,8 @@ impl Commands {
     fn mail(&mut self, path: ReversePath<'_>, host: &[u8], out: &mut Vec<u8>)
         requires room { vec_len out.old + 40 ≤ vec_capacity out.old }
         requires short { has_long_part (reverse_path path) ≡ false }
-        ensures { Takes host.now (on_mail (standing_of self.old).phase self.old.submitted (reverse_path path.entry)) self.new out.old.items out.new.items }
+        ensures { Takes host.now (on_mail (standing_of self.old).phase self.old.submitted
+            (reverse_path path.entry)) self.new out.old.items out.new.items }
     {
         match self.stage {
             Stage::Ready => {}
@@ -175,7 +176,8 @@ impl Commands {
 
     fn rcpt(&mut self, path: ForwardPath<'_>, directory: &Directory, host: &[u8], out: &mut Vec<u8>)
         requires { vec_len out.old + 40 ≤ vec_capacity out.old }
-        ensures { Takes host.now (on_rcpt directory.now (standing_of self.old).phase self.old.submitted (forward_path path.entry)) self.new out.old.items out.new.items }
+        ensures { Takes host.now (on_rcpt directory.now (standing_of self.old).phase self.old.submitted
+            (forward_path path.entry)) self.new out.old.items out.new.items }
     {
         match self.stage {
             Stage::Transaction => {}

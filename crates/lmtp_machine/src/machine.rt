@@ -110,7 +110,8 @@ impl LmtpMachine {
     ///
     /// Errors: `AllocError` where `out` has no room for it and memory was refused; then nothing was written and nothing changed.
     pub fn greet(&mut self, out: &mut Vec<u8>) -> Result<(), AllocError>
-        ensures ok { OnOk result ((d : Directory) (c : Conversation) → StandsFor self.old c → Happens (StandsFor self.new) self.old.setting self.old.host d c dialogue.Opened out.old.items out.new.items) }
+        ensures ok { OnOk result ((d : Directory) (c : Conversation) → StandsFor self.old c
+            → Happens (StandsFor self.new) self.old.setting self.old.host d c dialogue.Opened out.old.items out.new.items) }
         ensures same { OnOk result ((self.new.setting ≡ self.old.setting) × (self.new.host ≡ self.old.host) × (self.new.pending ≡ self.old.pending)) }
         ensures err { OnErr result ((self.new ≡ self.old) × (out.new.items ≡ out.old.items)) }
         ensures full { OnErr result (vec_capacity out.old < vec_len out.old + length self.old.host + 100) }
@@ -137,7 +138,9 @@ impl LmtpMachine {
         ensures awaits { IfOk result (λ fed. Awaits fed.what self.new.pending) }
         ensures most { OnOk result (All (λ s. length s.keys ≤ 100) self.new.pending) }
         ensures paired { OnOk result (All (λ s. length s.mailboxes ≡ length s.keys) self.new.pending) }
-        ensures ok { IfOk result (λ fed. (c : Conversation) → StandsFor self.old c → Follows (StandsFor self.new) self.old.setting self.old.host directory.now c piece.now fed out.old.items out.new.items self.new.pending) }
+        ensures ok { IfOk result (λ fed. (c : Conversation) → StandsFor self.old c
+            → Follows (StandsFor self.new) self.old.setting self.old.host directory.now c piece.now fed
+            out.old.items out.new.items self.new.pending) }
         ensures same { OnOk result ((self.new.setting ≡ self.old.setting) × (self.new.host ≡ self.old.host)) }
         ensures err { OnErr result ((self.new ≡ self.old) × (out.new.items ≡ out.old.items)) }
         ensures full { OnErr result (vec_capacity out.old < vec_len out.old + length self.old.host + 4000) }
@@ -190,7 +193,8 @@ impl LmtpMachine {
     /// written and the same answer is awaited.
     pub fn answer(&mut self, verdicts: &[Verdict], out: &mut Vec<u8>) -> Result<(), AllocError>
         requires { (s : dialogue.Submission) → self.old.pending ≡ s ∷ [] → length verdicts.now ≡ length s.keys }
-        ensures ok { OnOk result ((d : Directory) (c : Conversation) → StandsFor self.old c → Happens (StandsFor self.new) self.old.setting self.old.host d c (dialogue.Answered verdicts.now) out.old.items out.new.items) }
+        ensures ok { OnOk result ((d : Directory) (c : Conversation) → StandsFor self.old c
+            → Happens (StandsFor self.new) self.old.setting self.old.host d c (dialogue.Answered verdicts.now) out.old.items out.new.items) }
         ensures same { OnOk result ((self.new.setting ≡ self.old.setting) × (self.new.host ≡ self.old.host)) }
         ensures pending { OnOk result (self.new.pending ≡ []) }
         ensures err { OnErr result ((self.new ≡ self.old) × (out.new.items ≡ out.old.items)) }
@@ -211,7 +215,8 @@ impl LmtpMachine {
     ///
     /// Errors: `AllocError` where `out` has no room for that and memory was refused; then nothing was written and nothing changed.
     pub fn shut(&mut self, out: &mut Vec<u8>) -> Result<(), AllocError>
-        ensures ok { OnOk result ((d : Directory) (c : Conversation) → StandsFor self.old c → Happens (StandsFor self.new) self.old.setting self.old.host d c dialogue.Shut out.old.items out.new.items) }
+        ensures ok { OnOk result ((d : Directory) (c : Conversation) → StandsFor self.old c
+            → Happens (StandsFor self.new) self.old.setting self.old.host d c dialogue.Shut out.old.items out.new.items) }
         ensures same { OnOk result ((self.new.setting ≡ self.old.setting) × (self.new.host ≡ self.old.host)) }
         ensures pending { OnOk result (self.new.pending ≡ []) }
         ensures err { OnErr result ((self.new ≡ self.old) × (out.new.items ≡ out.old.items)) }
@@ -237,7 +242,9 @@ impl LmtpMachine {
         ensures awaits { IfOk result (λ fed. Awaits fed.what self.new.pending) }
         ensures most { OnOk result (All (λ s. length s.keys ≤ 100) self.new.pending) }
         ensures paired { OnOk result (All (λ s. length s.mailboxes ≡ length s.keys) self.new.pending) }
-        ensures ok { IfOk result (λ fed. (c : Conversation) → StandsFor self.old c → Follows (StandsFor self.new) self.old.setting self.old.host directory.now c piece.now fed out.old.items out.new.items self.new.pending) }
+        ensures ok { IfOk result (λ fed. (c : Conversation) → StandsFor self.old c
+            → Follows (StandsFor self.new) self.old.setting self.old.host directory.now c piece.now fed
+            out.old.items out.new.items self.new.pending) }
         ensures same { OnOk result ((self.new.setting ≡ self.old.setting) × (self.new.host ≡ self.old.host)) }
         ensures err { OnErr result ((self.new ≡ self.old) × (out.new.items ≡ out.old.items)) }
         ensures full { OnErr result (vec_capacity out.old < vec_len out.old + length self.old.host + 4000) }
@@ -272,7 +279,9 @@ impl LmtpMachine {
         ensures awaits { IfOk result (λ fed. Awaits fed.what self.new.pending) }
         ensures most { OnOk result (All (λ s. length s.keys ≤ 100) self.new.pending) }
         ensures paired { OnOk result (All (λ s. length s.mailboxes ≡ length s.keys) self.new.pending) }
-        ensures ok { IfOk result (λ fed. (c : Conversation) → StandsFor self.old c → Follows (StandsFor self.new) self.old.setting self.old.host directory.now c piece.now fed out.old.items out.new.items self.new.pending) }
+        ensures ok { IfOk result (λ fed. (c : Conversation) → StandsFor self.old c
+            → Follows (StandsFor self.new) self.old.setting self.old.host directory.now c piece.now fed
+            out.old.items out.new.items self.new.pending) }
         ensures same { OnOk result ((self.new.setting ≡ self.old.setting) × (self.new.host ≡ self.old.host)) }
         ensures err { OnErr result ((self.new ≡ self.old) × (out.new.items ≡ out.old.items)) }
         ensures full { OnErr result (vec_capacity out.old < vec_len out.old + length self.old.host + 4000) }
@@ -305,8 +314,11 @@ impl LmtpMachine {
         ensures most { All (λ s. length s.keys ≤ 100) self.new.pending }
         ensures paired { All (λ s. length s.mailboxes ≡ length s.keys) self.new.pending }
         ensures same { (self.new.setting ≡ self.old.setting) × (self.new.host ≡ self.old.host) }
-        ensures does { (lines : List (List ℕ)) → IsBehind ended.collected (return_path self.old.commands.sender) → (outcome ≡ Outcome.Ok → ended.collected.bytes ≡ plain lines)
-            → (final : Outcome) × Becomes outcome final × Does self.old (on_outcome self.old.setting self.old.commands.submitted self.old.commands.sender self.old.commands.recipients lines final) self.new result out.old.items out.new.items }
+        ensures does { (lines : List (List ℕ)) → IsBehind ended.collected (return_path self.old.commands.sender)
+            → (outcome ≡ Outcome.Ok → ended.collected.bytes ≡ plain lines)
+            → (final : Outcome) × Becomes outcome final
+            × Does self.old (on_outcome self.old.setting self.old.commands.submitted self.old.commands.sender self.old.commands.recipients
+            lines final) self.new result out.old.items out.new.items }
     {
         match outcome {
             Outcome::Nul => self.fail(Reply::NulByte, out),

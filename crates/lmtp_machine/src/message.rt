@@ -24,7 +24,8 @@ pub fn keys_of(
     recipients: &[u8],
 ) -> Result<Vec<CopyKey>, AllocError>
     requires { length recipients.now ≤ 100 }
-    ensures { IfOk result (λ v. (most : ℕ) → v.items ≡ keys_from (record { seat = seat; serial = serial; max_message = most }) message 0 recipients.now) }
+    ensures { IfOk result (λ v. (most : ℕ)
+        → v.items ≡ keys_from (record { seat = seat; serial = serial; max_message = most }) message 0 recipients.now) }
 {
     let mut keys = Vec::with_capacity(alloc, recipients.len())?;
     for i in 0..recipients.len() {

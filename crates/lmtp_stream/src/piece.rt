@@ -58,11 +58,16 @@ pub(crate) fn take_piece<R: Wait, G: Gate, S: Summons, N: Notebook>(
     ensures quiet { OnOk result (machine.new.pending ≡ []) }
     ensures same { OnOk result ((machine.new.setting ≡ machine.old.setting) × (machine.new.host ≡ machine.old.host)) }
     ensures took { IfOk result (λ next. (done : List Judged) (bytes told : List ℕ)
-        → Stands office.now.directory office.now.directory (rooms_of office.now.lanes.items) desk.old.number done bytes false machine.old (told ++ out.old.items) (N.tells book.old) (received desk.old.receiver) (map put_by desk.old.seats.items)
-        → TookPiece office.now.directory (rooms_of office.now.lanes.items) desk.old.number done bytes piece.now next machine.new (told ++ out.new.items) (N.tells book.new) (received desk.new.receiver) (map put_by desk.new.seats.items)) }
+        → Stands office.now.directory office.now.directory (rooms_of office.now.lanes.items) desk.old.number done bytes false machine.old (told
+        ++ out.old.items) (N.tells book.old) (received desk.old.receiver) (map put_by desk.old.seats.items)
+        → TookPiece office.now.directory (rooms_of office.now.lanes.items) desk.old.number done bytes piece.now next machine.new (told
+        ++ out.new.items) (N.tells book.new) (received desk.new.receiver) (map put_by desk.new.seats.items)) }
     ensures no_memory { result ≡ Err Stop.NoMemory → (done : List Judged) (bytes told : List ℕ)
-        → Stands office.now.directory office.now.directory (rooms_of office.now.lanes.items) desk.old.number done bytes false machine.old (told ++ out.old.items) (N.tells book.old) (received desk.old.receiver) (map put_by desk.old.seats.items)
-        → SaidByThen machine.old.setting machine.old.host office.now.directory (rooms_of office.now.lanes.items) desk.old.number done bytes piece.now (told ++ out.new.items) (N.tells book.new) (received desk.new.receiver) (map put_by desk.new.seats.items) }
+        → Stands office.now.directory office.now.directory (rooms_of office.now.lanes.items) desk.old.number done bytes false machine.old (told
+        ++ out.old.items) (N.tells book.old) (received desk.old.receiver) (map put_by desk.old.seats.items)
+        → SaidByThen machine.old.setting machine.old.host office.now.directory
+        (rooms_of office.now.lanes.items) desk.old.number done bytes piece.now (told ++ out.new.items) (N.tells book.new)
+        (received desk.new.receiver) (map put_by desk.new.seats.items) }
 {
     if stop.load(Ordering::SeqCst) {
         return Ok(Next::Shut);

@@ -91,8 +91,11 @@ fn go_on<R: Wait, G: Gate, S: Summons, N: Notebook, I: Read, O: Sink>(
     ensures live { OnOk result (O.failed output.new ≡ false) }
     ensures failed { result ≡ Err TalkFault.Write → O.failed output.new ≡ true }
     ensures played { (done : List Judged)
-        → Stands office.now.directory office.now.directory (rooms_of office.now.lanes.items) desk.old.number done [] false machine.old out.old.items (N.tells book.old) (received desk.old.receiver) (map put_by desk.old.seats.items)
-        → IsPlayed (premises_of office.now) machine.old.setting desk.old.number done (I.remaining input.old) (I.remaining input.new) (O.taken output.old) (O.taken output.new) (O.failed output.new)
+        → Stands office.now.directory office.now.directory
+        (rooms_of office.now.lanes.items) desk.old.number done [] false machine.old out.old.items (N.tells book.old) (received desk.old.receiver)
+        (map put_by desk.old.seats.items)
+        → IsPlayed (premises_of office.now) machine.old.setting desk.old.number done (I.remaining input.old) (I.remaining input.new)
+        (O.taken output.old) (O.taken output.new) (O.failed output.new)
         (N.tells book.new) (received desk.new.receiver) (map put_by desk.new.seats.items) result }
 {
     for _ in rt.forever() {
@@ -183,8 +186,10 @@ pub fn converse<R: Wait, G: Gate, S: Summons, N: Notebook, I: Read, O: Sink>(
     ensures live { OnOk result (O.failed output.new ≡ false) }
     ensures failed { result ≡ Err TalkFault.Write → O.failed output.new ≡ true }
     ensures played { (done : List Judged)
-        → AreBooks office.now.directory (rooms_of office.now.lanes.items) desk.old.number done (N.tells book.old) (received desk.old.receiver) (map put_by desk.old.seats.items)
-        → IsPlayed (premises_of office.now) (setting_at (premises_of office.now) desk.old.number serial) desk.old.number done (I.remaining input.old) (I.remaining input.new) (O.taken output.old) (O.taken output.new) (O.failed output.new)
+        → AreBooks office.now.directory (rooms_of office.now.lanes.items) desk.old.number done (N.tells book.old) (received desk.old.receiver)
+        (map put_by desk.old.seats.items)
+        → IsPlayed (premises_of office.now) (setting_at (premises_of office.now) desk.old.number serial) desk.old.number done
+        (I.remaining input.old) (I.remaining input.new) (O.taken output.old) (O.taken output.new) (O.failed output.new)
         (N.tells book.new) (received desk.new.receiver) (map put_by desk.new.seats.items) result }
 {
     out.clear();

@@ -475,7 +475,8 @@ fn take_turn<R: BufRead, W: Sink>(
     requires few { length room.old.held.items ≤ 256 }
     ensures tells { (k : Setup) (s : scene.Scene) (input : List ℕ) → StandsFor k house.old s →
         length room.old.held.items ≡ k.config.shards → R.remaining reader.old ≡ Some input →
-        TurnTells k number room.old.held.items s input house.new room.new.held.items (R.remaining reader.new) (W.taken writer.old) (W.taken writer.new) result }
+        TurnTells k number room.old.held.items s input house.new room.new.held.items (R.remaining reader.new) (W.taken writer.old)
+        (W.taken writer.new) result }
     ensures live { OnOk result (W.failed writer.new ≡ false) }
     ensures places { length room.new.held.items ≡ length room.old.held.items }
     ensures failed { (sent : ℕ) → result ≡ Err (TurnFault.Write sent) → W.failed writer.new ≡ true }

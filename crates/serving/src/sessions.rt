@@ -150,7 +150,8 @@ fn answer_clients<'a, R: Wait, S: Summons>(
 )
     requires ready { IsReady courier.old.office.now courier.old.channel.now courier.old.desk }
     ensures ready { IsReady courier.new.office.now courier.new.channel.now courier.new.desk }
-    ensures same { IsSameDesk courier.old.office.now courier.new.office.now courier.old.channel.now courier.new.channel.now courier.old.desk courier.new.desk }
+    ensures same { IsSameDesk courier.old.office.now courier.new.office.now courier.old.channel.now courier.new.channel.now
+        courier.old.desk courier.new.desk }
 {
     let Some(listening) = gateway.sockets.imap.get(usize::from(gateway.user)) else {
         return;

@@ -110,7 +110,8 @@ fn make<R: Wait, G: Gate, C: Courier>(
         × ((d : Dialogue) → StandsFor connection.old d → (next : Dialogue) × StandsFor connection.new next
         × Steps turns step.now carried (moment d desk.old out.old.items) (moment next desk.new out.new.items))) }
     ensures err { IfErr result (λ why. (d : Dialogue) → StandsFor connection.old d → (next : Dialogue) × StandsFor connection.new next
-        × (takes_more d.standing ≡ true) × StopsIn turns (vec_capacity out.new) step.now why (moment d desk.old out.old.items) (moment next desk.new out.new.items)) }
+        × (takes_more d.standing ≡ true)
+        × StopsIn turns (vec_capacity out.new) step.now why (moment d desk.old out.old.items) (moment next desk.new out.new.items)) }
 {
     if !takes_more(connection) {
         return Ok(());
@@ -183,7 +184,8 @@ pub fn live<R: Wait, G: Gate, C: Courier>(
         × ((last : Moment) × Lives turns (greeted_at most folders.items desk.old (out.old.items ++ greeting)) steps.now carried last
         × (out.new.items ≡ last.text) × Departs last.place desk.new)) }
     ensures err { IfErr result (λ why. (desk.new ≡ desk.old) × (out.new.items ≡ out.old.items) × (why ≡ Lost.NoMemory)
-        ⊎ (last : Moment) × LivesInPart turns (vec_capacity out.new) (greeted_at most folders.items desk.old (out.old.items ++ greeting)) steps.now why last
+        ⊎ (last : Moment) × LivesInPart turns (vec_capacity out.new) (greeted_at most folders.items desk.old (out.old.items ++ greeting))
+        steps.now why last
         × (out.new.items ≡ last.text) × Departs last.place desk.new) }
 {
     let Ok(mut connection) = ImapConnection::new(alloc, folders, most) else {

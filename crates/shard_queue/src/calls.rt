@@ -57,7 +57,8 @@ impl<T: Drop> PlainLane<T> {
     pub fn put(&mut self, p: u8, item: T) -> Result<(), Full<T>>
         requires live { MayPutMore self.old.live p }
         ensures put { MatchResult result
-            (λ _. (length self.old.waiting < self.old.capacity) × (self.new ≡ record self.old { waiting = self.old.waiting ++ entries.Item p item ∷ [] }))
+            (λ _. (length self.old.waiting < self.old.capacity)
+            × (self.new ≡ record self.old { waiting = self.old.waiting ++ entries.Item p item ∷ [] }))
             (λ back. (back.0 ≡ item) × (length self.old.waiting ≡ self.old.capacity) × (self.new ≡ self.old)) }
         ensures moves { OnOk result (Makes self.old (Puts (entries.Item p item)) self.new) }
     {
@@ -73,7 +74,8 @@ impl<T: Drop> PlainLane<T> {
     pub fn end(&mut self, p: u8) -> Result<(), Full<()>>
         requires live { MayPutMore self.old.live p }
         ensures put { MatchResult result
-            (λ _. (length self.old.waiting < self.old.capacity) × (self.new ≡ record self.old { waiting = self.old.waiting ++ entries.End p ∷ []; live = slice_set self.old.live p false }))
+            (λ _. (length self.old.waiting < self.old.capacity)
+            × (self.new ≡ record self.old { waiting = self.old.waiting ++ entries.End p ∷ []; live = slice_set self.old.live p false }))
             (λ _. (length self.old.waiting ≡ self.old.capacity) × (self.new ≡ self.old)) }
         ensures moves { OnOk result (Makes self.old (Puts (entries.End p)) self.new) }
     {

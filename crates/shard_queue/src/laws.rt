@@ -12,8 +12,10 @@ ghost use Rattle.shard_queue.specs.Seats.{WasEmpty, WasFull};
 /// what the producers sent, an end is sent last, and where the end of every producer was taken
 /// nothing waits.
 pub fn each_lane_is_a_merge<T>()
-    ensures merge { (producers room : ℕ) (history : List (Move T)) (l : Lane T) → ComesBy producers room empty_lane history l → IsMerge producers room l }
-    ensures closed { (producers room : ℕ) (history : List (Move T)) (l : Lane T) → ComesBy producers room empty_lane history l → IsClosed producers l → l.waiting ≡ [] }
+    ensures merge { (producers room : ℕ) (history : List (Move T)) (l : Lane T) → ComesBy producers room empty_lane history l
+        → IsMerge producers room l }
+    ensures closed { (producers room : ℕ) (history : List (Move T)) (l : Lane T) → ComesBy producers room empty_lane history l
+        → IsClosed producers l → l.waiting ≡ [] }
 {}
 
 /// Of each lane that threads share, whenever its rule holds, which is between any two atomic steps:
@@ -28,12 +30,15 @@ pub fn shared_lanes_merge<T>()
 /// been put then, in all, than there is room for, its next put isn't Full.
 pub fn empty_and_full_tell<T>()
     ensures empty { (producers room : ℕ) (got others : List (Entry T)) → WasEmpty producers room got (got ++ others) → others ≡ [] }
-    ensures full { (producers room p : ℕ) (sent seen : List (Entry T)) → ((q : ℕ) → q < producers → q ≢ p → has_end (of q seen) ≡ true) → of p seen ≡ sent
+    ensures full { (producers room p : ℕ) (sent seen : List (Entry T)) → ((q : ℕ) → q < producers → q ≢ p → has_end (of q seen) ≡ true)
+        → of p seen ≡ sent
         → WasFull producers room p sent seen → room ≤ length seen }
 {}
 
 /// What a seat learns by a look, when something waits or not, gives no leave to answer Empty or Full.
 pub fn a_look_is_not_enough<T>()
-    ensures empty { ((producers room : ℕ) (got seen waiting : List (Entry T)) → Saw (consumer producers producers got None seen) waiting → WasEmpty producers room got seen) → ⊥ }
-    ensures full { ((producers room p : ℕ) (sent seen waiting : List (Entry T)) → has_end sent ≡ false → Saw (sender producers p sent seen) waiting → WasFull producers room p sent seen) → ⊥ }
+    ensures empty { ((producers room : ℕ) (got seen waiting : List (Entry T)) → Saw (consumer producers producers got None seen) waiting
+        → WasEmpty producers room got seen) → ⊥ }
+    ensures full { ((producers room p : ℕ) (sent seen waiting : List (Entry T)) → has_end sent ≡ false
+        → Saw (sender producers p sent seen) waiting → WasFull producers room p sent seen) → ⊥ }
 {}

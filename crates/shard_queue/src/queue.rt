@@ -276,7 +276,8 @@ fn hire<T>(
 // Hears a producer out: what it has sent is what was taken of it.
 fn hear_out<T>(queue: &Lane<T>, producers: u8, pass: &mut Pass<Entry<T>, View<T>>, ended: Ended<T>)
     requires pass { IsPassOf queue.now pass.old × HasAllEnds producers (view pass.old) }
-    requires ended { IsPassOf queue.now ended.pass × (view ended.pass ≡ sender producers ended.number (said ended) (end_seen ended)) × (has_end (said ended) ≡ true) }
+    requires ended { IsPassOf queue.now ended.pass × (view ended.pass ≡ sender producers ended.number (said ended) (end_seen ended))
+        × (has_end (said ended) ≡ true) }
     ensures pass { IsPassOf queue.now pass.new × HasAllEnds producers (view pass.new) × (list_of (view pass.new) ≡ list_of (view pass.old)) }
     ensures said { said ended ≡ of ended.number (list_of (view pass.old)) }
 {
@@ -295,7 +296,8 @@ fn hear_all_out<T>(
     mut ended: Vec<Ended<T>>,
 )
     requires pass { IsPassOf queue.now pass.old × HasAllEnds producers (view pass.old) }
-    requires ended { All (λ e. IsPassOf queue.now e.pass × (view e.pass ≡ sender producers e.number (said e) (end_seen e)) × (has_end (said e) ≡ true)) ended.items }
+    requires ended { All (λ e. IsPassOf queue.now e.pass × (view e.pass ≡ sender producers e.number (said e) (end_seen e))
+        × (has_end (said e) ≡ true)) ended.items }
     ensures pass { IsPassOf queue.now pass.new × HasAllEnds producers (view pass.new) × (list_of (view pass.new) ≡ list_of (view pass.old)) }
     ensures said { All (λ e. said e ≡ of e.number (list_of (view pass.old))) ended.items }
 {

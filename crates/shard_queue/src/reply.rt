@@ -142,7 +142,8 @@ impl<T: Drop> ReplyChannel<T> {
         ensures ended { IfOk result (λ e. IsSenderEnded self.now e × (sender_ended_number e ≡ sender_number seat)
             × (said_on e ≡ sent_on seat ++ entries.End (sender_number seat) ∷ [])
             × IsPutBehind (send_seen seat) (entries.End (sender_number seat)) (last_seen e)) }
-        ensures full { IfErr result (λ s. IsSender self.now s × (sender_number s ≡ sender_number seat) × (sent_on s ≡ sent_on seat) × (send_seen s ≡ send_seen seat)
+        ensures full { IfErr result (λ s. IsSender self.now s × (sender_number s ≡ sender_number seat) × (sent_on s ≡ sent_on seat)
+            × (send_seen s ≡ send_seen seat)
             × WasFull (senders_of self.now) (room_of self.now) (sender_number seat) (sent_on seat) (send_seen seat)) }
     {
         let SenderSeat { mut pass, number } = seat;
@@ -295,7 +296,8 @@ fn hear_out<T: Drop>(
     ended: SenderEnded<T>,
 )
     requires pass { IsSeatAt (sends_on ends.now) pass.old × HasAllEnds senders (view pass.old) }
-    requires ended { IsSeatAt (sends_on ends.now) ended.pass × (view ended.pass ≡ sender senders ended.number (said_on ended) (last_seen ended)) × (has_end (said_on ended) ≡ true) }
+    requires ended { IsSeatAt (sends_on ends.now) ended.pass × (view ended.pass ≡ sender senders ended.number (said_on ended) (last_seen ended))
+        × (has_end (said_on ended) ≡ true) }
     ensures pass { IsSeatAt (sends_on ends.now) pass.new × HasAllEnds senders (view pass.new) × (list_of (view pass.new) ≡ list_of (view pass.old)) }
     ensures said { said_on ended ≡ of ended.number (list_of (view pass.old)) }
 {
@@ -314,7 +316,8 @@ fn hear_all_out<T: Drop>(
     mut ended: Vec<SenderEnded<T>>,
 )
     requires pass { IsSeatAt (sends_on ends.now) pass.old × HasAllEnds senders (view pass.old) }
-    requires ended { All (λ e. IsSeatAt (sends_on ends.now) e.pass × (view e.pass ≡ sender senders e.number (said_on e) (last_seen e)) × (has_end (said_on e) ≡ true)) ended.items }
+    requires ended { All (λ e. IsSeatAt (sends_on ends.now) e.pass × (view e.pass ≡ sender senders e.number (said_on e) (last_seen e))
+        × (has_end (said_on e) ≡ true)) ended.items }
     ensures pass { IsSeatAt (sends_on ends.now) pass.new × HasAllEnds senders (view pass.new) × (list_of (view pass.new) ≡ list_of (view pass.old)) }
     ensures said { All (λ e. said_on e ≡ of e.number (list_of (view pass.old))) ended.items }
 {

@@ -73,8 +73,10 @@ impl Verdicts {
 
     /// The next copy of the message that is to be put. None where each was put.
     pub fn next_copy<'k, 'a>(&self, message: Submitted<'k, 'a>) -> Option<NextCopy<'a>>
-        ensures none { result ≡ None → due (copies message.entry.keys.now message.entry.mailboxes.now message.entry.text.now message.entry.flags) self.now.slots ≡ [] }
-        ensures some { IfSome result (λ c. (others : List Job) × (due (copies message.entry.keys.now message.entry.mailboxes.now message.entry.text.now message.entry.flags) self.now.slots
+        ensures none { result ≡ None → due
+            (copies message.entry.keys.now message.entry.mailboxes.now message.entry.text.now message.entry.flags) self.now.slots ≡ [] }
+        ensures some { IfSome result (λ c. (others : List Job)
+            × (due (copies message.entry.keys.now message.entry.mailboxes.now message.entry.text.now message.entry.flags) self.now.slots
             ≡ record { key = c.key; mailbox = c.mailbox; text = c.text.now; flags = c.flags } ∷ others)) }
     {
         let place = self.slots.len();
