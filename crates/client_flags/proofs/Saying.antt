@@ -248,7 +248,7 @@ verdict_says tag p selected mailbox (verdicts.Refused Shut) t u = last tag p (co
 -- ---- all of them
 
 -- a command's tagged OK but for its last byte
-done_front : Command → List ℕ
+abbrev done_front : Command → List ℕ
 done_front command = codes "OK " ++ verb_text (verb_of command) ++ codes " complete"
 
 command_says : (tag : List ℕ) (p : Point) (now : Standing) (command : Command) → IsTag tag → MayAsk now (counted p) command → SaysFlags tag p (on_command now command)

@@ -246,7 +246,7 @@ verdict_says tag view selected mailbox (verdicts.Refused Shut) t u = last tag vi
 -- ---- all of them
 
 -- a command's tagged OK but for its last byte
-done_front : Command → List ℕ
+abbrev done_front : Command → List ℕ
 done_front command = codes "OK " ++ verb_text (verb_of command) ++ codes " complete"
 
 command_says : (tag view : List ℕ) (now : Standing) (command : Command) → IsTag tag → MayAsk now view command → Says tag view (on_command now command)
