@@ -27,13 +27,10 @@ use change_ring::NO_FLAGS;
 use delivery_token::{CopyKey, Noted, Text, Verdict};
 use envelope::Directory;
 use incoming::Incoming;
-use lmtp_machine::{Limits, LmtpMachine, Submission, What};
+use lmtp_machine::{Limits, LmtpMachine, MOST_RECIPIENTS, Submission, What};
 use std::alloc::{AllocError, Global};
 use std::marker::Model;
 use submission::{NextCopy, Submitted, Verdicts};
-
-/// The most recipients of a message.
-const MOST_RECIPIENTS: usize = 100;
 
 /// A connection of the house.
 #[derive(Drop)]

@@ -16,9 +16,9 @@ use Rattle.imap_session.specs.declared.standing.Selected.{Selected}
 use Rattle.std.specs.Prelude.{nat_lt}
 use Rattle.imap_grammar.specs.declared.command.Append.{Append}
 use Rattle.imap_session.specs.Exchange.{Exchange, Expunge, Feed, Folder, ForNothing, Standing, Wait, bye}
-use Rattle.imap_session.specs.Commands.{awaiting, most_unasked, nowhere, is_over, number_named, over, wanting, on_command, on_idle_line, counting, folder_of, showing, completed, closing, entering, on_folder, on_chosen, messages_done, on_found, fetching, storing, fetched, stored, flags_answer, if_writable, expunge_set, store_messages, fetch_messages, unlimited, wrong_state, says}
+use Rattle.imap_session.specs.Commands.{awaiting, most_unasked, nowhere, is_over, number_named, over, wanting, on_command, on_idle_line, counting, folder_of, showing, completed, closing, entering, on_folder, on_chosen, messages_done, on_found, fetching, storing, fetched, stored, flags_answer, if_writable, expunge_set, store_messages, fetch_messages, unlimited, wrong_state, says, notice, noticing}
 use Rattle.imap_session.proofs.Appends.{asked_at, sent_at}
-use Rattle.imap_session.specs.Shows.{may_show, DoneShowsInPlace, IsFetchLine, MaySay, ShowsBefore, ShowsInPlace}
+use Rattle.imap_session.specs.Shows.{DoneShowsInPlace, IsFetchLine, IsNotice, MaySay, ShowsBefore, ShowsInPlace, may_show}
 
 no_must : (b : Bool) (o : Option Selected) → o ≡ None → (b && is_some o) ≡ true → ⊥
 no_must true None n e = cc
@@ -115,8 +115,14 @@ in_append now most a found =
     (in_either now (commands.Append a) (nat_lt most_unasked a.literal.size) (Wait (bye (codes "Literal too big")) ForNothing) (wanting (awaiting [] found a.flags a.literal.size))
     (inr (inr refl), refl) (inl refl, (inl refl, refl)))
 
+notice_shown : (now : Standing) (command : Command) (said : Option (List ℕ)) → ((bytes : List ℕ) → IsNotice said bytes → MaySay now command bytes) → may_show command ≡ false
+    → ShowsInPlace now command (noticing said (completed command))
+notice_shown now command None says quiet = λ must. absurd (may_not (may_show command) (is_some now.selected) quiet must)
+notice_shown now command (Some words) says quiet = (says _ refl, λ must. absurd (may_not (may_show command) (is_some now.selected) quiet must))
+
 pub shown_in_place : (now : Standing) (command : Command) → ShowsInPlace now command (on_command now command)
 shown_in_place now commands.Noop = in_showing now commands.Noop refl now.selected refl
+shown_in_place now commands.Logout = (refl, λ must. absurd (may_not false (is_some now.selected) refl must))
 shown_in_place now commands.Idle = (refl, may_not_be (is_some now.selected))
 shown_in_place now commands.Login = λ must. refl
 shown_in_place now commands.Authenticate = λ must. refl
@@ -154,7 +160,7 @@ shown_in_place now (commands.Store store) =
     (λ uids. in_storing now (commands.Store store) store view _ (λ gone. in_done now (commands.Store store) store.by_uid gone refl)
     (λ uid flags. in_silence store.silent (flags_answer store.by_uid (place uid view) uid flags) (flags_form store.by_uid (place uid view) uid flags)) uids false))
 shown_in_place now (commands.Append append) = in_append now now.mailing.most append (number_named append.name now.folders)
-shown_in_place now _ = (refl, λ must. absurd (may_not false (is_some now.selected) refl must))
+shown_in_place now command = notice_shown now command (notice command) (λ bytes is. is) refl
 
 in_idle_line : (b : Bool) (selected : Option Selected)
     → ShowsBefore (completed commands.Idle) (λ bytes. ⊥) b (b && is_some selected) false (if b then showing selected (completed commands.Idle) else says (codes "BAD Expected DONE"))

@@ -9,7 +9,7 @@ ghost use Rattle.lmtp_machine.specs.Dialogue.{on_command_line, on_command, on_ma
 ghost use Rattle.lmtp_machine.specs.Message.{sender_text};
 ghost use Rattle.lmtp_machine.specs.Standing.{standing_of, IsOpen, Takes};
 
-use crate::reply::{Reply, put, say, say_any};
+use crate::reply::{NAMED_ROOM, Reply, put, say, say_any};
 use envelope::{
     CommandFault, Directory, ForwardPath, LmtpCommand, NoSuch, Recipients, ReversePath,
     read_command,
@@ -38,6 +38,9 @@ const SENDER_ROOM: usize = 320;
 
 // The most bytes that a command line has before its CRLF (RFC 5321, 4.5.3.1.4).
 const MOST_TEXT: usize = 510;
+
+/// A transaction has at most so many recipients (RFC 5321, section 4.5.3.1.8).
+pub const MOST_RECIPIENTS: usize = 100;
 
 /// A connection between commands.
 #[derive(Drop)]
@@ -119,7 +122,7 @@ impl Commands {
     /// The mailboxes of the accepted recipients.
     pub fn recipients(&self) -> &[u8]
         ensures value { result.now ≡ self.now.recipients }
-        ensures most { length self.now.recipients ≤ 100 }
+        ensures most { length self.now.recipients ≤ MOST_RECIPIENTS }
     {
         self.recipients.list()
     }
@@ -190,7 +193,7 @@ impl Commands {
                 if directory.is_shut(directory.shard_of(mailbox)) {
                     return say(out, host, Reply::ShardClosed);
                 }
-                if self.recipients.list().len() == 100 {
+                if self.recipients.list().len() == MOST_RECIPIENTS {
                     return say(out, host, Reply::TooManyRecipients);
                 }
                 let _ = self.recipients.add(mailbox);
@@ -221,7 +224,7 @@ impl Commands {
         host: &[u8],
         out: &mut Vec<u8>,
     )
-        requires room { vec_len out.old + length host.now + 100 ≤ vec_capacity out.old }
+        requires room { vec_len out.old + length host.now + NAMED_ROOM ≤ vec_capacity out.old }
         requires stage { IsOpen self.old.stage }
         requires short { (path : Path) → said command ≡ Mail path → has_long_part path ≡ false }
         ensures { Takes host.now (on_command directory.now (standing_of self.old) (said command.entry)) self.new out.old.items out.new.items }
@@ -252,7 +255,7 @@ impl Commands {
 
     /// Answers a command line, without its CRLF, in room that was reserved.
     pub fn line(&mut self, line: &[u8], directory: &Directory, host: &[u8], out: &mut Vec<u8>)
-        requires room { vec_len out.old + length host.now + 100 ≤ vec_capacity out.old }
+        requires room { vec_len out.old + length host.now + NAMED_ROOM ≤ vec_capacity out.old }
         requires stage { IsOpen self.old.stage }
         ensures { Takes host.now (on_command_line directory.now (standing_of self.old) line.now) self.new out.old.items out.new.items }
     {

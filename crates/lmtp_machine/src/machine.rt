@@ -15,10 +15,10 @@ ghost use Rattle.lmtp_machine.specs.Replies.{wire, IsBrief};
 ghost use Rattle.lmtp_machine.specs.inner.Ending.{Becomes, Does, what_of};
 ghost use Rattle.lmtp_machine.specs.Calls.{Awaits, Follows, Happens, Moves, submission_of};
 
-use crate::commands::{Commands, Stage};
+use crate::commands::{Commands, MOST_RECIPIENTS, Stage};
 use crate::connection::{Fed, Limits, Submission, What};
 use crate::message::{begin_data, keys_of, say_to_each, say_verdicts};
-use crate::reply::{BRIEF_ROOM, NAMED_ROOM, Reply, say, say_any};
+use crate::reply::{ANSWER_ROOM, BRIEF_ROOM, NAMED_ROOM, Reply, say, say_any};
 use delivery_token::{Text, Verdict};
 use dot_stuffing::{Outcome, Progress, Unstuffer};
 use envelope::Directory;
@@ -114,7 +114,7 @@ impl LmtpMachine {
             → Happens (StandsFor self.new) self.old.setting self.old.host d c dialogue.Opened out.old.items out.new.items) }
         ensures same { OnOk result ((self.new.setting ≡ self.old.setting) × (self.new.host ≡ self.old.host) × (self.new.pending ≡ self.old.pending)) }
         ensures err { OnErr result ((self.new ≡ self.old) × (out.new.items ≡ out.old.items)) }
-        ensures full { OnErr result (vec_capacity out.old < vec_len out.old + length self.old.host + 100) }
+        ensures full { OnErr result (vec_capacity out.old < vec_len out.old + length self.old.host + NAMED_ROOM) }
     {
         out.reserve(self.host.len() + NAMED_ROOM)?;
         say_any(out, self.host.as_slice(), Reply::Greeting);
@@ -124,7 +124,7 @@ impl LmtpMachine {
     /// Takes bytes from the front of the piece: at most one command line or one end of data. Replies go to `out`. On a connection
     /// that has ended it uses nothing.
     ///
-    /// Errors: `AllocError` where `out` has no room for the replies, 4000 bytes and the server's name at most, and memory was refused;
+    /// Errors: `AllocError` where `out` has no room for the replies, `ANSWER_ROOM` bytes and the server's name at most, and memory was refused;
     /// then no byte was used, nothing was written and nothing changed.
     pub fn feed(
         &mut self,
@@ -136,14 +136,14 @@ impl LmtpMachine {
         ensures used { IfOk result (λ fed. fed.used ≤ length piece.now) }
         ensures moves { IfOk result (λ fed. Moves fed.used fed.what piece.now) }
         ensures awaits { IfOk result (λ fed. Awaits fed.what self.new.pending) }
-        ensures most { OnOk result (All (λ s. length s.keys ≤ 100) self.new.pending) }
+        ensures most { OnOk result (All (λ s. length s.keys ≤ MOST_RECIPIENTS) self.new.pending) }
         ensures paired { OnOk result (All (λ s. length s.mailboxes ≡ length s.keys) self.new.pending) }
         ensures ok { IfOk result (λ fed. (c : Conversation) → StandsFor self.old c
             → Follows (StandsFor self.new) self.old.setting self.old.host directory.now c piece.now fed
             out.old.items out.new.items self.new.pending) }
         ensures same { OnOk result ((self.new.setting ≡ self.old.setting) × (self.new.host ≡ self.old.host)) }
         ensures err { OnErr result ((self.new ≡ self.old) × (out.new.items ≡ out.old.items)) }
-        ensures full { OnErr result (vec_capacity out.old < vec_len out.old + length self.old.host + 4000) }
+        ensures full { OnErr result (vec_capacity out.old < vec_len out.old + length self.old.host + ANSWER_ROOM) }
         ensures asks { OnErr result (self.old.commands.stage ≡ Stage.Ended → ⊥) }
     {
         match self.commands.stage() {
@@ -198,7 +198,7 @@ impl LmtpMachine {
         ensures same { OnOk result ((self.new.setting ≡ self.old.setting) × (self.new.host ≡ self.old.host)) }
         ensures pending { OnOk result (self.new.pending ≡ []) }
         ensures err { OnErr result ((self.new ≡ self.old) × (out.new.items ≡ out.old.items)) }
-        ensures full { OnErr result (vec_capacity out.old < vec_len out.old + 4000) }
+        ensures full { OnErr result (vec_capacity out.old < vec_len out.old + ANSWER_ROOM) }
         ensures asks { OnErr result (self.old.pending ≡ [] → ⊥) }
     {
         if self.submission.is_none() {
@@ -240,14 +240,14 @@ impl LmtpMachine {
         ensures used { IfOk result (λ fed. fed.used ≤ length piece.now) }
         ensures moves { IfOk result (λ fed. Moves fed.used fed.what piece.now) }
         ensures awaits { IfOk result (λ fed. Awaits fed.what self.new.pending) }
-        ensures most { OnOk result (All (λ s. length s.keys ≤ 100) self.new.pending) }
+        ensures most { OnOk result (All (λ s. length s.keys ≤ MOST_RECIPIENTS) self.new.pending) }
         ensures paired { OnOk result (All (λ s. length s.mailboxes ≡ length s.keys) self.new.pending) }
         ensures ok { IfOk result (λ fed. (c : Conversation) → StandsFor self.old c
             → Follows (StandsFor self.new) self.old.setting self.old.host directory.now c piece.now fed
             out.old.items out.new.items self.new.pending) }
         ensures same { OnOk result ((self.new.setting ≡ self.old.setting) × (self.new.host ≡ self.old.host)) }
         ensures err { OnErr result ((self.new ≡ self.old) × (out.new.items ≡ out.old.items)) }
-        ensures full { OnErr result (vec_capacity out.old < vec_len out.old + length self.old.host + 4000) }
+        ensures full { OnErr result (vec_capacity out.old < vec_len out.old + length self.old.host + ANSWER_ROOM) }
     {
         out.reserve(self.host.len() + NAMED_ROOM)?;
         let cut = self.cutter.take(piece);
@@ -277,14 +277,14 @@ impl LmtpMachine {
         ensures used { IfOk result (λ fed. fed.used ≤ length piece.now) }
         ensures moves { IfOk result (λ fed. Moves fed.used fed.what piece.now) }
         ensures awaits { IfOk result (λ fed. Awaits fed.what self.new.pending) }
-        ensures most { OnOk result (All (λ s. length s.keys ≤ 100) self.new.pending) }
+        ensures most { OnOk result (All (λ s. length s.keys ≤ MOST_RECIPIENTS) self.new.pending) }
         ensures paired { OnOk result (All (λ s. length s.mailboxes ≡ length s.keys) self.new.pending) }
         ensures ok { IfOk result (λ fed. (c : Conversation) → StandsFor self.old c
             → Follows (StandsFor self.new) self.old.setting self.old.host directory.now c piece.now fed
             out.old.items out.new.items self.new.pending) }
         ensures same { OnOk result ((self.new.setting ≡ self.old.setting) × (self.new.host ≡ self.old.host)) }
         ensures err { OnErr result ((self.new ≡ self.old) × (out.new.items ≡ out.old.items)) }
-        ensures full { OnErr result (vec_capacity out.old < vec_len out.old + length self.old.host + 4000) }
+        ensures full { OnErr result (vec_capacity out.old < vec_len out.old + length self.old.host + ANSWER_ROOM) }
     {
         out.reserve(self.commands.recipients().len() * BRIEF_ROOM)?;
         let taken = self.unstuffer.take(piece);
@@ -311,7 +311,7 @@ impl LmtpMachine {
         requires outcome { ended.outcome ≡ Some outcome }
         requires room { vec_len out.old + length self.old.commands.recipients * 40 ≤ vec_capacity out.old }
         ensures awaits { Awaits result self.new.pending }
-        ensures most { All (λ s. length s.keys ≤ 100) self.new.pending }
+        ensures most { All (λ s. length s.keys ≤ MOST_RECIPIENTS) self.new.pending }
         ensures paired { All (λ s. length s.mailboxes ≡ length s.keys) self.new.pending }
         ensures same { (self.new.setting ≡ self.old.setting) × (self.new.host ≡ self.old.host) }
         ensures does { (lines : List (List ℕ)) → IsBehind ended.collected (return_path self.old.commands.sender)
