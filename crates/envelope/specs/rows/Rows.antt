@@ -1,6 +1,6 @@
 -- Lines and what they are.
 use Rattle.std.specs.Prelude.{◌≡◌, ℕ, codes, List, [], ◌∷◌, ◌++◌, Ok, Err, true, false, replicate, refl, slice_set, Some, None, Option}
-use Rattle.envelope.specs.Values.{Path, Null, Postmaster, To, Lhlo, Mail, Rcpt, Help}
+use Rattle.envelope.specs.Values.{Path, Null, Postmaster, To, Lhlo, Mail, Rcpt, Data, Noop, Help}
 use Rattle.envelope.specs.Directory.{Directory, Home, is_shut, lookup, marked, none_shut}
 use Rattle.envelope.specs.Names.{is_name, words_read, number_of}
 use Rattle.envelope.specs.declared.directory.DirectoryFault.TheVariants.{TooMany, BadName, Twice}
@@ -38,6 +38,58 @@ two_hops = refl
 quoted : read (codes "RCPT TO:<\"a \\\" b\"@example.org>") ≡ Ok (Rcpt (at (codes "\"a \\\" b\"") (codes "example.org")))
 unfolding read forward_at
 quoted = refl
+
+mail_with_body : read (codes "MAIL FROM:<s@a.example> BODY=8BITMIME  ") ≡ Ok (Mail (at (codes "s") (codes "a.example")))
+unfolding read forward_at
+mail_with_body = refl
+
+address_literal : read (codes "RCPT TO:<\"a\\ b\"@[192.0.2.1]>") ≡ Ok (Rcpt (at (codes "\"a\\ b\"") (codes "[192.0.2.1]")))
+unfolding read forward_at
+address_literal = refl
+
+data_and_a_space : read (codes "data ") ≡ Ok Data
+unfolding read forward_at
+data_and_a_space = refl
+
+noop : read (codes "NOOP anything") ≡ Ok Noop
+unfolding read forward_at
+noop = refl
+
+help_alone : read (codes "HELP") ≡ Ok Help
+unfolding read forward_at
+help_alone = refl
+
+empty : read [] ≡ Err Unknown
+unfolding read forward_at
+empty = refl
+
+blank_before : read (codes " NOOP") ≡ Err Unknown
+unfolding read forward_at
+blank_before = refl
+
+helo : read (codes "HELO c.example") ≡ Err Unknown
+unfolding read forward_at
+helo = refl
+
+two_names : read (codes "LHLO a b") ≡ Err (Syntax true)
+unfolding read forward_at
+two_names = refl
+
+data_now : read (codes "DATA now") ≡ Err (Syntax false)
+unfolding read forward_at
+data_now = refl
+
+open_path : read (codes "MAIL FROM:<s@a.example") ≡ Err (Syntax false)
+unfolding read forward_at
+open_path = refl
+
+null_recipient : read (codes "RCPT TO:<>") ≡ Err (Syntax false)
+unfolding read forward_at
+null_recipient = refl
+
+body_of_a_recipient : read (codes "RCPT TO:<s@a.example> BODY=7BIT") ≡ Err Parameter
+unfolding read forward_at
+body_of_a_recipient = refl
 
 postmaster : read (codes "RCPT TO:<PostMaster>") ≡ Ok (Rcpt Postmaster)
 unfolding read forward_at

@@ -293,6 +293,90 @@ eight_bits : read (codes "a1 SELECT \"" ++ 200 ∷ 34 ∷ []) ≡ Ok (codes "a1"
 unfolding read
 eight_bits = refl
 
+capability : read (codes "a1 CAPABILITY") ≡ Ok (codes "a1", say.Capability)
+unfolding read
+capability = refl
+
+logout : read (codes "a1 Logout") ≡ Ok (codes "a1", say.Logout)
+unfolding read
+logout = refl
+
+namespace : read (codes "a1 NAMESPACE") ≡ Ok (codes "a1", say.Namespace)
+unfolding read
+namespace = refl
+
+unselect : read (codes "a4 UNSELECT") ≡ Ok (codes "a4", say.Unselect)
+unfolding read
+unselect = refl
+
+authenticate : read (codes "x AUTHENTICATE") ≡ Ok (codes "x", say.Authenticate)
+unfolding read
+authenticate = refl
+
+start_tls : read (codes "x STARTTLS") ≡ Ok (codes "x", say.StartTls)
+unfolding read
+start_tls = refl
+
+spaced_uid : read (codes "x UID  EXPUNGE 4:2") ≡ Ok (codes "x", say.UidExpunge (range (Number 4) (Number 2) ∷ []))
+unfolding read
+spaced_uid = refl
+
+plus_in_tag : read (codes "a+b NOOP") ≡ Err NoTag
+unfolding read
+plus_in_tag = refl
+
+control_in_verb : read (codes "a1 NOOP" ++ 1 ∷ []) ≡ Err (Unknown (codes "a1"))
+unfolding read
+control_in_verb = refl
+
+copy : read (codes "a1 COPY 1 INBOX") ≡ Err (LeftOut (codes "a1"))
+unfolding read
+copy = refl
+
+idle_more : read (codes "a1 IDLE x") ≡ Err (Arguments (codes "a1"))
+unfolding read
+idle_more = refl
+
+append_no_literal : read (codes "a1 APPEND INBOX") ≡ Err (Arguments (codes "a1"))
+unfolding read
+append_no_literal = refl
+
+append_joined : read (codes "a1 APPEND INBOX {3}x") ≡ Err (Arguments (codes "a1"))
+unfolding read
+append_joined = refl
+
+append_loose : read (codes "a1 APPEND INBOX (\\Seen ) {3}") ≡ Err (Arguments (codes "a1"))
+unfolding read
+append_loose = refl
+
+append_bare_date : read (codes "a1 APPEND INBOX 1-Jan-2026 {3}") ≡ Err (Arguments (codes "a1"))
+unfolding read
+append_bare_date = refl
+
+append_no_name : read (codes "a1 APPEND {3}") ≡ Err (Arguments (codes "a1"))
+unfolding read
+append_no_name = refl
+
+append_zeros : read (codes "a1 APPEND INBOX {005+}") ≡ Ok (codes "a1", say.Append (appended (codes "INBOX") (flags false false false false false) 5 false))
+unfolding read
+append_zeros = refl
+
+append_none_dated : read (codes "a1 APPEND INBOX () \"x\" {0}  ") ≡ Ok (codes "a1", say.Append (appended (codes "INBOX") (flags false false false false false) 0 true))
+unfolding read
+append_none_dated = refl
+
+append_flagged : read (codes "a1 APPEND INBOX (\\flagged $x \\SEEN) {1}") ≡ Ok (codes "a1", say.Append (appended (codes "INBOX") (flags false true false true false) 1 true))
+unfolding read
+append_flagged = refl
+
+append_just_the_most : read (codes "a1 APPEND INBOX {18446744073709551615}") ≡ Ok (codes "a1", say.Append (appended (codes "INBOX") (flags false false false false false) 18446744073709551615 true))
+unfolding read
+append_just_the_most = refl
+
+store_seen : read (codes "a STORE 1 +flags (\\seen $x)") ≡ Ok (codes "a", say.Store (record { by_uid = false; set = range (Number 1) (Number 1) ∷ []; silent = false; change = Insert (flags false false false true false) }))
+unfolding read
+store_seen = refl
+
 -- ---- what sets name
 
 star_of_none : by_place (range Star Star ∷ []) [] ≡ None
