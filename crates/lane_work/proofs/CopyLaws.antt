@@ -20,8 +20,10 @@ use Rattle.std.specs.Prelude.{Result, Ok, Err, IfOk}
 use Rattle.lane_work.specs.Account.{AreBooks, AreBooksOf}
 use Rattle.lane_work.specs.Copies.{FoundFull, IsAtOnce, IsHeard, Room, WerePut, none, put, elsewhere, refused, copies, copies_of, note_of, room_at, told}
 use Rattle.courier.specs.Carried.{Carried, copy_of, judged_of}
-use Rattle.lane_work.specs.inner.Copies.{WasJudged, AreTried, Fills, FillsIn, HavePut, WereHeard, WereTried, under_way, unknown}
-use Rattle.lane_work.proofs.SlotLaws.{fills_length, heard_later}
+use Rattle.submission.specs.Verdicts.{Fills, FillsIn}
+use Rattle.submission.proofs.Fills.{fills_length}
+use Rattle.lane_work.specs.inner.Copies.{WasJudged, AreTried, HavePut, WereHeard, WereTried, under_way}
+use Rattle.lane_work.proofs.SlotLaws.{heard_later, were_heard_later, were_heard_set}
 
 take_suc : {A : Type 0} (xs : List A) (i : ℕ) (x : A) → i < length xs → x ≡ slice_index_or xs i x → take (suc i) xs ≡ take i xs ++ x ∷ []
 take_suc [] i x under is = absurd (omega arith)
@@ -57,22 +59,17 @@ copies_at (x ∷ keys) (y ∷ mailboxes) text zero k m under within kis mis =
 copies_at (x ∷ keys) (y ∷ mailboxes) text (suc i) k m under within kis mis =
     let r = copies_at keys mailboxes text i k m (omega arith) (omega arith) kis mis in ((let u = r.0 in omega (arith, u)), r.1)
 
--- a verdict was filled in at the place of its copy
-pub fills_in : (keys : List CopyKey) (mailboxes : List ℕ) (text : List ℕ) (i : ℕ) (k : CopyKey) (m : ℕ) (noted : Noted) (slots filled : List (Option Verdict))
-    → i < length keys → i < length mailboxes → k ≡ slice_index_or keys i k → m ≡ slice_index_or mailboxes i m → k ≡ noted.key → m ≡ noted.mailbox
-    → unknown slots ≡ suc (unknown filled) → filled ≡ slice_set slots i (Some noted.verdict) → FillsIn (copies keys mailboxes text) noted slots filled
-fills_in keys mailboxes text i k m noted slots filled under within kis mis ke me free is =
-    let r = copies_at keys mailboxes text i k m under within kis mis in
-    record {
-      place = i;
-      copy = record { key = k; mailbox = m; text = text; flags = no_flags };
-      within = r.0;
-      there = r.1;
-      tells = ap (λ (z : CopyKey). let x : Noted = record { key = z; mailbox = noted.mailbox; verdict = noted.verdict } in x) (sym ke)
-          ∙ ap (λ (n : ℕ). let x : Noted = record { key = k; mailbox = n; verdict = noted.verdict } in x) (sym me);
-      awaited = free;
-      fills = is;
-    }
+-- one more verdict was heard, and filled in at the place of its copy
+pub heard_next : (old new : List (Entry Noted)) (keys : List CopyKey) (mailboxes text : List ℕ) (ss ts us : List (Option Verdict)) (shard : ℕ) (n : Noted) → new ≡ old ++ Item shard n ∷ []
+    → FillsIn keys mailboxes n ts us → WereHeard old (copies keys mailboxes text) ss ts → WereHeard new (copies keys mailboxes text) ss us
+heard_next old new keys mailboxes text ss ts us shard n grew f h =
+    let cs = copies keys mailboxes text in
+    let copy : Job = record { key = n.key; mailbox = n.mailbox; text = text; flags = no_flags } in
+    let place = n.key.recipient in
+    let there = copies_at keys mailboxes text place n.key n.mailbox f.there.put.known f.there.known (sym (f.there.put.same n.key)) (sym (f.there.same n.mailbox)) in
+    let here : IsHeard new (note_of (copy, n.verdict)) = (shard, old, [], grew) in
+    subst (λ (l : List (Option Verdict)). WereHeard new cs ss l) (sym f.fills)
+    (were_heard_set new cs ss ts place n.verdict copy there.0 there.1 here (were_heard_later old new cs ss ts (Item shard n ∷ [], grew) h))
 
 pub under_way_next : (d : Directory) (lane : ℕ) (cs : List Job) (ss : List (Option Verdict)) (c : Job) (s : Option Verdict) → length ss ≡ length cs
     → under_way d lane (cs ++ c ∷ []) (ss ++ s ∷ []) ≡ under_way d lane cs ss ++ under_way d lane (c ∷ []) (s ∷ [])

@@ -1,14 +1,15 @@
 //! The verdicts on a message are heard, until each is there. What is done with them stands in
 //! `worker`.
 
-ghost use Rattle.std.specs.Prelude.{◌≡◌, ◌≤◌, ◌<◌, ◌+◌, ℕ, ◌++◌, ◌∷◌, [], true, false, length, map, Some, Ok, IfOk, OnOk, OnErr, slice_index_or, vec_len, vec_capacity};
+ghost use Rattle.std.specs.Prelude.{◌≡◌, ◌<◌, ◌+◌, ℕ, ◌++◌, ◌∷◌, [], true, false, length, Ok, IfOk, OnOk, OnErr, slice_index_or};
 ghost use Rattle.std.specs.List.{list_all};
 ghost use Rattle.std.specs.Option.{is_some};
 ghost use Rattle.shard_queue.specs.Reply.{IsReceiver, received};
 ghost use Rattle.shard_queue.specs.Shared.{IsStartOf};
 ghost use Rattle.lmtp_machine.specs.Calls.{submission_of};
+ghost use Rattle.submission.specs.Verdicts.{Fills, unknown};
 ghost use Rattle.lane_work.specs.Copies.{IsHeard, copies_of};
-ghost use Rattle.lane_work.specs.inner.Copies.{Fills, FillsIn, WereHeard, unknown};
+ghost use Rattle.lane_work.specs.inner.Copies.{WereHeard};
 ghost use Rattle.lane_work.specs.inner.Desk.{SameButReceiver};
 ghost use Rattle.lane_work.specs.Ends.{CountsEnds, ends_in};
 ghost use Rattle.lane_work.specs.Seats.{AreLive, overs};
@@ -20,35 +21,7 @@ use lmtp_machine::Submission;
 use pace::{Gate, Pace};
 use shard_queue::{Entry, ReplyChannel};
 use std::sync::Wait;
-
-fn are_known(slots: &[Option<Verdict>]) -> bool
-    ensures { result ≡ list_all is_some slots.now }
-{
-    slots.iter().all(|slot| slot.is_some())
-}
-
-// Notes a verdict where it is awaited, or says that it isn't.
-fn note_in(message: &Submission, slots: &mut Vec<Option<Verdict>>, noted: &Noted) -> bool
-    ensures fills { Fills slots.old.items slots.new.items }
-    ensures noted { result ≡ true → FillsIn (copies_of (submission_of message.now)) noted.now slots.old.items slots.new.items }
-    ensures same { result ≡ false → slots.new.items ≡ slots.old.items }
-{
-    let place = usize::from(noted.key.recipient);
-    if place >= slots.len() || place >= message.keys.len() || place >= message.mailboxes.len() {
-        return false;
-    }
-    if message.keys[place] != noted.key {
-        return false;
-    }
-    if message.mailboxes[place] != noted.mailbox {
-        return false;
-    }
-    if slots[place].is_some() {
-        return false;
-    }
-    slots[place] = Some(noted.verdict);
-    true
-}
+use submission::Verdicts;
 
 // Whether the seat on this shard's lane is over, so that the shard's end may come.
 fn is_over_at(seats: &[LaneSeat], shard: u8) -> bool
@@ -68,29 +41,31 @@ pub(crate) fn hear_all<R: Wait, G: Gate>(
     channel: &ReplyChannel<Noted>,
     desk: &mut Desk,
     message: &Submission,
-    slots: &mut Vec<Option<Verdict>>,
+    verdicts: &mut Verdicts,
 ) -> Result<(), Stop>
     requires { IsReceiver channel.now desk.old.receiver }
     ensures receiver { IsReceiver channel.now desk.new.receiver }
     ensures same { SameButReceiver desk.old desk.new }
     ensures ends { CountsEnds desk.old desk.new }
-    ensures fills { Fills slots.old.items slots.new.items }
+    ensures fills { Fills verdicts.old.slots verdicts.new.slots }
     ensures grew { IsStartOf (received desk.old.receiver) (received desk.new.receiver) }
-    ensures heard { WereHeard (received desk.new.receiver) (copies_of (submission_of message.now)) slots.old.items slots.new.items }
+    ensures heard { WereHeard (received desk.new.receiver) (copies_of (submission_of message.now)) verdicts.old.slots verdicts.new.slots }
     ensures awaited { OnOk result (length (received desk.new.receiver) + ends_in (received desk.old.receiver)
-        ≡ length (received desk.old.receiver) + unknown slots.old.items + ends_in (received desk.new.receiver)) }
+        ≡ length (received desk.old.receiver) + unknown verdicts.old.slots + ends_in (received desk.new.receiver)) }
     ensures live { OnOk result (AreLive desk.old.seats.items → ends_in (received desk.new.receiver) ≡ ends_in (received desk.old.receiver)) }
-    ensures known { OnOk result (list_all is_some slots.new.items ≡ true) }
+    ensures known { OnOk result (list_all is_some verdicts.new.slots ≡ true) }
     ensures torn { OnErr result (length (received desk.old.receiver) < length (received desk.new.receiver)) }
 {
+    let keys = message.keys.as_slice();
+    let mailboxes = message.mailboxes.as_slice();
     for _ in rt.forever() {
-        if are_known(slots.as_slice()) {
+        if verdicts.are_known(keys.len()) {
             return Ok(());
         }
         pace.pass();
         match channel.recv_as(rt, &mut desk.receiver) {
             Entry::Item(_, noted) => {
-                if !note_in(message, slots, &noted) {
+                if !verdicts.hear_awaited(keys, mailboxes, &noted) {
                     return Err(Stop::Torn);
                 }
             }
@@ -138,18 +113,4 @@ pub(crate) fn hear_one<R: Wait, G: Gate>(
             Err(Stop::Torn)
         }
     }
-}
-
-/// The verdicts, where each is known. `verdicts`, which is empty, has room for them.
-pub(crate) fn verdicts_of(slots: &[Option<Verdict>], mut verdicts: Vec<Verdict>) -> Vec<Verdict>
-    requires known { list_all is_some slots.now ≡ true }
-    requires room { (verdicts.items ≡ []) × (length slots.now ≤ vec_capacity verdicts) }
-    ensures known { slots.now ≡ map (λ v. Some v) result.items }
-    ensures len { vec_len result ≡ length slots.now }
-{
-    for slot in slots {
-        let Some(verdict) = slot else { unreachable!() };
-        verdicts.push_reserved(*verdict);
-    }
-    verdicts
 }

@@ -1,7 +1,7 @@
 //! A message's copies are put, each into the lane of its mailbox's shard. What is heard of them does
 //! not belong here.
 
-ghost use Rattle.std.specs.Prelude.{◌≡◌, ◌≤◌, ◌<◌, ◌+◌, ℕ, ◌++◌, ◌∷◌, [], length, map, Some, None, MatchOption, true, false, slice_index_or, slice_set, vec_len, vec_capacity};
+ghost use Rattle.std.specs.Prelude.{◌≡◌, ◌≤◌, ◌<◌, ◌+◌, ℕ, ◌++◌, ◌∷◌, [], length, map, Some, None, MatchOption, true, false, slice_index_or, slice_set, vec_len};
 ghost use Rattle.shard_queue.specs.declared.lane.Entry.TheVariants as entries;
 ghost use Rattle.delivery_token.specs.declared.Refusal.TheVariants as refusals;
 ghost use Rattle.delivery_token.specs.declared.Verdict.TheVariants as verdicts;
@@ -22,6 +22,7 @@ use lmtp_machine::Submission;
 use pace::{Gate, Pace};
 use shard_queue::{Full, ProducerSeat, ShardQueue};
 use std::sync::Wait;
+use submission::Verdicts;
 
 // Puts a copy on a lane: None where it is under way, else what is known of it at once.
 fn put_on<R: Wait>(
@@ -121,8 +122,8 @@ pub(crate) fn put_copy<R: Wait, G: Gate, S: Summons>(
     verdict
 }
 
-/// Puts each copy of a message, in the order of its recipients; one for a lane on which the seat is over is refused as Shut. In `slots`, which has room
-/// for as many as there are, is then of each what was known of it at once, or None where it is under way.
+/// Puts each copy of a message, in the order of its recipients; one for a lane on which the seat is over is refused as Shut. In `verdicts`, which
+/// has room for as many as there are, is then of each what was known of it at once, or None where it is under way.
 pub(crate) fn put_all<R: Wait, G: Gate, S: Summons>(
     rt: &R,
     pace: &mut Pace<'_, G>,
@@ -130,21 +131,21 @@ pub(crate) fn put_all<R: Wait, G: Gate, S: Summons>(
     summons: &S,
     desk: &mut Desk,
     message: &Submission,
-    slots: &mut Vec<Option<Verdict>>,
+    verdicts: &mut Verdicts,
 )
     requires seats { AreSeats office.now.lanes.items desk.old.number desk.old.seats.items }
     requires lanes { office.now.directory.shards ≡ length office.now.lanes.items }
     requires mailboxes { vec_len message.now.mailboxes ≡ vec_len message.now.keys }
-    requires slots { (slots.old.items ≡ []) × (vec_len message.now.keys ≤ vec_capacity slots.old) }
+    requires slots { (verdicts.old.slots ≡ []) × (vec_len message.now.keys ≤ verdicts.old.most) }
     ensures seats { AreSeats office.now.lanes.items desk.old.number desk.new.seats.items }
     ensures same { SameButSeats desk.old desk.new }
-    ensures slots { vec_len slots.new ≡ vec_len message.now.keys }
+    ensures slots { length verdicts.new.slots ≡ vec_len message.now.keys }
     // Where no seat is over that a copy is for.
     ensures tried { AreOpenTo office.now.directory message.now.mailboxes.items desk.old.seats.items
-        → WereTried office.now.directory (rooms_of office.now.lanes.items) desk.old.number (copies_of (submission_of message.now)) slots.new.items
+        → WereTried office.now.directory (rooms_of office.now.lanes.items) desk.old.number (copies_of (submission_of message.now)) verdicts.new.slots
         (map put_by desk.old.seats.items) }
     ensures put { AreOpenTo office.now.directory message.now.mailboxes.items desk.old.seats.items
-        → HavePut office.now.directory desk.old.number (copies_of (submission_of message.now)) slots.new.items (map put_by desk.old.seats.items)
+        → HavePut office.now.directory desk.old.number (copies_of (submission_of message.now)) verdicts.new.slots (map put_by desk.old.seats.items)
         (map put_by desk.new.seats.items) }
 {
     for i in 0..message.keys.len() {
@@ -159,6 +160,6 @@ pub(crate) fn put_all<R: Wait, G: Gate, S: Summons>(
             &message.text,
             NO_FLAGS,
         );
-        slots.push_reserved(verdict);
+        verdicts.note_put(verdict);
     }
 }

@@ -25,20 +25,17 @@ use crate::bells::Summons;
 use crate::closing::close_due;
 use crate::desk::{Desk, Office};
 use crate::ending::{end_all, hear_ends};
-use crate::hearing::{hear_all, verdicts_of};
+use crate::hearing::hear_all;
 use crate::notebook::Notebook;
 use crate::putting::put_all;
 use delivery_token::{Job, Noted, Verdict, WorkerLog};
 use envelope::Directory;
-use lmtp_machine::{Fed, Limits, LmtpMachine, Submission, What};
+use lmtp_machine::{ANSWER_ROOM, Fed, Limits, LmtpMachine, Submission, What};
 use pace::{Gate, Pace};
 use shard_queue::{Ended, ReceiverSeat, ReplyChannel};
 use std::alloc::Global;
 use std::sync::Wait;
-
-// What the answer to a message takes at most: 40 bytes for each of 100 recipients (RFC 5321, section
-// 4.5.3.1.8).
-const ANSWER_ROOM: usize = 4000;
+use submission::Verdicts;
 
 /// Why a worker submits no more.
 #[derive(Clone, Copy, Debug, PartialEq, Eq)]
@@ -103,17 +100,17 @@ fn settle<R: Wait, G: Gate, S: Summons, N: Notebook>(
     let Ok(()) = book.reserve(count) else {
         return Err(Stop::NoMemory);
     };
-    let Ok(mut slots) = Vec::with_capacity(alloc, count) else {
+    let Ok(mut heard) = Verdicts::with_room(alloc, count) else {
         return Err(Stop::NoMemory);
     };
     let Ok(room) = Vec::with_capacity(alloc, count) else {
         return Err(Stop::NoMemory);
     };
-    put_all(rt, pace, office, summons, desk, message, &mut slots);
-    let Ok(()) = hear_all(rt, pace, channel, desk, message, &mut slots) else {
+    put_all(rt, pace, office, summons, desk, message, &mut heard);
+    let Ok(()) = hear_all(rt, pace, channel, desk, message, &mut heard) else {
         return Err(Stop::Torn);
     };
-    let verdicts = verdicts_of(slots.as_slice(), room);
+    let verdicts = heard.known_in(room);
     book.note_all(message, verdicts.as_slice());
     Ok(verdicts)
 }

@@ -1,12 +1,12 @@
 //! A message that was submitted, where it lies, and the verdicts on its copies. No reply, no lane and no session is known here.
 
-ghost use Rattle.std.specs.Prelude.{◌≡◌, ◌<◌, ◌∷◌, [], ◌++◌, ℕ, List, length, true, false, None, Some, Ok, OnErr, IfOk, IfSome};
+ghost use Rattle.std.specs.Prelude.{◌≡◌, ◌<◌, ◌≤◌, ◌∷◌, [], ◌++◌, ℕ, List, length, true, false, None, Some, Ok, OnErr, IfOk, IfSome, vec_capacity};
 ghost use Rattle.std.specs.List.{list_all};
 ghost use Rattle.std.specs.Option.{is_some};
 ghost use Rattle.delivery_token.specs.declared.Job.{Job};
 ghost use Rattle.delivery_token.specs.declared.Verdict.{Verdict};
 ghost use Rattle.submission.specs.Copies.{copies, due};
-ghost use Rattle.submission.specs.Verdicts.{AreKnown, Hears, no_verdicts, noted_put, with_slots};
+ghost use Rattle.submission.specs.Verdicts.{AreKnown, Fills, FillsIn, Hears, IsStillAwaited, no_verdicts, noted_put, with_slots};
 
 use change_ring::Flags;
 use delivery_token::{CopyKey, Noted, Text, Verdict};
@@ -112,6 +112,33 @@ impl Verdicts {
         self.slots[place] = Some(noted.verdict);
     }
 
+    /// The strict form of `hear`, for whoever awaits nothing else: notes a verdict that was heard only where it is on a copy of the message, with
+    /// its key and its mailbox, that was put and is still awaited, and tells whether it did. Any other changes nothing. It takes no memory.
+    pub fn hear_awaited(&mut self, keys: &[CopyKey], mailboxes: &[u8], noted: &Noted) -> bool
+        ensures fills { Fills self.old.slots self.new.slots }
+        ensures noted { result ≡ true → FillsIn keys.now mailboxes.now noted.now self.old.slots self.new.slots }
+        ensures same { result ≡ false → self.new.slots ≡ self.old.slots }
+        ensures passes { result ≡ false → IsStillAwaited keys.now mailboxes.now self.old.slots noted.now → ⊥ }
+        ensures room { self.new.most ≡ self.old.most }
+    {
+        let place = usize::from(noted.key.recipient);
+        if place >= self.slots.len() || place >= keys.len() || place >= mailboxes.len() {
+            return false;
+        }
+        if noted.key != keys[place] {
+            return false;
+        }
+        if noted.mailbox != mailboxes[place] {
+            return false;
+        }
+        let slot = &mut self.slots[place];
+        if slot.is_some() {
+            return false;
+        }
+        *slot = Some(noted.verdict);
+        true
+    }
+
     /// Whether so many copies were put, and the verdict on each is known. It takes no memory.
     pub fn are_known(&self, count: usize) -> bool
         ensures known { result ≡ true → (vs : List Verdict) × AreKnown count self.now.slots vs }
@@ -140,6 +167,21 @@ impl Verdicts {
             }
         }
         Ok(Some(known))
+    }
+
+    /// The verdicts, in the order of their copies, where each is known, in `room`, which is empty and has room for them. It takes no memory, for
+    /// whoever must ask for none once a copy was put.
+    pub fn known_in(&self, room: Vec<Verdict>) -> Vec<Verdict>
+        requires known { list_all is_some self.now.slots ≡ true }
+        requires room { (room.items ≡ []) × (length self.now.slots ≤ vec_capacity room) }
+        ensures { AreKnown (length self.now.slots) self.now.slots result.items }
+    {
+        let mut known = room;
+        for slot in &self.slots {
+            let Some(verdict) = slot else { unreachable!() };
+            known.push_reserved(*verdict);
+        }
+        known
     }
 
     /// The verdict on the only copy, where it was put and the verdict is known. It takes no memory.

@@ -1,5 +1,5 @@
 -- What bodies and proofs say besides: the copies of messages that were judged: what is noted of them, and which of them were put on a lane.
-use Rattle.std.specs.Prelude.{◌≡◌, ℕ, suc, ◌==◌, ◌<◌, length, slice_index_or, slice_set, if◌then◌else◌, List, [], ◌∷◌, ◌++◌, map, Option, Some, None, MatchOption}
+use Rattle.std.specs.Prelude.{◌≡◌, ℕ, ◌==◌, ◌<◌, length, slice_index_or, slice_set, if◌then◌else◌, List, [], ◌∷◌, ◌++◌, map, Option, Some, None, MatchOption}
 use Rattle.delivery_token.specs.declared.Job.{Job}
 use Rattle.delivery_token.specs.declared.Verdict.{Verdict}
 use Rattle.delivery_token.specs.declared.log.Noted.{Noted}
@@ -32,14 +32,6 @@ abbrev pub WereTried : Directory → List Room → ℕ → List Job → List (Op
 WereTried directory rooms seat copies slots before =
     (lane : ℕ) → lane < length before → AreTried directory (room_at rooms lane) seat lane (slice_index_or before lane []) copies slots
 
--- nothing that was known is changed
-abbrev pub Fills : List (Option Verdict) → List (Option Verdict) → Type 0
-Fills [] [] = Unit {0}
-Fills [] (y ∷ ys) = ⊥
-Fills (x ∷ xs) [] = ⊥
-Fills (None ∷ xs) (y ∷ ys) = Fills xs ys
-Fills (Some verdict ∷ xs) (y ∷ ys) = (y ≡ Some verdict) × Fills xs ys
-
 -- Of these copies, the verdict on each that was filled in was heard.
 abbrev pub WereHeard : List (Entry Noted) → List Job → (slots filled : List (Option Verdict)) → Type 0
 WereHeard heard [] slots filled = Unit {0}
@@ -48,22 +40,6 @@ WereHeard heard (copy ∷ copies) (slot ∷ slots) [] = Unit {0}
 WereHeard heard (copy ∷ copies) (Some verdict ∷ slots) (now ∷ filled) = WereHeard heard copies slots filled
 WereHeard heard (copy ∷ copies) (None ∷ slots) (None ∷ filled) = WereHeard heard copies slots filled
 WereHeard heard (copy ∷ copies) (None ∷ slots) (Some verdict ∷ filled) = IsHeard heard (note_of (copy, verdict)) × WereHeard heard copies slots filled
-
--- how many verdicts aren't known
-abbrev pub unknown : List (Option Verdict) → ℕ
-unknown [] = 0
-unknown (None ∷ slots) = suc (unknown slots)
-unknown (Some verdict ∷ slots) = unknown slots
-
--- The note's verdict was filled in, at the place of its copy, where none was known.
-pub record FillsIn (copies : List Job) (noted : Noted) (slots filled : List (Option Verdict)) : Type 0 where
-  pub place : ℕ
-  pub copy : Job
-  pub within : place < length copies
-  pub there : slice_index_or copies place copy ≡ copy
-  pub tells : noted ≡ note_of (copy, noted.verdict)
-  pub awaited : unknown slots ≡ suc (unknown filled)
-  pub fills : filled ≡ slice_set slots place (Some noted.verdict)
 
 -- What a worker has put on each lane grew by these copies, those for the lane's mailboxes that are under way.
 abbrev pub HavePut : Directory → ℕ → List Job → List (Option Verdict) → (before after : List (List (Entry Job))) → Type 0

@@ -1,11 +1,16 @@
-use Rattle.std.proofs.Common.{rules, ◌≡◌, ◌++◌, ◌∷◌, [], ◌∙◌, ap, refl, arith, length, length-append}
+use Rattle.std.proofs.Common.{rules, ◌≡◌, ◌++◌, ◌∷◌, [], ◌∙◌, ℕ, List, ap, refl, subst, arith, length, length-append}
 use Rattle.lmtp_machine.specs.Calls.{submission_of}
 use Rattle.shard_queue.specs.declared.lane.Entry.TheVariants.{Item, End}
 use Rattle.shard_queue.specs.Reply.{received}
 use Rattle.lane_work.specs.Copies.{copies_of}
 use Rattle.lane_work.specs.Ends.{ends_in}
 use Rattle.lane_work.proofs.SeatLaws.{ends_next, not_live}
-use Rattle.lane_work.proofs.SlotLaws.{fills_same, fills_on, heard_next, heard_still, none_unknown, start_on, start_same, were_heard_same}
+use Rattle.delivery_token.specs.declared.CopyKey.{CopyKey}
+use Rattle.submission.specs.Verdicts.{FillsIn}
+use Rattle.submission.proofs.Fills.{fills_same, fills_on, none_unknown}
+use Rattle.submission.proofs.Slots.{known_all}
+use Rattle.lane_work.proofs.CopyLaws.{heard_next}
+use Rattle.lane_work.proofs.SlotLaws.{heard_still, start_on, start_same, were_heard_same}
 use Rattle.lane_work.proofs.hearing.hear_all.Goals as goal
 
 pub loop-init : goal.loop-init
@@ -13,34 +18,34 @@ loop-init g c = (
   c.requires,
   (refl, refl),
   omega arith,
-  fills_same c.args.slots.now.items,
+  fills_same c.args.verdicts.now.slots,
   start_same (received c.args.desk.now.receiver),
   refl,
-  were_heard_same (received c.args.desk.now.receiver) (copies_of (submission_of c.args.message.now)) c.args.slots.now.items,
+  were_heard_same (received c.args.desk.now.receiver) (copies_of (submission_of c.args.message.now)) c.args.verdicts.now.slots,
   λ live. refl,
 )
 
-pub returns-then-not-note_in-clause-fills : goal.returns-then-not-note_in-clause-fills
-returns-then-not-note_in-clause-fills g c = fills_on c.args.slots.now.items c.loop.slots.items c.note_in.new.slots.items c.loop.invariant.3 c.note_in.ensures.fills
+pub returns-then-not-hear_awaited-clause-fills : goal.returns-then-not-hear_awaited-clause-fills
+returns-then-not-hear_awaited-clause-fills g c = fills_on c.args.verdicts.now.slots c.loop.verdicts.slots c.hear_awaited.new.self.slots c.loop.invariant.3 c.hear_awaited.ensures.fills
 
-pub returns-then-not-note_in-clause-ends : goal.returns-then-not-note_in-clause-ends
-returns-then-not-note_in-clause-ends g c =
+pub returns-then-not-hear_awaited-clause-ends : goal.returns-then-not-hear_awaited-clause-ends
+returns-then-not-hear_awaited-clause-ends g c =
     let old = received c.loop.desk.receiver in
     let grew : received c.recv_as.new.seat ≡ old ++ c.recv_as.result ∷ [] = search rules in
     let e = ap ends_in grew ∙ ends_next old c.recv_as.result in
     omega (arith, e, c.loop.invariant.2)
 
-pub returns-then-not-note_in-clause-grew : goal.returns-then-not-note_in-clause-grew
-returns-then-not-note_in-clause-grew g c =
+pub returns-then-not-hear_awaited-clause-grew : goal.returns-then-not-hear_awaited-clause-grew
+returns-then-not-hear_awaited-clause-grew g c =
     let old = received c.loop.desk.receiver in
     let grew : received c.recv_as.new.seat ≡ old ++ c.recv_as.result ∷ [] = search rules in
     start_on (received c.args.desk.now.receiver) old (received c.recv_as.new.seat) c.loop.invariant.4 (c.recv_as.result ∷ [], grew)
 
-pub returns-then-not-note_in-clause-heard : goal.returns-then-not-note_in-clause-heard
-returns-then-not-note_in-clause-heard g c =
+pub returns-then-not-hear_awaited-clause-heard : goal.returns-then-not-hear_awaited-clause-heard
+returns-then-not-hear_awaited-clause-heard g c =
     let old = received c.loop.desk.receiver in
     let grew : received c.recv_as.new.seat ≡ old ++ c.recv_as.result ∷ [] = search rules in
-    heard_still old (received c.recv_as.new.seat) (copies_of (submission_of c.args.message.now)) c.args.slots.now.items c.loop.slots.items c.note_in.new.slots.items (c.recv_as.result ∷ [], grew)
+    heard_still old (received c.recv_as.new.seat) (copies_of (submission_of c.args.message.now)) c.args.verdicts.now.slots c.loop.verdicts.slots c.hear_awaited.new.self.slots (c.recv_as.result ∷ [], grew)
     (search rules) c.loop.invariant.6
 
 pub returns-then-not-is_over_at-clause-ends : goal.returns-then-not-is_over_at-clause-ends
@@ -60,11 +65,11 @@ pub returns-then-not-is_over_at-clause-heard : goal.returns-then-not-is_over_at-
 returns-then-not-is_over_at-clause-heard g c =
     let old = received c.loop.desk.receiver in
     let grew : received c.recv_as.new.seat ≡ old ++ c.recv_as.result ∷ [] = search rules in
-    heard_still old (received c.recv_as.new.seat) (copies_of (submission_of c.args.message.now)) c.args.slots.now.items c.loop.slots.items c.loop.slots.items (c.recv_as.result ∷ [], grew)
+    heard_still old (received c.recv_as.new.seat) (copies_of (submission_of c.args.message.now)) c.args.verdicts.now.slots c.loop.verdicts.slots c.loop.verdicts.slots (c.recv_as.result ∷ [], grew)
     refl c.loop.invariant.6
 
-pub returns-then-not-note_in-clause-torn : goal.returns-then-not-note_in-clause-torn
-returns-then-not-note_in-clause-torn g c =
+pub returns-then-not-hear_awaited-clause-torn : goal.returns-then-not-hear_awaited-clause-torn
+returns-then-not-hear_awaited-clause-torn g c =
     let old = received c.loop.desk.receiver in
     let grew : received c.recv_as.new.seat ≡ old ++ c.recv_as.result ∷ [] = search rules in
     let n = ap length grew ∙ length-append old (c.recv_as.result ∷ []) in
@@ -79,21 +84,23 @@ returns-then-not-is_over_at-clause-torn g c =
     let l = ap length c.loop.invariant.4.1 ∙ length-append (received c.args.desk.now.receiver) c.loop.invariant.4.0 in
     omega (arith, n, l)
 
-pub loop-preserved-else-not-note_in : goal.loop-preserved-else-not-note_in
-loop-preserved-else-not-note_in g c =
+pub loop-preserved-else-not-hear_awaited : goal.loop-preserved-else-not-hear_awaited
+loop-preserved-else-not-hear_awaited g c =
     let old = received c.loop.desk.receiver in
     let grew : received c.recv_as.new.seat ≡ old ++ c.recv_as.result ∷ [] = search rules in
     let came : received c.recv_as.new.seat ≡ old ++ Item c.in-Item.field-0 c.in-Item.noted ∷ [] = search rules in (
       c.recv_as.ensures.seat,
       c.loop.invariant.1,
       (let e = ap ends_in grew ∙ ends_next old c.recv_as.result in omega (arith, e, c.loop.invariant.2)),
-      fills_on c.args.slots.now.items c.loop.slots.items c.note_in.new.slots.items c.loop.invariant.3 c.note_in.ensures.fills,
+      fills_on c.args.verdicts.now.slots c.loop.verdicts.slots c.hear_awaited.new.self.slots c.loop.invariant.3 c.hear_awaited.ensures.fills,
       start_on (received c.args.desk.now.receiver) old (received c.recv_as.new.seat) c.loop.invariant.4 (c.recv_as.result ∷ [], grew),
       (let n = ap length grew ∙ length-append old (c.recv_as.result ∷ []) in
           let e = ap ends_in came ∙ ends_next old (Item c.in-Item.field-0 c.in-Item.noted) in
-          let f = c.note_in.ensures.noted (search rules) in omega (arith, n, e, f.awaited, c.loop.invariant.5)),
-      heard_next old (received c.recv_as.new.seat) (copies_of (submission_of c.args.message.now)) c.args.slots.now.items c.loop.slots.items c.note_in.new.slots.items c.in-Item.field-0 c.in-Item.noted came
-          (c.note_in.ensures.noted (search rules)) c.loop.invariant.6,
+          let f = c.hear_awaited.ensures.noted (search rules) in omega (arith, n, e, f.awaited, c.loop.invariant.5)),
+      heard_next old (received c.recv_as.new.seat) c.args.message.now.keys.items c.args.message.now.mailboxes.items c.args.message.now.text c.args.verdicts.now.slots c.loop.verdicts.slots c.hear_awaited.new.self.slots c.in-Item.field-0 c.in-Item.noted came
+          (subst (λ (keys : List CopyKey). FillsIn keys c.args.message.now.mailboxes.items c.in-Item.noted c.loop.verdicts.slots c.hear_awaited.new.self.slots) c.as_slice-keys.ensures.value
+          (subst (λ (mailboxes : List ℕ). FillsIn c.as_slice-keys.result.now mailboxes c.in-Item.noted c.loop.verdicts.slots c.hear_awaited.new.self.slots) c.as_slice-mailboxes.ensures.value
+          (c.hear_awaited.ensures.noted (search rules)))) c.loop.invariant.6,
       (λ live. let e = ap ends_in came ∙ ends_next old (Item c.in-Item.field-0 c.in-Item.noted) in let h = c.loop.invariant.7 live in omega (arith, e, h)),
     )
 
@@ -110,11 +117,18 @@ loop-preserved g c =
       c.loop.invariant.3,
       start_on (received c.args.desk.now.receiver) old (received c.recv_as.new.seat) c.loop.invariant.4 (c.recv_as.result ∷ [], grew),
       (let n = ap length came ∙ length-append old (End c.in-End.shard ∷ []) in omega (arith, n, e, c.loop.invariant.5)),
-      heard_still old (received c.recv_as.new.seat) (copies_of (submission_of c.args.message.now)) c.args.slots.now.items c.loop.slots.items c.loop.slots.items (c.recv_as.result ∷ [], grew) refl c.loop.invariant.6,
+      heard_still old (received c.recv_as.new.seat) (copies_of (submission_of c.args.message.now)) c.args.verdicts.now.slots c.loop.verdicts.slots c.loop.verdicts.slots (c.recv_as.result ∷ [], grew) refl c.loop.invariant.6,
       (λ live. absurd (not_live c.loop.desk.seats.items c.args.desk.now.seats.items c.in-End.shard (search rules) live (search rules))),
     )
 
+-- where each is known, none is awaited
+pub returns-then-are_known-clause-known : goal.returns-then-are_known-clause-known
+returns-then-are_known-clause-known g c =
+    let known = c.are_known.ensures.known (search rules) in
+    known_all c.loop.verdicts.slots known.0 known.1.each
+
 pub returns-then-are_known-clause-awaited : goal.returns-then-are_known-clause-awaited
 returns-then-are_known-clause-awaited g c =
-    let n = none_unknown c.loop.slots.items (search rules) in
+    let known = c.are_known.ensures.known (search rules) in
+    let n = none_unknown c.loop.verdicts.slots (known_all c.loop.verdicts.slots known.0 known.1.each) in
     omega (arith, n, c.loop.invariant.5)

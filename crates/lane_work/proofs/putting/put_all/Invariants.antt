@@ -1,4 +1,4 @@
-use Rattle.std.proofs.Common.{◌≡◌, ◌≤◌, map, take, vec_len, vec_capacity}
+use Rattle.std.proofs.Common.{◌≡◌, ◌≤◌, length, map, take, vec_len}
 use Rattle.lane_work.specs.Seats.{put_by}
 use Rattle.lane_work.specs.inner.Seats.{AreOpenTo}
 use Rattle.lane_work.specs.Seats.{AreSeats}
@@ -11,9 +11,9 @@ abbrev pub invariant-loop-i : goal.invariant-loop-i
 invariant-loop-i g l =
     AreSeats l.office.lanes.items l.fn.desk.number l.desk.seats.items
     × SameButSeats l.fn.desk l.desk
-    × (vec_len l.slots ≡ l.i)
-    × (AreOpenTo l.office.directory l.message.mailboxes.items l.fn.desk.seats.items → WereTried l.office.directory (rooms_of l.office.lanes.items) l.fn.desk.number (copies (take l.i l.message.keys.items) (take l.i l.message.mailboxes.items) l.message.text) l.slots.items
+    × (length l.verdicts.slots ≡ l.i)
+    × (AreOpenTo l.office.directory l.message.mailboxes.items l.fn.desk.seats.items → WereTried l.office.directory (rooms_of l.office.lanes.items) l.fn.desk.number (copies (take l.i l.message.keys.items) (take l.i l.message.mailboxes.items) l.message.text) l.verdicts.slots
     (map put_by l.fn.desk.seats.items))
-    × (vec_len l.message.keys ≤ vec_capacity l.slots)
-    × (AreOpenTo l.office.directory l.message.mailboxes.items l.fn.desk.seats.items → HavePut l.office.directory l.fn.desk.number (copies (take l.i l.message.keys.items) (take l.i l.message.mailboxes.items) l.message.text) l.slots.items
+    × (vec_len l.message.keys ≤ l.verdicts.most)
+    × (AreOpenTo l.office.directory l.message.mailboxes.items l.fn.desk.seats.items → HavePut l.office.directory l.fn.desk.number (copies (take l.i l.message.keys.items) (take l.i l.message.mailboxes.items) l.message.text) l.verdicts.slots
     (map put_by l.fn.desk.seats.items) (map put_by l.desk.seats.items))

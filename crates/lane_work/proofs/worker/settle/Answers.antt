@@ -10,7 +10,7 @@ use Rattle.shard_queue.specs.Shared.{IsStartOf}
 use Rattle.lane_work.specs.Seats.{put_by}
 use Rattle.lane_work.specs.Copies.{copies_of, rooms_of}
 use Rattle.lane_work.specs.inner.Copies.{HavePut}
-use Rattle.lane_work.proofs.SlotLaws.{fills_length}
+use Rattle.submission.proofs.Fills.{fills_length, known_length}
 use Rattle.lane_work.proofs.CopyLaws.{books_more}
 use Rattle.lane_work.proofs.SeatLaws.{overs_length}
 use Rattle.lane_work.proofs.worker.settle.Goals as goal
@@ -18,38 +18,34 @@ use Rattle.lane_work.proofs.worker.settle.Goals as goal
 pub note_all-requires-clause-verdicts : goal.note_all-requires-clause-verdicts
 note_all-requires-clause-verdicts g c =
     let n = c.put_all.ensures.slots in
-    let f = fills_length c.put_all.new.slots.items c.hear_all.new.slots.items c.hear_all.ensures.fills in
-    let l = c.verdicts_of-verdicts.ensures.len in
-    let a = c.as_slice.ensures.len in
-    let b = c.as_slice-2.ensures.len in
-    omega (arith, n, f, l, a, b, c.put_all.new.slots.ok.0, c.hear_all.new.slots.ok.0)
+    let f = fills_length c.put_all.new.verdicts.slots c.hear_all.new.verdicts.slots c.hear_all.ensures.fills in
+    let l = known_length (length c.hear_all.new.verdicts.slots) c.hear_all.new.verdicts.slots c.known_in-verdicts.result.items c.known_in-verdicts.ensures in
+    let b = c.as_slice.ensures.len in
+    omega (arith, n, f, l, b, c.known_in-verdicts.result.ok.0)
 
 pub note_all-requires-clause-room : goal.note_all-requires-clause-room
 note_all-requires-clause-room g c =
     let n = c.put_all.ensures.slots in
-    let f = fills_length c.put_all.new.slots.items c.hear_all.new.slots.items c.hear_all.ensures.fills in
-    let l = c.verdicts_of-verdicts.ensures.len in
-    let a = c.as_slice.ensures.len in
-    let b = c.as_slice-2.ensures.len in
+    let f = fills_length c.put_all.new.verdicts.slots c.hear_all.new.verdicts.slots c.hear_all.ensures.fills in
+    let l = known_length (length c.hear_all.new.verdicts.slots) c.hear_all.new.verdicts.slots c.known_in-verdicts.result.items c.known_in-verdicts.ensures in
+    let b = c.as_slice.ensures.len in
     let k = c.len-count.ensures in
-    subst (g.N.Notebook.has_room c.reserve.new.self) (omega (arith, n, f, l, a, b, k, c.put_all.new.slots.ok.0, c.hear_all.new.slots.ok.0)) c.in-Ok.ensures.ok
+    subst (g.N.Notebook.has_room c.reserve.new.self) (omega (arith, n, f, l, b, k, c.known_in-verdicts.result.ok.0)) c.in-Ok.ensures.ok
 
-pub verdicts_of-verdicts-requires-clause-room : goal.verdicts_of-verdicts-requires-clause-room
-verdicts_of-verdicts-requires-clause-room g c =
+pub known_in-verdicts-requires-clause-room : goal.known_in-verdicts-requires-clause-room
+known_in-verdicts-requires-clause-room g c =
     let n = c.put_all.ensures.slots in
-    let f = fills_length c.put_all.new.slots.items c.hear_all.new.slots.items c.hear_all.ensures.fills in
-    let a = c.as_slice.ensures.len in
+    let f = fills_length c.put_all.new.verdicts.slots c.hear_all.new.verdicts.slots c.hear_all.ensures.fills in
     let k = c.len-count.ensures in
-    let r = c.in-Ok-with_capacity-2.ensures.capacity in
-    (c.in-Ok-with_capacity-2.ensures.items, omega (arith, n, f, a, k, r, c.put_all.new.slots.ok.0, c.hear_all.new.slots.ok.0))
+    let r = c.in-Ok-with_capacity.ensures.capacity in
+    (c.in-Ok-with_capacity.ensures.items, omega (arith, n, f, k, r))
 
 pub returns-clause-verdicts : goal.returns-clause-verdicts
 returns-clause-verdicts g c =
     let n = c.put_all.ensures.slots in
-    let f = fills_length c.put_all.new.slots.items c.hear_all.new.slots.items c.hear_all.ensures.fills in
-    let l = c.verdicts_of-verdicts.ensures.len in
-    let a = c.as_slice.ensures.len in
-    omega (arith, n, f, l, a, c.put_all.new.slots.ok.0, c.hear_all.new.slots.ok.0)
+    let f = fills_length c.put_all.new.verdicts.slots c.hear_all.new.verdicts.slots c.hear_all.ensures.fills in
+    let l = known_length (length c.hear_all.new.verdicts.slots) c.hear_all.new.verdicts.slots c.known_in-verdicts.result.items c.known_in-verdicts.ensures in
+    omega (arith, n, f, l, c.known_in-verdicts.result.ok.0)
 
 pub returns-clause-books : goal.returns-clause-books
 returns-clause-books g c open_to judged books =
@@ -59,8 +55,8 @@ returns-clause-books g c open_to judged books =
     let m = submission_of c.args.message.now in
     let before = map put_by c.args.desk.now.seats.items in
     let mid = c.put_all.new.desk.seats.items in
-    books_more d (rooms_of c.args.office.now.lanes.items) p judged (g.N.Notebook.tells c.args.book.now) (g.N.Notebook.tells c.note_all.new.self) (received c.args.desk.now.receiver) (received c.hear_all.new.desk.receiver) m c.put_all.new.slots.items c.hear_all.new.slots.items c.verdicts_of-verdicts.result.items before (map put_by c.hear_all.new.desk.seats.items)
-    (search rules) (search rules) (c.put_all.ensures.tried open_to) c.hear_all.ensures.fills (sym c.as_slice.ensures.value ∙ c.verdicts_of-verdicts.ensures.known)
-    (subst (HavePut d p (copies_of m) c.put_all.new.slots.items before) kept (c.put_all.ensures.put open_to))
+    books_more d (rooms_of c.args.office.now.lanes.items) p judged (g.N.Notebook.tells c.args.book.now) (g.N.Notebook.tells c.note_all.new.self) (received c.args.desk.now.receiver) (received c.hear_all.new.desk.receiver) m c.put_all.new.verdicts.slots c.hear_all.new.verdicts.slots c.known_in-verdicts.result.items before (map put_by c.hear_all.new.desk.seats.items)
+    (search rules) (search rules) (c.put_all.ensures.tried open_to) c.hear_all.ensures.fills c.known_in-verdicts.ensures.each
+    (subst (HavePut d p (copies_of m) c.put_all.new.verdicts.slots before) kept (c.put_all.ensures.put open_to))
     (ap length (sym kept) ∙ length-map mid put_by ∙ overs_length mid c.args.desk.now.seats.items c.put_all.ensures.same.3 ∙ sym (length-map c.args.desk.now.seats.items put_by))
     (search rules) (subst (λ (r : ReceiverSeat Noted). IsStartOf (received r) (received c.hear_all.new.desk.receiver)) c.put_all.ensures.same.1 c.hear_all.ensures.grew) c.hear_all.ensures.heard books
