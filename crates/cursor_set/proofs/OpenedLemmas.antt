@@ -7,7 +7,7 @@ use Rattle.slab.specs.Slab.{Slab}
 use Rattle.change_ring.specs.declared.change.Change.{Change}
 use Rattle.cursor_set.specs.declared.set.Cursor.{Cursor}
 use Rattle.cursor_set.specs.Opened.{open_of, opened}
-use Rattle.cursor_set.specs.Cursors.{CursorSet, Open, CursorSeat, Updates, after_showing, in_slot, held, if_of}
+use Rattle.cursor_set.specs.Cursors.{CursorSet, Open, CursorHandle, Updates, after_showing, in_slot, held, if_of}
 
 -- a set of this number over a slab
 abbrev pub set_of : ℕ → ℕ → Slab Cursor → CursorSet
@@ -28,13 +28,13 @@ held_if : (b : Bool) (x : Option Open) (o : Open) → (if b then x else None) �
 held_if true x o e = e
 held_if false x o e = cc
 
-if_of_is : (seat : CursorSeat) (x : Option Open) (o : Open) → if_of seat x ≡ Some o → x ≡ Some o
-if_of_is seat None o e = e
-if_of_is seat (Some y) o e = held_if ((y.serial == seat.serial) && (y.at == seat.at)) (Some y) o e
+if_of_is : (handle : CursorHandle) (x : Option Open) (o : Open) → if_of handle x ≡ Some o → x ≡ Some o
+if_of_is handle None o e = e
+if_of_is handle (Some y) o e = held_if ((y.serial == handle.serial) && (y.at == handle.at)) (Some y) o e
 
--- what a seat holds is in its slot
-pub held_in_slot : (s : CursorSet) (seat : CursorSeat) (o : Open) → held s seat ≡ Some o → in_slot s seat.slot ≡ Some o
-held_in_slot s seat o e = if_of_is seat (in_slot s seat.slot) o (held_if (s.number == seat.number) (if_of seat (in_slot s seat.slot)) o e)
+-- what a handle holds is in its slot
+pub held_in_slot : (s : CursorSet) (handle : CursorHandle) (o : Open) → held s handle ≡ Some o → in_slot s handle.slot ≡ Some o
+held_in_slot s handle o e = if_of_is handle (in_slot s handle.slot) o (held_if (s.number == handle.number) (if_of handle (in_slot s handle.slot)) o e)
 
 map_map : (f : Open → Open) (x : Option Cursor) → option_map (λ (c : Cursor). f (open_of c)) x ≡ option_map f (option_map open_of x)
 map_map f None = refl
@@ -55,7 +55,7 @@ Updates-shown number next s t slot changes o here shown others = record {
 same_open : {o p : Open} → Some o ≡ Some p → o ≡ p
 same_open e = cc
 
--- what a seat holds is the cursor that stands in its slot of the slab
-pub held_is : (number next : ℕ) (s : Slab Cursor) (seat : CursorSeat) (o : Open) (c : Cursor) → held (set_of number next s) seat ≡ Some o → slab.get s seat.slot ≡ Some c → o ≡ open_of c
-held_is number next s seat o c e f =
-    same_open (sym (held_in_slot (set_of number next s) seat o e) ∙ in_slot-set_of number next s seat.slot ∙ ap (λ (x : Option Cursor). option_map open_of x) f)
+-- what a handle holds is the cursor that stands in its slot of the slab
+pub held_is : (number next : ℕ) (s : Slab Cursor) (handle : CursorHandle) (o : Open) (c : Cursor) → held (set_of number next s) handle ≡ Some o → slab.get s handle.slot ≡ Some c → o ≡ open_of c
+held_is number next s handle o c e f =
+    same_open (sym (held_in_slot (set_of number next s) handle o e) ∙ in_slot-set_of number next s handle.slot ∙ ap (λ (x : Option Cursor). option_map open_of x) f)

@@ -18,7 +18,7 @@ pub record CursorSet : Type 0 where
   pub slots : List (Option Open)
 
 -- what a client holds of its cursor
-pub record CursorSeat : Type 0 where
+pub record CursorHandle : Type 0 where
   pub number : ℕ
   pub slot : ℕ
   pub serial : ℕ
@@ -28,14 +28,14 @@ pub record CursorSeat : Type 0 where
 abbrev pub in_slot : CursorSet → ℕ → Option Open
 in_slot s slot = slice_index_or s.slots slot None
 
--- the cursor, if it is the seat's
-abbrev pub if_of : CursorSeat → Option Open → Option Open
-if_of seat None = None
-if_of seat (Some o) = if (o.serial == seat.serial) && (o.at == seat.at) then Some o else None
+-- the cursor, if it is the handle's
+abbrev pub if_of : CursorHandle → Option Open → Option Open
+if_of handle None = None
+if_of handle (Some o) = if (o.serial == handle.serial) && (o.at == handle.at) then Some o else None
 
--- the cursor of a seat; a stranger has none
-abbrev pub held : CursorSet → CursorSeat → Option Open
-held s seat = if s.number == seat.number then if_of seat (in_slot s seat.slot) else None
+-- the cursor of a handle; a stranger has none
+abbrev pub held : CursorSet → CursorHandle → Option Open
+held s handle = if s.number == handle.number then if_of handle (in_slot s handle.slot) else None
 
 -- one slot has this now, and no other slot changed
 pub record Updates (old new : CursorSet) (slot : ℕ) (cursor : Option Open) : Type 0 where

@@ -16,7 +16,7 @@ use slab::Slab;
 use std::alloc::{AllocError, Global};
 use std::marker::Model;
 
-/// The seat is of another set, or its slot doesn't hold its cursor.
+/// The handle is of another set, or its slot doesn't hold its cursor.
 #[derive(Clone, Copy, Debug, PartialEq, Eq)]
 pub struct Stranger;
 
@@ -27,7 +27,7 @@ pub struct NoMemory;
 /// Why a client was shown nothing.
 #[derive(Clone, Copy, Debug, PartialEq, Eq)]
 pub enum FeedFault {
-    /// The seat is of another set, or its slot doesn't hold its cursor.
+    /// The handle is of another set, or its slot doesn't hold its cursor.
     Stranger,
     /// The next change to show was overwritten.
     Lapped,
@@ -39,22 +39,22 @@ pub enum FeedFault {
 /// and the number of the next change to show. It can't be copied. Where it is dropped its slot stays
 /// open.
 #[derive(Drop)]
-pub struct CursorSeat {
+pub struct CursorHandle {
     number: u8,
     slot: usize,
     serial: u64,
     at: u64,
 }
 
-impl Model for CursorSeat {
-    ghost use Rattle.cursor_set.specs.Cursors.{CursorSeat};
+impl Model for CursorHandle {
+    ghost use Rattle.cursor_set.specs.Cursors.{CursorHandle};
 
-    ghost Value = { CursorSeat };
+    ghost Value = { CursorHandle };
 
     ghost view = { λ s. record { number = s.number; slot = s.slot; serial = s.serial; at = s.at } };
 }
 
-impl CursorSeat {
+impl CursorHandle {
     /// The number of the next change to show.
     pub fn at(&self) -> u64
         ensures { result ≡ self.now.at }
@@ -212,11 +212,11 @@ impl CursorSet {
 
     /// Opens a cursor for a client that counts these UIDs, and is to be shown the change of number
     /// `at` next. NoMemory where memory is refused; the set is then unchanged.
-    pub fn enter(&mut self, uids: &[u32], at: u64) -> Result<CursorSeat, NoMemory>
+    pub fn enter(&mut self, uids: &[u32], at: u64) -> Result<CursorHandle, NoMemory>
         requires { self.old.next < 2 ^ 64 - 1 }
-        ensures seat { IfOk result (λ seat. (seat.number ≡ self.old.number) × (seat.serial ≡ self.old.next) × (seat.at ≡ at)) }
-        ensures vacant { IfOk result (λ seat. in_slot self.old seat.slot ≡ None) }
-        ensures opened { IfOk result (λ seat. Updates self.old self.new seat.slot
+        ensures handle { IfOk result (λ handle. (handle.number ≡ self.old.number) × (handle.serial ≡ self.old.next) × (handle.at ≡ at)) }
+        ensures vacant { IfOk result (λ handle. in_slot self.old handle.slot ≡ None) }
+        ensures opened { IfOk result (λ handle. Updates self.old self.new handle.slot
             (Some (record { serial = self.old.next; at = at; view = uids.now }))) }
         ensures next { OnOk result (self.new.next ≡ self.old.next + 1) }
         ensures err { OnErr result (self.new ≡ self.old) }
@@ -229,7 +229,7 @@ impl CursorSet {
             return Err(NoMemory);
         };
         self.next += 1;
-        Ok(CursorSeat {
+        Ok(CursorHandle {
             number: self.number,
             slot,
             serial,
@@ -237,43 +237,43 @@ impl CursorSet {
         })
     }
 
-    // The cursor of a seat.
-    fn find<'a>(&'a self, seat: &CursorSeat) -> Option<&'a Cursor>
-        ensures { option_map open_of (option_copied result) ≡ held self.now seat.now }
+    // The cursor of a handle.
+    fn find<'a>(&'a self, handle: &CursorHandle) -> Option<&'a Cursor>
+        ensures { option_map open_of (option_copied result) ≡ held self.now handle.now }
     {
-        if self.number != seat.number {
+        if self.number != handle.number {
             return None;
         }
-        let cursor = self.slots.get(seat.slot)?;
-        if cursor.serial == seat.serial && cursor.at == seat.at {
+        let cursor = self.slots.get(handle.slot)?;
+        if cursor.serial == handle.serial && cursor.at == handle.at {
             Some(cursor)
         } else {
             None
         }
     }
 
-    /// The UIDs that a client counts, in their order. Stranger where the seat has no cursor here.
-    pub fn view(&self, seat: &CursorSeat) -> Result<&[u32], Stranger>
-        ensures ok { IfOk result (λ view. option_map (λ o. o.view) (held self.now seat.now) ≡ Some view.now) }
-        ensures stranger { IsErr result ↔ (held self.now seat.now ≡ None) }
+    /// The UIDs that a client counts, in their order. Stranger where the handle has no cursor here.
+    pub fn view(&self, handle: &CursorHandle) -> Result<&[u32], Stranger>
+        ensures ok { IfOk result (λ view. option_map (λ o. o.view) (held self.now handle.now) ≡ Some view.now) }
+        ensures stranger { IsErr result ↔ (held self.now handle.now ≡ None) }
     {
-        match self.find(seat) {
+        match self.find(handle) {
             Some(cursor) => Ok(&cursor.view),
             None => Err(Stranger),
         }
     }
 
-    /// Closes a cursor. A seat that has no cursor here is handed back, and the set is unchanged.
-    pub fn close(&mut self, seat: CursorSeat) -> Result<(), CursorSeat>
-        ensures ok { OnOk result (Updates self.old self.new seat.slot None) }
-        ensures held { OnOk result (IsSome (held self.old seat)) }
+    /// Closes a cursor. A handle that has no cursor here is handed back, and the set is unchanged.
+    pub fn close(&mut self, handle: CursorHandle) -> Result<(), CursorHandle>
+        ensures ok { OnOk result (Updates self.old self.new handle.slot None) }
+        ensures held { OnOk result (IsSome (held self.old handle)) }
         ensures next { self.new.next ≡ self.old.next }
-        ensures stranger { IfErr result (λ back. (back ≡ seat) × (held self.old seat ≡ None) × (self.new ≡ self.old)) }
+        ensures stranger { IfErr result (λ back. (back ≡ handle) × (held self.old handle ≡ None) × (self.new ≡ self.old)) }
     {
-        if self.find(&seat).is_none() {
-            return Err(seat);
+        if self.find(&handle).is_none() {
+            return Err(handle);
         }
-        self.slots.try_remove(seat.slot);
+        self.slots.try_remove(handle.slot);
         Ok(())
     }
 
@@ -289,46 +289,46 @@ impl CursorSet {
     /// Shows a client its next changes, at most `limit`: writes a line for each behind `out`, moves
     /// the cursor by as many, and answers how many. An EXISTS for a message that was added, an
     /// EXPUNGE for one that is gone and a FETCH for changed flags (RFC 9051, 7.4 and 7.5), each
-    /// counted as the change before left the client's view. Stranger where the seat has no cursor
+    /// counted as the change before left the client's view. Stranger where the handle has no cursor
     /// here; else Lapped where the next change was overwritten; else NoMemory where memory is
-    /// refused, which isn't asked for where nothing is to be shown. After each the set, the seat and
+    /// refused, which isn't asked for where nothing is to be shown. After each the set, the handle and
     /// `out` are unchanged.
     pub fn feed(
         &mut self,
         ring: &ChangeRing,
-        seat: &mut CursorSeat,
+        handle: &mut CursorHandle,
         limit: usize,
         out: &mut Vec<u8>,
     ) -> Result<usize, FeedFault>
-        requires known { (o : Open) → held self.old seat.old ≡ Some o → ring.now.base ≤ seat.old.at →
-            (seat.old.at ≤ total ring.now) × IsLegalOn o.view (changes_from seat.old.at ring.now) }
+        requires known { (o : Open) → held self.old handle.old ≡ Some o → ring.now.base ≤ handle.old.at →
+            (handle.old.at ≤ total ring.now) × IsLegalOn o.view (changes_from handle.old.at ring.now) }
 
-        ensures stranger { (result ≡ Err FeedFault.Stranger) ↔ (held self.old seat.old ≡ None) }
-        ensures lapped { (result ≡ Err FeedFault.Lapped) ↔ (IsSome (held self.old seat.old) × (seat.old.at < ring.now.base)) }
-        ensures memory { (result ≡ Err FeedFault.NoMemory) → 0 < min limit (total ring.now - seat.old.at) }
-        ensures err { OnErr result ((self.new ≡ self.old) × (seat.new ≡ seat.old) × (out.new.items ≡ out.old.items)) }
+        ensures stranger { (result ≡ Err FeedFault.Stranger) ↔ (held self.old handle.old ≡ None) }
+        ensures lapped { (result ≡ Err FeedFault.Lapped) ↔ (IsSome (held self.old handle.old) × (handle.old.at < ring.now.base)) }
+        ensures memory { (result ≡ Err FeedFault.NoMemory) → 0 < min limit (total ring.now - handle.old.at) }
+        ensures err { OnErr result ((self.new ≡ self.old) × (handle.new ≡ handle.old) × (out.new.items ≡ out.old.items)) }
 
-        ensures count { IfOk result (λ n. n ≡ min limit (total ring.now - seat.old.at)) }
-        ensures shown { IfOk result (λ n. IfSome (held self.old seat.old) (λ o.
-            out.new.items ≡ out.old.items ++ lines o.view (next_changes ring.now seat.old.at n))) }
-        ensures seat { IfOk result (λ n. seat.new ≡ record seat.old { at = seat.old.at + n }) }
-        ensures moved { IfOk result (λ n. Updates self.old self.new seat.old.slot
-            (option_map (after_showing (next_changes ring.now seat.old.at n)) (held self.old seat.old))) }
+        ensures count { IfOk result (λ n. n ≡ min limit (total ring.now - handle.old.at)) }
+        ensures shown { IfOk result (λ n. IfSome (held self.old handle.old) (λ o.
+            out.new.items ≡ out.old.items ++ lines o.view (next_changes ring.now handle.old.at n))) }
+        ensures handle { IfOk result (λ n. handle.new ≡ record handle.old { at = handle.old.at + n }) }
+        ensures moved { IfOk result (λ n. Updates self.old self.new handle.old.slot
+            (option_map (after_showing (next_changes ring.now handle.old.at n)) (held self.old handle.old))) }
         ensures next { self.new.next ≡ self.old.next }
         ensures room { vec_capacity out.old ≤ vec_capacity out.new }
     {
-        let Some(_cursor) = self.find(seat) else {
+        let Some(_cursor) = self.find(handle) else {
             return Err(FeedFault::Stranger);
         };
-        if seat.at < ring.base() {
+        if handle.at < ring.base() {
             return Err(FeedFault::Lapped);
         }
-        let (first, rest) = lend_next(ring, seat.at, limit);
-        let Ok(()) = show_in(&mut self.slots, seat.slot, first, rest, out) else {
+        let (first, rest) = lend_next(ring, handle.at, limit);
+        let Ok(()) = show_in(&mut self.slots, handle.slot, first, rest, out) else {
             return Err(FeedFault::NoMemory);
         };
         let count = first.len() + rest.len();
-        seat.at += count as u64;
+        handle.at += count as u64;
         Ok(count)
     }
 }

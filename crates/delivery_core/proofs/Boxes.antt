@@ -15,7 +15,7 @@ use Rattle.change_ring.specs.Log.{rows_of}
 use Rattle.change_ring.specs.Logged.{arrival}
 use Rattle.change_ring.specs.Window.{Window, total, BaseAfter}
 use Rattle.change_ring.proofs.WindowLaws.{BaseAfter-less}
-use Rattle.cursor_set.specs.Cursors.{CursorSet, CursorSeat}
+use Rattle.cursor_set.specs.Cursors.{CursorSet, CursorHandle}
 use Rattle.mailbox.specs.Mailbox.{Mailbox, Message, SameMailbox, next_uid as mail_uid, is_spent, is_full as mail_full, row_of}
 use Rattle.mailbox.specs.Events.{Logs as MailLogs, Moves}
 use Rattle.mailbox.specs.declared.mailbox.Receipt.{Receipt}
@@ -183,9 +183,9 @@ rest_always (Ok x) b b2 ms w s is = same_rest b b2 ms w s is
 rest_always (Err x) b b2 ms w s is = tt
 
 -- a call that changes a mailbox, or nothing, leaves how it keeps its copies
-pub history_stays : {T E : Type 0} (r : Result T E) (b b2 : Mailbox) (seat seat2 : CursorSeat) (before after : List ℕ) → OnErr r ((b2 ≡ b) × (seat2 ≡ seat) × (after ≡ before)) → OnOk r (SameMailbox b b2) → b2.history ≡ b.history
-history_stays (Ok x) b b2 seat seat2 before after err same = same.history
-history_stays (Err x) b b2 seat seat2 before after err same = ap (λ (z : Mailbox). z.history) err.0
+pub history_stays : {T E : Type 0} (r : Result T E) (b b2 : Mailbox) (handle handle2 : CursorHandle) (before after : List ℕ) → OnErr r ((b2 ≡ b) × (handle2 ≡ handle) × (after ≡ before)) → OnOk r (SameMailbox b b2) → b2.history ≡ b.history
+history_stays (Ok x) b b2 handle handle2 before after err same = same.history
+history_stays (Err x) b b2 handle handle2 before after err same = ap (λ (z : Mailbox). z.history) err.0
 
 pub rest_ok : {T E : Type 0} (r : Result T E) (b b2 : Mailbox) (ms : List Message) (w : Window) (s : CursorSet) → OnOk r (b2 ≡ record b { messages = ms; window = w; cursors = s }) → OnOk r (SameMailbox b b2)
 rest_ok (Ok x) b b2 ms w s is = same_rest b b2 ms w s is

@@ -6,7 +6,7 @@ use Rattle.change_ring.specs.declared.change.Change.{Change}
 use Rattle.change_ring.specs.Log.{Row, rows_of}
 use Rattle.change_ring.specs.Logged.{removals_if}
 use Rattle.change_ring.specs.Window.{total}
-use Rattle.cursor_set.specs.Cursors.{CursorSet, Open, CursorSeat, Updates, held, in_slot}
+use Rattle.cursor_set.specs.Cursors.{CursorSet, Open, CursorHandle, Updates, held, in_slot}
 use Rattle.mailbox.specs.declared.clients.MailFault.{MailFault}
 use Rattle.mailbox.specs.declared.clients.MailFault.TheVariants.{Stranger, Lapped, Spent, NoMemory}
 use Rattle.mailbox.specs.declared.clients.Opening.{Opening}
@@ -34,12 +34,12 @@ cursors_there boxes m b l there = cursors_get boxes m b l ∙ ap (λ (z : Mailbo
 
 -- a client is gone from its place, and its cursor from its slot
 pub leave_seated : (boxes : List Mailbox) (clients : List (Option Client)) (n p m : ℕ) (c : Client) (b b2 : Mailbox) (vacant : Option Client) → AreSeated (cursors_of boxes) clients → client_at clients n ≡ Some c → p ≡ n → m ≡ c.mailbox → b ≡ get_or boxes m b → vacant ≡ None
-    → Updates b.cursors b2.cursors c.seat.slot None → AreSeated (cursors_of (set boxes m b2)) (set clients p vacant)
+    → Updates b.cursors b2.cursors c.handle.slot None → AreSeated (cursors_of (set boxes m b2)) (set clients p vacant)
 leave_seated boxes clients n p m c b b2 vacant S e place same there empty closed =
     subst (λ (i : ℕ). AreSeated (cursors_of (set boxes m b2)) (set clients i vacant)) (sym place)
     (subst (λ (all : List CursorSet). AreSeated all (set clients n vacant)) (sym (cursors_set boxes m b2))
-    (seated_after (cursors_of boxes) clients n m c.seat.slot b2.cursors vacant S (omega (arith, within, length_cursors boxes))
-    (subst (λ (s : CursorSet). SameElsewhere s b2.cursors c.seat.slot) (sym (cursors_there boxes m b within there)) (record { number = closed.number; others = closed.others }))
+    (seated_after (cursors_of boxes) clients n m c.handle.slot b2.cursors vacant S (omega (arith, within, length_cursors boxes))
+    (subst (λ (s : CursorSet). SameElsewhere s b2.cursors c.handle.slot) (sym (cursors_there boxes m b within there)) (record { number = closed.number; others = closed.others }))
     (λ j d other f one. own_slot (cursors_of boxes) clients n c S e j d other f (one ∙ same))
     (λ d f. absurd (nobody d (sym empty ∙ f)))))
   where
@@ -53,27 +53,27 @@ leaving_part : (removing : Bool) (old new : List Message) → new ≡ (if removi
 leaving_part true old new e = remaining_part (λ uid. true) old new e
 leaving_part false old new e = subst (λ (ms : List Message). IsPart (map text_of ms) (map text_of old)) (sym e) (part_self (map text_of old))
 
-leave_room : (b : Mailbox) (seat : CursorSeat) (count : ℕ) (cs : List Change) → IsSome (held b.cursors seat) → (let r : Result ℕ (CursorSeat × MailFault) = Ok count in r ≡ Err (seat, Spent)) ↔ (IsSome (held b.cursors seat) × IsTooMany b cs) → total b.window + length cs ≤ most_changes
-leave_room b seat count cs some spends = elim (cases_lt most_changes (total b.window + length cs)) [
+leave_room : (b : Mailbox) (handle : CursorHandle) (count : ℕ) (cs : List Change) → IsSome (held b.cursors handle) → (let r : Result ℕ (CursorHandle × MailFault) = Ok count in r ≡ Err (handle, Spent)) ↔ (IsSome (held b.cursors handle) × IsTooMany b cs) → total b.window + length cs ≤ most_changes
+leave_room b handle count cs some spends = elim (cases_lt most_changes (total b.window + length cs)) [
   | inl many ↦ absurd (no_err (spends.1 (some, many)))
   | inr few ↦ few
 ]
   where
-    no_err : (let r : Result ℕ (CursorSeat × MailFault) = Ok count in r ≡ Err (seat, Spent)) → ⊥
+    no_err : (let r : Result ℕ (CursorHandle × MailFault) = Ok count in r ≡ Err (handle, Spent)) → ⊥
     no_err h = cc
 
 pub leave_follows : (k : Config) (w : World) (old : DeliveryCore) (n p m : ℕ) (c : Client) (b b2 : Mailbox) (vacant : Option Client) (removing : Bool) (count : ℕ)
     → StandsFor k old w → client_at old.clients n ≡ Some c → p ≡ n → m ≡ c.mailbox → b ≡ get_or old.boxes m b → vacant ≡ None
-    → (let r : Result ℕ (CursorSeat × MailFault) = Ok count in r ≡ Err (c.seat, Spent)) ↔ (IsSome (held b.cursors c.seat) × IsTooMany b (removals_if removing (rows b)))
+    → (let r : Result ℕ (CursorHandle × MailFault) = Ok count in r ≡ Err (c.handle, Spent)) ↔ (IsSome (held b.cursors c.handle) × IsTooMany b (removals_if removing (rows b)))
     → MailLogs b b2 (removals_if removing (rows b)) → Moves b2.cursors b.window b2.window (removals_if removing (rows b)) → b2.messages ≡ (if removing then remaining (λ uid. true) b.messages else b.messages)
-    → Updates b.cursors b2.cursors c.seat.slot None → b2.cursors.next ≡ b.cursors.next → b2 ≡ record b { messages = b2.messages; window = b2.window; cursors = b2.cursors } → count ≡ length (removals_if removing (rows b))
+    → Updates b.cursors b2.cursors c.handle.slot None → b2.cursors.next ≡ b.cursors.next → b2 ≡ record b { messages = b2.messages; window = b2.window; cursors = b2.cursors } → count ≡ length (removals_if removing (rows b))
     → (v : World) × Step k w (Leave n removing) v × StandsFor k (record old { boxes = set old.boxes m b2; clients = set old.clients p vacant }) v × Selected w n (λ s. Leaves removing (Ok count) (w.box s.mailbox) s)
 leave_follows k w old n p m c b b2 vacant removing count S e place same there empty spends logs moves messages closed next rest counted = go (session_at k w old n c S e)
   where
     within : m < length old.boxes
     within = mailbox_within old.boxes old.clients n m c S.seated e same
 
-    some : IsSome (held b.cursors c.seat)
+    some : IsSome (held b.cursors c.handle)
     some = known_at old.boxes old.clients n c b S.seated e (there ∙ ap (λ (i : ℕ). get_or old.boxes i b) same)
 
     go : (s : Session) × (w.session n ≡ Some s) × StandsForClient c s
@@ -87,7 +87,7 @@ leave_follows k w old n p m c b b2 vacant removing count S e place same there em
         here = subst (λ (i : ℕ). StandsForBox k b (w.box i)) at (subst (λ (x : Mailbox). StandsForBox k x (w.box m)) (sym there) (S.boxes m b within))
 
         became : Becomes k (w.box s.mailbox) (removals_if removing (rows b)) b2
-        became = box_logs k b b2 (w.box s.mailbox) (removals_if removing (rows b)) b2.cursors here (omega (arith, leave_room b c.seat count (removals_if removing (rows b)) some spends, here.log.window.long)) logs moves
+        became = box_logs k b b2 (w.box s.mailbox) (removals_if removing (rows b)) b2.cursors here (omega (arith, leave_room b c.handle count (removals_if removing (rows b)) some spends, here.log.window.long)) logs moves
             (leaving_part removing b.messages b2.messages messages) (ap (λ (z : Mailbox). z.accepted) rest) (ap (λ (z : Mailbox). z.first_uid) rest) (ap (λ (z : Mailbox). z.limit) rest) (ap (λ (z : Mailbox). z.uidvalidity) rest)
 
         done : Becomes k (w.box s.mailbox) (removals_if removing (rows_of (w.box s.mailbox).log)) b2
@@ -109,34 +109,34 @@ leave_follows k w old n p m c b b2 vacant removing count S e place same there em
             )
 
 -- a client that is known is refused for want of room alone
-pub leave_fault : (b : Mailbox) (seat : CursorSeat) (e : CursorSeat × MailFault) → IsSome (held b.cursors seat) → (let r : Result ℕ (CursorSeat × MailFault) = Err e in r ≡ Err (seat, Stranger)) ↔ IsStranger b seat
-    → e.0 ≡ seat → (e.1 ≡ Stranger) ⊎ (e.1 ≡ Spent) → e.1 ≡ Spent
-leave_fault b seat e some strange back (inl is) = absurd (nobody (held b.cursors seat) some (strange.0 (pair e back is)))
+pub leave_fault : (b : Mailbox) (handle : CursorHandle) (e : CursorHandle × MailFault) → IsSome (held b.cursors handle) → (let r : Result ℕ (CursorHandle × MailFault) = Err e in r ≡ Err (handle, Stranger)) ↔ IsStranger b handle
+    → e.0 ≡ handle → (e.1 ≡ Stranger) ⊎ (e.1 ≡ Spent) → e.1 ≡ Spent
+leave_fault b handle e some strange back (inl is) = absurd (nobody (held b.cursors handle) some (strange.0 (pair e back is)))
   where
     nobody : (o : Option Open) → IsSome o → o ≡ None → ⊥
     nobody None h f = cc
     nobody (Some o) h f = cc
 
-    pair : (d : CursorSeat × MailFault) → d.0 ≡ seat → d.1 ≡ Stranger → (let r : Result ℕ (CursorSeat × MailFault) = Err d in r ≡ Err (seat, Stranger))
-    pair d a f = ap₂ (λ (z : CursorSeat) (g : MailFault). let r : Result ℕ (CursorSeat × MailFault) = Err (z, g) in r) a f
-leave_fault b seat e some strange back (inr is) = is
+    pair : (d : CursorHandle × MailFault) → d.0 ≡ handle → d.1 ≡ Stranger → (let r : Result ℕ (CursorHandle × MailFault) = Err d in r ≡ Err (handle, Stranger))
+    pair d a f = ap₂ (λ (z : CursorHandle) (g : MailFault). let r : Result ℕ (CursorHandle × MailFault) = Err (z, g) in r) a f
+leave_fault b handle e some strange back (inr is) = is
 
-pub leave_refused : (k : Config) (w : World) (old : DeliveryCore) (n m : ℕ) (c : Client) (b : Mailbox) (e : CursorSeat × MailFault) (removing : Bool)
-    → StandsFor k old w → client_at old.clients n ≡ Some c → m ≡ c.mailbox → b ≡ get_or old.boxes m b → e.0 ≡ c.seat → e.1 ≡ Spent
-    → (let r : Result ℕ (CursorSeat × MailFault) = Err e in r ≡ Err (c.seat, Spent)) ↔ (IsSome (held b.cursors c.seat) × IsTooMany b (removals_if removing (rows b)))
+pub leave_refused : (k : Config) (w : World) (old : DeliveryCore) (n m : ℕ) (c : Client) (b : Mailbox) (e : CursorHandle × MailFault) (removing : Bool)
+    → StandsFor k old w → client_at old.clients n ≡ Some c → m ≡ c.mailbox → b ≡ get_or old.boxes m b → e.0 ≡ c.handle → e.1 ≡ Spent
+    → (let r : Result ℕ (CursorHandle × MailFault) = Err e in r ≡ Err (c.handle, Spent)) ↔ (IsSome (held b.cursors c.handle) × IsTooMany b (removals_if removing (rows b)))
     → (v : World) × Step k w (Leave n removing) v × StandsFor k old v × Selected w n (λ s. Leaves removing (Err e.1) (w.box s.mailbox) s)
 leave_refused k w old n m c b e removing S client same there back is spends = go (session_at k w old n c S client)
   where
     within : m < length old.boxes
     within = mailbox_within old.boxes old.clients n m c S.seated client same
 
-    pair : (d : CursorSeat × MailFault) → d.0 ≡ c.seat → d.1 ≡ Spent → (let r : Result ℕ (CursorSeat × MailFault) = Err d in r ≡ Err (c.seat, Spent))
-    pair d a f = ap₂ (λ (z : CursorSeat) (g : MailFault). let r : Result ℕ (CursorSeat × MailFault) = Err (z, g) in r) a f
+    pair : (d : CursorHandle × MailFault) → d.0 ≡ c.handle → d.1 ≡ Spent → (let r : Result ℕ (CursorHandle × MailFault) = Err d in r ≡ Err (c.handle, Spent))
+    pair d a f = ap₂ (λ (z : CursorHandle) (g : MailFault). let r : Result ℕ (CursorHandle × MailFault) = Err (z, g) in r) a f
 
     go : (s : Session) × (w.session n ≡ Some s) × StandsForClient c s → (v : World) × Step k w (Leave n removing) v × StandsFor k old v × Selected w n (λ s. Leaves removing (Err e.1) (w.box s.mailbox) s)
     go (s, has, one) =
         let here : StandsForBox k b (w.box s.mailbox) = subst (λ (i : ℕ). StandsForBox k b (w.box i)) (same ∙ one.mailbox) (subst (λ (x : Mailbox). StandsForBox k x (w.box m)) (sym there) (S.boxes m b within)) in
-        let both : IsSome (held b.cursors c.seat) × IsTooMany b (removals_if removing (rows b)) = spends.0 (pair e back is) in
+        let both : IsSome (held b.cursors c.handle) × IsTooMany b (removals_if removing (rows b)) = spends.0 (pair e back is) in
         let many : most_changes < length (w.box s.mailbox).log + length (removals_if removing (rows b)) = omega (arith, both.1, here.log.window.long) in
         let full : most_changes < length (w.box s.mailbox).log + length (removals_if removing (rows_of (w.box s.mailbox).log)) = subst (λ (rs : List Row). most_changes < length (w.box s.mailbox).log + length (removals_if removing rs)) (same_rows k b (w.box s.mailbox) here) many in
         (w, (s, has, leave_spent full refl), S, (s, has, subst (λ (f : MailFault). Leaves removing (Err f) (w.box s.mailbox) s) (sym is) full))
@@ -172,15 +172,15 @@ no_session (Some s) h = absurd h
 session_none : (k : Config) (w : World) (old : DeliveryCore) (n : ℕ) → StandsFor k old w → n < length old.clients → client_at old.clients n ≡ None → w.session n ≡ None
 session_none k w old n S l none = no_session (w.session n) (subst (λ (o : Option Client). StandsForPlace o (w.session n)) none (S.clients n None l))
 
-pub enter_seated : (boxes : List Mailbox) (clients : List (Option Client)) (n p m i : ℕ) (b b2 : Mailbox) (seat : CursorSeat) (o : Open) → AreSeated (cursors_of boxes) clients → p ≡ n → i ≡ m → i < length boxes → b ≡ get_or boxes i b
-    → Updates b.cursors b2.cursors seat.slot (Some o) → in_slot b.cursors seat.slot ≡ None → IsSome (held b2.cursors seat) → AreSeated (cursors_of (set boxes i b2)) (set clients p (Some (record { mailbox = m; seat = seat })))
-enter_seated boxes clients n p m i b b2 seat o S place same within there opened vacant known =
-    subst (λ (j : ℕ). AreSeated (cursors_of (set boxes i b2)) (set clients j (Some (record { mailbox = m; seat = seat })))) (sym place)
-    (subst (λ (all : List CursorSet). AreSeated all (set clients n (Some (record { mailbox = m; seat = seat })))) (sym (cursors_set boxes i b2))
-    (seated_after (cursors_of boxes) clients n i seat.slot b2.cursors (Some (record { mailbox = m; seat = seat })) S (omega (arith, within, length_cursors boxes))
-    (subst (λ (s : CursorSet). SameElsewhere s b2.cursors seat.slot) (sym was) (record { number = opened.number; others = opened.others }))
-    (λ j d other f one. vacant_slot (cursors_of boxes) clients i seat.slot S (ap (λ (s : CursorSet). in_slot s seat.slot) was ∙ vacant) j d f one)
-    (λ d f. subst (HasSlot i seat.slot b2.cursors) (same_client _ d f) (record { mailbox_is = sym same; slot_is = refl; known = known }))))
+pub enter_seated : (boxes : List Mailbox) (clients : List (Option Client)) (n p m i : ℕ) (b b2 : Mailbox) (handle : CursorHandle) (o : Open) → AreSeated (cursors_of boxes) clients → p ≡ n → i ≡ m → i < length boxes → b ≡ get_or boxes i b
+    → Updates b.cursors b2.cursors handle.slot (Some o) → in_slot b.cursors handle.slot ≡ None → IsSome (held b2.cursors handle) → AreSeated (cursors_of (set boxes i b2)) (set clients p (Some (record { mailbox = m; handle = handle })))
+enter_seated boxes clients n p m i b b2 handle o S place same within there opened vacant known =
+    subst (λ (j : ℕ). AreSeated (cursors_of (set boxes i b2)) (set clients j (Some (record { mailbox = m; handle = handle })))) (sym place)
+    (subst (λ (all : List CursorSet). AreSeated all (set clients n (Some (record { mailbox = m; handle = handle })))) (sym (cursors_set boxes i b2))
+    (seated_after (cursors_of boxes) clients n i handle.slot b2.cursors (Some (record { mailbox = m; handle = handle })) S (omega (arith, within, length_cursors boxes))
+    (subst (λ (s : CursorSet). SameElsewhere s b2.cursors handle.slot) (sym was) (record { number = opened.number; others = opened.others }))
+    (λ j d other f one. vacant_slot (cursors_of boxes) clients i handle.slot S (ap (λ (s : CursorSet). in_slot s handle.slot) was ∙ vacant) j d f one)
+    (λ d f. subst (HasSlot i handle.slot b2.cursors) (same_client _ d f) (record { mailbox_is = sym same; slot_is = refl; known = known }))))
   where
     was : cursors_at (cursors_of boxes) i ≡ b.cursors
     was = cursors_there boxes i b within there
@@ -188,24 +188,24 @@ enter_seated boxes clients n p m i b b2 seat o S place same within there opened 
     same_client : (a d : Client) → Some a ≡ Some d → a ≡ d
     same_client a d h = cc
 
-pub enter_follows : (k : Config) (w : World) (old : DeliveryCore) (n p m i : ℕ) (b b2 : Mailbox) (seat : CursorSeat) (o : Open) (opening : Opening)
+pub enter_follows : (k : Config) (w : World) (old : DeliveryCore) (n p m i : ℕ) (b b2 : Mailbox) (handle : CursorHandle) (o : Open) (opening : Opening)
     → StandsFor k old w → n < length old.clients → client_at old.clients n ≡ None → p ≡ n → i ≡ m → i < length old.boxes → b ≡ get_or old.boxes i b
-    → Updates b.cursors b2.cursors seat.slot (Some o) → in_slot b.cursors seat.slot ≡ None → IsSome (held b2.cursors seat) → seat.at ≡ total b.window → KeepsLog b b2 → b2 ≡ record b { cursors = b2.cursors }
+    → Updates b.cursors b2.cursors handle.slot (Some o) → in_slot b.cursors handle.slot ≡ None → IsSome (held b2.cursors handle) → handle.at ≡ total b.window → KeepsLog b b2 → b2 ≡ record b { cursors = b2.cursors }
     → opening.count ≡ length b.messages → opening.uidnext ≡ mail_uid b → b2.cursors.next ≡ b.cursors.next + 1 → b.cursors.next < most_entries
-    → (v : World) × Step k w (Enter n m) v × StandsFor k (record old { boxes = set old.boxes i b2; clients = set old.clients p (Some (record { mailbox = m; seat = seat })) }) v × Opens k w m (Ok opening)
-enter_follows k w old n p m i b b2 seat o opening S l none place same within there opened vacant known at same_log rest count uidnext next left =
+    → (v : World) × Step k w (Enter n m) v × StandsFor k (record old { boxes = set old.boxes i b2; clients = set old.clients p (Some (record { mailbox = m; handle = handle })) }) v × Opens k w m (Ok opening)
+enter_follows k w old n p m i b b2 handle o opening S l none place same within there opened vacant known at same_log rest count uidnext next left =
     let s : Session = record { mailbox = m; start = length (w.box m).log; cursor = length (w.box m).log; shown = [] } in
     let v : World = record w { session = set_at w.session n (Some s); opened = set_at w.opened m (w.opened m + 1) } in
     let made : EnterStep k w n m v = enters (omega (arith, l, S.sessions)) (omega (arith, within, same, S.mailboxes)) (session_none k w old n S l none) (omega (arith, was, left)) refl in (
       v,
       made,
-      stands_after k w v old (set old.boxes i b2) (set old.clients p (Some (record { mailbox = m; seat = seat }))) S (reached_step k w (Enter n m) v S.reached made)
+      stands_after k w v old (set old.boxes i b2) (set old.clients p (Some (record { mailbox = m; handle = handle }))) S (reached_step k w (Enter n m) v S.reached made)
           (length-set old.boxes i b2) (length-set old.clients p _) refl refl refl refl
           (each_here (λ j x. StandsForBox k x (w.box j)) old.boxes i b2 S.boxes (box_keeps k b b2 (w.box i) b2.cursors before same_log rest))
-          (subst (λ (j : ℕ). EachAt (λ q x. StandsForPlace x (set_at w.session n (Some s) q)) (set old.clients j (Some (record { mailbox = m; seat = seat })))) (sym place)
-          (each_set (λ x z. StandsForPlace x z) old.clients w.session n (Some (record { mailbox = m; seat = seat })) (Some s) S.clients (record { mailbox = refl; cursor = omega (arith, at, here.log.window.long) })))
+          (subst (λ (j : ℕ). EachAt (λ q x. StandsForPlace x (set_at w.session n (Some s) q)) (set old.clients j (Some (record { mailbox = m; handle = handle })))) (sym place)
+          (each_set (λ x z. StandsForPlace x z) old.clients w.session n (Some (record { mailbox = m; handle = handle })) (Some s) S.clients (record { mailbox = refl; cursor = omega (arith, at, here.log.window.long) })))
           (subst (λ (j : ℕ). EachAt (λ q s. s.next ≡ set_at w.opened j (w.opened m + 1) q) (cursors_of (set old.boxes i b2))) same (opened_set old.boxes w.opened i (w.opened m + 1) b2 S.opened (omega (arith, next, was))))
-          (enter_seated old.boxes old.clients n p m i b b2 seat o S.seated place same within there opened vacant known),
+          (enter_seated old.boxes old.clients n p m i b b2 handle o S.seated place same within there opened vacant known),
       (count ∙ boxed.same_rows k b (w.box m) here, uidnext ∙ boxed.same_uid k b (w.box m) here),
     )
   where

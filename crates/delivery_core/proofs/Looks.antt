@@ -9,7 +9,7 @@ use Rattle.change_ring.specs.declared.change.Change.{Change}
 use Rattle.change_ring.specs.Log.{Row, replay, view_at}
 use Rattle.change_ring.specs.Window.{changes_from}
 use Rattle.change_ring.proofs.WindowLaws.{changes_from-log}
-use Rattle.cursor_set.specs.Cursors.{CursorSet, Open, CursorSeat, Updates, after_showing, held}
+use Rattle.cursor_set.specs.Cursors.{CursorSet, Open, CursorHandle, Updates, after_showing, held}
 use Rattle.cursor_set.specs.Lines.{lines}
 use Rattle.mailbox.specs.Counts.{bytes_in_all, deleted_count, unseen_count}
 use Rattle.mailbox.specs.Mailbox.{Mailbox, Message, row_of, next_uid as mail_uid}
@@ -37,10 +37,10 @@ view_is None view e = cc
 view_is (Some o) view e = cc
 
 pub view_shown : (old : DeliveryCore) (n m : ℕ) (c : Client) (b : Mailbox) (view : List ℕ) → AreSeated (cursors_of old.boxes) old.clients → client_at old.clients n ≡ Some c → m ≡ c.mailbox → b ≡ get_or old.boxes m b
-    → option_map (λ (o : Open). o.view) (held b.cursors c.seat) ≡ Some view → view ≡ view_of old n
+    → option_map (λ (o : Open). o.view) (held b.cursors c.handle) ≡ Some view → view ≡ view_of old n
 view_shown old n m c b view S e same there e2 =
-    view_is (held b.cursors c.seat) view e2
-    ∙ ap (λ (s : CursorSet). view_in (held s c.seat)) (sym (ap (cursors_at (cursors_of old.boxes)) (sym same) ∙ cursors_get old.boxes m b (mailbox_within old.boxes old.clients n m c S e same) ∙ ap (λ (z : Mailbox). z.cursors) (sym there)))
+    view_is (held b.cursors c.handle) view e2
+    ∙ ap (λ (s : CursorSet). view_in (held s c.handle)) (sym (ap (cursors_at (cursors_of old.boxes)) (sym same) ∙ cursors_get old.boxes m b (mailbox_within old.boxes old.clients n m c S e same) ∙ ap (λ (z : Mailbox). z.cursors) (sym there)))
     ∙ ap (shown_to old) (sym e)
 
 found : (x : Option Open) (view : List ℕ) → option_map (λ (o : Open). o.view) x ≡ Some view → (o : Open) × (x ≡ Some o) × (o.view ≡ view)
@@ -48,25 +48,25 @@ found None view e = cc
 found (Some o) view e = (o, refl, cc)
 
 pub view_log : (k : Config) (w : World) (old : DeliveryCore) (n m : ℕ) (c : Client) (b : Mailbox) (view : List ℕ) → StandsFor k old w → client_at old.clients n ≡ Some c → m ≡ c.mailbox → b ≡ get_or old.boxes m b
-    → option_map (λ (o : Open). o.view) (held b.cursors c.seat) ≡ Some view
+    → option_map (λ (o : Open). o.view) (held b.cursors c.handle) ≡ Some view
     → Selected w n (λ s. view ≡ view_at (w.box s.mailbox).log s.cursor)
-view_log k w old n m c b view S e same there has = go (session_at k w old n c S e) (found (held b.cursors c.seat) view has)
+view_log k w old n m c b view S e same there has = go (session_at k w old n c S e) (found (held b.cursors c.handle) view has)
   where
     within : m < length old.boxes
     within = mailbox_within old.boxes old.clients n m c S.seated e same
 
-    go : (s : Session) × (w.session n ≡ Some s) × StandsForClient c s → (o : Open) × (held b.cursors c.seat ≡ Some o) × (o.view ≡ view) → Selected w n (λ s. view ≡ view_at (w.box s.mailbox).log s.cursor)
+    go : (s : Session) × (w.session n ≡ Some s) × StandsForClient c s → (o : Open) × (held b.cursors c.handle ≡ Some o) × (o.view ≡ view) → Selected w n (λ s. view ≡ view_at (w.box s.mailbox).log s.cursor)
     go (s, is, one) (o, open_is, shown) = (
       s,
       is,
       let here : StandsForBox k b (w.box s.mailbox) = subst (λ (i : ℕ). StandsForBox k b (w.box i)) (same ∙ one.mailbox) (subst (λ (x : Mailbox). StandsForBox k x (w.box m)) (sym there) (S.boxes m b within)) in
-          let fits : Matches b.cursors c.seat o = matches b.cursors c.seat o open_is in
+          let fits : Matches b.cursors c.handle o = matches b.cursors c.handle o open_is in
           let at : o.at ≡ s.cursor = fits.at ∙ one.cursor in
-          sym shown ∙ (here.log.cursors c.seat.slot o fits.slot).view ∙ ap (view_at (w.box s.mailbox).log) at,
+          sym shown ∙ (here.log.cursors c.handle.slot o fits.slot).view ∙ ap (view_at (w.box s.mailbox).log) at,
     )
 
-pub no_stranger_here : (b : Mailbox) (seat : CursorSeat) → IsSome (held b.cursors seat) → held b.cursors seat ≡ None → ⊥
-no_stranger_here b seat some gone = nobody (held b.cursors seat) some gone
+pub no_stranger_here : (b : Mailbox) (handle : CursorHandle) → IsSome (held b.cursors handle) → held b.cursors handle ≡ None → ⊥
+no_stranger_here b handle some gone = nobody (held b.cursors handle) some gone
   where
     nobody : (o : Option Open) → IsSome o → o ≡ None → ⊥
     nobody None h e = cc
@@ -78,41 +78,41 @@ window_get (x ∷ xs) zero d l = refl
 window_get (x ∷ xs) (suc i) d l = window_get xs i d (omega arith)
 
 -- what is pending for a client, as its mailbox has it
-pub pending_here : (old : DeliveryCore) (n m : ℕ) (c : Client) (b : Mailbox) → AreSeated (cursors_of old.boxes) old.clients → client_at old.clients n ≡ Some c → m ≡ c.mailbox → b ≡ get_or old.boxes m b → pending_for old n ≡ changes_from c.seat.at b.window
+pub pending_here : (old : DeliveryCore) (n m : ℕ) (c : Client) (b : Mailbox) → AreSeated (cursors_of old.boxes) old.clients → client_at old.clients n ≡ Some c → m ≡ c.mailbox → b ≡ get_or old.boxes m b → pending_for old n ≡ changes_from c.handle.at b.window
 pending_here old n m c b S e same there =
-    ap (pending_in old) e ∙ ap (λ (j : ℕ). changes_from c.seat.at (window_at old.boxes j)) (sym same)
-    ∙ ap (changes_from c.seat.at) (window_get old.boxes m b (mailbox_within old.boxes old.clients n m c S e same) ∙ ap (λ (z : Mailbox). z.window) (sym there))
+    ap (pending_in old) e ∙ ap (λ (j : ℕ). changes_from c.handle.at (window_at old.boxes j)) (sym same)
+    ∙ ap (changes_from c.handle.at) (window_get old.boxes m b (mailbox_within old.boxes old.clients n m c S e same) ∙ ap (λ (z : Mailbox). z.window) (sym there))
 
 -- the view of a client that has its cursor
-view_here : (boxes : List Mailbox) (clients : List (Option Client)) (old : DeliveryCore) (n m : ℕ) (c : Client) (b : Mailbox) (o : Open) → m < length old.boxes → client_at old.clients n ≡ Some c → m ≡ c.mailbox → b ≡ get_or old.boxes m b → held b.cursors c.seat ≡ Some o → view_of old n ≡ o.view
+view_here : (boxes : List Mailbox) (clients : List (Option Client)) (old : DeliveryCore) (n m : ℕ) (c : Client) (b : Mailbox) (o : Open) → m < length old.boxes → client_at old.clients n ≡ Some c → m ≡ c.mailbox → b ≡ get_or old.boxes m b → held b.cursors c.handle ≡ Some o → view_of old n ≡ o.view
 view_here boxes clients old n m c b o within e same there has =
-    ap (shown_to old) e ∙ ap (λ (s : CursorSet). view_in (held s c.seat)) (ap (cursors_at (cursors_of old.boxes)) (sym same) ∙ cursors_get old.boxes m b within ∙ ap (λ (z : Mailbox). z.cursors) (sym there)) ∙ ap view_in has
+    ap (shown_to old) e ∙ ap (λ (s : CursorSet). view_in (held s c.handle)) (ap (cursors_at (cursors_of old.boxes)) (sym same) ∙ cursors_get old.boxes m b within ∙ ap (λ (z : Mailbox). z.cursors) (sym there)) ∙ ap view_in has
 
 -- a session was shown these changes, and its client put back
-pub saw : (old : DeliveryCore) (n p m : ℕ) (c : Client) (b b2 : Mailbox) (seat2 : CursorSeat) (vacant : Option Client) (cs : List Change) (before after : List ℕ) → AreSeated (cursors_of old.boxes) old.clients → client_at old.clients n ≡ Some c → p ≡ n → m ≡ c.mailbox → b ≡ get_or old.boxes m b
-    → Updates b.cursors b2.cursors c.seat.slot (option_map (after_showing cs) (held b.cursors c.seat)) → seat2 ≡ record c.seat { at = c.seat.at + length cs } → IfSome (held b.cursors c.seat) (λ (o : Open). after ≡ before ++ lines o.view cs)
-    → Sees old (record old { boxes = set old.boxes m b2; clients = set (set old.clients p vacant) p (Some (record { mailbox = c.mailbox; seat = seat2 })) }) n cs before after
-saw old n p m c b b2 seat2 vacant cs before after S e place same there moved is written = go (some_of (held b.cursors c.seat) (known_at old.boxes old.clients n c b S e (there ∙ ap (λ (i : ℕ). get_or old.boxes i b) same)))
+pub saw : (old : DeliveryCore) (n p m : ℕ) (c : Client) (b b2 : Mailbox) (handle2 : CursorHandle) (vacant : Option Client) (cs : List Change) (before after : List ℕ) → AreSeated (cursors_of old.boxes) old.clients → client_at old.clients n ≡ Some c → p ≡ n → m ≡ c.mailbox → b ≡ get_or old.boxes m b
+    → Updates b.cursors b2.cursors c.handle.slot (option_map (after_showing cs) (held b.cursors c.handle)) → handle2 ≡ record c.handle { at = c.handle.at + length cs } → IfSome (held b.cursors c.handle) (λ (o : Open). after ≡ before ++ lines o.view cs)
+    → Sees old (record old { boxes = set old.boxes m b2; clients = set (set old.clients p vacant) p (Some (record { mailbox = c.mailbox; handle = handle2 })) }) n cs before after
+saw old n p m c b b2 handle2 vacant cs before after S e place same there moved is written = go (some_of (held b.cursors c.handle) (known_at old.boxes old.clients n c b S e (there ∙ ap (λ (i : ℕ). get_or old.boxes i b) same)))
   where
     next : Client
-    next = record { mailbox = c.mailbox; seat = seat2 }
+    next = record { mailbox = c.mailbox; handle = handle2 }
 
     new : DeliveryCore
-    new = record old { boxes = set old.boxes m b2; clients = set (set old.clients p vacant) p (Some (record { mailbox = c.mailbox; seat = seat2 })) }
+    new = record old { boxes = set old.boxes m b2; clients = set (set old.clients p vacant) p (Some (record { mailbox = c.mailbox; handle = handle2 })) }
 
     within : m < length old.boxes
     within = mailbox_within old.boxes old.clients n m c S e same
 
-    seated : client_at (set (set old.clients p vacant) p (Some (record { mailbox = c.mailbox; seat = seat2 }))) n ≡ Some (record { mailbox = c.mailbox; seat = seat2 })
-    seated = ap (client_at (set (set old.clients p vacant) p (Some (record { mailbox = c.mailbox; seat = seat2 })))) (sym place)
+    seated : client_at (set (set old.clients p vacant) p (Some (record { mailbox = c.mailbox; handle = handle2 }))) n ≡ Some (record { mailbox = c.mailbox; handle = handle2 })
+    seated = ap (client_at (set (set old.clients p vacant) p (Some (record { mailbox = c.mailbox; handle = handle2 })))) (sym place)
         ∙ get_or-set_same (set old.clients p vacant) p _ None (omega (arith, place_within old.clients n c e, place, length-set old.clients p vacant))
 
-    go : (o : Open) × (held b.cursors c.seat ≡ Some o)
-        → Sees old (record old { boxes = set old.boxes m b2; clients = set (set old.clients p vacant) p (Some (record { mailbox = c.mailbox; seat = seat2 })) }) n cs before after
+    go : (o : Open) × (held b.cursors c.handle ≡ Some o)
+        → Sees old (record old { boxes = set old.boxes m b2; clients = set (set old.clients p vacant) p (Some (record { mailbox = c.mailbox; handle = handle2 })) }) n cs before after
     go (o, has) =
         let was : view_of old n ≡ o.view = view_here old.boxes old.clients old n m c b o within e same there has in
-        let u : Updates b.cursors b2.cursors c.seat.slot (Some (after_showing cs o)) = subst (λ (x : Option Open). Updates b.cursors b2.cursors c.seat.slot (option_map (after_showing cs) x)) has moved in
-        let holds : held b2.cursors seat2 ≡ Some (after_showing cs o) = ap (held b2.cursors) is ∙ held_shown b.cursors b2.cursors c.seat o cs has u in
+        let u : Updates b.cursors b2.cursors c.handle.slot (Some (after_showing cs o)) = subst (λ (x : Option Open). Updates b.cursors b2.cursors c.handle.slot (option_map (after_showing cs) x)) has moved in
+        let holds : held b2.cursors handle2 ≡ Some (after_showing cs o) = ap (held b2.cursors) is ∙ held_shown b.cursors b2.cursors c.handle o cs has u in
         let now : view_of new n ≡ replay o.view cs = view_here new.boxes new.clients new n m next b2 (after_showing cs o) (omega (arith, within, length-set old.boxes m b2)) seated same (sym (get_or-set_same old.boxes m b2 b2 within)) holds in
         let wrote : after ≡ before ++ lines o.view cs = subst (λ (x : Option Open). IfSome x (λ (y : Open). after ≡ before ++ lines y.view cs)) has written in
         record {
@@ -126,16 +126,16 @@ same_view old boxes n same = go (client_at old.clients n)
   where
     go : (x : Option Client) → shown_to (record old { boxes = boxes }) x ≡ shown_to old x
     go None = refl
-    go (Some c) = ap (λ (all : List CursorSet). view_in (held (cursors_at all c.mailbox) c.seat)) same
+    go (Some c) = ap (λ (all : List CursorSet). view_in (held (cursors_at all c.mailbox) c.handle)) same
 
 -- ---- in a world
 
 -- a client's view is what its session was shown of the log
 pub view_seen : (k : Config) (w : World) (old : DeliveryCore) (n : ℕ) (c : Client) (b : Mailbox) → StandsFor k old w → client_at old.clients n ≡ Some c → b ≡ get_or old.boxes c.mailbox b
     → Selected w n (λ s. view_of old n ≡ view_at (w.box s.mailbox).log s.cursor)
-view_seen k w old n c b S e there = go (some_of (held b.cursors c.seat) (known_at old.boxes old.clients n c b S.seated e there))
+view_seen k w old n c b S e there = go (some_of (held b.cursors c.handle) (known_at old.boxes old.clients n c b S.seated e there))
   where
-    go : (o : Open) × (held b.cursors c.seat ≡ Some o) → Selected w n (λ s. view_of old n ≡ view_at (w.box s.mailbox).log s.cursor)
+    go : (o : Open) × (held b.cursors c.handle ≡ Some o) → Selected w n (λ s. view_of old n ≡ view_at (w.box s.mailbox).log s.cursor)
     go (o, has) = view_log k w old n c.mailbox c b (view_of old n) S e refl there
         (ap (option_map (λ (x : Open). x.view)) has ∙ ap (λ (v : List ℕ). Some v) (sym (view_here old.boxes old.clients old n c.mailbox c b o (mailbox_within old.boxes old.clients n c.mailbox c S.seated e refl) e refl there has)))
 
@@ -153,7 +153,7 @@ pending_seen k w old n c b S e there = go (session_at k w old n c S e)
       is,
       λ low.
           let here : StandsForBox k b (w.box s.mailbox) = subst (λ (i : ℕ). StandsForBox k b (w.box i)) one.mailbox (subst (λ (x : Mailbox). StandsForBox k x (w.box c.mailbox)) (sym there) (S.boxes c.mailbox b within)) in
-          pending_here old n c.mailbox c b S.seated e refl there ∙ changes_from-log b.window (w.box s.mailbox).log c.seat.at here.log.window (omega (arith, low, here.base, one.cursor))
+          pending_here old n c.mailbox c b S.seated e refl there ∙ changes_from-log b.window (w.box s.mailbox).log c.handle.at here.log.window (omega (arith, low, here.base, one.cursor))
           ∙ ap (λ (i : ℕ). drop i (w.box s.mailbox).log) one.cursor,
     )
 

@@ -10,7 +10,7 @@ use Rattle.change_ring.specs.Log.{Row, rows_of}
 use Rattle.change_ring.specs.Logged.{flags_after}
 use Rattle.change_ring.specs.Window.{Window, total, BaseAfter}
 use Rattle.change_ring.proofs.WindowLaws.{BaseAfter-less}
-use Rattle.cursor_set.specs.Cursors.{CursorSet, Open, CursorSeat, held}
+use Rattle.cursor_set.specs.Cursors.{CursorSet, Open, CursorHandle, held}
 use Rattle.mailbox.specs.declared.clients.MailFault.{MailFault}
 use Rattle.mailbox.specs.declared.clients.MailFault.TheVariants.{Stranger, Lapped, Spent, NoMemory}
 use Rattle.mailbox.specs.Events.{KeepsLog, Logs as MailLogs, Moves, IsTooMany, IsStranger, IsLapped, IsCurrent, mark, seen_after}
@@ -101,51 +101,51 @@ pub same_rows : (k : Config) (b : Mailbox) (x : Box) → StandsForBox k b x → 
 same_rows k b x S = S.log.messages
 
 -- a mailbox's cursor that is not lapsed is where its window is
-admitted : {T : Type 0} (r : Result T MailFault) (b : Mailbox) (seat : CursorSeat) → IsSome (held b.cursors seat) → (r ≡ Err Lapped) ↔ IsLapped b seat → (r ≡ Err Lapped → ⊥) → b.window.base ≤ seat.at
-admitted r b seat some lapses not = elim (cases_lt seat.at b.window.base) [
+admitted : {T : Type 0} (r : Result T MailFault) (b : Mailbox) (handle : CursorHandle) → IsSome (held b.cursors handle) → (r ≡ Err Lapped) ↔ IsLapped b handle → (r ≡ Err Lapped → ⊥) → b.window.base ≤ handle.at
+admitted r b handle some lapses not = elim (cases_lt handle.at b.window.base) [
   | inl low ↦ absurd (not (lapses.1 (some, low)))
   | inr high ↦ high
 ]
 
-roomy : {T : Type 0} (r : Result T MailFault) (b : Mailbox) (seat : CursorSeat) (cs : List Change) → IsCurrent b seat → (r ≡ Err Spent) ↔ (IsCurrent b seat × IsTooMany b cs) → (r ≡ Err Spent → ⊥) → total b.window + length cs ≤ most_changes
-roomy r b seat cs current spends not = elim (cases_lt most_changes (total b.window + length cs)) [
+roomy : {T : Type 0} (r : Result T MailFault) (b : Mailbox) (handle : CursorHandle) (cs : List Change) → IsCurrent b handle → (r ≡ Err Spent) ↔ (IsCurrent b handle × IsTooMany b cs) → (r ≡ Err Spent → ⊥) → total b.window + length cs ≤ most_changes
+roomy r b handle cs current spends not = elim (cases_lt most_changes (total b.window + length cs)) [
   | inl many ↦ absurd (not (spends.1 (current, many)))
   | inr few ↦ few
 ]
 
-pub no_stranger : {T : Type 0} (r : Result T MailFault) (b : Mailbox) (seat : CursorSeat) → IsSome (held b.cursors seat) → (r ≡ Err Stranger) ↔ IsStranger b seat → r ≡ Err Stranger → ⊥
-no_stranger r b seat some strange e = nobody (held b.cursors seat) some (strange.0 e)
+pub no_stranger : {T : Type 0} (r : Result T MailFault) (b : Mailbox) (handle : CursorHandle) → IsSome (held b.cursors handle) → (r ≡ Err Stranger) ↔ IsStranger b handle → r ≡ Err Stranger → ⊥
+no_stranger r b handle some strange e = nobody (held b.cursors handle) some (strange.0 e)
   where
     nobody : (o : Option Open) → IsSome o → o ≡ None → ⊥
     nobody None h same = cc
     nobody (Some o) h same = cc
 
 -- the facts of a client's call that are the same for each kind
-pub record Told {T : Type 0} (r : Result T MailFault) (b : Mailbox) (seat : CursorSeat) (cs : List Change) : Type 0 where
-  pub known : IsSome (held b.cursors seat)
-  pub stranger : (r ≡ Err Stranger) ↔ IsStranger b seat
-  pub lapsed : (r ≡ Err Lapped) ↔ IsLapped b seat
-  pub spent : (r ≡ Err Spent) ↔ (IsCurrent b seat × IsTooMany b cs)
+pub record Told {T : Type 0} (r : Result T MailFault) (b : Mailbox) (handle : CursorHandle) (cs : List Change) : Type 0 where
+  pub known : IsSome (held b.cursors handle)
+  pub stranger : (r ≡ Err Stranger) ↔ IsStranger b handle
+  pub lapsed : (r ≡ Err Lapped) ↔ IsLapped b handle
+  pub spent : (r ≡ Err Spent) ↔ (IsCurrent b handle × IsTooMany b cs)
 
 -- a call that was not refused: the window has all that is pending, and the log has room
-pub taken : {T : Type 0} (k : Config) (b : Mailbox) (x : Box) (s : Session) (seat : CursorSeat) (cs : List Change) (r : Result T MailFault) (t : T) → StandsForBox k b x → seat.at ≡ s.cursor → Told r b seat cs → r ≡ Ok t
+pub taken : {T : Type 0} (k : Config) (b : Mailbox) (x : Box) (s : Session) (handle : CursorHandle) (cs : List Change) (r : Result T MailFault) (t : T) → StandsForBox k b x → handle.at ≡ s.cursor → Told r b handle cs → r ≡ Ok t
     → (x.base ≤ s.cursor) × (length x.log + length cs ≤ most_changes)
-taken k b x s seat cs r t S at told ok =
-    let here : b.window.base ≤ seat.at = admitted r b seat told.known told.lapsed (λ e. ok_err (sym ok ∙ e)) in
-    let room : total b.window + length cs ≤ most_changes = roomy r b seat cs (told.known, here) told.spent (λ e. ok_err (sym ok ∙ e)) in
+taken k b x s handle cs r t S at told ok =
+    let here : b.window.base ≤ handle.at = admitted r b handle told.known told.lapsed (λ e. ok_err (sym ok ∙ e)) in
+    let room : total b.window + length cs ≤ most_changes = roomy r b handle cs (told.known, here) told.spent (λ e. ok_err (sym ok ∙ e)) in
     (omega (arith, here, at, S.base), omega (arith, room, S.log.window.long))
   where
     ok_err : {f : MailFault} → Ok t ≡ Err f → ⊥
     ok_err e = cc
 
 -- a call that was refused
-pub turned_away : {T : Type 0} (k : Config) (b : Mailbox) (x : Box) (s : Session) (seat : CursorSeat) (cs : List Change) (r : Result T MailFault) (f : MailFault) → StandsForBox k b x → seat.at ≡ s.cursor → Told r b seat cs → r ≡ Err f → Refuses f cs x s
-turned_away k b x s seat cs r Stranger S at told e = absurd (no_stranger r b seat told.known told.stranger e)
-turned_away k b x s seat cs r Lapped S at told e = let low : IsLapped b seat = told.lapsed.0 e in omega (arith, low.1, at, S.base)
-turned_away k b x s seat cs r Spent S at told e = let both : IsCurrent b seat × IsTooMany b cs = told.spent.0 e in (omega (arith, both.0.1, at, S.base), omega (arith, both.1, S.log.window.long))
-turned_away {T} k b x s seat cs r NoMemory S at told e =
-    let here : b.window.base ≤ seat.at = admitted r b seat told.known told.lapsed (λ l. differs (sym e ∙ l)) in
-    let room : total b.window + length cs ≤ most_changes = roomy r b seat cs (told.known, here) told.spent (λ l. spends (sym e ∙ l)) in
+pub turned_away : {T : Type 0} (k : Config) (b : Mailbox) (x : Box) (s : Session) (handle : CursorHandle) (cs : List Change) (r : Result T MailFault) (f : MailFault) → StandsForBox k b x → handle.at ≡ s.cursor → Told r b handle cs → r ≡ Err f → Refuses f cs x s
+turned_away k b x s handle cs r Stranger S at told e = absurd (no_stranger r b handle told.known told.stranger e)
+turned_away k b x s handle cs r Lapped S at told e = let low : IsLapped b handle = told.lapsed.0 e in omega (arith, low.1, at, S.base)
+turned_away k b x s handle cs r Spent S at told e = let both : IsCurrent b handle × IsTooMany b cs = told.spent.0 e in (omega (arith, both.0.1, at, S.base), omega (arith, both.1, S.log.window.long))
+turned_away {T} k b x s handle cs r NoMemory S at told e =
+    let here : b.window.base ≤ handle.at = admitted r b handle told.known told.lapsed (λ l. differs (sym e ∙ l)) in
+    let room : total b.window + length cs ≤ most_changes = roomy r b handle cs (told.known, here) told.spent (λ l. spends (sym e ∙ l)) in
     (omega (arith, here, at, S.base), omega (arith, room, S.log.window.long))
   where
     differs : Err NoMemory ≡ (let l : Result T MailFault = Err Lapped in l) → ⊥
@@ -156,22 +156,22 @@ turned_away {T} k b x s seat cs r NoMemory S at told e =
 
 -- ---- a call of a client
 
-pub box_call : {T : Type 0} (k : Config) (b b2 : Mailbox) (x : Box) (s : Session) (seat seat2 : CursorSeat) (allocates : Bool) (shown cs : List Change) (r : Result T MailFault) → StandsForBox k b x → seat.at ≡ s.cursor → Told r b seat cs
-    → (r ≡ Err NoMemory → allocates ≡ true) → OnErr r ((b2 ≡ b) × (seat2 ≡ seat)) → OnOk r (length x.log + length cs ≤ most_changes → Becomes k x cs b2) → OnOk r (seat2.at ≡ s.cursor + length shown)
-    → BoxMails k x s allocates shown cs b2 seat2
-box_call k b b2 x s seat seat2 allocates shown cs (Ok t) S at told may err becomes moved =
-    let here : (x.base ≤ s.cursor) × (length x.log + length cs ≤ most_changes) = taken k b x s seat cs (Ok t) t S at told refl in
+pub box_call : {T : Type 0} (k : Config) (b b2 : Mailbox) (x : Box) (s : Session) (handle handle2 : CursorHandle) (allocates : Bool) (shown cs : List Change) (r : Result T MailFault) → StandsForBox k b x → handle.at ≡ s.cursor → Told r b handle cs
+    → (r ≡ Err NoMemory → allocates ≡ true) → OnErr r ((b2 ≡ b) × (handle2 ≡ handle)) → OnOk r (length x.log + length cs ≤ most_changes → Becomes k x cs b2) → OnOk r (handle2.at ≡ s.cursor + length shown)
+    → BoxMails k x s allocates shown cs b2 handle2
+box_call k b b2 x s handle handle2 allocates shown cs (Ok t) S at told may err becomes moved =
+    let here : (x.base ≤ s.cursor) × (length x.log + length cs ≤ most_changes) = taken k b x s handle cs (Ok t) t S at told refl in
     let y : Becomes k x cs b2 = becomes here.1 in
     box_mails y.0 here.0 y.1 y.2 moved
-box_call {T} k b b2 x s seat seat2 allocates shown cs (Err f) S at told may err becomes moved = go f (turned_away k b x s seat cs (Err f) f S at told refl) may
+box_call {T} k b b2 x s handle handle2 allocates shown cs (Err f) S at told may err becomes moved = go f (turned_away k b x s handle cs (Err f) f S at told refl) may
   where
     box : StandsForBox k b2 x
     box = subst (λ (m : Mailbox). StandsForBox k m x) (sym err.0) S
 
-    still : seat2.at ≡ s.cursor
-    still = ap (λ (z : CursorSeat). z.at) err.1 ∙ at
+    still : handle2.at ≡ s.cursor
+    still = ap (λ (z : CursorHandle). z.at) err.1 ∙ at
 
-    go : (g : MailFault) → Refuses g cs x s → ((let r : Result T MailFault = Err g in r) ≡ Err NoMemory → allocates ≡ true) → BoxMails k x s allocates shown cs b2 seat2
+    go : (g : MailFault) → Refuses g cs x s → ((let r : Result T MailFault = Err g in r) ≡ Err NoMemory → allocates ≡ true) → BoxMails k x s allocates shown cs b2 handle2
     go Stranger why m = absurd why
     go Lapped why m = box_lapsed why box still
     go Spent why m = box_spent why.0 why.1 box still
@@ -253,18 +253,18 @@ text_told k x ms uid m ok texts e = sym (text_accepted uid x.accepted m.text (te
 
 -- ---- reading and storing
 
-pub box_still : {T : Type 0} (k : Config) (b b2 : Mailbox) (x : Box) (s : Session) (seat : CursorSeat) (allocates : Bool) (logged : List Row → List Change) (r : Result T MailFault) → StandsForBox k b x → seat.at ≡ s.cursor → Told r b seat (logged (rows b))
+pub box_still : {T : Type 0} (k : Config) (b b2 : Mailbox) (x : Box) (s : Session) (handle : CursorHandle) (allocates : Bool) (logged : List Row → List Change) (r : Result T MailFault) → StandsForBox k b x → handle.at ≡ s.cursor → Told r b handle (logged (rows b))
     → (r ≡ Err NoMemory → allocates ≡ true) → OnErr r (b2 ≡ b) → OnOk r (MailLogs b b2 (logged (rows b))) → OnOk r (Moves b.cursors b.window b2.window (logged (rows b))) → OnOk r (IsPart (map text_of b2.messages) (map text_of b.messages))
-    → b2 ≡ record b { messages = b2.messages; window = b2.window } → BoxMails k x s allocates [] (logged (rows_of x.log)) b2 seat
-box_still {T} k b b2 x s seat allocates logged r S at told may err logs moves texts rest =
-    subst (λ (rs : List Row). BoxMails k x s allocates [] (logged rs) b2 seat) (same_rows k b x S)
-    (box_call k b b2 x s seat seat allocates [] (logged (rows b)) r S at told may (errs r err) (becomes r logs moves texts) (on_ok r (omega (arith, at))))
+    → b2 ≡ record b { messages = b2.messages; window = b2.window } → BoxMails k x s allocates [] (logged (rows_of x.log)) b2 handle
+box_still {T} k b b2 x s handle allocates logged r S at told may err logs moves texts rest =
+    subst (λ (rs : List Row). BoxMails k x s allocates [] (logged rs) b2 handle) (same_rows k b x S)
+    (box_call k b b2 x s handle handle allocates [] (logged (rows b)) r S at told may (errs r err) (becomes r logs moves texts) (on_ok r (omega (arith, at))))
   where
-    errs : (q : Result T MailFault) → OnErr q (b2 ≡ b) → OnErr q ((b2 ≡ b) × (seat ≡ seat))
+    errs : (q : Result T MailFault) → OnErr q (b2 ≡ b) → OnErr q ((b2 ≡ b) × (handle ≡ handle))
     errs (Ok t) h = h
     errs (Err f) h = (h, refl)
 
-    on_ok : (q : Result T MailFault) → seat.at ≡ s.cursor + 0 → OnOk q (seat.at ≡ s.cursor + 0)
+    on_ok : (q : Result T MailFault) → handle.at ≡ s.cursor + 0 → OnOk q (handle.at ≡ s.cursor + 0)
     on_ok (Ok t) h = h
     on_ok (Err f) h = tt
 

@@ -2,7 +2,7 @@
 use Rattle.std.proofs.Common.{◌≡◌, ℕ, zero, suc, ◌+◌, ◌<◌, ◌≤◌, Bool, true, false, List, [], ◌∷◌, length, set, get_or, refl, sym, ap, ◌∙◌, arith, subst, length-set, Option, Some, None, IsSome, is_some}
 use Rattle.std.specs.Prelude.{option_map}
 use Rattle.change_ring.specs.declared.change.Change.{Change}
-use Rattle.cursor_set.specs.Cursors.{CursorSet, Open, CursorSeat, Updates, after_showing, held, in_slot}
+use Rattle.cursor_set.specs.Cursors.{CursorSet, Open, CursorHandle, Updates, after_showing, held, in_slot}
 use Rattle.mailbox.specs.Mailbox.{Mailbox}
 use Rattle.shard_queue.specs.At.{set_at}
 use Rattle.world.specs.World.{Config, World, Box, Session, Event, Step, Logs, MailStep, mails, mail_lapped, mail_spent, mail_no_memory, Selected, shows, most_changes}
@@ -72,28 +72,28 @@ opened_same boxes f i b b2 each l there same = subst (EachAt (λ m s. s.next ≡
 
 -- ---- a call of a client
 
--- what a mailbox leaves of its cursors, where the client of a seat did something
-pub record SeatMoves (old new : CursorSet) (seat moved : CursorSeat) : Type 0 where
-  pub elsewhere : SameElsewhere old new seat.slot
-  pub slot : moved.slot ≡ seat.slot
+-- what a mailbox leaves of its cursors, where the client of a handle did something
+pub record SeatMoves (old new : CursorSet) (handle moved : CursorHandle) : Type 0 where
+  pub elsewhere : SameElsewhere old new handle.slot
+  pub slot : moved.slot ≡ handle.slot
   pub known : IsSome (held new moved)
   pub next : new.next ≡ old.next
 
 -- what a mailbox does for a client, as the event of the world that it is
-pub data BoxMails (k : Config) (x : Box) (s : Session) (allocates : Bool) (shown changes : List Change) (new : Mailbox) (seat : CursorSeat) : Type 0 where
-  box_mails : (y : Box) → x.base ≤ s.cursor → Logs k x changes [] y → StandsForBox k new y → seat.at ≡ s.cursor + length shown → BoxMails k x s allocates shown changes new seat
-  box_lapsed : s.cursor < x.base → StandsForBox k new x → seat.at ≡ s.cursor → BoxMails k x s allocates shown changes new seat
-  box_spent : x.base ≤ s.cursor → most_changes < length x.log + length changes → StandsForBox k new x → seat.at ≡ s.cursor → BoxMails k x s allocates shown changes new seat
-  box_no_memory : allocates ≡ true → x.base ≤ s.cursor → length x.log + length changes ≤ most_changes → StandsForBox k new x → seat.at ≡ s.cursor → BoxMails k x s allocates shown changes new seat
+pub data BoxMails (k : Config) (x : Box) (s : Session) (allocates : Bool) (shown changes : List Change) (new : Mailbox) (handle : CursorHandle) : Type 0 where
+  box_mails : (y : Box) → x.base ≤ s.cursor → Logs k x changes [] y → StandsForBox k new y → handle.at ≡ s.cursor + length shown → BoxMails k x s allocates shown changes new handle
+  box_lapsed : s.cursor < x.base → StandsForBox k new x → handle.at ≡ s.cursor → BoxMails k x s allocates shown changes new handle
+  box_spent : x.base ≤ s.cursor → most_changes < length x.log + length changes → StandsForBox k new x → handle.at ≡ s.cursor → BoxMails k x s allocates shown changes new handle
+  box_no_memory : allocates ≡ true → x.base ≤ s.cursor → length x.log + length changes ≤ most_changes → StandsForBox k new x → handle.at ≡ s.cursor → BoxMails k x s allocates shown changes new handle
 
 -- the clients' cursors after it
-pub seated_mailed : (boxes : List Mailbox) (clients : List (Option Client)) (n : ℕ) (c : Client) (b b2 : Mailbox) (seat2 : CursorSeat) → AreSeated (cursors_of boxes) clients → client_at clients n ≡ Some c → b ≡ get_or boxes c.mailbox b
-    → SeatMoves b.cursors b2.cursors c.seat seat2
-    → AreSeated (cursors_of (set boxes c.mailbox b2)) (set clients n (Some (record { mailbox = c.mailbox; seat = seat2 })))
-seated_mailed boxes clients n c b b2 seat2 S e there moves =
-    subst (λ (all : List CursorSet). AreSeated all (set clients n (Some (record { mailbox = c.mailbox; seat = seat2 })))) (sym (cursors_set boxes c.mailbox b2))
-    (seated_after (cursors_of boxes) clients n c.mailbox c.seat.slot b2.cursors (Some (record { mailbox = c.mailbox; seat = seat2 })) S (S.there n c e)
-    (subst (λ (s : CursorSet). SameElsewhere s b2.cursors c.seat.slot) (sym was) moves.elsewhere)
+pub seated_mailed : (boxes : List Mailbox) (clients : List (Option Client)) (n : ℕ) (c : Client) (b b2 : Mailbox) (handle2 : CursorHandle) → AreSeated (cursors_of boxes) clients → client_at clients n ≡ Some c → b ≡ get_or boxes c.mailbox b
+    → SeatMoves b.cursors b2.cursors c.handle handle2
+    → AreSeated (cursors_of (set boxes c.mailbox b2)) (set clients n (Some (record { mailbox = c.mailbox; handle = handle2 })))
+seated_mailed boxes clients n c b b2 handle2 S e there moves =
+    subst (λ (all : List CursorSet). AreSeated all (set clients n (Some (record { mailbox = c.mailbox; handle = handle2 })))) (sym (cursors_set boxes c.mailbox b2))
+    (seated_after (cursors_of boxes) clients n c.mailbox c.handle.slot b2.cursors (Some (record { mailbox = c.mailbox; handle = handle2 })) S (S.there n c e)
+    (subst (λ (s : CursorSet). SameElsewhere s b2.cursors c.handle.slot) (sym was) moves.elsewhere)
     (own_slot (cursors_of boxes) clients n c S e)
     (λ d same. has d same))
   where
@@ -103,25 +103,25 @@ seated_mailed boxes clients n c b b2 seat2 S e there moves =
     same_client : (a d : Client) → Some a ≡ Some d → a ≡ d
     same_client a d same = cc
 
-    has : (d : Client) → Some (record { mailbox = c.mailbox; seat = seat2 }) ≡ Some d → HasSlot c.mailbox c.seat.slot b2.cursors d
-    has d same = subst (HasSlot c.mailbox c.seat.slot b2.cursors) (same_client _ d same) (record { mailbox_is = refl; slot_is = moves.slot; known = moves.known })
+    has : (d : Client) → Some (record { mailbox = c.mailbox; handle = handle2 }) ≡ Some d → HasSlot c.mailbox c.handle.slot b2.cursors d
+    has d same = subst (HasSlot c.mailbox c.handle.slot b2.cursors) (same_client _ d same) (record { mailbox_is = refl; slot_is = moves.slot; known = moves.known })
 
-pub mails_follow : (k : Config) (w : World) (old : DeliveryCore) (n : ℕ) (c : Client) (b b2 : Mailbox) (seat2 : CursorSeat) (allocates : Bool) (shown : Box → Session → List Change) (changes : Box → List Change)
+pub mails_follow : (k : Config) (w : World) (old : DeliveryCore) (n : ℕ) (c : Client) (b b2 : Mailbox) (handle2 : CursorHandle) (allocates : Bool) (shown : Box → Session → List Change) (changes : Box → List Change)
     (P : Box → Session → Type 0) (R : World → Type 0) → ((v : World) → R v → Reached k v) → ((v : World) → Selected w n (λ s. MailStep k w n s allocates (shown (w.box s.mailbox) s) (changes (w.box s.mailbox)) v) → R v)
-    → StandsFor k old w → client_at old.clients n ≡ Some c → b ≡ get_or old.boxes c.mailbox b → SeatMoves b.cursors b2.cursors c.seat seat2
-    → ((x : Box) (s : Session) → StandsForBox k b x → c.seat.at ≡ s.cursor → BoxOk k x → IsShown x.log s → BoxMails k x s allocates (shown x s) (changes x) b2 seat2 × P x s)
-    → (v : World) × R v × StandsFor k (record old { boxes = set old.boxes c.mailbox b2; clients = set old.clients n (Some (record { mailbox = c.mailbox; seat = seat2 })) }) v
+    → StandsFor k old w → client_at old.clients n ≡ Some c → b ≡ get_or old.boxes c.mailbox b → SeatMoves b.cursors b2.cursors c.handle handle2
+    → ((x : Box) (s : Session) → StandsForBox k b x → c.handle.at ≡ s.cursor → BoxOk k x → IsShown x.log s → BoxMails k x s allocates (shown x s) (changes x) b2 handle2 × P x s)
+    → (v : World) × R v × StandsFor k (record old { boxes = set old.boxes c.mailbox b2; clients = set old.clients n (Some (record { mailbox = c.mailbox; handle = handle2 })) }) v
     × Selected w n (λ s. P (w.box s.mailbox) s)
-mails_follow k w old n c b b2 seat2 allocates shown changes P R reach as_step S e there moves does = go (session_at k w old n c S e)
+mails_follow k w old n c b b2 handle2 allocates shown changes P R reach as_step S e there moves does = go (session_at k w old n c S e)
   where
     boxes2 : List Mailbox
     boxes2 = set old.boxes c.mailbox b2
 
     next : Client
-    next = record { mailbox = c.mailbox; seat = seat2 }
+    next = record { mailbox = c.mailbox; handle = handle2 }
 
-    seated : AreSeated (cursors_of (set old.boxes c.mailbox b2)) (set old.clients n (Some (record { mailbox = c.mailbox; seat = seat2 })))
-    seated = seated_mailed old.boxes old.clients n c b b2 seat2 S.seated e there moves
+    seated : AreSeated (cursors_of (set old.boxes c.mailbox b2)) (set old.clients n (Some (record { mailbox = c.mailbox; handle = handle2 })))
+    seated = seated_mailed old.boxes old.clients n c b b2 handle2 S.seated e there moves
 
     kept : Kept k w
     kept = kept_always k S.reached.0 w S.reached.1
@@ -133,7 +133,7 @@ mails_follow k w old n c b b2 seat2 allocates shown changes P R reach as_step S 
     opened = opened_same old.boxes w.opened c.mailbox b b2 S.opened within there moves.next
 
     go : (s : Session) × (w.session n ≡ Some s) × StandsForClient c s
-        → (v : World) × R v × StandsFor k (record old { boxes = set old.boxes c.mailbox b2; clients = set old.clients n (Some (record { mailbox = c.mailbox; seat = seat2 })) }) v
+        → (v : World) × R v × StandsFor k (record old { boxes = set old.boxes c.mailbox b2; clients = set old.clients n (Some (record { mailbox = c.mailbox; handle = handle2 })) }) v
         × Selected w n (λ s. P (w.box s.mailbox) s)
     go (s, is, same) = done (does (w.box s.mailbox) s here same.cursor (kept.boxes s.mailbox) (subst (SessionOk w.box) is (kept.sessions n)))
       where
@@ -141,42 +141,42 @@ mails_follow k w old n c b b2 seat2 allocates shown changes P R reach as_step S 
         here = subst (λ (m : ℕ). StandsForBox k b (w.box m)) same.mailbox (subst (λ (x : Mailbox). StandsForBox k x (w.box c.mailbox)) (sym there) (S.boxes c.mailbox b within))
 
         -- it was refused, and nothing changed
-        still : P (w.box s.mailbox) s → StandsForBox k b2 (w.box s.mailbox) → seat2.at ≡ s.cursor → MailStep k w n s allocates (shown (w.box s.mailbox) s) (changes (w.box s.mailbox)) w
-            → (v : World) × R v × StandsFor k (record old { boxes = set old.boxes c.mailbox b2; clients = set old.clients n (Some (record { mailbox = c.mailbox; seat = seat2 })) }) v
+        still : P (w.box s.mailbox) s → StandsForBox k b2 (w.box s.mailbox) → handle2.at ≡ s.cursor → MailStep k w n s allocates (shown (w.box s.mailbox) s) (changes (w.box s.mailbox)) w
+            → (v : World) × R v × StandsFor k (record old { boxes = set old.boxes c.mailbox b2; clients = set old.clients n (Some (record { mailbox = c.mailbox; handle = handle2 })) }) v
             × Selected w n (λ s. P (w.box s.mailbox) s)
         still p box at step = (
           w,
           as_step w (s, is, step),
-          stands_after k w w old (set old.boxes c.mailbox b2) (set old.clients n (Some (record { mailbox = c.mailbox; seat = seat2 }))) S S.reached
+          stands_after k w w old (set old.boxes c.mailbox b2) (set old.clients n (Some (record { mailbox = c.mailbox; handle = handle2 }))) S S.reached
               (length-set old.boxes c.mailbox b2) (length-set old.clients n _) refl refl refl refl
               (each_here (λ m x. StandsForBox k x (w.box m)) old.boxes c.mailbox b2 S.boxes (subst (λ (m : ℕ). StandsForBox k b2 (w.box m)) (sym same.mailbox) box))
-              (each_here (λ m x. StandsForPlace x (w.session m)) old.clients n (Some (record { mailbox = c.mailbox; seat = seat2 })) S.clients
-              (subst (λ (o : Option Session). StandsForPlace (Some (record { mailbox = c.mailbox; seat = seat2 })) o) (sym is) (record { mailbox = same.mailbox; cursor = at })))
+              (each_here (λ m x. StandsForPlace x (w.session m)) old.clients n (Some (record { mailbox = c.mailbox; handle = handle2 })) S.clients
+              (subst (λ (o : Option Session). StandsForPlace (Some (record { mailbox = c.mailbox; handle = handle2 })) o) (sym is) (record { mailbox = same.mailbox; cursor = at })))
               opened seated,
           (s, is, p),
         )
 
-        moved : P (w.box s.mailbox) s → (y : Box) → StandsForBox k b2 y → seat2.at ≡ s.cursor + length (shown (w.box s.mailbox) s)
+        moved : P (w.box s.mailbox) s → (y : Box) → StandsForBox k b2 y → handle2.at ≡ s.cursor + length (shown (w.box s.mailbox) s)
             → MailStep k w n s allocates (shown (w.box s.mailbox) s) (changes (w.box s.mailbox)) (record w { box = set_at w.box s.mailbox y; session = set_at w.session n (Some (shows s (shown (w.box s.mailbox) s))) })
-            → (v : World) × R v × StandsFor k (record old { boxes = set old.boxes c.mailbox b2; clients = set old.clients n (Some (record { mailbox = c.mailbox; seat = seat2 })) }) v
+            → (v : World) × R v × StandsFor k (record old { boxes = set old.boxes c.mailbox b2; clients = set old.clients n (Some (record { mailbox = c.mailbox; handle = handle2 })) }) v
             × Selected w n (λ s. P (w.box s.mailbox) s)
         moved p y box at step =
             let v : World = record w { box = set_at w.box s.mailbox y; session = set_at w.session n (Some (shows s (shown (w.box s.mailbox) s))) } in
             let made : R v = as_step v (s, is, step) in (
               v,
               made,
-              stands_after k w v old (set old.boxes c.mailbox b2) (set old.clients n (Some (record { mailbox = c.mailbox; seat = seat2 }))) S (reach v made)
+              stands_after k w v old (set old.boxes c.mailbox b2) (set old.clients n (Some (record { mailbox = c.mailbox; handle = handle2 }))) S (reach v made)
                   (length-set old.boxes c.mailbox b2) (length-set old.clients n _) refl refl refl refl
                   (subst (λ (m : ℕ). EachAt (λ i x. StandsForBox k x (set_at w.box m y i)) (set old.boxes c.mailbox b2)) same.mailbox
                   (each_set (λ x z. StandsForBox k x z) old.boxes w.box c.mailbox b2 y S.boxes box))
-                  (each_set (λ x z. StandsForPlace x z) old.clients w.session n (Some (record { mailbox = c.mailbox; seat = seat2 })) (Some (shows s (shown (w.box s.mailbox) s))) S.clients
+                  (each_set (λ x z. StandsForPlace x z) old.clients w.session n (Some (record { mailbox = c.mailbox; handle = handle2 })) (Some (shows s (shown (w.box s.mailbox) s))) S.clients
                   (record { mailbox = same.mailbox; cursor = at }))
                   opened seated,
               (s, is, p),
             )
 
-        done : BoxMails k (w.box s.mailbox) s allocates (shown (w.box s.mailbox) s) (changes (w.box s.mailbox)) b2 seat2 × P (w.box s.mailbox) s
-            → (v : World) × R v × StandsFor k (record old { boxes = set old.boxes c.mailbox b2; clients = set old.clients n (Some (record { mailbox = c.mailbox; seat = seat2 })) }) v
+        done : BoxMails k (w.box s.mailbox) s allocates (shown (w.box s.mailbox) s) (changes (w.box s.mailbox)) b2 handle2 × P (w.box s.mailbox) s
+            → (v : World) × R v × StandsFor k (record old { boxes = set old.boxes c.mailbox b2; clients = set old.clients n (Some (record { mailbox = c.mailbox; handle = handle2 })) }) v
             × Selected w n (λ s. P (w.box s.mailbox) s)
         done (box_mails y kept logs box at, p) = moved p y box at (mails y kept logs refl)
         done (box_lapsed low box at, p) = still p box at (mail_lapped low refl)
@@ -197,18 +197,18 @@ set_again (x ∷ xs) zero a b = refl
 set_again (x ∷ xs) (suc i) a b = ap (λ ys. x ∷ ys) (set_again xs i a b)
 
 -- a client's mailbox knows it
-pub known_at : (boxes : List Mailbox) (clients : List (Option Client)) (n : ℕ) (c : Client) (b : Mailbox) → AreSeated (cursors_of boxes) clients → client_at clients n ≡ Some c → b ≡ get_or boxes c.mailbox b → IsSome (held b.cursors c.seat)
-known_at boxes clients n c b S e there = subst (λ (s : CursorSet). IsSome (held s c.seat))
+pub known_at : (boxes : List Mailbox) (clients : List (Option Client)) (n : ℕ) (c : Client) (b : Mailbox) → AreSeated (cursors_of boxes) clients → client_at clients n ≡ Some c → b ≡ get_or boxes c.mailbox b → IsSome (held b.cursors c.handle)
+known_at boxes clients n c b S e there = subst (λ (s : CursorSet). IsSome (held s c.handle))
     (cursors_get boxes c.mailbox b (omega (arith, S.there n c e, length_cursors boxes)) ∙ ap (λ (m : Mailbox). m.cursors) (sym there)) (S.known n c e)
 
 pub mailbox_within : (boxes : List Mailbox) (clients : List (Option Client)) (n m : ℕ) (c : Client) → AreSeated (cursors_of boxes) clients → client_at clients n ≡ Some c → m ≡ c.mailbox → m < length boxes
 mailbox_within boxes clients n m c S e same = omega (arith, S.there n c e, length_cursors boxes)
 
-seat_stays : (old new : CursorSet) (seat : CursorSeat) → new ≡ old → IsSome (held old seat) → SeatMoves old new seat seat
-seat_stays old new seat same some = record {
+seat_stays : (old new : CursorSet) (handle : CursorHandle) → new ≡ old → IsSome (held old handle) → SeatMoves old new handle handle
+seat_stays old new handle same some = record {
   elsewhere = record { number = ap (λ (s : CursorSet). s.number) same; others = λ slot other. ap (λ (s : CursorSet). in_slot s slot) same };
   slot = refl;
-  known = subst (λ (s : CursorSet). IsSome (held s seat)) (sym same) some;
+  known = subst (λ (s : CursorSet). IsSome (held s handle)) (sym same) some;
   next = ap (λ (s : CursorSet). s.next) same;
 }
 
@@ -216,32 +216,32 @@ seat_stays old new seat same some = record {
 pub still_follow : (k : Config) (w : World) (old : DeliveryCore) (n m : ℕ) (c : Client) (b b2 : Mailbox) (allocates : Bool) (changes : Box → List Change) (P : Box → Session → Type 0) (R : World → Type 0) → ((v : World) → R v → Reached k v)
     → ((v : World) → Selected w n (λ s. MailStep k w n s allocates [] (changes (w.box s.mailbox)) v) → R v)
     → StandsFor k old w → client_at old.clients n ≡ Some c → m ≡ c.mailbox → b ≡ get_or old.boxes m b → b2.cursors ≡ b.cursors
-    → ((x : Box) (s : Session) → StandsForBox k b x → c.seat.at ≡ s.cursor → BoxOk k x → IsShown x.log s → BoxMails k x s allocates [] (changes x) b2 c.seat × P x s)
+    → ((x : Box) (s : Session) → StandsForBox k b x → c.handle.at ≡ s.cursor → BoxOk k x → IsShown x.log s → BoxMails k x s allocates [] (changes x) b2 c.handle × P x s)
     → (v : World) × R v × StandsFor k (record old { boxes = set old.boxes m b2 }) v × Selected w n (λ s. P (w.box s.mailbox) s)
 still_follow k w old n m c b b2 allocates changes P R reach as_step S e same there kept does =
     subst (λ (i : ℕ). (v : World) × R v × StandsFor k (record old { boxes = set old.boxes i b2 }) v × Selected w n (λ s. P (w.box s.mailbox) s)) (sym same)
     (subst (λ (cs : List (Option Client)). (v : World) × R v × StandsFor k (record old { boxes = set old.boxes c.mailbox b2; clients = cs }) v × Selected w n (λ s. P (w.box s.mailbox) s)) (client_back old.clients n c e)
-    (mails_follow k w old n c b b2 c.seat allocates (λ x s. []) changes P R reach as_step S e here (seat_stays b.cursors b2.cursors c.seat kept (known_at old.boxes old.clients n c b S.seated e here)) does))
+    (mails_follow k w old n c b b2 c.handle allocates (λ x s. []) changes P R reach as_step S e here (seat_stays b.cursors b2.cursors c.handle kept (known_at old.boxes old.clients n c b S.seated e here)) does))
   where
     here : b ≡ get_or old.boxes c.mailbox b
     here = there ∙ ap (λ (i : ℕ). get_or old.boxes i b) same
 
 -- a call that moves the client's cursor, whose client was taken from its place and put back
-pub moved_follow : (k : Config) (w : World) (old : DeliveryCore) (n p m : ℕ) (c : Client) (b b2 : Mailbox) (seat2 : CursorSeat) (vacant : Option Client) (allocates : Bool) (shown : Box → Session → List Change) (changes : Box → List Change)
+pub moved_follow : (k : Config) (w : World) (old : DeliveryCore) (n p m : ℕ) (c : Client) (b b2 : Mailbox) (handle2 : CursorHandle) (vacant : Option Client) (allocates : Bool) (shown : Box → Session → List Change) (changes : Box → List Change)
     (P : Box → Session → Type 0) (R : World → Type 0) → ((v : World) → R v → Reached k v)
     → ((v : World) → Selected w n (λ s. MailStep k w n s allocates (shown (w.box s.mailbox) s) (changes (w.box s.mailbox)) v) → R v)
-    → StandsFor k old w → client_at old.clients n ≡ Some c → p ≡ n → m ≡ c.mailbox → b ≡ get_or old.boxes m b → SeatMoves b.cursors b2.cursors c.seat seat2
-    → ((x : Box) (s : Session) → StandsForBox k b x → c.seat.at ≡ s.cursor → BoxOk k x → IsShown x.log s → BoxMails k x s allocates (shown x s) (changes x) b2 seat2 × P x s)
-    → (v : World) × R v × StandsFor k (record old { boxes = set old.boxes m b2; clients = set (set old.clients p vacant) p (Some (record { mailbox = c.mailbox; seat = seat2 })) }) v
+    → StandsFor k old w → client_at old.clients n ≡ Some c → p ≡ n → m ≡ c.mailbox → b ≡ get_or old.boxes m b → SeatMoves b.cursors b2.cursors c.handle handle2
+    → ((x : Box) (s : Session) → StandsForBox k b x → c.handle.at ≡ s.cursor → BoxOk k x → IsShown x.log s → BoxMails k x s allocates (shown x s) (changes x) b2 handle2 × P x s)
+    → (v : World) × R v × StandsFor k (record old { boxes = set old.boxes m b2; clients = set (set old.clients p vacant) p (Some (record { mailbox = c.mailbox; handle = handle2 })) }) v
     × Selected w n (λ s. P (w.box s.mailbox) s)
-moved_follow k w old n p m c b b2 seat2 vacant allocates shown changes P R reach as_step S e place same there moves does =
+moved_follow k w old n p m c b b2 handle2 vacant allocates shown changes P R reach as_step S e place same there moves does =
     subst (λ (i : ℕ). (v : World) × R v × StandsFor k (record old { boxes = set old.boxes i b2; clients = set (set old.clients p vacant) p (Some next) }) v × Selected w n (λ s. P (w.box s.mailbox) s)) (sym same)
     (subst (λ (cs : List (Option Client)). (v : World) × R v × StandsFor k (record old { boxes = set old.boxes c.mailbox b2; clients = cs }) v × Selected w n (λ s. P (w.box s.mailbox) s))
     (ap (λ (i : ℕ). set old.clients i (Some next)) (sym place) ∙ sym (set_again old.clients p vacant (Some next)))
-    (mails_follow k w old n c b b2 seat2 allocates shown changes P R reach as_step S e (there ∙ ap (λ (i : ℕ). get_or old.boxes i b) same) moves does))
+    (mails_follow k w old n c b b2 handle2 allocates shown changes P R reach as_step S e (there ∙ ap (λ (i : ℕ). get_or old.boxes i b) same) moves does))
   where
     next : Client
-    next = record { mailbox = c.mailbox; seat = seat2 }
+    next = record { mailbox = c.mailbox; handle = handle2 }
 
 -- ---- calls that were not refused
 
@@ -280,19 +280,19 @@ done_in k w n event shown changes v (step, (t, e, m)) (s, is, room) = (
 pub still_done : (k : Config) (old : DeliveryCore) (n m : ℕ) (c : Client) (b b2 : Mailbox) (changes : Box → List Change) (event : Event)
     → ((w v : World) → Selected w n (λ s. MailStep k w n s false [] (changes (w.box s.mailbox)) v) → Step k w event v)
     → client_at old.clients n ≡ Some c → m ≡ c.mailbox → b ≡ get_or old.boxes m b → b2.cursors ≡ b.cursors
-    → ((x : Box) (s : Session) → StandsForBox k b x → c.seat.at ≡ s.cursor → BoxOk k x → IsShown x.log s → BoxMails k x s false [] (changes x) b2 c.seat × HasRoom changes x s)
+    → ((x : Box) (s : Session) → StandsForBox k b x → c.handle.at ≡ s.cursor → BoxOk k x → IsShown x.log s → BoxMails k x s false [] (changes x) b2 c.handle × HasRoom changes x s)
     → Makes k old n (λ x s. []) changes (record old { boxes = set old.boxes m b2 })
 still_done k old n m c b b2 changes event as_step e same there kept does w S =
     let r = still_follow k w old n m c b b2 false changes (λ x s. HasRoom changes x s) (λ v. Passes k w n event (λ x s. []) changes v) (λ v made. reached_step k w event v S.reached made.0) (λ v h. (as_step w v h, h)) S e same there kept does in
     (r.0, r.2, done_in k w n event (λ x s. []) changes r.0 r.1 r.3)
 
-pub moved_done : (k : Config) (old : DeliveryCore) (n p m : ℕ) (c : Client) (b b2 : Mailbox) (seat2 : CursorSeat) (vacant : Option Client) (shown : Box → Session → List Change) (changes : Box → List Change) (event : Event)
+pub moved_done : (k : Config) (old : DeliveryCore) (n p m : ℕ) (c : Client) (b b2 : Mailbox) (handle2 : CursorHandle) (vacant : Option Client) (shown : Box → Session → List Change) (changes : Box → List Change) (event : Event)
     → ((w v : World) → Selected w n (λ s. MailStep k w n s false (shown (w.box s.mailbox) s) (changes (w.box s.mailbox)) v) → Step k w event v)
-    → client_at old.clients n ≡ Some c → p ≡ n → m ≡ c.mailbox → b ≡ get_or old.boxes m b → SeatMoves b.cursors b2.cursors c.seat seat2
-    → ((x : Box) (s : Session) → StandsForBox k b x → c.seat.at ≡ s.cursor → BoxOk k x → IsShown x.log s → BoxMails k x s false (shown x s) (changes x) b2 seat2 × HasRoom changes x s)
-    → Makes k old n shown changes (record old { boxes = set old.boxes m b2; clients = set (set old.clients p vacant) p (Some (record { mailbox = c.mailbox; seat = seat2 })) })
-moved_done k old n p m c b b2 seat2 vacant shown changes event as_step e place same there moves does w S =
-    let r = moved_follow k w old n p m c b b2 seat2 vacant false shown changes (λ x s. HasRoom changes x s) (λ v. Passes k w n event shown changes v) (λ v made. reached_step k w event v S.reached made.0) (λ v h. (as_step w v h, h)) S e place same there moves does in
+    → client_at old.clients n ≡ Some c → p ≡ n → m ≡ c.mailbox → b ≡ get_or old.boxes m b → SeatMoves b.cursors b2.cursors c.handle handle2
+    → ((x : Box) (s : Session) → StandsForBox k b x → c.handle.at ≡ s.cursor → BoxOk k x → IsShown x.log s → BoxMails k x s false (shown x s) (changes x) b2 handle2 × HasRoom changes x s)
+    → Makes k old n shown changes (record old { boxes = set old.boxes m b2; clients = set (set old.clients p vacant) p (Some (record { mailbox = c.mailbox; handle = handle2 })) })
+moved_done k old n p m c b b2 handle2 vacant shown changes event as_step e place same there moves does w S =
+    let r = moved_follow k w old n p m c b b2 handle2 vacant false shown changes (λ x s. HasRoom changes x s) (λ v. Passes k w n event shown changes v) (λ v made. reached_step k w event v S.reached made.0) (λ v h. (as_step w v h, h)) S e place same there moves does in
     (r.0, r.2, done_in k w n event shown changes r.0 r.1 r.3)
 
 -- the clients' cursors after these
@@ -301,44 +301,44 @@ pub still_seated : (boxes : List Mailbox) (clients : List (Option Client)) (n m 
 still_seated boxes clients n m c b b2 S e same there kept =
     subst (λ (all : List CursorSet). AreSeated all clients) (sym (cursors_same boxes m b b2 (mailbox_within boxes clients n m c S e same) there kept)) S
 
--- a seat whose client was shown these changes
-pub seat_moves : (old new : CursorSet) (seat moved : CursorSeat) (cs : List Change) → IsSome (held old seat) → Updates old new seat.slot (option_map (after_showing cs) (held old seat)) → moved ≡ record seat { at = seat.at + length cs } → new.next ≡ old.next → SeatMoves old new seat moved
-seat_moves old new seat moved cs some u is next =
-    let o : (x : Open) × (held old seat ≡ Some x) = some_of (held old seat) some in
-    let v : Updates old new seat.slot (Some (after_showing cs o.0)) = subst (λ (x : Option Open). Updates old new seat.slot (option_map (after_showing cs) x)) o.1 u in
+-- a handle whose client was shown these changes
+pub seat_moves : (old new : CursorSet) (handle moved : CursorHandle) (cs : List Change) → IsSome (held old handle) → Updates old new handle.slot (option_map (after_showing cs) (held old handle)) → moved ≡ record handle { at = handle.at + length cs } → new.next ≡ old.next → SeatMoves old new handle moved
+seat_moves old new handle moved cs some u is next =
+    let o : (x : Open) × (held old handle ≡ Some x) = some_of (held old handle) some in
+    let v : Updates old new handle.slot (Some (after_showing cs o.0)) = subst (λ (x : Option Open). Updates old new handle.slot (option_map (after_showing cs) x)) o.1 u in
     record {
       elsewhere = record { number = u.number; others = u.others };
-      slot = ap (λ (z : CursorSeat). z.slot) is;
-      known = subst (λ (z : CursorSeat). IsSome (held new z)) (sym is) (ap is_some (held_shown old new seat o.0 cs o.1 v));
+      slot = ap (λ (z : CursorHandle). z.slot) is;
+      known = subst (λ (z : CursorHandle). IsSome (held new z)) (sym is) (ap is_some (held_shown old new handle o.0 cs o.1 v));
       next = next;
     }
 
 -- or was refused
-pub seat_same : (old new : CursorSet) (seat moved : CursorSeat) → IsSome (held old seat) → new ≡ old → moved ≡ seat → SeatMoves old new seat moved
-seat_same old new seat moved some same is = subst (SeatMoves old new seat) (sym is) (seat_stays old new seat same some)
+pub seat_same : (old new : CursorSet) (handle moved : CursorHandle) → IsSome (held old handle) → new ≡ old → moved ≡ handle → SeatMoves old new handle moved
+seat_same old new handle moved some same is = subst (SeatMoves old new handle) (sym is) (seat_stays old new handle same some)
 
 -- a call that moves the client's cursor leaves it seated
-pub moved_seated : (boxes : List Mailbox) (clients : List (Option Client)) (n p m : ℕ) (c : Client) (b b2 : Mailbox) (seat2 : CursorSeat) (vacant : Option Client) → AreSeated (cursors_of boxes) clients → client_at clients n ≡ Some c → p ≡ n → m ≡ c.mailbox → b ≡ get_or boxes m b
-    → SeatMoves b.cursors b2.cursors c.seat seat2 → AreSeated (cursors_of (set boxes m b2)) (set (set clients p vacant) p (Some (record { mailbox = c.mailbox; seat = seat2 })))
-moved_seated boxes clients n p m c b b2 seat2 vacant S e place same there moves =
+pub moved_seated : (boxes : List Mailbox) (clients : List (Option Client)) (n p m : ℕ) (c : Client) (b b2 : Mailbox) (handle2 : CursorHandle) (vacant : Option Client) → AreSeated (cursors_of boxes) clients → client_at clients n ≡ Some c → p ≡ n → m ≡ c.mailbox → b ≡ get_or boxes m b
+    → SeatMoves b.cursors b2.cursors c.handle handle2 → AreSeated (cursors_of (set boxes m b2)) (set (set clients p vacant) p (Some (record { mailbox = c.mailbox; handle = handle2 })))
+moved_seated boxes clients n p m c b b2 handle2 vacant S e place same there moves =
     subst (λ (i : ℕ). AreSeated (cursors_of (set boxes i b2)) (set (set clients p vacant) p (Some next))) (sym same)
     (subst (λ (cs : List (Option Client)). AreSeated (cursors_of (set boxes c.mailbox b2)) cs)
     (ap (λ (i : ℕ). set clients i (Some next)) (sym place) ∙ sym (set_again clients p vacant (Some next)))
-    (seated_mailed boxes clients n c b b2 seat2 S e (there ∙ ap (λ (i : ℕ). get_or boxes i b) same) moves))
+    (seated_mailed boxes clients n c b b2 handle2 S e (there ∙ ap (λ (i : ℕ). get_or boxes i b) same) moves))
   where
     next : Client
-    next = record { mailbox = c.mailbox; seat = seat2 }
+    next = record { mailbox = c.mailbox; handle = handle2 }
 
 -- a client that was taken from its place and put back as it was
-pub put_back : (clients : List (Option Client)) (n p : ℕ) (c : Client) (vacant : Option Client) (seat2 : CursorSeat) → client_at clients n ≡ Some c → p ≡ n → seat2 ≡ c.seat → set (set clients p vacant) p (Some (record { mailbox = c.mailbox; seat = seat2 })) ≡ clients
-put_back clients n p c vacant seat2 e place same =
-    set_again clients p vacant _ ∙ ap (λ (i : ℕ). set clients i (Some (record { mailbox = c.mailbox; seat = seat2 }))) place
-    ∙ ap (λ (z : CursorSeat). set clients n (Some (record { mailbox = c.mailbox; seat = z }))) same ∙ client_back clients n c e
+pub put_back : (clients : List (Option Client)) (n p : ℕ) (c : Client) (vacant : Option Client) (handle2 : CursorHandle) → client_at clients n ≡ Some c → p ≡ n → handle2 ≡ c.handle → set (set clients p vacant) p (Some (record { mailbox = c.mailbox; handle = handle2 })) ≡ clients
+put_back clients n p c vacant handle2 e place same =
+    set_again clients p vacant _ ∙ ap (λ (i : ℕ). set clients i (Some (record { mailbox = c.mailbox; handle = handle2 }))) place
+    ∙ ap (λ (z : CursorHandle). set clients n (Some (record { mailbox = c.mailbox; handle = z }))) same ∙ client_back clients n c e
 
--- where neither the mailbox nor the seat changed, nothing did
-pub nothing_moved : (old : DeliveryCore) (n p m : ℕ) (c : Client) (b b2 : Mailbox) (seat2 : CursorSeat) (vacant : Option Client) → AreSeated (cursors_of old.boxes) old.clients → client_at old.clients n ≡ Some c → p ≡ n → m ≡ c.mailbox → b ≡ get_or old.boxes m b → b2 ≡ b → seat2 ≡ c.seat
-    → record old { boxes = set old.boxes m b2; clients = set (set old.clients p vacant) p (Some (record { mailbox = c.mailbox; seat = seat2 })) } ≡ old
-nothing_moved old n p m c b b2 seat2 vacant S e place same there still kept =
-    ap (λ (bs : List Mailbox). let h : DeliveryCore = record old { boxes = bs; clients = set (set old.clients p vacant) p (Some (record { mailbox = c.mailbox; seat = seat2 })) } in h)
+-- where neither the mailbox nor the handle changed, nothing did
+pub nothing_moved : (old : DeliveryCore) (n p m : ℕ) (c : Client) (b b2 : Mailbox) (handle2 : CursorHandle) (vacant : Option Client) → AreSeated (cursors_of old.boxes) old.clients → client_at old.clients n ≡ Some c → p ≡ n → m ≡ c.mailbox → b ≡ get_or old.boxes m b → b2 ≡ b → handle2 ≡ c.handle
+    → record old { boxes = set old.boxes m b2; clients = set (set old.clients p vacant) p (Some (record { mailbox = c.mailbox; handle = handle2 })) } ≡ old
+nothing_moved old n p m c b b2 handle2 vacant S e place same there still kept =
+    ap (λ (bs : List Mailbox). let h : DeliveryCore = record old { boxes = bs; clients = set (set old.clients p vacant) p (Some (record { mailbox = c.mailbox; handle = handle2 })) } in h)
     (ap (set old.boxes m) still ∙ set_back old.boxes m b (mailbox_within old.boxes old.clients n m c S e same) there)
-    ∙ ap (λ (cs : List (Option Client)). let h : DeliveryCore = record old { clients = cs } in h) (put_back old.clients n p c vacant seat2 e place kept)
+    ∙ ap (λ (cs : List (Option Client)). let h : DeliveryCore = record old { clients = cs } in h) (put_back old.clients n p c vacant handle2 e place kept)

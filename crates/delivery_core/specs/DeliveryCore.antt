@@ -65,7 +65,7 @@ window_at boxes mailbox = slice_index_or (map (λ (b : Mailbox). b.window) boxes
 -- the changes that a client is still to be shown, as its mailbox has them
 abbrev pub pending_in : DeliveryCore → Option Client → List Change
 pending_in h None = []
-pending_in h (Some c) = changes_from c.seat.at (window_at h.boxes c.mailbox)
+pending_in h (Some c) = changes_from c.handle.at (window_at h.boxes c.mailbox)
 
 -- the changes that a session is still to be shown
 abbrev pub pending_for : DeliveryCore → ℕ → List Change
@@ -74,7 +74,7 @@ pending_for h session = pending_in h (client_of h session)
 -- how many changes the log of a client's mailbox has behind the last that it was shown, those that were overwritten among them
 abbrev pub behind_in : DeliveryCore → Option Client → ℕ
 behind_in h None = 0
-behind_in h (Some c) = total (window_at h.boxes c.mailbox) - c.seat.at
+behind_in h (Some c) = total (window_at h.boxes c.mailbox) - c.handle.at
 
 -- so many changes a session is behind its mailbox's log
 abbrev pub behind : DeliveryCore → ℕ → ℕ

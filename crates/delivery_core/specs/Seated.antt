@@ -18,11 +18,11 @@ client_at clients place = slice_index_or clients place None
 
 -- the client's cursor
 abbrev pub cursor_of : List CursorSet → Client → Option Open
-cursor_of all c = held (cursors_at all c.mailbox) c.seat
+cursor_of all c = held (cursors_at all c.mailbox) c.handle
 
 -- Each client's cursor is its own, and its mailbox keeps it.
 pub record AreSeated (all : List CursorSet) (clients : List (Option Client)) : Type 0 where
   pub there : (n : ℕ) (c : Client) → client_at clients n ≡ Some c → c.mailbox < length all
   pub known : (n : ℕ) (c : Client) → client_at clients n ≡ Some c → IsSome (cursor_of all c)
   -- no two have one slot of one mailbox
-  pub apart : (m n : ℕ) (c d : Client) → client_at clients m ≡ Some c → client_at clients n ≡ Some d → m ≢ n → c.mailbox ≡ d.mailbox → c.seat.slot ≢ d.seat.slot
+  pub apart : (m n : ℕ) (c d : Client) → client_at clients m ≡ Some c → client_at clients n ≡ Some d → m ≢ n → c.mailbox ≡ d.mailbox → c.handle.slot ≢ d.handle.slot

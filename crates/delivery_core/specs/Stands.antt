@@ -44,7 +44,7 @@ pub record StandsForBox (k : Config) (b : Mailbox) (w : Box) : Type 0 where
 -- the client is the session's: in its mailbox, with its cursor
 pub record StandsForClient (c : Client) (s : Session) : Type 0 where
   pub mailbox : c.mailbox ≡ s.mailbox
-  pub cursor : c.seat.at ≡ s.cursor
+  pub cursor : c.handle.at ≡ s.cursor
 
 -- a client is where a session has selected, and no other
 abbrev pub StandsForPlace : Option Client → Option Session → Type 0

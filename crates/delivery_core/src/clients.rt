@@ -69,7 +69,7 @@ impl DeliveryCore {
             return Err(MailFault::Stranger);
         };
         let mailbox = &mut self.boxes[usize::from(client.mailbox)];
-        let fed = mailbox.feed(&mut client.seat, limit, out);
+        let fed = mailbox.feed(&mut client.handle, limit, out);
         self.clients[place] = Some(client);
         answer_of(fed)
     }
@@ -98,7 +98,7 @@ impl DeliveryCore {
             return Err(MailFault::Stranger);
         };
         let mailbox = &mut self.boxes[usize::from(client.mailbox)];
-        mailbox.read(&client.seat, uid, mark_seen)
+        mailbox.read(&client.handle, uid, mark_seen)
     }
 
     /// A session changes the flags of the message of a UID of its mailbox (RFC 9051, 6.4.6), and is
@@ -125,7 +125,7 @@ impl DeliveryCore {
             return Err(MailFault::Stranger);
         };
         let mailbox = &mut self.boxes[usize::from(client.mailbox)];
-        mailbox.store(&client.seat, uid, op)
+        mailbox.store(&client.handle, uid, op)
     }
 
     /// A session is shown all that is pending, and then the messages of its mailbox with \Deleted are
@@ -160,7 +160,7 @@ impl DeliveryCore {
             return Err(MailFault::Stranger);
         };
         let mailbox = &mut self.boxes[usize::from(client.mailbox)];
-        let gone = mailbox.expunge(&mut client.seat, uids, out);
+        let gone = mailbox.expunge(&mut client.handle, uids, out);
         self.clients[place] = Some(client);
         gone
     }
@@ -196,10 +196,10 @@ impl DeliveryCore {
         if !self.boxes[number].can_open() {
             return Err(MailFault::Spent);
         }
-        let Ok((seat, opening)) = self.boxes[number].open_cursor() else {
+        let Ok((handle, opening)) = self.boxes[number].open_cursor() else {
             return Err(MailFault::NoMemory);
         };
-        self.clients[place] = Some(Client { mailbox, seat });
+        self.clients[place] = Some(Client { mailbox, handle });
         Ok(opening)
     }
 
@@ -226,13 +226,13 @@ impl DeliveryCore {
         };
         let number = client.mailbox;
         let mailbox = &mut self.boxes[usize::from(number)];
-        let (seat, fault) = match mailbox.close_cursor(client.seat, remove) {
+        let (handle, fault) = match mailbox.close_cursor(client.handle, remove) {
             Ok(count) => return Ok(count),
             Err(refused) => refused,
         };
         self.clients[place] = Some(Client {
             mailbox: number,
-            seat,
+            handle,
         });
         Err(fault)
     }
@@ -255,7 +255,7 @@ impl DeliveryCore {
         let Some(client) = &self.clients[place] else {
             return Err(MailFault::Stranger);
         };
-        let Ok(view) = self.boxes[usize::from(client.mailbox)].view(&client.seat) else {
+        let Ok(view) = self.boxes[usize::from(client.mailbox)].view(&client.handle) else {
             return Err(MailFault::Stranger);
         };
         Ok(view)
@@ -275,7 +275,7 @@ impl DeliveryCore {
         let Some(client) = &self.clients[place] else {
             return false;
         };
-        total(&self.boxes[usize::from(client.mailbox)]) <= u128::from(client.seat.at())
+        total(&self.boxes[usize::from(client.mailbox)]) <= u128::from(client.handle.at())
     }
 
     /// What STATUS tells of a mailbox (RFC 9051, 6.3.11). None where it is not there.

@@ -11,7 +11,7 @@ ghost use Rattle.cursor_set.specs.Cursors.{Open, held};
 ghost use Rattle.cursor_set.specs.Legal.{IsLegalOn};
 
 use change_ring::{Change, ChangeRing, Flags, NO_FLAGS};
-use cursor_set::{CursorSeat, CursorSet, FeedFault};
+use cursor_set::{CursorHandle, CursorSet, FeedFault};
 use std::alloc::{AllocError, Global};
 use std::fmt::Write;
 
@@ -150,17 +150,17 @@ fn feed_each(
     alloc: Global,
     set: &mut CursorSet,
     ring: &ChangeRing,
-    seat: &mut CursorSeat,
+    handle: &mut CursorHandle,
     limits: &[usize],
     text: &mut Vec<u8>,
 ) -> Result<Vec<usize>, AllocError>
     requires base { ring.now.base ≡ 0 }
-    requires known { (o : Open) → held set.old seat.old ≡ Some o →
-        (seat.old.at ≤ total ring.now) × IsLegalOn o.view (changes_from seat.old.at ring.now) }
+    requires known { (o : Open) → held set.old handle.old ≡ Some o →
+        (handle.old.at ≤ total ring.now) × IsLegalOn o.view (changes_from handle.old.at ring.now) }
 {
     let mut counts = Vec::new(alloc);
     for limit in limits {
-        let Ok(count) = set.feed(ring, seat, *limit, text) else {
+        let Ok(count) = set.feed(ring, handle, *limit, text) else {
             return Err(AllocError);
         };
         let Ok(()) = counts.push(count) else {
@@ -193,12 +193,12 @@ fn fed(
 {
     let ring = ring_of(alloc, room, changes)?;
     let mut set = CursorSet::new(alloc, 3);
-    let Ok(mut seat) = set.enter(uids, 0) else {
+    let Ok(mut handle) = set.enter(uids, 0) else {
         return Err(AllocError);
     };
     let mut text = Vec::new(alloc);
-    let counts = feed_each(alloc, &mut set, &ring, &mut seat, limits, &mut text)?;
-    let Ok(view) = set.view(&seat) else {
+    let counts = feed_each(alloc, &mut set, &ring, &mut handle, limits, &mut text)?;
+    let Ok(view) = set.view(&handle) else {
         return Err(AllocError);
     };
     Ok(Outcome {
@@ -509,13 +509,13 @@ fn seven_hundred_are_removed_from_the_last_on(rt: HostRuntime) -> Result<(), All
 fn feed_lapped(
     set: &mut CursorSet,
     ring: &ChangeRing,
-    seat: &mut CursorSeat,
+    handle: &mut CursorHandle,
     out: &mut Vec<u8>,
 ) -> Option<Result<usize, FeedFault>> {
-    if ring.base() <= seat.at() {
+    if ring.base() <= handle.at() {
         return None;
     }
-    Some(set.feed(ring, seat, 64, out))
+    Some(set.feed(ring, handle, 64, out))
 }
 
 // A ring of which more were added than it has room for.
@@ -527,8 +527,8 @@ fn overwritten(alloc: Global) -> Result<ChangeRing, AllocError> {
     Ok(ring)
 }
 
-fn counts(set: &CursorSet, seat: &CursorSeat, uids: &[u32]) -> bool {
-    match set.view(seat) {
+fn counts(set: &CursorSet, handle: &CursorHandle, uids: &[u32]) -> bool {
+    match set.view(handle) {
         Ok(view) => view == uids,
         Err(_stranger) => false,
     }
@@ -539,59 +539,63 @@ fn an_overwritten_change_laps(rt: HostRuntime) -> Result<(), AllocError> {
     let ring = overwritten(rt.alloc())?;
     let mut set = CursorSet::new(rt.alloc(), 3);
     let mut out = Vec::from_slice(rt.alloc(), b"before")?;
-    let Ok(mut seat) = set.enter(&[], 0) else {
+    let Ok(mut handle) = set.enter(&[], 0) else {
         return Err(AllocError);
     };
-    let fed = feed_lapped(&mut set, &ring, &mut seat, &mut out);
-    let counted = counts(&set, &seat, &[]);
+    let fed = feed_lapped(&mut set, &ring, &mut handle, &mut out);
+    let counted = counts(&set, &handle, &[]);
     assert!(rt; fed == Some(Err(FeedFault::Lapped)));
     assert!(rt; &out[..] == b"before".as_slice());
-    assert!(rt; seat.at() == 0 && counted);
+    assert!(rt; handle.at() == 0 && counted);
     Ok(())
 }
 
-// A set of this number with a cursor that stands at 0, and its seat.
-fn entered(alloc: Global, number: u8, uids: &[u32]) -> Result<(CursorSet, CursorSeat), AllocError> {
+// A set of this number with a cursor that stands at 0, and its handle.
+fn entered(
+    alloc: Global,
+    number: u8,
+    uids: &[u32],
+) -> Result<(CursorSet, CursorHandle), AllocError> {
     let mut set = CursorSet::new(alloc, number);
-    let Ok(seat) = set.enter(uids, 0) else {
+    let Ok(handle) = set.enter(uids, 0) else {
         return Err(AllocError);
     };
-    Ok((set, seat))
+    Ok((set, handle))
 }
 
-fn is_stranger(set: &CursorSet, seat: &CursorSeat) -> bool
-    ensures { IsTrue result → held set.now seat.now ≡ None }
+fn is_stranger(set: &CursorSet, handle: &CursorHandle) -> bool
+    ensures { IsTrue result → held set.now handle.now ≡ None }
 {
-    set.view(seat).is_err()
+    set.view(handle).is_err()
 }
 
-// Whether a feed says that the seat is a stranger, and shows it nothing.
+// Whether a feed says that the handle is a stranger, and shows it nothing.
 fn feeds_none(
     set: &mut CursorSet,
     ring: &ChangeRing,
-    seat: &mut CursorSeat,
+    handle: &mut CursorHandle,
     out: &mut Vec<u8>,
 ) -> bool {
-    if !is_stranger(set, seat) {
+    if !is_stranger(set, handle) {
         return false;
     }
-    let fed = set.feed(ring, seat, 10, out);
-    fed == Err(FeedFault::Stranger) && out.is_empty() && is_stranger(set, seat)
+    let fed = set.feed(ring, handle, 10, out);
+    fed == Err(FeedFault::Stranger) && out.is_empty() && is_stranger(set, handle)
 }
 
-// A seat that a set refuses as a stranger's, as it was given back.
+// A handle that a set refuses as a stranger's, as it was given back.
 fn refused_by(
     alloc: Global,
     set: &mut CursorSet,
-    stranger: CursorSeat,
-) -> Result<CursorSeat, AllocError> {
+    stranger: CursorHandle,
+) -> Result<CursorHandle, AllocError> {
     let ring = ring_of(alloc, 16, &[Change::Add(5)])?;
-    let mut seat = stranger;
+    let mut handle = stranger;
     let mut out = Vec::new(alloc);
-    if !feeds_none(set, &ring, &mut seat, &mut out) {
+    if !feeds_none(set, &ring, &mut handle, &mut out) {
         return Err(AllocError);
     }
-    let Err(back) = set.close(seat) else {
+    let Err(back) = set.close(handle) else {
         return Err(AllocError);
     };
     Ok(back)
@@ -599,24 +603,24 @@ fn refused_by(
 
 #[test]
 fn a_seat_of_another_set_is_a_stranger(rt: HostRuntime) -> Result<(), AllocError> {
-    let (mut set, seat) = entered(rt.alloc(), 3, &[2, 4])?;
+    let (mut set, handle) = entered(rt.alloc(), 3, &[2, 4])?;
     let (_other, stranger) = entered(rt.alloc(), 4, &[])?;
     let _back = refused_by(rt.alloc(), &mut set, stranger)?;
-    let counted = counts(&set, &seat, &[2, 4]);
-    assert!(rt; counted && set.close(seat).is_ok());
+    let counted = counts(&set, &handle, &[2, 4]);
+    assert!(rt; counted && set.close(handle).is_ok());
     Ok(())
 }
 
-// A seat of a set's second cursor, which counts one UID; its first is closed.
-fn entered_later(alloc: Global) -> Result<(CursorSet, CursorSeat), AllocError> {
+// A handle of a set's second cursor, which counts one UID; its first is closed.
+fn entered_later(alloc: Global) -> Result<(CursorSet, CursorHandle), AllocError> {
     let (mut set, closed) = entered(alloc, 0, &[])?;
     if set.close(closed).is_err() || !set.can_open() {
         return Err(AllocError);
     }
-    let Ok(seat) = set.enter(&[3], 0) else {
+    let Ok(handle) = set.enter(&[3], 0) else {
         return Err(AllocError);
     };
-    Ok((set, seat))
+    Ok((set, handle))
 }
 
 #[test]
@@ -624,10 +628,10 @@ fn a_later_seat_of_a_set_with_the_same_number_is_a_stranger(
     rt: HostRuntime,
 ) -> Result<(), AllocError> {
     let (mut older, second) = entered_later(rt.alloc())?;
-    let (mut other, seat) = entered(rt.alloc(), 0, &[2, 4])?;
+    let (mut other, handle) = entered(rt.alloc(), 0, &[2, 4])?;
     let second = refused_by(rt.alloc(), &mut other, second)?;
-    let counted = counts(&other, &seat, &[2, 4]) && counts(&older, &second, &[3]);
-    let closed = older.close(second).is_ok() && other.close(seat).is_ok();
+    let counted = counts(&other, &handle, &[2, 4]) && counts(&older, &second, &[3]);
+    let closed = older.close(second).is_ok() && other.close(handle).is_ok();
     assert!(rt; counted && closed);
     Ok(())
 }

@@ -1,8 +1,8 @@
 //! What the calls on a mailbox that is held do, as tables: each line is a call with what it is to
-//! answer. One function owns the mailbox and its client's seat, and lends them to the others.
+//! answer. One function owns the mailbox and its client's handle, and lends them to the others.
 
 use change_ring::{FlagOp, Flags, NO_FLAGS};
-use cursor_set::{CursorSeat, Stranger};
+use cursor_set::{CursorHandle, Stranger};
 use delivery_token::{CopyKey, Job, Refusal, Text};
 use mailbox::{History, Limits, MailFault, Mailbox, Opening, Status};
 use mailbox_holds::{alter, count, deliver, enter, expunge, feed, leave, read, view};
@@ -25,7 +25,7 @@ const LIMITS: Limits = Limits {
 };
 
 const KEY: CopyKey = CopyKey {
-    seat: 2,
+    handle: 2,
     serial: 5,
     message: 0,
     recipient: 0,
@@ -78,8 +78,8 @@ fn same_uids(counted: &[u32], wanted: &[u32]) -> bool {
 }
 
 // Whether the client counts these UIDs.
-fn counts(mailbox: &Mailbox, seat: &CursorSeat, wanted: Result<&[u32], MailFault>) -> bool {
-    match view(mailbox, seat) {
+fn counts(mailbox: &Mailbox, handle: &CursorHandle, wanted: Result<&[u32], MailFault>) -> bool {
+    match view(mailbox, handle) {
         Ok(counted) => match wanted {
             Ok(uids) => same_uids(counted.uids(), uids),
             Err(_fault) => false,
@@ -91,11 +91,11 @@ fn counts(mailbox: &Mailbox, seat: &CursorSeat, wanted: Result<&[u32], MailFault
 // What a read answers of flags; another text is told as a fault that no act wants.
 fn reads(
     mailbox: &mut Mailbox,
-    seat: &CursorSeat,
+    handle: &CursorHandle,
     uid: u32,
     mark_seen: bool,
 ) -> Result<Option<(Flags, bool)>, MailFault> {
-    let Some(row) = read(mailbox, seat, uid, mark_seen)? else {
+    let Some(row) = read(mailbox, handle, uid, mark_seen)? else {
         return Ok(None);
     };
     if row.uid != uid || row.text.as_slice() != b"hi\r\n".as_slice() {
@@ -114,18 +114,18 @@ fn lines_are(out: &mut Vec<u8>, wanted: &[u8]) -> bool {
 fn step(
     alloc: Global,
     mailbox: &mut Mailbox,
-    seat: &mut CursorSeat,
+    handle: &mut CursorHandle,
     out: &mut Vec<u8>,
     act: &Act,
 ) -> bool {
     match act {
         Act::Deliver(recipient, wanted) => delivers(alloc, mailbox, *recipient, *wanted),
         Act::Count(status) => count(mailbox) == *status,
-        Act::View(wanted) => counts(mailbox, seat, *wanted),
-        Act::Read(uid, mark, wanted) => reads(mailbox, seat, *uid, *mark) == *wanted,
-        Act::Alter(uid, op, wanted) => alter(mailbox, seat, *uid, *op) == *wanted,
-        Act::Feed(limit, wanted) => feed(mailbox, seat, *limit, out) == *wanted,
-        Act::Expunge(set, wanted) => expunge(mailbox, seat, *set, out) == *wanted,
+        Act::View(wanted) => counts(mailbox, handle, *wanted),
+        Act::Read(uid, mark, wanted) => reads(mailbox, handle, *uid, *mark) == *wanted,
+        Act::Alter(uid, op, wanted) => alter(mailbox, handle, *uid, *op) == *wanted,
+        Act::Feed(limit, wanted) => feed(mailbox, handle, *limit, out) == *wanted,
+        Act::Expunge(set, wanted) => expunge(mailbox, handle, *set, out) == *wanted,
         Act::Lines(wanted) => lines_are(out, wanted),
     }
 }
@@ -134,31 +134,31 @@ fn step(
 fn play(
     alloc: Global,
     mailbox: &mut Mailbox,
-    seat: &mut CursorSeat,
+    handle: &mut CursorHandle,
     out: &mut Vec<u8>,
     acts: &[Act],
 ) -> Option<usize> {
     for (place, act) in acts.iter().enumerate() {
-        if !step(alloc, mailbox, seat, out, act) {
+        if !step(alloc, mailbox, handle, out, act) {
             return Some(place);
         }
     }
     None
 }
 
-// A client's seat, where one can be had and the mailbox is told as it should be.
-fn seated(mailbox: &mut Mailbox, wanted: Opening) -> Result<CursorSeat, AllocError> {
+// A client's handle, where one can be had and the mailbox is told as it should be.
+fn seated(mailbox: &mut Mailbox, wanted: Opening) -> Result<CursorHandle, AllocError> {
     match enter(mailbox) {
-        Ok((seat, opening)) if opening == wanted => Ok(seat),
+        Ok((handle, opening)) if opening == wanted => Ok(handle),
         _ => Err(AllocError),
     }
 }
 
 // How many messages go where a client leaves.
-fn leaves(mailbox: &mut Mailbox, seat: CursorSeat, remove: bool) -> Result<usize, MailFault> {
-    match leave(mailbox, seat, remove) {
+fn leaves(mailbox: &mut Mailbox, handle: CursorHandle, remove: bool) -> Result<usize, MailFault> {
+    match leave(mailbox, handle, remove) {
         Ok(gone) => Ok(gone),
-        Err((_seat, fault)) => Err(fault),
+        Err((_handle, fault)) => Err(fault),
     }
 }
 
@@ -200,11 +200,11 @@ const ACTS: &[Act] = &[
 
 // Whether each call answers as the table tells, and one message goes as the client leaves.
 fn answers(alloc: Global, mailbox: &mut Mailbox) -> bool {
-    let Ok(mut seat) = seated(mailbox, EMPTY) else {
+    let Ok(mut handle) = seated(mailbox, EMPTY) else {
         return false;
     };
-    let at = play(alloc, mailbox, &mut seat, &mut Vec::new(alloc), ACTS);
-    at.is_none() && leaves(mailbox, seat, true) == Ok(1)
+    let at = play(alloc, mailbox, &mut handle, &mut Vec::new(alloc), ACTS);
+    at.is_none() && leaves(mailbox, handle, true) == Ok(1)
 }
 
 fn plays(alloc: Global) -> Result<bool, AllocError> {
@@ -229,13 +229,13 @@ const STRANGER: &[Act] = &[
     Act::Lines(b""),
 ];
 
-// Whether a mailbox of another number refuses each call of a client's seat.
+// Whether a mailbox of another number refuses each call of a client's handle.
 fn refuses_each(alloc: Global, own: &mut Mailbox, other: &mut Mailbox) -> bool {
-    let Ok(mut seat) = seated(own, EMPTY) else {
+    let Ok(mut handle) = seated(own, EMPTY) else {
         return false;
     };
-    let at = play(alloc, other, &mut seat, &mut Vec::new(alloc), STRANGER);
-    at.is_none() && leaves(other, seat, true) == Err(MailFault::Stranger)
+    let at = play(alloc, other, &mut handle, &mut Vec::new(alloc), STRANGER);
+    at.is_none() && leaves(other, handle, true) == Err(MailFault::Stranger)
 }
 
 fn refuses(alloc: Global) -> Result<bool, AllocError> {

@@ -4,7 +4,7 @@
 ghost use Rattle.std.specs.Prelude.{◌<◌};
 
 use change_ring::{Change, FlagOp, Flags, NO_FLAGS};
-use cursor_set::{CursorSeat, FeedFault, Stranger};
+use cursor_set::{CursorHandle, FeedFault, Stranger};
 use delivery_token::{CopyKey, Job, Refusal, Text};
 use mailbox::{History, Limits, MailFault, Mailbox, Opening, Status, every_mailbox_keeps};
 use std::alloc::{AllocError, Global};
@@ -68,7 +68,7 @@ enum Act {
 }
 
 const KEY: CopyKey = CopyKey {
-    seat: 2,
+    handle: 2,
     serial: 5,
     message: 0,
     recipient: 0,
@@ -114,8 +114,8 @@ fn kept(mailbox: &Mailbox) -> (u64, usize) {
     (base, older.len().saturating_add(newer.len()))
 }
 
-fn counts(mailbox: &Mailbox, seat: &CursorSeat, uids: &[u32]) -> bool {
-    match mailbox.view(seat) {
+fn counts(mailbox: &Mailbox, handle: &CursorHandle, uids: &[u32]) -> bool {
+    match mailbox.view(handle) {
         Ok(view) => view.uids() == uids,
         Err(_stranger) => false,
     }
@@ -123,11 +123,11 @@ fn counts(mailbox: &Mailbox, seat: &CursorSeat, uids: &[u32]) -> bool {
 
 fn reads(
     mailbox: &mut Mailbox,
-    seat: &CursorSeat,
+    handle: &CursorHandle,
     uid: u32,
     mark_seen: bool,
 ) -> Result<Option<(Flags, bool)>, MailFault> {
-    let Some(row) = mailbox.read(seat, uid, mark_seen)? else {
+    let Some(row) = mailbox.read(handle, uid, mark_seen)? else {
         return Ok(None);
     };
     // Another message is told as a fault that no act wants.
@@ -139,14 +139,14 @@ fn reads(
 
 fn stores_each(
     mailbox: &mut Mailbox,
-    seat: &CursorSeat,
+    handle: &CursorHandle,
     every: u32,
     count: u32,
     op: FlagOp,
     wanted: Flags,
 ) -> bool {
     for k in 1..=count {
-        if mailbox.store(seat, every.saturating_mul(k), op) != Ok(Some(wanted)) {
+        if mailbox.store(handle, every.saturating_mul(k), op) != Ok(Some(wanted)) {
             return false;
         }
     }
@@ -180,20 +180,20 @@ fn lines_are(out: &mut Vec<u8>, wanted: &[u8]) -> bool {
 fn step(
     alloc: Global,
     mailbox: &mut Mailbox,
-    seat: &mut CursorSeat,
+    handle: &mut CursorHandle,
     out: &mut Vec<u8>,
     act: &Act,
 ) -> Result<bool, AllocError> {
     match act {
-        Act::View(uids) => Ok(counts(mailbox, seat, uids)),
-        Act::NoView => Ok(mailbox.view(seat).is_err()),
-        Act::Read(uid, mark, wanted) => Ok(reads(mailbox, seat, *uid, *mark) == *wanted),
-        Act::Store(uid, op, wanted) => Ok(mailbox.store(seat, *uid, *op) == *wanted),
+        Act::View(uids) => Ok(counts(mailbox, handle, uids)),
+        Act::NoView => Ok(mailbox.view(handle).is_err()),
+        Act::Read(uid, mark, wanted) => Ok(reads(mailbox, handle, *uid, *mark) == *wanted),
+        Act::Store(uid, op, wanted) => Ok(mailbox.store(handle, *uid, *op) == *wanted),
         Act::StoreEach(every, count, op, wanted) => {
-            Ok(stores_each(mailbox, seat, *every, *count, *op, *wanted))
+            Ok(stores_each(mailbox, handle, *every, *count, *op, *wanted))
         }
-        Act::Feed(wanted) => Ok(mailbox.feed(seat, 64, out) == *wanted),
-        Act::Expunge(set, wanted) => Ok(mailbox.expunge(seat, *set, out) == *wanted),
+        Act::Feed(wanted) => Ok(mailbox.feed(handle, 64, out) == *wanted),
+        Act::Expunge(set, wanted) => Ok(mailbox.expunge(handle, *set, out) == *wanted),
         Act::Lines(wanted) => Ok(lines_are(out, wanted)),
         _ => tells(alloc, mailbox, act),
     }
@@ -203,12 +203,12 @@ fn step(
 fn play(
     alloc: Global,
     mailbox: &mut Mailbox,
-    seat: &mut CursorSeat,
+    handle: &mut CursorHandle,
     acts: &[Act],
 ) -> Result<Option<usize>, AllocError> {
     let mut out = Vec::new(alloc);
     for k in 0..acts.len() {
-        if !step(alloc, mailbox, seat, &mut out, &acts[k])? {
+        if !step(alloc, mailbox, handle, &mut out, &acts[k])? {
             return Ok(Some(k));
         }
     }
@@ -236,8 +236,8 @@ fn filled(alloc: Global, number: u8, limits: Limits, messages: u32) -> Result<Ma
     Ok(mailbox)
 }
 
-// A client's seat, where one can be had.
-fn seated(mailbox: &mut Mailbox) -> Result<(CursorSeat, Opening), AllocError> {
+// A client's handle, where one can be had.
+fn seated(mailbox: &mut Mailbox) -> Result<(CursorHandle, Opening), AllocError> {
     if !mailbox.can_open() {
         return Err(AllocError);
     }
@@ -248,10 +248,10 @@ fn seated(mailbox: &mut Mailbox) -> Result<(CursorSeat, Opening), AllocError> {
 }
 
 // How many messages go where a client leaves.
-fn leaves(mailbox: &mut Mailbox, seat: CursorSeat, remove: bool) -> Result<usize, MailFault> {
-    match mailbox.close_cursor(seat, remove) {
+fn leaves(mailbox: &mut Mailbox, handle: CursorHandle, remove: bool) -> Result<usize, MailFault> {
+    match mailbox.close_cursor(handle, remove) {
         Ok(gone) => Ok(gone),
-        Err((_seat, fault)) => Err(fault),
+        Err((_handle, fault)) => Err(fault),
     }
 }
 
@@ -525,9 +525,9 @@ const HALF_GOES: &[Act] = &[
 // Whether all is answered as a case tells, in this mailbox.
 fn goes(alloc: Global, mailbox: &mut Mailbox, case: &Case) -> Result<bool, AllocError> {
     fill(alloc, mailbox, case.messages)?;
-    let (mut seat, opening) = seated(mailbox)?;
-    let at = play(alloc, mailbox, &mut seat, case.acts)?;
-    let gone = leaves(mailbox, seat, case.remove);
+    let (mut handle, opening) = seated(mailbox)?;
+    let at = play(alloc, mailbox, &mut handle, case.acts)?;
+    let gone = leaves(mailbox, handle, case.remove);
     let (count, window) = case.left;
     let left = gone == Ok(count) && kept(mailbox) == window;
     Ok(opening == case.opening && at.is_none() && left)
@@ -559,16 +559,16 @@ const STRANGER: &[Act] = &[
     Act::Lines(b""),
 ];
 
-// A seat of another mailbox is refused by this one, which keeps all that it had: the seat as it was given back.
+// A handle of another mailbox is refused by this one, which keeps all that it had: the handle as it was given back.
 fn refused_by(
     alloc: Global,
     mailbox: &mut Mailbox,
-    own: CursorSeat,
-) -> Result<CursorSeat, AllocError> {
-    let mut seat = own;
+    own: CursorHandle,
+) -> Result<CursorHandle, AllocError> {
+    let mut handle = own;
     let before = mailbox.status();
-    let at = play(alloc, mailbox, &mut seat, STRANGER)?;
-    let Err((back, fault)) = mailbox.close_cursor(seat, true) else {
+    let at = play(alloc, mailbox, &mut handle, STRANGER)?;
+    let Err((back, fault)) = mailbox.close_cursor(handle, true) else {
         return Err(AllocError);
     };
     let same = mailbox.status() == before && kept(mailbox) == (0, 1);
@@ -580,10 +580,10 @@ fn refused_by(
 }
 
 fn is_refused(alloc: Global, own: &mut Mailbox, other: &mut Mailbox) -> bool {
-    let Ok((seat, _opening)) = seated(own) else {
+    let Ok((handle, _opening)) = seated(own) else {
         return false;
     };
-    match refused_by(alloc, other, seat) {
+    match refused_by(alloc, other, handle) {
         Ok(back) => leaves(own, back, true) == Ok(0),
         Err(_) => false,
     }
@@ -620,12 +620,12 @@ const LAPPED: &[Act] = &[
 
 // Whether two clients are told what their tables say, of whom the second is shown nothing.
 fn falls_behind(alloc: Global, mailbox: &mut Mailbox) -> Result<bool, AllocError> {
-    let (mut seat, _opening) = seated(mailbox)?;
+    let (mut handle, _opening) = seated(mailbox)?;
     let (mut behind, _opening) = seated(mailbox)?;
-    let ahead = play(alloc, mailbox, &mut seat, GROWS)?;
+    let ahead = play(alloc, mailbox, &mut handle, GROWS)?;
     let lapped = play(alloc, mailbox, &mut behind, LAPPED)?;
     let gone = leaves(mailbox, behind, true) == Ok(0);
-    Ok(ahead.is_none() && lapped.is_none() && gone && leaves(mailbox, seat, false) == Ok(0))
+    Ok(ahead.is_none() && lapped.is_none() && gone && leaves(mailbox, handle, false) == Ok(0))
 }
 
 #[test]

@@ -1,7 +1,7 @@
 pub mod StandsLaws
 pub mod MessageLaws
 pub mod RemovalLaws
-pub mod Seats
+pub mod Handles
 pub mod WindowMoves
 pub mod LetterLaws
 pub mod MarkLaws

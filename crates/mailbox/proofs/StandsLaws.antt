@@ -14,7 +14,7 @@ use Rattle.change_ring.specs.Window.{changes_from, total}
 use Rattle.change_ring.proofs.LogLaws.{FitsView-append, rows_after-append, added-append, replay-append, uids-rows_after}
 use Rattle.change_ring.proofs.RangeLaws.{range-push}
 use Rattle.change_ring.proofs.WindowLaws.{changes_from-log}
-use Rattle.cursor_set.specs.Cursors.{CursorSet, Open, CursorSeat, Updates, after_showing, held, in_slot, next_changes}
+use Rattle.cursor_set.specs.Cursors.{CursorSet, Open, CursorHandle, Updates, after_showing, held, in_slot, next_changes}
 use Rattle.cursor_set.specs.Legal.{IsLegalOn}
 use Rattle.cursor_set.specs.Lines.{lines}
 use Rattle.cursor_set.proofs.LegalLaws.{legal_log, legal_rises}
@@ -66,10 +66,10 @@ viewed None view e = cc
 viewed (Some o) view e = (o, refl, same_view e)
 
 -- and so do the UIDs that a client was shown
-pub Stands-shown_rises : (m : Mailbox) (log : List Change) → Stands m log → (seat : CursorSeat) (view : List ℕ) → option_map (λ (o : Open). o.view) (held m.cursors seat) ≡ Some view → IsStrictlyIncreasing view
-Stands-shown_rises m log is seat view e =
-    let h = viewed (held m.cursors seat) view e in
-    let shown : IsShown log h.0 = is.cursors seat.slot h.0 (held_in_slot m.cursors seat h.0 h.1) in
+pub Stands-shown_rises : (m : Mailbox) (log : List Change) → Stands m log → (handle : CursorHandle) (view : List ℕ) → option_map (λ (o : Open). o.view) (held m.cursors handle) ≡ Some view → IsStrictlyIncreasing view
+Stands-shown_rises m log is handle view e =
+    let h = viewed (held m.cursors handle) view e in
+    let shown : IsShown log h.0 = is.cursors handle.slot h.0 (held_in_slot m.cursors handle h.0 h.1) in
     subst IsStrictlyIncreasing (sym shown.view ∙ h.2) (legal_rises (view_at log h.0.at) (drop h.0.at log) (legal_log log h.0.at (Stands-legal m log is)))
 
 -- ---- changes are logged

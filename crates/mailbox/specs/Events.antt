@@ -6,7 +6,7 @@ use Rattle.change_ring.specs.Log.{no_flags}
 use Rattle.change_ring.specs.Window.{Window, total}
 use Rattle.change_ring.specs.declared.flag_op.FlagOp.{FlagOp}
 use Rattle.change_ring.specs.declared.flag_op.FlagOp.TheVariants.{Insert}
-use Rattle.cursor_set.specs.Cursors.{CursorSet, CursorSeat, held, open_numbers}
+use Rattle.cursor_set.specs.Cursors.{CursorSet, CursorHandle, held, open_numbers}
 use Rattle.mailbox.specs.Mailbox.{Mailbox, Message, flagged}
 use Rattle.mailbox.specs.Stands.{Stands}
 
@@ -36,17 +36,17 @@ Moves cursors old new (c ∷ cs) = (between : Window) × Takes cursors old c bet
 abbrev pub IsTooMany : Mailbox → List Change → Type 0
 IsTooMany m changes = 4611686018427387904 < total m.window + length changes
 
--- no cursor here is the seat's
-abbrev pub IsStranger : Mailbox → CursorSeat → Type 0
-IsStranger m seat = held m.cursors seat ≡ None
+-- no cursor here is the handle's
+abbrev pub IsStranger : Mailbox → CursorHandle → Type 0
+IsStranger m handle = held m.cursors handle ≡ None
 
--- the seat's cursor is here, and the change that it is to be shown next was overwritten
-abbrev pub IsLapped : Mailbox → CursorSeat → Type 0
-IsLapped m seat = IsSome (held m.cursors seat) × (seat.at < m.window.base)
+-- the handle's cursor is here, and the change that it is to be shown next was overwritten
+abbrev pub IsLapped : Mailbox → CursorHandle → Type 0
+IsLapped m handle = IsSome (held m.cursors handle) × (handle.at < m.window.base)
 
--- the seat's cursor is here, and the window has all that it is to be shown
-abbrev pub IsCurrent : Mailbox → CursorSeat → Type 0
-IsCurrent m seat = IsSome (held m.cursors seat) × (m.window.base ≤ seat.at)
+-- the handle's cursor is here, and the window has all that it is to be shown
+abbrev pub IsCurrent : Mailbox → CursorHandle → Type 0
+IsCurrent m handle = IsSome (held m.cursors handle) × (m.window.base ≤ handle.at)
 
 -- any UID, or those of a set
 abbrev pub in_set : Option (List ℕ) → ℕ → Bool

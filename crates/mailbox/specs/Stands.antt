@@ -41,5 +41,5 @@ pub record IsKept (m : Mailbox) : Type 0 where
   -- the window has no more changes than fit, and no more fit than its most
   pub held : length m.window.changes ≤ m.window.capacity
   pub most : m.window.capacity ≤ m.window.max
-  -- its clients' seats carry its number, so that a seat of another mailbox is a stranger
-  pub seats : m.cursors.number ≡ m.number
+  -- its clients' handles carry its number, so that a handle of another mailbox is a stranger
+  pub handles : m.cursors.number ≡ m.number

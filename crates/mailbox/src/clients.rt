@@ -17,13 +17,13 @@ use crate::logging::log_change;
 use crate::mailbox::Mailbox;
 use crate::shown::View;
 use change_ring::{Change, FlagOp, Flags, MOST_CHANGES, Spent};
-use cursor_set::{CursorSeat, FeedFault, NoMemory, Stranger};
+use cursor_set::{CursorHandle, FeedFault, NoMemory, Stranger};
 use delivery_token::Text;
 
 /// Why a client's call did nothing.
 #[derive(Clone, Copy, Debug, PartialEq, Eq)]
 pub enum MailFault {
-    /// The seat is of another mailbox, or its slot doesn't hold its cursor.
+    /// The handle is of another mailbox, or its slot doesn't hold its cursor.
     Stranger,
     /// The change that the client is to be shown next was overwritten.
     Lapped,
@@ -75,14 +75,14 @@ impl Mailbox {
     /// Opens a cursor for a client at the end of the log: the client counts the messages that are
     /// there, and is to be shown what happens from now on (RFC 9051, 6.3.2). NoMemory where memory is
     /// refused; nothing is then changed.
-    pub fn open_cursor(&mut self) -> Result<(CursorSeat, Opening), NoMemory>
+    pub fn open_cursor(&mut self) -> Result<(CursorHandle, Opening), NoMemory>
         requires { self.old.cursors.next < 2 ^ 64 - 1 }
         ensures err { OnErr result (self.new ≡ self.old) }
         ensures logged { KeepsLog self.old self.new }
         ensures rest { self.new ≡ record self.old { cursors = self.new.cursors } }
 
-        // The seat is new, and its slot was vacant.
-        ensures seat { IfOk result (λ r. r.0 ≡ record {
+        // The handle is new, and its slot was vacant.
+        ensures handle { IfOk result (λ r. r.0 ≡ record {
           number = self.old.number;
           slot = r.0.slot;
           serial = self.old.cursors.next;
@@ -103,7 +103,7 @@ impl Mailbox {
             return Err(NoMemory);
         };
         let at = self.ring.total();
-        let Ok(seat) = self.cursors.enter(&uids, at) else {
+        let Ok(handle) = self.cursors.enter(&uids, at) else {
             return Err(NoMemory);
         };
         let opening = Opening {
@@ -111,17 +111,17 @@ impl Mailbox {
             uidnext: self.next,
             uidvalidity: self.uidvalidity,
         };
-        Ok((seat, opening))
+        Ok((handle, opening))
     }
 
     /// The UIDs that a client counts, in their order, which rise: what it was shown of the log.
-    /// Stranger where the seat has no cursor here. It takes no memory.
-    pub fn view(&self, seat: &CursorSeat) -> Result<View<'_>, Stranger>
-        ensures stranger { IsErr result ↔ IsStranger self.now seat.now }
-        ensures shown { IfOk result (λ view. option_map (λ o. o.view) (held self.now.cursors seat.now) ≡ Some view) }
+    /// Stranger where the handle has no cursor here. It takes no memory.
+    pub fn view(&self, handle: &CursorHandle) -> Result<View<'_>, Stranger>
+        ensures stranger { IsErr result ↔ IsStranger self.now handle.now }
+        ensures shown { IfOk result (λ view. option_map (λ o. o.view) (held self.now.cursors handle.now) ≡ Some view) }
         ensures rising { IfOk result (λ view. IsStrictlyIncreasing view) }
     {
-        let Ok(uids) = self.cursors.view(seat) else {
+        let Ok(uids) = self.cursors.view(handle) else {
             return Err(Stranger);
         };
         Ok(View::rising(uids))
@@ -129,54 +129,54 @@ impl Mailbox {
 
     /// Shows a client its next changes, at most `limit`, as `CursorSet::feed` does: a line for each
     /// behind `out` (RFC 9051, 7.4 and 7.5), and answers how many. Nothing is logged. Stranger where
-    /// the seat has no cursor here; else Lapped where the next change was overwritten; else NoMemory
-    /// where memory is refused. After each the mailbox, the seat and `out` are unchanged.
+    /// the handle has no cursor here; else Lapped where the next change was overwritten; else NoMemory
+    /// where memory is refused. After each the mailbox, the handle and `out` are unchanged.
     pub fn feed(
         &mut self,
-        seat: &mut CursorSeat,
+        handle: &mut CursorHandle,
         limit: usize,
         out: &mut Vec<u8>,
     ) -> Result<usize, FeedFault>
-        ensures stranger { (result ≡ Err FeedFault.Stranger) ↔ IsStranger self.old seat.old }
-        ensures lapped { (result ≡ Err FeedFault.Lapped) ↔ IsLapped self.old seat.old }
-        ensures memory { (result ≡ Err FeedFault.NoMemory) → 0 < min limit (total self.old.window - seat.old.at) }
-        ensures err { OnErr result ((self.new ≡ self.old) × (seat.new ≡ seat.old) × (out.new.items ≡ out.old.items)) }
+        ensures stranger { (result ≡ Err FeedFault.Stranger) ↔ IsStranger self.old handle.old }
+        ensures lapped { (result ≡ Err FeedFault.Lapped) ↔ IsLapped self.old handle.old }
+        ensures memory { (result ≡ Err FeedFault.NoMemory) → 0 < min limit (total self.old.window - handle.old.at) }
+        ensures err { OnErr result ((self.new ≡ self.old) × (handle.new ≡ handle.old) × (out.new.items ≡ out.old.items)) }
 
         // The next changes of each log for which the mailbox stands.
-        ensures count { IfOk result (λ n. n ≡ min limit (total self.old.window - seat.old.at)) }
+        ensures count { IfOk result (λ n. n ≡ min limit (total self.old.window - handle.old.at)) }
         ensures shown { IfOk result (λ n. (log : List Change) → Stands self.old log →
-            out.new.items ≡ out.old.items ++ lines (view_at log seat.old.at) (next_of log seat.old.at n)) }
-        ensures seat { IfOk result (λ n. seat.new ≡ record seat.old { at = seat.old.at + n }) }
+            out.new.items ≡ out.old.items ++ lines (view_at log handle.old.at) (next_of log handle.old.at n)) }
+        ensures handle { IfOk result (λ n. handle.new ≡ record handle.old { at = handle.old.at + n }) }
         ensures logged { KeepsLog self.old self.new }
         ensures rest { self.new ≡ record self.old { cursors = self.new.cursors } }
-        ensures moved { IfOk result (λ n. Updates self.old.cursors self.new.cursors seat.old.slot
-            (option_map (after_showing (next_changes self.old.window seat.old.at n)) (held self.old.cursors seat.old))) }
+        ensures moved { IfOk result (λ n. Updates self.old.cursors self.new.cursors handle.old.slot
+            (option_map (after_showing (next_changes self.old.window handle.old.at n)) (held self.old.cursors handle.old))) }
         ensures next { self.new.cursors.next ≡ self.old.cursors.next }
 
         // The lines as the client counts.
-        ensures written { IfOk result (λ n. IfSome (held self.old.cursors seat.old) (λ o.
-            out.new.items ≡ out.old.items ++ lines o.view (next_changes self.old.window seat.old.at n))) }
+        ensures written { IfOk result (λ n. IfSome (held self.old.cursors handle.old) (λ o.
+            out.new.items ≡ out.old.items ++ lines o.view (next_changes self.old.window handle.old.at n))) }
         ensures room { vec_capacity out.old ≤ vec_capacity out.new }
     {
-        let count = self.cursors.feed(&self.ring, seat, limit, out)?;
+        let count = self.cursors.feed(&self.ring, handle, limit, out)?;
         Ok(count)
     }
 
-    // Whether a seat may look at the messages and change them.
-    pub(crate) fn admit(&self, seat: &CursorSeat) -> Result<(), MailFault>
-        ensures stranger { (result ≡ Err MailFault.Stranger) ↔ IsStranger self.now seat.now }
-        ensures lapped { (result ≡ Err MailFault.Lapped) ↔ IsLapped self.now seat.now }
-        ensures admitted { OnOk result (IsCurrent self.now seat.now) }
+    // Whether a handle may look at the messages and change them.
+    pub(crate) fn admit(&self, handle: &CursorHandle) -> Result<(), MailFault>
+        ensures stranger { (result ≡ Err MailFault.Stranger) ↔ IsStranger self.now handle.now }
+        ensures lapped { (result ≡ Err MailFault.Lapped) ↔ IsLapped self.now handle.now }
+        ensures admitted { OnOk result (IsCurrent self.now handle.now) }
         ensures only { IfErr result (λ fault. (fault ≡ MailFault.Stranger) ⊎ (fault ≡ MailFault.Lapped)) }
-        ensures within { OnOk result (seat.now.at ≤ total self.now.window) }
+        ensures within { OnOk result (handle.now.at ≤ total self.now.window) }
         ensures small { total self.now.window ≤ 2 ^ 62 }
     {
         // Read for its bound: no log has more than 2^62 changes.
         let _total = self.ring.total();
-        let Ok(_view) = self.cursors.view(seat) else {
+        let Ok(_view) = self.cursors.view(handle) else {
             return Err(MailFault::Stranger);
         };
-        if seat.at() < self.ring.base() {
+        if handle.at() < self.ring.base() {
             return Err(MailFault::Lapped);
         }
         Ok(())
@@ -227,13 +227,13 @@ impl Mailbox {
     /// Lapped or Spent, in this order; nothing is then changed. It takes no memory.
     pub fn store(
         &mut self,
-        seat: &CursorSeat,
+        handle: &CursorHandle,
         uid: u32,
         op: FlagOp,
     ) -> Result<Option<Flags>, MailFault>
-        ensures stranger { (result ≡ Err MailFault.Stranger) ↔ IsStranger self.old seat.now }
-        ensures lapped { (result ≡ Err MailFault.Lapped) ↔ IsLapped self.old seat.now }
-        ensures spent { (result ≡ Err MailFault.Spent) ↔ (IsCurrent self.old seat.now × IsTooMany self.old (flags_logged (rows self.old) uid op)) }
+        ensures stranger { (result ≡ Err MailFault.Stranger) ↔ IsStranger self.old handle.now }
+        ensures lapped { (result ≡ Err MailFault.Lapped) ↔ IsLapped self.old handle.now }
+        ensures spent { (result ≡ Err MailFault.Spent) ↔ (IsCurrent self.old handle.now × IsTooMany self.old (flags_logged (rows self.old) uid op)) }
         ensures memory { result ≢ Err MailFault.NoMemory }
         ensures err { OnErr result (self.new ≡ self.old) }
 
@@ -243,7 +243,7 @@ impl Mailbox {
         ensures rest { self.new ≡ record self.old { messages = self.new.messages; window = self.new.window } }
         ensures flags { IfOk result (λ flags. flags ≡ option_map (λ m. m.flags) (message_with uid self.new.messages)) }
     {
-        self.admit(seat)?;
+        self.admit(handle)?;
         let Some(old) = self.flags_of(uid) else {
             return Ok(None);
         };
@@ -291,13 +291,13 @@ impl Mailbox {
     /// Stranger, Lapped, Spent or NoMemory, in this order; nothing is then changed.
     pub fn read(
         &mut self,
-        seat: &CursorSeat,
+        handle: &CursorHandle,
         uid: u32,
         mark_seen: bool,
     ) -> Result<Option<Row>, MailFault>
-        ensures stranger { (result ≡ Err MailFault.Stranger) ↔ IsStranger self.old seat.now }
-        ensures lapped { (result ≡ Err MailFault.Lapped) ↔ IsLapped self.old seat.now }
-        ensures spent { (result ≡ Err MailFault.Spent) ↔ (IsCurrent self.old seat.now ×
+        ensures stranger { (result ≡ Err MailFault.Stranger) ↔ IsStranger self.old handle.now }
+        ensures lapped { (result ≡ Err MailFault.Lapped) ↔ IsLapped self.old handle.now }
+        ensures spent { (result ≡ Err MailFault.Spent) ↔ (IsCurrent self.old handle.now ×
             IsTooMany self.old (seen_logged mark_seen (rows self.old) uid)) }
         ensures memory { (result ≡ Err MailFault.NoMemory) → IsSome (message_with uid self.old.messages) }
         ensures err { OnErr result (self.new ≡ self.old) }
@@ -313,7 +313,7 @@ impl Mailbox {
           text = m.text;
         }) (message_with uid self.new.messages)) }
     {
-        self.admit(seat)?;
+        self.admit(handle)?;
         let Some((old, shared)) = self.letter(uid) else {
             return Ok(None);
         };

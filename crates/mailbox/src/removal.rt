@@ -19,7 +19,7 @@ use crate::clients::MailFault;
 use crate::logging::log_change;
 use crate::mailbox::Mailbox;
 use change_ring::{Change, ChangeRing, MOST_CHANGES};
-use cursor_set::{CursorSeat, CursorSet, FeedFault};
+use cursor_set::{CursorHandle, CursorSet, FeedFault};
 
 // How many of the UIDs the choice has.
 fn count_taken(uids: &[u32], choice: Choice) -> usize
@@ -81,28 +81,28 @@ impl Mailbox {
     /// Shows a client all that is pending, then removes the messages that have \Deleted, of a set
     /// of UIDs where there is one (RFC 9051, 6.4.3 and 6.4.9): answers how many went. They are
     /// logged in the order of their UIDs, and the client is to be shown them later. Stranger,
-    /// Lapped, Spent or NoMemory, in this order; the mailbox, the seat and `out` are then unchanged.
+    /// Lapped, Spent or NoMemory, in this order; the mailbox, the handle and `out` are then unchanged.
     /// The set may have UIDs in any order, and such as no message has; one that rises costs least.
     pub fn expunge(
         &mut self,
-        seat: &mut CursorSeat,
+        handle: &mut CursorHandle,
         set: Option<&[u32]>,
         out: &mut Vec<u8>,
     ) -> Result<usize, MailFault>
-        ensures stranger { (result ≡ Err MailFault.Stranger) ↔ IsStranger self.old seat.old }
-        ensures lapped { (result ≡ Err MailFault.Lapped) ↔ IsLapped self.old seat.old }
-        ensures spent { (result ≡ Err MailFault.Spent) ↔ (IsCurrent self.old seat.old ×
+        ensures stranger { (result ≡ Err MailFault.Stranger) ↔ IsStranger self.old handle.old }
+        ensures lapped { (result ≡ Err MailFault.Lapped) ↔ IsLapped self.old handle.old }
+        ensures spent { (result ≡ Err MailFault.Spent) ↔ (IsCurrent self.old handle.old ×
             IsTooMany self.old (removals (in_set (option_map (λ uids. uids.now) set.entry)) (rows self.old))) }
-        ensures memory { (result ≡ Err MailFault.NoMemory) → seat.old.at < total self.old.window }
-        ensures err { OnErr result ((self.new ≡ self.old) × (seat.new ≡ seat.old) × (out.new.items ≡ out.old.items)) }
+        ensures memory { (result ≡ Err MailFault.NoMemory) → handle.old.at < total self.old.window }
+        ensures err { OnErr result ((self.new ≡ self.old) × (handle.new ≡ handle.old) × (out.new.items ≡ out.old.items)) }
 
         // All that was pending is shown, and nothing of what goes now.
         ensures shown { OnOk result ((log : List Change) → Stands self.old log →
-            out.new.items ≡ out.old.items ++ lines (view_at log seat.old.at) (drop seat.old.at log)) }
-        ensures seat { OnOk result (seat.new ≡ record seat.old { at = total self.old.window }) }
-        ensures within { OnOk result (seat.old.at ≤ total self.old.window) }
-        ensures moved { OnOk result (Updates self.old.cursors self.new.cursors seat.old.slot
-            (option_map (after_showing (changes_from seat.old.at self.old.window)) (held self.old.cursors seat.old))) }
+            out.new.items ≡ out.old.items ++ lines (view_at log handle.old.at) (drop handle.old.at log)) }
+        ensures handle { OnOk result (handle.new ≡ record handle.old { at = total self.old.window }) }
+        ensures within { OnOk result (handle.old.at ≤ total self.old.window) }
+        ensures moved { OnOk result (Updates self.old.cursors self.new.cursors handle.old.slot
+            (option_map (after_showing (changes_from handle.old.at self.old.window)) (held self.old.cursors handle.old))) }
 
         ensures logged { OnOk result (Logs self.old self.new (removals (in_set (option_map (λ uids. uids.now) set.entry)) (rows self.old))) }
         ensures window { OnOk result (Moves self.new.cursors self.old.window self.new.window
@@ -117,33 +117,33 @@ impl Mailbox {
         ensures count { IfOk result (λ n. n ≡ length (removals (in_set (option_map (λ uids. uids.now) set.entry)) (rows self.old))) }
 
         // The lines as the client counts.
-        ensures written { OnOk result (IfSome (held self.old.cursors seat.old) (λ o.
-            out.new.items ≡ out.old.items ++ lines o.view (changes_from seat.old.at self.old.window))) }
+        ensures written { OnOk result (IfSome (held self.old.cursors handle.old) (λ o.
+            out.new.items ≡ out.old.items ++ lines o.view (changes_from handle.old.at self.old.window))) }
         ensures room { vec_capacity out.old ≤ vec_capacity out.new }
     {
-        self.admit(seat)?;
+        self.admit(handle)?;
         let choice = Choice::of(set);
         let count = self.count_removals(choice);
         if !self.has_room(count) {
             return Err(MailFault::Spent);
         }
-        let Ok(_shown) = self.feed(seat, usize::MAX, out) else {
+        let Ok(_shown) = self.feed(handle, usize::MAX, out) else {
             return Err(MailFault::NoMemory);
         };
         self.remove(choice);
         Ok(count)
     }
 
-    // Closes a cursor. A seat that has none here is handed back.
-    fn close(&mut self, seat: CursorSeat) -> Result<(), CursorSeat>
+    // Closes a cursor. A handle that has none here is handed back.
+    fn close(&mut self, handle: CursorHandle) -> Result<(), CursorHandle>
         ensures logged { KeepsLog self.old self.new }
         ensures rest { self.new ≡ record self.old { cursors = self.new.cursors } }
-        ensures closed { OnOk result (Updates self.old.cursors self.new.cursors seat.slot None) }
-        ensures held { OnOk result (IsSome (held self.old.cursors seat)) }
+        ensures closed { OnOk result (Updates self.old.cursors self.new.cursors handle.slot None) }
+        ensures held { OnOk result (IsSome (held self.old.cursors handle)) }
         ensures next { self.new.cursors.next ≡ self.old.cursors.next }
-        ensures stranger { IfErr result (λ back. (back ≡ seat) × IsStranger self.old seat × (self.new ≡ self.old)) }
+        ensures stranger { IfErr result (λ back. (back ≡ handle) × IsStranger self.old handle × (self.new ≡ self.old)) }
     {
-        self.cursors.close(seat)
+        self.cursors.close(handle)
     }
 
     // How many messages go as a client leaves.
@@ -175,22 +175,22 @@ impl Mailbox {
     /// may have fallen behind the window. What goes is kept for other clients alone: the cursor is
     /// closed first.
     ///
-    /// Stranger where the seat has no cursor here, else Spent where the log has no room for the
-    /// removals; the seat is then handed back and the mailbox unchanged. It takes no memory.
+    /// Stranger where the handle has no cursor here, else Spent where the log has no room for the
+    /// removals; the handle is then handed back and the mailbox unchanged. It takes no memory.
     pub fn close_cursor(
         &mut self,
-        seat: CursorSeat,
+        handle: CursorHandle,
         remove: bool,
-    ) -> Result<usize, (CursorSeat, MailFault)>
-        ensures stranger { (result ≡ Err (seat, MailFault.Stranger)) ↔ IsStranger self.old seat }
-        ensures spent { (result ≡ Err (seat, MailFault.Spent)) ↔ (IsSome (held self.old.cursors seat) ×
+    ) -> Result<usize, (CursorHandle, MailFault)>
+        ensures stranger { (result ≡ Err (handle, MailFault.Stranger)) ↔ IsStranger self.old handle }
+        ensures spent { (result ≡ Err (handle, MailFault.Spent)) ↔ (IsSome (held self.old.cursors handle) ×
             IsTooMany self.old (removals_if remove (rows self.old))) }
-        ensures only { IfErr result (λ e. (e.0 ≡ seat) × ((e.1 ≡ MailFault.Stranger) ⊎ (e.1 ≡ MailFault.Spent)) × (self.new ≡ self.old)) }
+        ensures only { IfErr result (λ e. (e.0 ≡ handle) × ((e.1 ≡ MailFault.Stranger) ⊎ (e.1 ≡ MailFault.Spent)) × (self.new ≡ self.old)) }
 
         ensures logged { OnOk result (Logs self.old self.new (removals_if remove (rows self.old))) }
         ensures window { OnOk result (Moves self.new.cursors self.old.window self.new.window (removals_if remove (rows self.old))) }
         ensures messages { OnOk result (self.new.messages ≡ (if remove then remaining (λ uid. true) self.old.messages else self.old.messages)) }
-        ensures closed { OnOk result (Updates self.old.cursors self.new.cursors seat.slot None) }
+        ensures closed { OnOk result (Updates self.old.cursors self.new.cursors handle.slot None) }
         ensures rest { OnOk result (self.new ≡ record self.old {
           messages = self.new.messages;
           window = self.new.window;
@@ -199,15 +199,15 @@ impl Mailbox {
         ensures next { self.new.cursors.next ≡ self.old.cursors.next }
         ensures count { IfOk result (λ n. n ≡ length (removals_if remove (rows self.old))) }
     {
-        if self.cursors.view(&seat).is_err() {
-            return Err((seat, MailFault::Stranger));
+        if self.cursors.view(&handle).is_err() {
+            return Err((handle, MailFault::Stranger));
         }
         let count = self.count_leaving(remove);
         if !self.has_room(count) {
-            return Err((seat, MailFault::Spent));
+            return Err((handle, MailFault::Spent));
         }
-        if let Err(seat) = self.close(seat) {
-            return Err((seat, MailFault::Stranger));
+        if let Err(handle) = self.close(handle) {
+            return Err((handle, MailFault::Stranger));
         }
         self.remove_leaving(remove);
         Ok(count)

@@ -5,7 +5,7 @@ use Rattle.change_ring.specs.declared.change.Change.{Change}
 use Rattle.change_ring.specs.Log.{view_at}
 use Rattle.change_ring.specs.Logged.{removals}
 use Rattle.change_ring.specs.Window.{Window, changes_from, total}
-use Rattle.cursor_set.specs.Cursors.{CursorSet, Open, CursorSeat, Updates, after_showing, held, next_changes}
+use Rattle.cursor_set.specs.Cursors.{CursorSet, Open, CursorHandle, Updates, after_showing, held, next_changes}
 use Rattle.cursor_set.specs.Lines.{lines}
 use Rattle.cursor_set.specs.declared.set.FeedFault.{FeedFault}
 use Rattle.cursor_set.specs.declared.set.FeedFault.TheVariants as lapse
@@ -14,9 +14,9 @@ use Rattle.mailbox.specs.declared.clients.MailFault.TheVariants.{Stranger, Lappe
 use Rattle.mailbox.specs.Events.{IsCurrent, IsLapped, IsStranger, IsTooMany, KeepsLog, Logs, Moves, in_set}
 use Rattle.mailbox.specs.Mailbox.{Mailbox, Message, SameMailbox, remaining, rows}
 use Rattle.mailbox.specs.Stands.{IsKept, Stands, next_of}
-use Rattle.mailbox_holds.specs.Holds.{DoesExpunge, DoesFeed, IsEvent, IsRefused, IsSeated, Refuses}
+use Rattle.mailbox_holds.specs.Holds.{DoesExpunge, DoesFeed, IsEvent, IsRefused, HasCursor, Refuses}
 use Rattle.mailbox_holds.specs.inner.Holds.{answer_of}
-use Rattle.mailbox_holds.proofs.Seating.{current, seated, seated_on, seats_on}
+use Rattle.mailbox_holds.proofs.Cursors.{current, has_cursor, cursor_on, sets_on}
 
 -- ---- answers
 
@@ -24,23 +24,23 @@ ok_err : {A B : Type 0} {x : A} {f : B} → Ok x ≡ Err f → ⊥
 ok_err e = cc
 
 -- the facts on refusals that each call tells
-pub record Tells {A : Type 0} (r : Result A MailFault) (m : Mailbox) (seat : CursorSeat) (changes : List Change) (wants : Type 0) : Type 0 where
-  pub stranger : (r ≡ Err Stranger) ↔ IsStranger m seat
-  pub lapsed : (r ≡ Err Lapped) ↔ IsLapped m seat
-  pub spent : (r ≡ Err Spent) ↔ (IsCurrent m seat × IsTooMany m changes)
+pub record Tells {A : Type 0} (r : Result A MailFault) (m : Mailbox) (handle : CursorHandle) (changes : List Change) (wants : Type 0) : Type 0 where
+  pub stranger : (r ≡ Err Stranger) ↔ IsStranger m handle
+  pub lapsed : (r ≡ Err Lapped) ↔ IsLapped m handle
+  pub spent : (r ≡ Err Spent) ↔ (IsCurrent m handle × IsTooMany m changes)
   pub memory : r ≡ Err NoMemory → wants
 
-known : {A : Type 0} (r : Result A MailFault) (m : Mailbox) (seat : CursorSeat) (changes : List Change) (wants : Type 0) (x : A) → Tells r m seat changes wants → r ≡ Ok x → IsStranger m seat → ⊥
-known r m seat changes wants x t e h = ok_err (sym e ∙ t.stranger.1 h)
+known : {A : Type 0} (r : Result A MailFault) (m : Mailbox) (handle : CursorHandle) (changes : List Change) (wants : Type 0) (x : A) → Tells r m handle changes wants → r ≡ Ok x → IsStranger m handle → ⊥
+known r m handle changes wants x t e h = ok_err (sym e ∙ t.stranger.1 h)
 
-near : {A : Type 0} (r : Result A MailFault) (m : Mailbox) (seat : CursorSeat) (changes : List Change) (wants : Type 0) (x : A) → Tells r m seat changes wants → r ≡ Ok x → IsLapped m seat → ⊥
-near r m seat changes wants x t e h = ok_err (sym e ∙ t.lapsed.1 h)
+near : {A : Type 0} (r : Result A MailFault) (m : Mailbox) (handle : CursorHandle) (changes : List Change) (wants : Type 0) (x : A) → Tells r m handle changes wants → r ≡ Ok x → IsLapped m handle → ⊥
+near r m handle changes wants x t e h = ok_err (sym e ∙ t.lapsed.1 h)
 
-taken : {A : Type 0} (r : Result A MailFault) (m : Mailbox) (seat : CursorSeat) (changes : List Change) (wants : Type 0) (x : A) → Tells r m seat changes wants → r ≡ Ok x → IsCurrent m seat
-taken r m seat changes wants x t e = current m seat (known r m seat changes wants x t e) (near r m seat changes wants x t e)
+taken : {A : Type 0} (r : Result A MailFault) (m : Mailbox) (handle : CursorHandle) (changes : List Change) (wants : Type 0) (x : A) → Tells r m handle changes wants → r ≡ Ok x → IsCurrent m handle
+taken r m handle changes wants x t e = current m handle (known r m handle changes wants x t e) (near r m handle changes wants x t e)
 
-fits : {A : Type 0} (r : Result A MailFault) (m : Mailbox) (seat : CursorSeat) (changes : List Change) (wants : Type 0) (x : A) → Tells r m seat changes wants → r ≡ Ok x → IsTooMany m changes → ⊥
-fits r m seat changes wants x t e h = ok_err (sym e ∙ t.spent.1 (taken r m seat changes wants x t e, h))
+fits : {A : Type 0} (r : Result A MailFault) (m : Mailbox) (handle : CursorHandle) (changes : List Change) (wants : Type 0) (x : A) → Tells r m handle changes wants → r ≡ Ok x → IsTooMany m changes → ⊥
+fits r m handle changes wants x t e h = ok_err (sym e ∙ t.spent.1 (taken r m handle changes wants x t e, h))
 
 no_memory_stranger : {A : Type 0} {r : Result A MailFault} → r ≡ Err NoMemory → r ≡ Err Stranger → ⊥
 no_memory_stranger e f = let g = sym e ∙ f in cc
@@ -51,17 +51,17 @@ no_memory_lapped e f = let g = sym e ∙ f in cc
 no_memory_spent : {A : Type 0} {r : Result A MailFault} → r ≡ Err NoMemory → r ≡ Err Spent → ⊥
 no_memory_spent e f = let g = sym e ∙ f in cc
 
-why : {A : Type 0} (r : Result A MailFault) (m : Mailbox) (seat : CursorSeat) (changes : List Change) (wants : Type 0) (fault : MailFault) → Tells r m seat changes wants → r ≡ Err fault → Refuses fault m seat (IsTooMany m changes) wants
-why r m seat changes wants Stranger t e = t.stranger.0 e
-why r m seat changes wants Lapped t e = t.lapsed.0 e
-why r m seat changes wants Spent t e = t.spent.0 e
-why r m seat changes wants NoMemory t e =
-    let here : IsCurrent m seat = current m seat (λ h. no_memory_stranger e (t.stranger.1 h)) (λ h. no_memory_lapped e (t.lapsed.1 h)) in
+why : {A : Type 0} (r : Result A MailFault) (m : Mailbox) (handle : CursorHandle) (changes : List Change) (wants : Type 0) (fault : MailFault) → Tells r m handle changes wants → r ≡ Err fault → Refuses fault m handle (IsTooMany m changes) wants
+why r m handle changes wants Stranger t e = t.stranger.0 e
+why r m handle changes wants Lapped t e = t.lapsed.0 e
+why r m handle changes wants Spent t e = t.spent.0 e
+why r m handle changes wants NoMemory t e =
+    let here : IsCurrent m handle = current m handle (λ h. no_memory_stranger e (t.stranger.1 h)) (λ h. no_memory_lapped e (t.lapsed.1 h)) in
     (here, (λ h. no_memory_spent e (t.spent.1 (here, h))), t.memory e)
 
-refused : {A : Type 0} (r : Result A MailFault) (m n : Mailbox) (seat : CursorSeat) (changes : List Change) (wants : Type 0) (fault : MailFault) → IsKept m → Tells r m seat changes wants → r ≡ Err fault → n ≡ m
-    → IsRefused m seat (IsTooMany m changes) wants fault n
-refused r m n seat changes wants fault kept t e still = record { kept = kept; same = still; why = why r m seat changes wants fault t e }
+refused : {A : Type 0} (r : Result A MailFault) (m n : Mailbox) (handle : CursorHandle) (changes : List Change) (wants : Type 0) (fault : MailFault) → IsKept m → Tells r m handle changes wants → r ≡ Err fault → n ≡ m
+    → IsRefused m handle (IsTooMany m changes) wants fault n
+refused r m n handle changes wants fault kept t e still = record { kept = kept; same = still; why = why r m handle changes wants fault t e }
 
 -- ---- what is the same
 
@@ -108,105 +108,105 @@ back_stranger (Err lapse.NoMemory) e = cc
 fed_length : (w : Window) (at n limit : ℕ) → w.base ≤ at → n ≡ min limit (total w - at) → length (next_changes w at n) ≡ n
 fed_length w at n limit low count = omega (arith, length-take n (changes_from at w), length-drop (at - w.base) w.changes, count, low)
 
-pub feeds : (m n : Mailbox) (seat next : CursorSeat) (limit : ℕ) (before after : List ℕ) (r : Result ℕ FeedFault) → IsKept m → IsKept n → (r ≡ Err lapse.Stranger) ↔ IsStranger m seat → (r ≡ Err lapse.Lapped) ↔ IsLapped m seat
-    → (r ≡ Err lapse.NoMemory → 0 < min limit (total m.window - seat.at)) → OnErr r ((n ≡ m) × (next ≡ seat) × (after ≡ before)) → IfOk r (λ k. k ≡ min limit (total m.window - seat.at)) → IfOk r (λ k. next ≡ record seat { at = seat.at + k })
+pub feeds : (m n : Mailbox) (handle next : CursorHandle) (limit : ℕ) (before after : List ℕ) (r : Result ℕ FeedFault) → IsKept m → IsKept n → (r ≡ Err lapse.Stranger) ↔ IsStranger m handle → (r ≡ Err lapse.Lapped) ↔ IsLapped m handle
+    → (r ≡ Err lapse.NoMemory → 0 < min limit (total m.window - handle.at)) → OnErr r ((n ≡ m) × (next ≡ handle) × (after ≡ before)) → IfOk r (λ k. k ≡ min limit (total m.window - handle.at)) → IfOk r (λ k. next ≡ record handle { at = handle.at + k })
     → KeepsLog m n → n ≡ record m { cursors = n.cursors }
-    → IfOk r (λ k. Updates m.cursors n.cursors seat.slot (option_map (after_showing (next_changes m.window seat.at k)) (held m.cursors seat)))
-    → IfOk r (λ k. IfSome (held m.cursors seat) (λ o. after ≡ before ++ lines o.view (next_changes m.window seat.at k)))
+    → IfOk r (λ k. Updates m.cursors n.cursors handle.slot (option_map (after_showing (next_changes m.window handle.at k)) (held m.cursors handle)))
+    → IfOk r (λ k. IfSome (held m.cursors handle) (λ o. after ≡ before ++ lines o.view (next_changes m.window handle.at k)))
     → n.cursors.next ≡ m.cursors.next
-    → IfOk r (λ k. (log : List Change) → Stands m log → after ≡ before ++ lines (view_at log seat.at) (next_of log seat.at k))
-    → DoesFeed m seat limit before after (answer_of r) n next
-feeds m n seat next limit before after (Ok k) kept left strange lapses memory err count is keeps rest moved wrote serials shown = record {
+    → IfOk r (λ k. (log : List Change) → Stands m log → after ≡ before ++ lines (view_at log handle.at) (next_of log handle.at k))
+    → DoesFeed m handle limit before after (answer_of r) n next
+feeds m n handle next limit before after (Ok k) kept left strange lapses memory err count is keeps rest moved wrote serials shown = record {
   view = at.0;
   changes = changes;
   does = record {
     event = event m n [] kept left (logs_nothing m n keeps) (only_cursors m n rest);
-    seated = at.1;
+    known = at.1;
     current = low;
     count = long ∙ count;
-    shown = ap (λ (j : ℕ). next_changes m.window seat.at j) (sym long);
+    shown = ap (λ (j : ℕ). next_changes m.window handle.at j) (sym long);
     goes_on = on;
-    counts = seated_on m n seat next at.0 changes left at.1 moved on;
-    seats = seats_on m n seat next at.0 changes at.1 moved on;
+    counts = cursor_on m n handle next at.0 changes left at.1 moved on;
+    sets = sets_on m n handle next at.0 changes at.1 moved on;
     serials = serials;
     rest = rest;
   };
   counted = long;
-  wrote = on_some (λ (o : Open). after ≡ before ++ lines o.view changes) (held m.cursors seat) _ at.1.cursor wrote;
+  wrote = on_some (λ (o : Open). after ≡ before ++ lines o.view changes) (held m.cursors handle) _ at.1.cursor wrote;
   of_log = shown;
 }
   where
-    known : IsStranger m seat → ⊥
+    known : IsStranger m handle → ⊥
     known h = ok_err (strange.1 h)
 
-    close : IsLapped m seat → ⊥
+    close : IsLapped m handle → ⊥
     close h = ok_err (lapses.1 h)
 
-    low : m.window.base ≤ seat.at
-    low = (current m seat known close).1
+    low : m.window.base ≤ handle.at
+    low = (current m handle known close).1
 
-    at : (view : List ℕ) × IsSeated m seat view
-    at = seated m seat kept known
+    at : (view : List ℕ) × HasCursor m handle view
+    at = has_cursor m handle kept known
 
     changes : List Change
-    changes = next_changes m.window seat.at k
+    changes = next_changes m.window handle.at k
 
     long : length changes ≡ k
-    long = fed_length m.window seat.at k limit low count
+    long = fed_length m.window handle.at k limit low count
 
-    on : next ≡ record seat { at = seat.at + length changes }
-    on = is ∙ ap (λ (j : ℕ). let z : CursorSeat = record { number = seat.number; slot = seat.slot; serial = seat.serial; at = seat.at + j } in z) (sym long)
-feeds m n seat next limit before after (Err lapse.Stranger) kept left strange lapses memory err count is keeps rest moved wrote serials shown = record { refused = record { kept = kept; same = err.0; why = strange.0 refl }; still = err.1; wrote = err.2 }
-feeds m n seat next limit before after (Err lapse.Lapped) kept left strange lapses memory err count is keeps rest moved wrote serials shown = record { refused = record { kept = kept; same = err.0; why = lapses.0 refl }; still = err.1; wrote = err.2 }
-feeds m n seat next limit before after (Err lapse.NoMemory) kept left strange lapses memory err count is keeps rest moved wrote serials shown = record {
-  refused = record { kept = kept; same = err.0; why = (current m seat (λ h. let e = strange.1 h in cc) (λ h. let e = lapses.1 h in cc), (λ h. h), memory refl) };
+    on : next ≡ record handle { at = handle.at + length changes }
+    on = is ∙ ap (λ (j : ℕ). let z : CursorHandle = record { number = handle.number; slot = handle.slot; serial = handle.serial; at = handle.at + j } in z) (sym long)
+feeds m n handle next limit before after (Err lapse.Stranger) kept left strange lapses memory err count is keeps rest moved wrote serials shown = record { refused = record { kept = kept; same = err.0; why = strange.0 refl }; still = err.1; wrote = err.2 }
+feeds m n handle next limit before after (Err lapse.Lapped) kept left strange lapses memory err count is keeps rest moved wrote serials shown = record { refused = record { kept = kept; same = err.0; why = lapses.0 refl }; still = err.1; wrote = err.2 }
+feeds m n handle next limit before after (Err lapse.NoMemory) kept left strange lapses memory err count is keeps rest moved wrote serials shown = record {
+  refused = record { kept = kept; same = err.0; why = (current m handle (λ h. let e = strange.1 h in cc) (λ h. let e = lapses.1 h in cc), (λ h. h), memory refl) };
   still = err.1;
   wrote = err.2;
 }
 
-pub expunges : (m n : Mailbox) (seat next : CursorSeat) (uids : Option (List ℕ)) (before after : List ℕ) (r : Result ℕ MailFault) → IsKept m → IsKept n → Tells r m seat (removals (in_set uids) (rows m)) (seat.at < total m.window)
-    → OnErr r ((n ≡ m) × (next ≡ seat) × (after ≡ before)) → OnOk r (next ≡ record seat { at = total m.window })
-    → OnOk r (Updates m.cursors n.cursors seat.slot (option_map (after_showing (changes_from seat.at m.window)) (held m.cursors seat)))
+pub expunges : (m n : Mailbox) (handle next : CursorHandle) (uids : Option (List ℕ)) (before after : List ℕ) (r : Result ℕ MailFault) → IsKept m → IsKept n → Tells r m handle (removals (in_set uids) (rows m)) (handle.at < total m.window)
+    → OnErr r ((n ≡ m) × (next ≡ handle) × (after ≡ before)) → OnOk r (next ≡ record handle { at = total m.window })
+    → OnOk r (Updates m.cursors n.cursors handle.slot (option_map (after_showing (changes_from handle.at m.window)) (held m.cursors handle)))
     → OnOk r (Logs m n (removals (in_set uids) (rows m))) → OnOk r (Moves n.cursors m.window n.window (removals (in_set uids) (rows m)))
     → OnOk r (n.messages ≡ remaining (in_set uids) m.messages) → OnOk r (n ≡ record m { messages = n.messages; window = n.window; cursors = n.cursors })
-    → IfOk r (λ k. k ≡ length (removals (in_set uids) (rows m))) → OnOk r (IfSome (held m.cursors seat) (λ o. after ≡ before ++ lines o.view (changes_from seat.at m.window)))
-    → n.cursors.next ≡ m.cursors.next → OnOk r ((log : List Change) → Stands m log → after ≡ before ++ lines (view_at log seat.at) (drop seat.at log))
-    → DoesExpunge m seat uids before after r n next
-expunges m n seat next uids before after (Ok k) kept left t err is moved logs moves messages rest count wrote serials shown = record {
+    → IfOk r (λ k. k ≡ length (removals (in_set uids) (rows m))) → OnOk r (IfSome (held m.cursors handle) (λ o. after ≡ before ++ lines o.view (changes_from handle.at m.window)))
+    → n.cursors.next ≡ m.cursors.next → OnOk r ((log : List Change) → Stands m log → after ≡ before ++ lines (view_at log handle.at) (drop handle.at log))
+    → DoesExpunge m handle uids before after r n next
+expunges m n handle next uids before after (Ok k) kept left t err is moved logs moves messages rest count wrote serials shown = record {
   view = at.0;
-  changes = changes_from seat.at m.window;
+  changes = changes_from handle.at m.window;
   does = record {
     event = event m n _ kept left logs rest;
-    seated = at.1;
+    known = at.1;
     current = low;
-    room = fits (Ok k) m seat _ _ k t refl;
+    room = fits (Ok k) m handle _ _ k t refl;
     shown = refl;
     goes_on = is;
-    counts = seated_on m n seat next at.0 (changes_from seat.at m.window) left at.1 moved on;
-    seats = seats_on m n seat next at.0 (changes_from seat.at m.window) at.1 moved on;
+    counts = cursor_on m n handle next at.0 (changes_from handle.at m.window) left at.1 moved on;
+    sets = sets_on m n handle next at.0 (changes_from handle.at m.window) at.1 moved on;
     serials = serials;
     window = moves;
     messages = messages;
     rest = rest;
     went = count;
   };
-  wrote = on_some (λ (o : Open). after ≡ before ++ lines o.view (changes_from seat.at m.window)) (held m.cursors seat) _ at.1.cursor wrote;
+  wrote = on_some (λ (o : Open). after ≡ before ++ lines o.view (changes_from handle.at m.window)) (held m.cursors handle) _ at.1.cursor wrote;
   of_log = shown;
 }
   where
-    low : m.window.base ≤ seat.at
-    low = (taken (Ok k) m seat _ _ k t refl).1
+    low : m.window.base ≤ handle.at
+    low = (taken (Ok k) m handle _ _ k t refl).1
 
-    at : (view : List ℕ) × IsSeated m seat view
-    at = seated m seat kept (known (Ok k) m seat _ _ k t refl)
+    at : (view : List ℕ) × HasCursor m handle view
+    at = has_cursor m handle kept (known (Ok k) m handle _ _ k t refl)
 
-    whole : total m.window ≡ seat.at + length (changes_from seat.at m.window)
-    whole = omega (arith, length-drop (seat.at - m.window.base) m.window.changes, low, at.1.within)
+    whole : total m.window ≡ handle.at + length (changes_from handle.at m.window)
+    whole = omega (arith, length-drop (handle.at - m.window.base) m.window.changes, low, at.1.within)
 
-    on : next ≡ record seat { at = seat.at + length (changes_from seat.at m.window) }
-    on = is ∙ ap (λ (j : ℕ). let z : CursorSeat = record { number = seat.number; slot = seat.slot; serial = seat.serial; at = j } in z) whole
-expunges m n seat next uids before after (Err fault) kept left t err is moved logs moves messages rest count wrote serials shown = record {
-  refused = refused (Err fault) m n seat _ _ fault kept t refl err.0;
+    on : next ≡ record handle { at = handle.at + length (changes_from handle.at m.window) }
+    on = is ∙ ap (λ (j : ℕ). let z : CursorHandle = record { number = handle.number; slot = handle.slot; serial = handle.serial; at = j } in z) whole
+expunges m n handle next uids before after (Err fault) kept left t err is moved logs moves messages rest count wrote serials shown = record {
+  refused = refused (Err fault) m n handle _ _ fault kept t refl err.0;
   still = err.1;
   wrote = err.2;
 }

@@ -1,2 +1,2 @@
-pub mod Seating
+pub mod Cursors
 pub mod Holding

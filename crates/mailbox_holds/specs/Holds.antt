@@ -1,4 +1,4 @@
--- What a call does to the mailbox that it finds, as under a lock, and to a client's seat: what a client does is one event of the mailbox, and so is
+-- What a call does to the mailbox that it finds, as under a lock, and to a client's handle: what a client does is one event of the mailbox, and so is
 -- the delivery of a copy.
 use Rattle.std.specs.Prelude.{◌≡◌, ℕ, ◌+◌, ◌-◌, ◌^◌, ◌<◌, ◌≤◌, Bool, true, false, List, [], ◌∷◌, ◌++◌, length, drop, min, Option, Some, None, IsSome, Result, Ok, Err, option_map, if◌then◌else◌}
 use Rattle.change_ring.specs.declared.change.Change.{Change}
@@ -7,7 +7,7 @@ use Rattle.change_ring.specs.declared.flag_op.FlagOp.{FlagOp}
 use Rattle.change_ring.specs.Log.{replay, view_at}
 use Rattle.change_ring.specs.Logged.{arrival, flags_logged, removals, removals_if, seen_logged}
 use Rattle.change_ring.specs.Window.{changes_from, total}
-use Rattle.cursor_set.specs.Cursors.{CursorSeat, Updates, held, in_slot, next_changes}
+use Rattle.cursor_set.specs.Cursors.{CursorHandle, Updates, held, in_slot, next_changes}
 use Rattle.cursor_set.specs.Lines.{lines}
 use Rattle.delivery_token.specs.declared.CopyKey.{CopyKey}
 use Rattle.delivery_token.specs.declared.Job.{Job}
@@ -41,52 +41,52 @@ pub record IsDelivery (found left : Mailbox) (key : CopyKey) (flags : Flags) : T
   pub same : SameMailbox found left
   pub accepted : left.accepted ≡ found.accepted ++ (key, next_uid found) ∷ []
 
--- The seat is no stranger: its cursor stands in this mailbox at the seat's number, and counts this view. The log is at least as long as that number.
-pub record IsSeated (m : Mailbox) (seat : CursorSeat) (view : List ℕ) : Type 0 where
-  pub cursor : held m.cursors seat ≡ Some (record { serial = seat.serial; at = seat.at; view = view })
-  pub within : seat.at ≤ total m.window
+-- The handle is no stranger: its cursor stands in this mailbox at the handle's number, and counts this view. The log is at least as long as that number.
+pub record HasCursor (m : Mailbox) (handle : CursorHandle) (view : List ℕ) : Type 0 where
+  pub cursor : held m.cursors handle ≡ Some (record { serial = handle.serial; at = handle.at; view = view })
+  pub within : handle.at ≤ total m.window
 
--- The cursor in the seat's slot is this seat's now, and counts this view; no other slot changed.
-abbrev pub Seats : Mailbox → Mailbox → CursorSeat → List ℕ → Type 0
-Seats found left seat view = Updates found.cursors left.cursors seat.slot (Some (record { serial = seat.serial; at = seat.at; view = view }))
+-- The cursor in the handle's slot is this handle's now, and counts this view; no other slot changed.
+abbrev pub SetsCursor : Mailbox → Mailbox → CursorHandle → List ℕ → Type 0
+SetsCursor found left handle view = Updates found.cursors left.cursors handle.slot (Some (record { serial = handle.serial; at = handle.at; view = view }))
 
 -- ---- what each event does
 
--- The seat was made, of the next serial and in a slot that was vacant, at the end of the log: its client counts the messages that are there.
-pub record Enters (found : Mailbox) (opening : Opening) (left : Mailbox) (seat : CursorSeat) : Type 0 where
+-- The handle was made, of the next serial and in a slot that was vacant, at the end of the log: its client counts the messages that are there.
+pub record Enters (found : Mailbox) (opening : Opening) (left : Mailbox) (handle : CursorHandle) : Type 0 where
   pub event : IsEvent found left []
   pub serial_left : found.cursors.next < 2 ^ 64 - 1
   pub tells : opening ≡ record { count = length found.messages; uidnext = next_uid found; uidvalidity = found.uidvalidity }
-  pub made : seat ≡ record { number = found.number; slot = seat.slot; serial = found.cursors.next; at = total found.window }
-  pub vacant : in_slot found.cursors seat.slot ≡ None
-  pub seated : IsSeated left seat (uids_of found.messages)
-  pub seats : Seats found left seat (uids_of found.messages)
+  pub made : handle ≡ record { number = found.number; slot = handle.slot; serial = found.cursors.next; at = total found.window }
+  pub vacant : in_slot found.cursors handle.slot ≡ None
+  pub known : HasCursor left handle (uids_of found.messages)
+  pub sets : SetsCursor found left handle (uids_of found.messages)
   pub serials : left.cursors.next ≡ found.cursors.next + 1
   pub rest : left ≡ record found { cursors = left.cursors }
 
--- The client was shown its next changes, at most so many, and the seat went on by as many.
-pub record Feeds (found : Mailbox) (seat : CursorSeat) (limit : ℕ) (view : List ℕ) (changes : List Change) (left : Mailbox) (next : CursorSeat) : Type 0 where
+-- The client was shown its next changes, at most so many, and the handle went on by as many.
+pub record Feeds (found : Mailbox) (handle : CursorHandle) (limit : ℕ) (view : List ℕ) (changes : List Change) (left : Mailbox) (next : CursorHandle) : Type 0 where
   pub event : IsEvent found left []
-  pub seated : IsSeated found seat view
-  pub current : found.window.base ≤ seat.at
-  pub count : length changes ≡ min limit (total found.window - seat.at)
-  pub shown : changes ≡ next_changes found.window seat.at (length changes)
-  pub goes_on : next ≡ record seat { at = seat.at + length changes }
-  pub counts : IsSeated left next (replay view changes)
-  pub seats : Seats found left next (replay view changes)
+  pub known : HasCursor found handle view
+  pub current : found.window.base ≤ handle.at
+  pub count : length changes ≡ min limit (total found.window - handle.at)
+  pub shown : changes ≡ next_changes found.window handle.at (length changes)
+  pub goes_on : next ≡ record handle { at = handle.at + length changes }
+  pub counts : HasCursor left next (replay view changes)
+  pub sets : SetsCursor found left next (replay view changes)
   pub serials : left.cursors.next ≡ found.cursors.next
   pub rest : left ≡ record found { cursors = left.cursors }
 
 -- The client was shown all that was pending, and then the messages with \Deleted went, those of the set.
-pub record Expunges (found : Mailbox) (seat : CursorSeat) (uids : Option (List ℕ)) (view : List ℕ) (changes : List Change) (gone : ℕ) (left : Mailbox) (next : CursorSeat) : Type 0 where
+pub record Expunges (found : Mailbox) (handle : CursorHandle) (uids : Option (List ℕ)) (view : List ℕ) (changes : List Change) (gone : ℕ) (left : Mailbox) (next : CursorHandle) : Type 0 where
   pub event : IsEvent found left (removals (in_set uids) (rows found))
-  pub seated : IsSeated found seat view
-  pub current : found.window.base ≤ seat.at
+  pub known : HasCursor found handle view
+  pub current : found.window.base ≤ handle.at
   pub room : IsTooMany found (removals (in_set uids) (rows found)) → ⊥
-  pub shown : changes ≡ changes_from seat.at found.window
-  pub goes_on : next ≡ record seat { at = total found.window }
-  pub counts : IsSeated left next (replay view changes)
-  pub seats : Seats found left next (replay view changes)
+  pub shown : changes ≡ changes_from handle.at found.window
+  pub goes_on : next ≡ record handle { at = total found.window }
+  pub counts : HasCursor left next (replay view changes)
+  pub sets : SetsCursor found left next (replay view changes)
   pub serials : left.cursors.next ≡ found.cursors.next
   pub window : Moves left.cursors found.window left.window (removals (in_set uids) (rows found))
   pub messages : left.messages ≡ remaining (in_set uids) found.messages
@@ -94,10 +94,10 @@ pub record Expunges (found : Mailbox) (seat : CursorSeat) (uids : Option (List �
   pub went : gone ≡ length (removals (in_set uids) (rows found))
 
 -- The message of a UID was read.
-pub record Reads (found : Mailbox) (seat : CursorSeat) (uid : ℕ) (mark_seen : Bool) (row : Option Row) (left : Mailbox) : Type 0 where
+pub record Reads (found : Mailbox) (handle : CursorHandle) (uid : ℕ) (mark_seen : Bool) (row : Option Row) (left : Mailbox) : Type 0 where
   pub event : IsEvent found left (seen_logged mark_seen (rows found) uid)
-  pub seated : (view : List ℕ) × IsSeated found seat view
-  pub current : found.window.base ≤ seat.at
+  pub known : (view : List ℕ) × HasCursor found handle view
+  pub current : found.window.base ≤ handle.at
   pub room : IsTooMany found (seen_logged mark_seen (rows found) uid) → ⊥
   pub window : Moves found.cursors found.window left.window (seen_logged mark_seen (rows found) uid)
   pub messages : left.messages ≡ seen_after mark_seen uid found.messages
@@ -110,22 +110,22 @@ pub record Reads (found : Mailbox) (seat : CursorSeat) (uid : ℕ) (mark_seen : 
   }) (message_with uid left.messages)
 
 -- The flags of the message of a UID were changed.
-pub record Alters (found : Mailbox) (seat : CursorSeat) (uid : ℕ) (op : FlagOp) (flags : Option Flags) (left : Mailbox) : Type 0 where
+pub record Alters (found : Mailbox) (handle : CursorHandle) (uid : ℕ) (op : FlagOp) (flags : Option Flags) (left : Mailbox) : Type 0 where
   pub event : IsEvent found left (flags_logged (rows found) uid op)
-  pub seated : (view : List ℕ) × IsSeated found seat view
-  pub current : found.window.base ≤ seat.at
+  pub known : (view : List ℕ) × HasCursor found handle view
+  pub current : found.window.base ≤ handle.at
   pub room : IsTooMany found (flags_logged (rows found) uid op) → ⊥
   pub window : Moves found.cursors found.window left.window (flags_logged (rows found) uid op)
   pub messages : left.messages ≡ flagged uid op found.messages
   pub rest : left ≡ record found { messages = left.messages; window = left.window }
   pub answers : flags ≡ option_map (λ (m : Message). m.flags) (message_with uid left.messages)
 
--- The seat was closed, and where it was asked for the messages with \Deleted went. The client may have fallen behind the window.
-pub record Leaves (found : Mailbox) (seat : CursorSeat) (remove : Bool) (gone : ℕ) (left : Mailbox) : Type 0 where
+-- The handle was closed, and where it was asked for the messages with \Deleted went. The client may have fallen behind the window.
+pub record Leaves (found : Mailbox) (handle : CursorHandle) (remove : Bool) (gone : ℕ) (left : Mailbox) : Type 0 where
   pub event : IsEvent found left (removals_if remove (rows found))
-  pub seated : (view : List ℕ) × IsSeated found seat view
+  pub known : (view : List ℕ) × HasCursor found handle view
   pub room : IsTooMany found (removals_if remove (rows found)) → ⊥
-  pub closed : Updates found.cursors left.cursors seat.slot None
+  pub closed : Updates found.cursors left.cursors handle.slot None
   pub serials : left.cursors.next ≡ found.cursors.next
   pub window : Moves left.cursors found.window left.window (removals_if remove (rows found))
   pub messages : left.messages ≡ (if remove then remaining (λ uid. true) found.messages else found.messages)
@@ -146,19 +146,19 @@ pub record Delivers (found : Mailbox) (job : Job) (receipt : Receipt) (left : Ma
 
 -- Why a client was refused: the first of these that holds. Where `spent`, the log has no room for what the call would log; and memory is wanted
 -- only where `wants`.
-abbrev pub Refuses : MailFault → Mailbox → CursorSeat → Type 0 → Type 0 → Type 0
-Refuses Stranger m seat spent wants = IsStranger m seat
-Refuses Lapped m seat spent wants = IsLapped m seat
-Refuses Spent m seat spent wants = IsCurrent m seat × spent
-Refuses NoMemory m seat spent wants = IsCurrent m seat × (spent → ⊥) × wants
+abbrev pub Refuses : MailFault → Mailbox → CursorHandle → Type 0 → Type 0 → Type 0
+Refuses Stranger m handle spent wants = IsStranger m handle
+Refuses Lapped m handle spent wants = IsLapped m handle
+Refuses Spent m handle spent wants = IsCurrent m handle × spent
+Refuses NoMemory m handle spent wants = IsCurrent m handle × (spent → ⊥) × wants
 
 -- The call was refused, and changed nothing.
-pub record IsRefused (found : Mailbox) (seat : CursorSeat) (spent wants : Type 0) (fault : MailFault) (left : Mailbox) : Type 0 where
+pub record IsRefused (found : Mailbox) (handle : CursorHandle) (spent wants : Type 0) (fault : MailFault) (left : Mailbox) : Type 0 where
   pub kept : IsKept found
   pub same : left ≡ found
-  pub why : Refuses fault found seat spent wants
+  pub why : Refuses fault found handle spent wants
 
--- why no seat was made: no serial is left, or one is and memory was refused
+-- why no handle was made: no serial is left, or one is and memory was refused
 abbrev pub EntersNot : MailFault → Mailbox → Type 0
 EntersNot Stranger m = ⊥
 EntersNot Lapped m = ⊥
@@ -166,11 +166,11 @@ EntersNot Spent m = 2 ^ 64 - 1 ≤ m.cursors.next
 EntersNot NoMemory m = m.cursors.next < 2 ^ 64 - 1
 
 -- why a client that would leave could not, of whom these changes would be logged: one that fell behind may, and it takes no memory
-abbrev pub LeavesNot : MailFault → Mailbox → CursorSeat → List Change → Type 0
-LeavesNot Stranger m seat changes = IsStranger m seat
-LeavesNot Lapped m seat changes = ⊥
-LeavesNot Spent m seat changes = IsSome (held m.cursors seat) × IsTooMany m changes
-LeavesNot NoMemory m seat changes = ⊥
+abbrev pub LeavesNot : MailFault → Mailbox → CursorHandle → List Change → Type 0
+LeavesNot Stranger m handle changes = IsStranger m handle
+LeavesNot Lapped m handle changes = ⊥
+LeavesNot Spent m handle changes = IsSome (held m.cursors handle) × IsTooMany m changes
+LeavesNot NoMemory m handle changes = ⊥
 
 -- why a copy with these flags was not stored: the first of these that holds
 abbrev pub DeliversNot : Refusal → Flags → Mailbox → Type 0
@@ -182,67 +182,67 @@ DeliversNot copy.NoMemory flags m = (is_spent flags m ≡ false) × (is_full m �
 
 -- ---- by the answer
 
-abbrev pub DoesRead : Mailbox → CursorSeat → ℕ → Bool → Result (Option Row) MailFault → Mailbox → Type 0
-DoesRead found seat uid mark_seen (Ok row) left = Reads found seat uid mark_seen row left
-DoesRead found seat uid mark_seen (Err fault) left = IsRefused found seat (IsTooMany found (seen_logged mark_seen (rows found) uid)) (IsSome (message_with uid found.messages)) fault left
+abbrev pub DoesRead : Mailbox → CursorHandle → ℕ → Bool → Result (Option Row) MailFault → Mailbox → Type 0
+DoesRead found handle uid mark_seen (Ok row) left = Reads found handle uid mark_seen row left
+DoesRead found handle uid mark_seen (Err fault) left = IsRefused found handle (IsTooMany found (seen_logged mark_seen (rows found) uid)) (IsSome (message_with uid found.messages)) fault left
 
-abbrev pub DoesAlter : Mailbox → CursorSeat → ℕ → FlagOp → Result (Option Flags) MailFault → Mailbox → Type 0
-DoesAlter found seat uid op (Ok flags) left = Alters found seat uid op flags left
-DoesAlter found seat uid op (Err fault) left = IsRefused found seat (IsTooMany found (flags_logged (rows found) uid op)) ⊥ fault left
+abbrev pub DoesAlter : Mailbox → CursorHandle → ℕ → FlagOp → Result (Option Flags) MailFault → Mailbox → Type 0
+DoesAlter found handle uid op (Ok flags) left = Alters found handle uid op flags left
+DoesAlter found handle uid op (Err fault) left = IsRefused found handle (IsTooMany found (flags_logged (rows found) uid op)) ⊥ fault left
 
 -- What was shown, and what was written of it: a line for each change as the client counts, which are the next changes of each log for which the
 -- mailbox stood, by what that log says that the client counts.
-pub record Shown (P : List ℕ → List Change → Type 0) (found : Mailbox) (seat : CursorSeat) (before after : List ℕ) (count : ℕ) : Type 0 where
+pub record Shown (P : List ℕ → List Change → Type 0) (found : Mailbox) (handle : CursorHandle) (before after : List ℕ) (count : ℕ) : Type 0 where
   pub view : List ℕ
   pub changes : List Change
   pub does : P view changes
   pub counted : length changes ≡ count
   pub wrote : after ≡ before ++ lines view changes
-  pub of_log : (log : List Change) → Stands found log → after ≡ before ++ lines (view_at log seat.at) (next_of log seat.at count)
+  pub of_log : (log : List Change) → Stands found log → after ≡ before ++ lines (view_at log handle.at) (next_of log handle.at count)
 
 -- the same, where all that was pending was shown, and the answer isn't how many
-pub record Told (P : List ℕ → List Change → Type 0) (found : Mailbox) (seat : CursorSeat) (before after : List ℕ) : Type 0 where
+pub record Told (P : List ℕ → List Change → Type 0) (found : Mailbox) (handle : CursorHandle) (before after : List ℕ) : Type 0 where
   pub view : List ℕ
   pub changes : List Change
   pub does : P view changes
   pub wrote : after ≡ before ++ lines view changes
-  pub of_log : (log : List Change) → Stands found log → after ≡ before ++ lines (view_at log seat.at) (drop seat.at log)
+  pub of_log : (log : List Change) → Stands found log → after ≡ before ++ lines (view_at log handle.at) (drop handle.at log)
 
--- Nothing was shown: neither the seat nor what is written changed.
-pub record NothingShown (P : Type 0) (seat next : CursorSeat) (before after : List ℕ) : Type 0 where
+-- Nothing was shown: neither the handle nor what is written changed.
+pub record NothingShown (P : Type 0) (handle next : CursorHandle) (before after : List ℕ) : Type 0 where
   pub refused : P
-  pub still : next ≡ seat
+  pub still : next ≡ handle
   pub wrote : after ≡ before
 
 -- It logs nothing, so the log always has room; and it wants memory only where there is something to show.
-abbrev pub DoesFeed : Mailbox → CursorSeat → ℕ → List ℕ → List ℕ → Result ℕ MailFault → Mailbox → CursorSeat → Type 0
-DoesFeed found seat limit before after (Ok n) left next = Shown (λ view changes. Feeds found seat limit view changes left next) found seat before after n
-DoesFeed found seat limit before after (Err fault) left next = NothingShown (IsRefused found seat ⊥ (0 < min limit (total found.window - seat.at)) fault left) seat next before after
+abbrev pub DoesFeed : Mailbox → CursorHandle → ℕ → List ℕ → List ℕ → Result ℕ MailFault → Mailbox → CursorHandle → Type 0
+DoesFeed found handle limit before after (Ok n) left next = Shown (λ view changes. Feeds found handle limit view changes left next) found handle before after n
+DoesFeed found handle limit before after (Err fault) left next = NothingShown (IsRefused found handle ⊥ (0 < min limit (total found.window - handle.at)) fault left) handle next before after
 
-abbrev pub DoesExpunge : Mailbox → CursorSeat → Option (List ℕ) → List ℕ → List ℕ → Result ℕ MailFault → Mailbox → CursorSeat → Type 0
-DoesExpunge found seat uids before after (Ok gone) left next = Told (λ view changes. Expunges found seat uids view changes gone left next) found seat before after
-DoesExpunge found seat uids before after (Err fault) left next = NothingShown (IsRefused found seat (IsTooMany found (removals (in_set uids) (rows found))) (seat.at < total found.window) fault left) seat next before after
+abbrev pub DoesExpunge : Mailbox → CursorHandle → Option (List ℕ) → List ℕ → List ℕ → Result ℕ MailFault → Mailbox → CursorHandle → Type 0
+DoesExpunge found handle uids before after (Ok gone) left next = Told (λ view changes. Expunges found handle uids view changes gone left next) found handle before after
+DoesExpunge found handle uids before after (Err fault) left next = NothingShown (IsRefused found handle (IsTooMany found (removals (in_set uids) (rows found))) (handle.at < total found.window) fault left) handle next before after
 
-abbrev pub DoesEnter : Mailbox → Result (CursorSeat × Opening) MailFault → Mailbox → Type 0
+abbrev pub DoesEnter : Mailbox → Result (CursorHandle × Opening) MailFault → Mailbox → Type 0
 DoesEnter found (Ok entered) left = Enters found entered.1 left entered.0
 DoesEnter found (Err fault) left = IsKept found × (left ≡ found) × EntersNot fault found
 
--- A seat that may not leave is handed back.
-abbrev pub DoesLeave : Mailbox → CursorSeat → Bool → Result ℕ (CursorSeat × MailFault) → Mailbox → Type 0
-DoesLeave found seat remove (Ok gone) left = Leaves found seat remove gone left
-DoesLeave found seat remove (Err back) left = (back.0 ≡ seat) × IsKept found × (left ≡ found) × LeavesNot back.1 found seat (removals_if remove (rows found))
+-- A handle that may not leave is handed back.
+abbrev pub DoesLeave : Mailbox → CursorHandle → Bool → Result ℕ (CursorHandle × MailFault) → Mailbox → Type 0
+DoesLeave found handle remove (Ok gone) left = Leaves found handle remove gone left
+DoesLeave found handle remove (Err back) left = (back.0 ≡ handle) × IsKept found × (left ≡ found) × LeavesNot back.1 found handle (removals_if remove (rows found))
 
 abbrev pub DoesDeliver : Mailbox → Job → Result Receipt Refusal → Mailbox → Type 0
 DoesDeliver found job (Ok receipt) left = Delivers found job receipt left
 DoesDeliver found job (Err refusal) left = IsKept found × (left ≡ found) × DeliversNot refusal job.flags found
 
--- The view was looked at, or memory was refused though there is one, or the seat is a stranger. It is no event.
-abbrev pub DoesLook : Mailbox → CursorSeat → Result (List ℕ) MailFault → Type 0
-DoesLook found seat (Ok view) = IsKept found × IsSeated found seat view
-DoesLook found seat (Err Stranger) = IsKept found × IsStranger found seat
-DoesLook found seat (Err Lapped) = ⊥
-DoesLook found seat (Err Spent) = ⊥
-DoesLook found seat (Err NoMemory) = IsKept found × (view : List ℕ) × IsSeated found seat view
+-- The view was looked at, or memory was refused though there is one, or the handle is a stranger. It is no event.
+abbrev pub DoesLook : Mailbox → CursorHandle → Result (List ℕ) MailFault → Type 0
+DoesLook found handle (Ok view) = IsKept found × HasCursor found handle view
+DoesLook found handle (Err Stranger) = IsKept found × IsStranger found handle
+DoesLook found handle (Err Lapped) = ⊥
+DoesLook found handle (Err Spent) = ⊥
+DoesLook found handle (Err NoMemory) = IsKept found × (view : List ℕ) × HasCursor found handle view
 
 -- The mailbox was counted (RFC 9051, 6.3.11). It is no event.
 pub record Counts (found : Mailbox) (status : Status) : Type 0 where

@@ -9,7 +9,7 @@ ghost use Rattle.mailbox_holds.specs.Holds.{Counts, DoesAlter, DoesDeliver, Does
 ghost use Rattle.mailbox_holds.specs.inner.Holds.{answer_of};
 
 use change_ring::{FlagOp, Flags};
-use cursor_set::{CursorSeat, FeedFault, NoMemory, Stranger};
+use cursor_set::{CursorHandle, FeedFault, NoMemory, Stranger};
 use delivery_token::{Job, Refusal};
 use mailbox::{MailFault, Mailbox, Opening, Receipt, Row, Status, View, every_mailbox_keeps};
 
@@ -31,12 +31,12 @@ pub fn deliver(mailbox: &mut Mailbox, job: &Job) -> Result<Receipt, Refusal>
     delivered
 }
 
-/// Opens a seat for a client at the end of the log, and answers it with what the mailbox has (RFC
+/// Opens a handle for a client at the end of the log, and answers it with what the mailbox has (RFC
 /// 9051, 6.3.2): the client counts the messages that are there.
 ///
-/// Spent where no serial is left for a seat, else NoMemory where memory is refused; the mailbox is
+/// Spent where no serial is left for a handle, else NoMemory where memory is refused; the mailbox is
 /// then unchanged.
-pub fn enter(mailbox: &mut Mailbox) -> Result<(CursorSeat, Opening), MailFault>
+pub fn enter(mailbox: &mut Mailbox) -> Result<(CursorHandle, Opening), MailFault>
     ensures { DoesEnter mailbox.old result mailbox.new }
 {
     every_mailbox_keeps(mailbox);
@@ -54,14 +54,14 @@ pub fn enter(mailbox: &mut Mailbox) -> Result<(CursorSeat, Opening), MailFault>
 
 /// The UIDs that a client counts, in their order, which rise; it is no event, and takes no memory.
 ///
-/// Stranger where the seat has no cursor here.
-pub fn view<'a>(mailbox: &'a Mailbox, seat: &CursorSeat) -> Result<View<'a>, Stranger>
-    ensures looks { IfOk result (λ view. DoesLook mailbox.now seat.now (Ok view)) }
+/// Stranger where the handle has no cursor here.
+pub fn view<'a>(mailbox: &'a Mailbox, handle: &CursorHandle) -> Result<View<'a>, Stranger>
+    ensures looks { IfOk result (λ view. DoesLook mailbox.now handle.now (Ok view)) }
     ensures rising { IfOk result (λ view. IsStrictlyIncreasing view) }
-    ensures stranger { OnErr result (DoesLook mailbox.now seat.now (Err MailFault.Stranger)) }
+    ensures stranger { OnErr result (DoesLook mailbox.now handle.now (Err MailFault.Stranger)) }
 {
     every_mailbox_keeps(mailbox);
-    mailbox.view(seat)
+    mailbox.view(handle)
 }
 
 /// What STATUS tells of the mailbox (RFC 9051, 6.3.11); it is no event, and takes no memory.
@@ -75,19 +75,19 @@ pub fn count(mailbox: &Mailbox) -> Status
 /// Reads the message of a UID, with a copy of its text; where `mark_seen`, it has \Seen from now on
 /// (RFC 9051, 6.4.5). None where no message has the UID.
 ///
-/// Stranger where the seat has no cursor here; else Lapped where the change that the client is to
+/// Stranger where the handle has no cursor here; else Lapped where the change that the client is to
 /// be shown next was overwritten; else Spent where the log has no room for the \Seen that is to be
 /// logged; else NoMemory where the copy is refused. The mailbox is then unchanged.
 pub fn read(
     mailbox: &mut Mailbox,
-    seat: &CursorSeat,
+    handle: &CursorHandle,
     uid: u32,
     mark_seen: bool,
 ) -> Result<Option<Row>, MailFault>
-    ensures { DoesRead mailbox.old seat.now uid mark_seen result mailbox.new }
+    ensures { DoesRead mailbox.old handle.now uid mark_seen result mailbox.new }
 {
     every_mailbox_keeps(mailbox);
-    let row = mailbox.read(seat, uid, mark_seen);
+    let row = mailbox.read(handle, uid, mark_seen);
     every_mailbox_keeps(mailbox);
     row
 }
@@ -95,19 +95,19 @@ pub fn read(
 /// Changes the flags of the message of a UID (RFC 9051, 6.4.6), and answers them as they are then.
 /// None where no message has the UID.
 ///
-/// Stranger where the seat has no cursor here; else Lapped where the change that the client is to
+/// Stranger where the handle has no cursor here; else Lapped where the change that the client is to
 /// be shown next was overwritten; else Spent where the log has no room for the change of flags. The
 /// mailbox is then unchanged. It takes no memory.
 pub fn alter(
     mailbox: &mut Mailbox,
-    seat: &CursorSeat,
+    handle: &CursorHandle,
     uid: u32,
     op: FlagOp,
 ) -> Result<Option<Flags>, MailFault>
-    ensures { DoesAlter mailbox.old seat.now uid op result mailbox.new }
+    ensures { DoesAlter mailbox.old handle.now uid op result mailbox.new }
 {
     every_mailbox_keeps(mailbox);
-    let flags = mailbox.store(seat, uid, op);
+    let flags = mailbox.store(handle, uid, op);
     every_mailbox_keeps(mailbox);
     flags
 }
@@ -125,24 +125,24 @@ fn answer_of(fed: Result<usize, FeedFault>) -> Result<usize, MailFault>
 }
 
 /// Shows a client its next changes, at most `limit`: a line for each behind `out` (RFC 9051, 7.4
-/// and 7.5), and answers how many. Nothing is logged, and the seat goes on by as many.
+/// and 7.5), and answers how many. Nothing is logged, and the handle goes on by as many.
 ///
-/// Stranger where the seat has no cursor here; else Lapped where the next change was overwritten;
+/// Stranger where the handle has no cursor here; else Lapped where the next change was overwritten;
 /// else NoMemory where memory is refused, which is wanted only where there is something to show;
-/// never Spent. The mailbox, the seat and `out` are then unchanged.
+/// never Spent. The mailbox, the handle and `out` are then unchanged.
 pub fn feed(
     mailbox: &mut Mailbox,
-    seat: &mut CursorSeat,
+    handle: &mut CursorHandle,
     limit: usize,
     out: &mut Vec<u8>,
 ) -> Result<usize, MailFault>
-    ensures event { DoesFeed mailbox.old seat.old limit out.old.items out.new.items result mailbox.new seat.new }
+    ensures event { DoesFeed mailbox.old handle.old limit out.old.items out.new.items result mailbox.new handle.new }
     ensures few { IfOk result (λ n. n ≤ limit) }
     ensures faults { IfErr result (λ f. f ≢ MailFault.Spent) }
     ensures room { vec_capacity out.old ≤ vec_capacity out.new }
 {
     every_mailbox_keeps(mailbox);
-    let fed = mailbox.feed(seat, limit, out);
+    let fed = mailbox.feed(handle, limit, out);
     every_mailbox_keeps(mailbox);
     answer_of(fed)
 }
@@ -151,39 +151,39 @@ pub fn feed(
 /// \Deleted, of these UIDs where some are named (RFC 9051, 6.4.3 and 6.4.9), and answers how many
 /// went. The client is shown later that these are gone.
 ///
-/// Stranger where the seat has no cursor here; else Lapped where the next change was overwritten;
+/// Stranger where the handle has no cursor here; else Lapped where the next change was overwritten;
 /// else Spent where the log has no room for the removals; else NoMemory where memory is refused,
-/// which is wanted only where something is pending. The mailbox, the seat and `out` are then
+/// which is wanted only where something is pending. The mailbox, the handle and `out` are then
 /// unchanged.
 pub fn expunge(
     mailbox: &mut Mailbox,
-    seat: &mut CursorSeat,
+    handle: &mut CursorHandle,
     uids: Option<&[u32]>,
     out: &mut Vec<u8>,
 ) -> Result<usize, MailFault>
-    ensures event { DoesExpunge mailbox.old seat.old (option_copied uids.entry) out.old.items out.new.items result mailbox.new seat.new }
+    ensures event { DoesExpunge mailbox.old handle.old (option_copied uids.entry) out.old.items out.new.items result mailbox.new handle.new }
     ensures room { vec_capacity out.old ≤ vec_capacity out.new }
 {
     every_mailbox_keeps(mailbox);
-    let gone = mailbox.expunge(seat, uids, out);
+    let gone = mailbox.expunge(handle, uids, out);
     every_mailbox_keeps(mailbox);
     gone
 }
 
-/// Closes a client's seat; where `remove`, every message that has \Deleted goes with it (RFC 9051,
+/// Closes a client's handle; where `remove`, every message that has \Deleted goes with it (RFC 9051,
 /// 6.4.1 and 6.4.2). Answers how many went. The client may have fallen behind.
 ///
-/// Stranger where the seat has no cursor here, else Spent where the log has no room for the
-/// removals; the seat is then handed back, and the mailbox unchanged. It takes no memory.
+/// Stranger where the handle has no cursor here, else Spent where the log has no room for the
+/// removals; the handle is then handed back, and the mailbox unchanged. It takes no memory.
 pub fn leave(
     mailbox: &mut Mailbox,
-    seat: CursorSeat,
+    handle: CursorHandle,
     remove: bool,
-) -> Result<usize, (CursorSeat, MailFault)>
-    ensures { DoesLeave mailbox.old seat remove result mailbox.new }
+) -> Result<usize, (CursorHandle, MailFault)>
+    ensures { DoesLeave mailbox.old handle remove result mailbox.new }
 {
     every_mailbox_keeps(mailbox);
-    let gone = mailbox.close_cursor(seat, remove);
+    let gone = mailbox.close_cursor(handle, remove);
     every_mailbox_keeps(mailbox);
     gone
 }

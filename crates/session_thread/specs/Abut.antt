@@ -37,8 +37,8 @@ abbrev pub Joins : ℕ → List Event → Type 0
 Joins at [] = Unit {0}
 Joins at (event ∷ events) = BeginsAt at event.answer × Joins (at + shown_by event.answer) events
 
--- While a session stays in its mailbox, the pieces that it is shown abut: they begin where its seat stood, and the seat is the one that was made as
+-- While a session stays in its mailbox, the pieces that it is shown abut: they begin where its handle stood, and the handle is the one that was made as
 -- it entered, and has gone on by as many changes as were shown.
 abbrev pub Abut : Type 0
 Abut = (old new : LockedDesk) (events : List Event) (here : Entry) → Met Holds old events new → list_all (λ (e : Event). stays e.answer) events ≡ true → old.entered ≡ Some here
-    → Joins here.seat.at events × In new (λ there. (there.mailbox ≡ here.mailbox) × (there.start ≡ here.start) × (there.seat ≡ record here.seat { at = here.seat.at + shown_by_all events }))
+    → Joins here.handle.at events × In new (λ there. (there.mailbox ≡ here.mailbox) × (there.start ≡ here.start) × (there.handle ≡ record here.handle { at = here.handle.at + shown_by_all events }))

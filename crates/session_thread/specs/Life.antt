@@ -16,7 +16,7 @@ use Rattle.session_thread.specs.declared.life.Step.{Step}
 use Rattle.session_thread.specs.declared.life.Step.TheVariants.{Say, Await}
 use Rattle.session_thread.specs.Locks.{Holds, LockedDesk, shown_in}
 
--- where a session stands: its client's dialogue, its seat, and all that was written
+-- where a session stands: its client's dialogue, its handle, and all that was written
 pub record Moment : Type 0 where
   pub dialogue : Dialogue
   pub place : LockedDesk

@@ -9,7 +9,7 @@ ghost use Rattle.session_thread.specs.Locks.{Holds, shown_in};
 use crate::locked;
 use change_ring::{FlagOp, Flags};
 use courier::{Courier, Lost};
-use cursor_set::CursorSeat;
+use cursor_set::CursorHandle;
 use delivery_token::Verdict;
 use imap_grammar::{Named, SeqSet};
 use imap_session::{Append, Store};
@@ -44,18 +44,18 @@ fn has_removed(gone: &Result<usize, MailFault>) -> bool {
     }
 }
 
-// The mailbox that a session entered, the number of the log's next change when it did, and its seat
+// The mailbox that a session entered, the number of the log's next change when it did, and its handle
 // there.
 #[derive(Drop)]
 struct Entry {
     mailbox: u8,
     start: u64,
-    seat: CursorSeat,
+    handle: CursorHandle,
 }
 
 /// The mailboxes of the house as one session gets at them: each call takes the lock of one mailbox,
 /// makes one event of it, or looks at the view, and lets go. Between two calls nothing is known of a
-/// mailbox, but the session's seat.
+/// mailbox, but the session's handle.
 ///
 /// The session asks its gate to pass before each hold that is an event, also one that is refused under
 /// the lock; a look at the view is none, and a call that takes no lock doesn't ask. Behind a hold that
@@ -144,7 +144,7 @@ impl<'a, R: Wait, G: Gate> LockedDesk<'a, R, G> {
     {
         match &self.entered {
             None => 0,
-            Some(here) => here.seat.at().saturating_sub(here.start),
+            Some(here) => here.handle.at().saturating_sub(here.start),
         }
     }
 }
@@ -161,14 +161,14 @@ impl<'a, R: Wait, G: Gate> Store for LockedDesk<'a, R, G> {
         }
         self.pace.pass();
         let lock = &self.mailboxes[usize::from(mailbox)];
-        let (seat, opening) = match locked::enter(self.rt, lock) {
+        let (handle, opening) = match locked::enter(self.rt, lock) {
             Ok(entered) => entered,
             Err(fault) => return Err(fault),
         };
         self.entered = Some(Entry {
             mailbox,
-            start: seat.at(),
-            seat,
+            start: handle.at(),
+            handle,
         });
         Ok(opening)
     }
@@ -183,7 +183,7 @@ impl<'a, R: Wait, G: Gate> Store for LockedDesk<'a, R, G> {
             return Err(MailFault::Stranger);
         };
         let lock = &self.mailboxes[usize::from(here.mailbox)];
-        locked::choose(self.rt, alloc, lock, &here.seat, set, by_uid)
+        locked::choose(self.rt, alloc, lock, &here.handle, set, by_uid)
     }
 
     fn read(&mut self, uid: u32, mark_seen: bool) -> Result<Option<Row>, MailFault> {
@@ -193,7 +193,7 @@ impl<'a, R: Wait, G: Gate> Store for LockedDesk<'a, R, G> {
         };
         self.pace.pass();
         let lock = &mailboxes[usize::from(here.mailbox)];
-        let row = locked::read(self.rt, lock, &here.seat, uid, mark_seen);
+        let row = locked::read(self.rt, lock, &here.handle, uid, mark_seen);
         if has_marked(&row) {
             ring_each(self.bells);
         }
@@ -216,7 +216,7 @@ impl<'a, R: Wait, G: Gate> Store for LockedDesk<'a, R, G> {
         };
         self.pace.pass();
         let lock = &mailboxes[usize::from(here.mailbox)];
-        let flags = locked::alter(self.rt, lock, &here.seat, uid, op);
+        let flags = locked::alter(self.rt, lock, &here.handle, uid, op);
         // Also where the flags were so before: the mailbox doesn't tell, and a ring too many costs
         // a turn.
         if has_stored(&flags) {
@@ -231,7 +231,7 @@ impl<'a, R: Wait, G: Gate> Store for LockedDesk<'a, R, G> {
         };
         self.pace.pass();
         let lock = &self.mailboxes[usize::from(here.mailbox)];
-        let gone = locked::expunge(self.rt, lock, &mut here.seat, uids, out);
+        let gone = locked::expunge(self.rt, lock, &mut here.handle, uids, out);
         self.entered = Some(here);
         if has_removed(&gone) {
             ring_each(self.bells);
@@ -245,7 +245,7 @@ impl<'a, R: Wait, G: Gate> Store for LockedDesk<'a, R, G> {
         };
         self.pace.pass();
         let lock = &self.mailboxes[usize::from(here.mailbox)];
-        let fed = locked::feed(self.rt, lock, &mut here.seat, limit, out);
+        let fed = locked::feed(self.rt, lock, &mut here.handle, limit, out);
         self.entered = Some(here);
         fed
     }
@@ -256,18 +256,18 @@ impl<'a, R: Wait, G: Gate> Store for LockedDesk<'a, R, G> {
         };
         self.pace.pass();
         let lock = &self.mailboxes[usize::from(here.mailbox)];
-        match locked::leave(self.rt, lock, here.seat, remove) {
+        match locked::leave(self.rt, lock, here.handle, remove) {
             Ok(gone) => {
                 if gone > 0 {
                     ring_each(self.bells);
                 }
                 Ok(gone)
             }
-            Err((seat, fault)) => {
+            Err((handle, fault)) => {
                 self.entered = Some(Entry {
                     mailbox: here.mailbox,
                     start: here.start,
-                    seat,
+                    handle,
                 });
                 Err(fault)
             }

@@ -1,4 +1,4 @@
--- What bodies and proofs say besides: what a call does to the mailbox that it finds, as under a lock, and to a client's seat: what a client does is one event of the mailbox, and so is
+-- What bodies and proofs say besides: what a call does to the mailbox that it finds, as under a lock, and to a client's handle: what a client does is one event of the mailbox, and so is
 use Rattle.std.specs.Prelude.{ℕ, Result, Ok, Err}
 use Rattle.cursor_set.specs.declared.set.FeedFault.{FeedFault}
 use Rattle.cursor_set.specs.declared.set.FeedFault.TheVariants as lapse

@@ -2,4 +2,4 @@ use Rattle.cursor_set.proofs.KnownLaws.{IsKnownTo}
 use Rattle.delivery_tests.proofs.cursors.feed_each.Given as goal
 
 abbrev pub invariant-loop-limit : goal.invariant-loop-limit
-invariant-loop-limit l = IsKnownTo l.set l.seat l.ring
+invariant-loop-limit l = IsKnownTo l.set l.handle l.ring

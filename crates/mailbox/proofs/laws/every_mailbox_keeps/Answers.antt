@@ -28,5 +28,5 @@ returns c =
       );
       held = c.capacity-room.ensures.within;
       most = c.capacity-room.ensures.most;
-      seats = c.mailbox.invariant.3;
+      handles = c.mailbox.invariant.3;
     })

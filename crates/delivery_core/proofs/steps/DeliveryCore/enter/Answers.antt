@@ -1,5 +1,5 @@
 use Rattle.std.proofs.Common.{◌-◌, ◌^◌, ◌<◌, ◌∙◌, ap, arith, length, set, subst, sym}
-use Rattle.cursor_set.specs.Cursors.{CursorSeat}
+use Rattle.cursor_set.specs.Cursors.{CursorHandle}
 use Rattle.mailbox.specs.declared.clients.MailFault.TheVariants.{NoMemory, Spent}
 use Rattle.mailbox.specs.declared.clients.Opening.{Opening}
 use Rattle.mailbox.specs.Mailbox.{Mailbox}
@@ -44,7 +44,7 @@ invariant_of-self-2 c =
       c.self.invariant.0,
       c.self.invariant.1,
       c.self.invariant.2,
-      enter_seated i.boxes.items i.clients.items c.args.session c.from-place.result c.args.mailbox c.from-number.result c.index_mut.result.now c.open_cursor.new.self c.in-Ok.seat _ c.self.invariant.3 c.from-place.ensures c.from-number.ensures number
+      enter_seated i.boxes.items i.clients.items c.args.session c.from-place.result c.args.mailbox c.from-number.result c.index_mut.result.now c.open_cursor.new.self c.in-Ok.handle _ c.self.invariant.3 c.from-place.ensures c.from-number.ensures number
           c.index_mut.ensures.value e.opened e.vacant e.known,
       kept_set i.boxes.items c.from-number.result c.index_mut.result.now c.open_cursor.new.self c.self.invariant.4 c.index_mut.ensures.value (ap (λ (z : Mailbox). z.history) e.rest),
     )
@@ -60,9 +60,9 @@ returns-clause-event c allowed k w S =
     let was = opened_at i.boxes.items w.opened c.from-number.result c.index-2.result.now stands.opened number c.index-2.ensures in
     let is = opened_at i.boxes.items w.opened c.from-number.result c.index_mut.result.now stands.opened number c.index_mut.ensures.value in
     let left : c.index_mut.result.now.cursors.next < 2 ^ 64 - 1 = omega (arith, c.can_open.ensures.0 c.if-not-can_open.false, was, is) in
-    enter_follows k w _ c.args.session c.from-place.result c.args.mailbox c.from-number.result c.index_mut.result.now c.open_cursor.new.self c.in-Ok.seat _ c.in-Ok.opening
+    enter_follows k w _ c.args.session c.from-place.result c.args.mailbox c.from-number.result c.index_mut.result.now c.open_cursor.new.self c.in-Ok.handle _ c.in-Ok.opening
     (subst (λ (x : DeliveryCore). StandsFor k x w) (sym c.self.view_is) S) (omega (arith, l, c.from-place.ensures)) free c.from-place.ensures c.from-number.ensures number c.index_mut.ensures.value
-    e.opened e.vacant e.known (ap (λ (z : CursorSeat). z.at) e.seat) e.logged e.rest (ap (λ (z : Opening). z.count) e.opening) (ap (λ (z : Opening). z.uidnext) e.opening) e.next left
+    e.opened e.vacant e.known (ap (λ (z : CursorHandle). z.at) e.handle) e.logged e.rest (ap (λ (z : Opening). z.count) e.opening) (ap (λ (z : Opening). z.uidnext) e.opening) e.next left
 
 pub returns-clause-same : goal.returns-clause-same
 returns-clause-same c =

@@ -23,12 +23,12 @@ invariant_of-self-2 c =
     let here = client_here i.clients.items c.from-place.result c.args.session c.index_mut.result.now c.in-Some.client c.from-place.ensures (omega (arith, c.if-place-len.false, c.len.ensures)) c.index_mut.ensures.value (sym c.take.ensures.value ∙ c.in-Some.is) in
     let there = c.index_mut-mailbox.ensures.value in
     let some = known_at i.boxes.items i.clients.items c.args.session c.in-Some.client b c.self.invariant.3 here (there ∙ ap (λ j. slice_index_or i.boxes.items j b) c.from.ensures) in
-    let moves = expunge_moves b c.expunge-gone.new.self c.in-Some.client.seat c.expunge-gone.new.seat c.args.out.now.items c.expunge-gone.new.out.items c.expunge-gone.result some e.lapped e.err e.seat e.within e.moved e.next in (
+    let moves = expunge_moves b c.expunge-gone.new.self c.in-Some.client.handle c.expunge-gone.new.handle c.args.out.now.items c.expunge-gone.new.out.items c.expunge-gone.result some e.lapped e.err e.handle e.within e.moved e.next in (
       c.self.invariant.0,
       c.self.invariant.1,
       c.self.invariant.2,
-      moved_seated i.boxes.items i.clients.items c.args.session c.from-place.result c.from.result c.in-Some.client b c.expunge-gone.new.self c.expunge-gone.new.seat c.take.new.self c.self.invariant.3 here c.from-place.ensures c.from.ensures there moves,
-      kept_set i.boxes.items c.from.result b c.expunge-gone.new.self c.self.invariant.4 there (history_stays c.expunge-gone.result b c.expunge-gone.new.self c.in-Some.client.seat c.expunge-gone.new.seat c.args.out.now.items c.expunge-gone.new.out.items e.err (rest_ok c.expunge-gone.result b c.expunge-gone.new.self c.expunge-gone.new.self.messages c.expunge-gone.new.self.window c.expunge-gone.new.self.cursors e.rest)),
+      moved_seated i.boxes.items i.clients.items c.args.session c.from-place.result c.from.result c.in-Some.client b c.expunge-gone.new.self c.expunge-gone.new.handle c.take.new.self c.self.invariant.3 here c.from-place.ensures c.from.ensures there moves,
+      kept_set i.boxes.items c.from.result b c.expunge-gone.new.self c.self.invariant.4 there (history_stays c.expunge-gone.result b c.expunge-gone.new.self c.in-Some.client.handle c.expunge-gone.new.handle c.args.out.now.items c.expunge-gone.new.out.items e.err (rest_ok c.expunge-gone.result b c.expunge-gone.new.self c.expunge-gone.new.self.messages c.expunge-gone.new.self.window c.expunge-gone.new.self.cursors e.rest)),
     )
 
 pub returns-clause-stranger : goal.returns-clause-stranger
@@ -42,15 +42,15 @@ returns-clause-event c there k w S =
     let i = c.self.inside in
     let e = c.expunge-gone.ensures in
     let here = client_here i.clients.items c.from-place.result c.args.session c.index_mut.result.now c.in-Some.client c.from-place.ensures (omega (arith, c.if-place-len.false, c.len.ensures)) c.index_mut.ensures.value (sym c.take.ensures.value ∙ c.in-Some.is) in
-    expunge_follows k w _ c.args.session c.from-place.result c.from.result c.in-Some.client c.index_mut-mailbox.result.now c.expunge-gone.new.self c.expunge-gone.new.seat c.take.new.self (in_set (option_map (λ uids. uids.now) c.args.uids)) c.args.out.now.items c.expunge-gone.new.out.items c.expunge-gone.new.self.cursors c.expunge-gone.result
-    (subst (λ (h : DeliveryCore). StandsFor k h w) (sym c.self.view_is) S) here c.from-place.ensures c.from.ensures c.index_mut-mailbox.ensures.value e.stranger e.lapped e.spent e.err e.shown e.seat e.within e.moved e.next e.logged e.window e.messages e.rest e.count
+    expunge_follows k w _ c.args.session c.from-place.result c.from.result c.in-Some.client c.index_mut-mailbox.result.now c.expunge-gone.new.self c.expunge-gone.new.handle c.take.new.self (in_set (option_map (λ uids. uids.now) c.args.uids)) c.args.out.now.items c.expunge-gone.new.out.items c.expunge-gone.new.self.cursors c.expunge-gone.result
+    (subst (λ (h : DeliveryCore). StandsFor k h w) (sym c.self.view_is) S) here c.from-place.ensures c.from.ensures c.index_mut-mailbox.ensures.value e.stranger e.lapped e.spent e.err e.shown e.handle e.within e.moved e.next e.logged e.window e.messages e.rest e.count
 
 pub returns-clause-refused : goal.returns-clause-refused
 returns-clause-refused c =
     let i = c.self.inside in
     let here = client_here i.clients.items c.from-place.result c.args.session c.index_mut.result.now c.in-Some.client c.from-place.ensures (omega (arith, c.if-place-len.false, c.len.ensures)) c.index_mut.ensures.value (sym c.take.ensures.value ∙ c.in-Some.is) in
-    expunge_refused c.expunge-gone.result _ _ c.index_mut-mailbox.result.now c.expunge-gone.new.self c.in-Some.client.seat c.expunge-gone.new.seat c.args.out.now.items c.expunge-gone.new.out.items c.expunge-gone.ensures.err
-    (λ still kept. nothing_moved _ c.args.session c.from-place.result c.from.result c.in-Some.client c.index_mut-mailbox.result.now c.expunge-gone.new.self c.expunge-gone.new.seat c.take.new.self c.self.invariant.3 here c.from-place.ensures c.from.ensures c.index_mut-mailbox.ensures.value still kept ∙ c.self.view_is)
+    expunge_refused c.expunge-gone.result _ _ c.index_mut-mailbox.result.now c.expunge-gone.new.self c.in-Some.client.handle c.expunge-gone.new.handle c.args.out.now.items c.expunge-gone.new.out.items c.expunge-gone.ensures.err
+    (λ still kept. nothing_moved _ c.args.session c.from-place.result c.from.result c.in-Some.client c.index_mut-mailbox.result.now c.expunge-gone.new.self c.expunge-gone.new.handle c.take.new.self c.self.invariant.3 here c.from-place.ensures c.from.ensures c.index_mut-mailbox.ensures.value still kept ∙ c.self.view_is)
 
 pub returns-clause-shown : goal.returns-clause-shown
 returns-clause-shown c =
@@ -58,8 +58,8 @@ returns-clause-shown c =
     let e = c.expunge-gone.ensures in
     let here = client_here i.clients.items c.from-place.result c.args.session c.index_mut.result.now c.in-Some.client c.from-place.ensures (omega (arith, c.if-place-len.false, c.len.ensures)) c.index_mut.ensures.value (sym c.take.ensures.value ∙ c.in-Some.is) in
     let h : DeliveryCore = record { lanes = i.lanes.items; hands = i.hands.items; replies = i.replies.items; heard = i.heard.items; boxes = i.boxes.items; next = i.next.items; clients = i.clients.items } in
-    rw (← c.self.view_is) (expunge_saw h c.args.session c.from-place.result c.from.result c.in-Some.client c.index_mut-mailbox.result.now c.expunge-gone.new.self c.expunge-gone.new.seat c.take.new.self c.args.out.now.items c.expunge-gone.new.out.items c.expunge-gone.result c.self.invariant.3 here
-    c.from-place.ensures c.from.ensures c.index_mut-mailbox.ensures.value e.lapped e.seat e.within e.moved e.written)
+    rw (← c.self.view_is) (expunge_saw h c.args.session c.from-place.result c.from.result c.in-Some.client c.index_mut-mailbox.result.now c.expunge-gone.new.self c.expunge-gone.new.handle c.take.new.self c.args.out.now.items c.expunge-gone.new.out.items c.expunge-gone.result c.self.invariant.3 here
+    c.from-place.ensures c.from.ensures c.index_mut-mailbox.ensures.value e.lapped e.handle e.within e.moved e.written)
 
 pub returns-clause-same : goal.returns-clause-same
 returns-clause-same c =
@@ -84,5 +84,5 @@ returns-clause-done c =
     let e = c.expunge-gone.ensures in
     let here = client_here i.clients.items c.from-place.result c.args.session c.index_mut.result.now c.in-Some.client c.from-place.ensures (omega (arith, c.if-place-len.false, c.len.ensures)) c.index_mut.ensures.value (sym c.take.ensures.value ∙ c.in-Some.is) in
     let h : DeliveryCore = record { lanes = i.lanes.items; hands = i.hands.items; replies = i.replies.items; heard = i.heard.items; boxes = i.boxes.items; next = i.next.items; clients = i.clients.items } in
-    rw (← c.self.view_is) (expunge_done h c.args.session c.from-place.result c.from.result c.in-Some.client c.index_mut-mailbox.result.now c.expunge-gone.new.self c.expunge-gone.new.seat c.take.new.self (in_set (option_map (λ uids. uids.now) c.args.uids)) c.args.out.now.items
-    c.expunge-gone.new.out.items c.expunge-gone.new.self.cursors c.expunge-gone.result c.self.invariant.3 here c.from-place.ensures c.from.ensures c.index_mut-mailbox.ensures.value e.stranger e.lapped e.spent e.err e.shown e.seat e.within e.moved e.next e.logged e.window e.messages e.rest e.count)
+    rw (← c.self.view_is) (expunge_done h c.args.session c.from-place.result c.from.result c.in-Some.client c.index_mut-mailbox.result.now c.expunge-gone.new.self c.expunge-gone.new.handle c.take.new.self (in_set (option_map (λ uids. uids.now) c.args.uids)) c.args.out.now.items
+    c.expunge-gone.new.out.items c.expunge-gone.new.self.cursors c.expunge-gone.result c.self.invariant.3 here c.from-place.ensures c.from.ensures c.index_mut-mailbox.ensures.value e.stranger e.lapped e.spent e.err e.shown e.handle e.within e.moved e.next e.logged e.window e.messages e.rest e.count)

@@ -25,11 +25,11 @@ invariant_of-self-2 c =
     let here = client_here i.clients.items c.from-place.result c.args.session c.index_mut.result.now c.in-Some.client c.from-place.ensures (omega (arith, c.if-place-len.false, c.len.ensures)) c.index_mut.ensures.value (sym c.take.ensures.value ∙ c.in-Some.is) in
     let there = c.index_mut-mailbox.ensures.value in
     let some = known_at i.boxes.items i.clients.items c.args.session c.in-Some.client b c.self.invariant.3 here (there ∙ ap (λ j. slice_index_or i.boxes.items j b) c.from.ensures) in
-    let moves = feed_moves b c.feed-fed.new.self c.in-Some.client.seat c.feed-fed.new.seat c.args.limit c.args.out.now.items c.feed-fed.new.out.items c.feed-fed.result some e.lapped e.err e.count e.seat e.moved e.next in (
+    let moves = feed_moves b c.feed-fed.new.self c.in-Some.client.handle c.feed-fed.new.handle c.args.limit c.args.out.now.items c.feed-fed.new.out.items c.feed-fed.result some e.lapped e.err e.count e.handle e.moved e.next in (
       c.self.invariant.0,
       c.self.invariant.1,
       c.self.invariant.2,
-      moved_seated i.boxes.items i.clients.items c.args.session c.from-place.result c.from.result c.in-Some.client b c.feed-fed.new.self c.feed-fed.new.seat c.take.new.self c.self.invariant.3 here c.from-place.ensures c.from.ensures there moves,
+      moved_seated i.boxes.items i.clients.items c.args.session c.from-place.result c.from.result c.in-Some.client b c.feed-fed.new.self c.feed-fed.new.handle c.take.new.self c.self.invariant.3 here c.from-place.ensures c.from.ensures there moves,
       kept_set i.boxes.items c.from.result b c.feed-fed.new.self c.self.invariant.4 there (ap (λ (z : Mailbox). z.history) e.rest),
     )
 
@@ -41,22 +41,22 @@ returns-clause-stranger c =
     let i = c.self.inside in
     let here = client_here i.clients.items c.from-place.result c.args.session c.index_mut.result.now c.in-Some.client c.from-place.ensures (omega (arith, c.if-place-len.false, c.len.ensures)) c.index_mut.ensures.value (sym c.take.ensures.value ∙ c.in-Some.is) in
     rw (← c.self.view_is, c.answer_of.ensures) (not_strange (answer_of c.feed-fed.result) i.boxes.items i.clients.items c.args.session c.from.result c.in-Some.client c.index_mut-mailbox.result.now c.self.invariant.3 here c.from.ensures c.index_mut-mailbox.ensures.value
-    (feed_strange c.feed-fed.result c.index_mut-mailbox.result.now c.in-Some.client.seat c.feed-fed.ensures.stranger))
+    (feed_strange c.feed-fed.result c.index_mut-mailbox.result.now c.in-Some.client.handle c.feed-fed.ensures.stranger))
 
 pub returns-clause-event : goal.returns-clause-event
 returns-clause-event c there k w S =
     let i = c.self.inside in
     let e = c.feed-fed.ensures in
     let here = client_here i.clients.items c.from-place.result c.args.session c.index_mut.result.now c.in-Some.client c.from-place.ensures (omega (arith, c.if-place-len.false, c.len.ensures)) c.index_mut.ensures.value (sym c.take.ensures.value ∙ c.in-Some.is) in
-    feed_follows k w _ c.args.session c.from-place.result c.from.result c.in-Some.client c.index_mut-mailbox.result.now c.feed-fed.new.self c.feed-fed.new.seat c.take.new.self c.args.limit c.args.out.now.items c.feed-fed.new.out.items c.feed-fed.result c.answer_of.result
-    (subst (λ (h : DeliveryCore). StandsFor k h w) (sym c.self.view_is) S) here c.from-place.ensures c.from.ensures c.index_mut-mailbox.ensures.value c.answer_of.ensures e.stranger e.lapped e.err e.count e.shown e.seat e.logged e.rest e.moved e.next
+    feed_follows k w _ c.args.session c.from-place.result c.from.result c.in-Some.client c.index_mut-mailbox.result.now c.feed-fed.new.self c.feed-fed.new.handle c.take.new.self c.args.limit c.args.out.now.items c.feed-fed.new.out.items c.feed-fed.result c.answer_of.result
+    (subst (λ (h : DeliveryCore). StandsFor k h w) (sym c.self.view_is) S) here c.from-place.ensures c.from.ensures c.index_mut-mailbox.ensures.value c.answer_of.ensures e.stranger e.lapped e.err e.count e.shown e.handle e.logged e.rest e.moved e.next
 
 pub returns-clause-refused : goal.returns-clause-refused
 returns-clause-refused c =
     let i = c.self.inside in
     let here = client_here i.clients.items c.from-place.result c.args.session c.index_mut.result.now c.in-Some.client c.from-place.ensures (omega (arith, c.if-place-len.false, c.len.ensures)) c.index_mut.ensures.value (sym c.take.ensures.value ∙ c.in-Some.is) in
-    feed_refused c.feed-fed.result c.answer_of.result _ _ c.index_mut-mailbox.result.now c.feed-fed.new.self c.in-Some.client.seat c.feed-fed.new.seat c.args.out.now.items c.feed-fed.new.out.items c.answer_of.ensures c.feed-fed.ensures.err
-    (λ still kept. nothing_moved _ c.args.session c.from-place.result c.from.result c.in-Some.client c.index_mut-mailbox.result.now c.feed-fed.new.self c.feed-fed.new.seat c.take.new.self c.self.invariant.3 here c.from-place.ensures c.from.ensures c.index_mut-mailbox.ensures.value still kept ∙ c.self.view_is)
+    feed_refused c.feed-fed.result c.answer_of.result _ _ c.index_mut-mailbox.result.now c.feed-fed.new.self c.in-Some.client.handle c.feed-fed.new.handle c.args.out.now.items c.feed-fed.new.out.items c.answer_of.ensures c.feed-fed.ensures.err
+    (λ still kept. nothing_moved _ c.args.session c.from-place.result c.from.result c.in-Some.client c.index_mut-mailbox.result.now c.feed-fed.new.self c.feed-fed.new.handle c.take.new.self c.self.invariant.3 here c.from-place.ensures c.from.ensures c.index_mut-mailbox.ensures.value still kept ∙ c.self.view_is)
 
 pub returns-clause-shown : goal.returns-clause-shown
 returns-clause-shown c =
@@ -64,8 +64,8 @@ returns-clause-shown c =
     let e = c.feed-fed.ensures in
     let here = client_here i.clients.items c.from-place.result c.args.session c.index_mut.result.now c.in-Some.client c.from-place.ensures (omega (arith, c.if-place-len.false, c.len.ensures)) c.index_mut.ensures.value (sym c.take.ensures.value ∙ c.in-Some.is) in
     let h : DeliveryCore = record { lanes = i.lanes.items; hands = i.hands.items; replies = i.replies.items; heard = i.heard.items; boxes = i.boxes.items; next = i.next.items; clients = i.clients.items } in
-    rw (← c.self.view_is) (feed_saw h c.args.session c.from-place.result c.from.result c.in-Some.client c.index_mut-mailbox.result.now c.feed-fed.new.self c.feed-fed.new.seat c.take.new.self c.args.limit c.args.out.now.items c.feed-fed.new.out.items c.feed-fed.result c.answer_of.result c.self.invariant.3 here
-    c.from-place.ensures c.from.ensures c.index_mut-mailbox.ensures.value c.answer_of.ensures e.lapped e.count e.seat e.moved e.written)
+    rw (← c.self.view_is) (feed_saw h c.args.session c.from-place.result c.from.result c.in-Some.client c.index_mut-mailbox.result.now c.feed-fed.new.self c.feed-fed.new.handle c.take.new.self c.args.limit c.args.out.now.items c.feed-fed.new.out.items c.feed-fed.result c.answer_of.result c.self.invariant.3 here
+    c.from-place.ensures c.from.ensures c.index_mut-mailbox.ensures.value c.answer_of.ensures e.lapped e.count e.handle e.moved e.written)
 
 pub returns-clause-count : goal.returns-clause-count
 returns-clause-count c =
@@ -99,8 +99,8 @@ returns-clause-done c =
     let here = client_here i.clients.items c.from-place.result c.args.session c.index_mut.result.now c.in-Some.client c.from-place.ensures (omega (arith, c.if-place-len.false, c.len.ensures)) c.index_mut.ensures.value (sym c.take.ensures.value ∙ c.in-Some.is) in
     let h : DeliveryCore = record { lanes = i.lanes.items; hands = i.hands.items; replies = i.replies.items; heard = i.heard.items; boxes = i.boxes.items; next = i.next.items; clients = i.clients.items } in
     rw (← c.self.view_is) (by_answer _ c.feed-fed.result c.answer_of.result c.answer_of.ensures
-    (feed_done h c.args.session c.from-place.result c.from.result c.in-Some.client c.index_mut-mailbox.result.now c.feed-fed.new.self c.feed-fed.new.seat c.take.new.self c.args.limit c.args.out.now.items c.feed-fed.new.out.items c.feed-fed.result c.self.invariant.3 here
-    c.from-place.ensures c.from.ensures c.index_mut-mailbox.ensures.value e.stranger e.lapped e.err e.count e.shown e.seat e.logged e.rest e.moved e.next))
+    (feed_done h c.args.session c.from-place.result c.from.result c.in-Some.client c.index_mut-mailbox.result.now c.feed-fed.new.self c.feed-fed.new.handle c.take.new.self c.args.limit c.args.out.now.items c.feed-fed.new.out.items c.feed-fed.result c.self.invariant.3 here
+    c.from-place.ensures c.from.ensures c.index_mut-mailbox.ensures.value e.stranger e.lapped e.err e.count e.shown e.handle e.logged e.rest e.moved e.next))
 
 pub returns-clause-less : goal.returns-clause-less
 returns-clause-less c =
@@ -108,5 +108,5 @@ returns-clause-less c =
     let e = c.feed-fed.ensures in
     let here = client_here i.clients.items c.from-place.result c.args.session c.index_mut.result.now c.in-Some.client c.from-place.ensures (omega (arith, c.if-place-len.false, c.len.ensures)) c.index_mut.ensures.value (sym c.take.ensures.value ∙ c.in-Some.is) in
     let h : DeliveryCore = record { lanes = i.lanes.items; hands = i.hands.items; replies = i.replies.items; heard = i.heard.items; boxes = i.boxes.items; next = i.next.items; clients = i.clients.items } in
-    rw (← c.self.view_is) (feed_less h c.args.session c.from-place.result c.from.result c.in-Some.client c.index_mut-mailbox.result.now c.feed-fed.new.self c.feed-fed.new.seat c.take.new.self c.args.limit c.feed-fed.result c.answer_of.result c.self.invariant.3 here
-    c.from-place.ensures c.from.ensures c.index_mut-mailbox.ensures.value c.answer_of.ensures e.count e.seat e.rest)
+    rw (← c.self.view_is) (feed_less h c.args.session c.from-place.result c.from.result c.in-Some.client c.index_mut-mailbox.result.now c.feed-fed.new.self c.feed-fed.new.handle c.take.new.self c.args.limit c.feed-fed.result c.answer_of.result c.self.invariant.3 here
+    c.from-place.ensures c.from.ensures c.index_mut-mailbox.ensures.value c.answer_of.ensures e.count e.handle e.rest)

@@ -59,7 +59,7 @@ returns-clause-stranger c =
     let e = c.in-Err.ensures in
     let here = client_here i.clients.items c.from-place.result c.args.session c.index_mut.result.now c.in-Some.client c.from-place.ensures (omega (arith, c.if-place-len.false, c.len.ensures)) c.index_mut.ensures.value (sym c.take.ensures.value ∙ c.in-Some.is) in
     let some = known_at i.boxes.items i.clients.items c.args.session c.in-Some.client c.index_mut-mailbox.result.now c.self.invariant.3 here (c.index_mut-mailbox.ensures.value ∙ ap (λ j. slice_index_or i.boxes.items j c.index_mut-mailbox.result.now) c.from.ensures) in
-    let spent : c.in-Err.refused.1 ≡ Spent = leave_fault c.index_mut-mailbox.result.now c.in-Some.client.seat c.in-Err.refused some e.stranger e.only.0 e.only.1 in
+    let spent : c.in-Err.refused.1 ≡ Spent = leave_fault c.index_mut-mailbox.result.now c.in-Some.client.handle c.in-Err.refused some e.stranger e.only.0 e.only.1 in
     rw (← c.self.view_is) (left_only i.clients.items c.args.session c.in-Some.client c.in-Err.refused.1 here spent)
 
 pub returns-clause-event : goal.returns-clause-event
@@ -69,7 +69,7 @@ returns-clause-event c there k w S =
     let here = client_here i.clients.items c.from-place.result c.args.session c.index_mut.result.now c.in-Some.client c.from-place.ensures (omega (arith, c.if-place-len.false, c.len.ensures)) c.index_mut.ensures.value (sym c.take.ensures.value ∙ c.in-Some.is) in
     let h : DeliveryCore = record { lanes = i.lanes.items; hands = i.hands.items; replies = i.replies.items; heard = i.heard.items; boxes = i.boxes.items; next = i.next.items; clients = i.clients.items } in
     let some = known_at i.boxes.items i.clients.items c.args.session c.in-Some.client c.index_mut-mailbox.result.now c.self.invariant.3 here (c.index_mut-mailbox.ensures.value ∙ ap (λ j. slice_index_or i.boxes.items j c.index_mut-mailbox.result.now) c.from.ensures) in
-    let spent : c.in-Err.refused.1 ≡ Spent = leave_fault c.index_mut-mailbox.result.now c.in-Some.client.seat c.in-Err.refused some e.stranger e.only.0 e.only.1 in
+    let spent : c.in-Err.refused.1 ≡ Spent = leave_fault c.index_mut-mailbox.result.now c.in-Some.client.handle c.in-Err.refused some e.stranger e.only.0 e.only.1 in
     let same = nothing_moved h c.args.session c.from-place.result c.from.result c.in-Some.client c.index_mut-mailbox.result.now c.close_cursor.new.self c.in-Err.refused.0 c.take.new.self c.self.invariant.3 here c.from-place.ensures c.from.ensures c.index_mut-mailbox.ensures.value e.only.2 e.only.0 in
     leave_stays k w h _ c.args.session c.args.remove c.in-Err.refused.1 same
     (leave_refused k w h c.args.session c.from.result c.in-Some.client c.index_mut-mailbox.result.now c.in-Err.refused c.args.remove (subst (λ (x : DeliveryCore). StandsFor k x w) (sym c.self.view_is) S) here c.from.ensures c.index_mut-mailbox.ensures.value e.only.0 spent e.spent)

@@ -17,7 +17,7 @@ returns-in_default-view-clause-stranger c =
     let i = c.self.inside in
     let here = client_here i.clients.items c.from-place.result c.args.session c.index.result.now c.in-Some.client c.from-place.ensures (omega (arith, c.if-place-len.false, c.len.ensures)) c.index.ensures c.in-Some.is in
     let some = known_at i.boxes.items i.clients.items c.args.session c.in-Some.client c.index-2.result.now c.self.invariant.3 here (c.index-2.ensures ∙ ap (λ j. slice_index_or i.boxes.items j c.index-2.result.now) c.from.ensures) in
-    absurd (no_stranger_here c.index-2.result.now c.in-Some.client.seat some (c.in_default-view.ensures.stranger.0 refl))
+    absurd (no_stranger_here c.index-2.result.now c.in-Some.client.handle some (c.in_default-view.ensures.stranger.0 refl))
 
 pub returns-clause-shown : goal.returns-clause-shown
 returns-clause-shown c =

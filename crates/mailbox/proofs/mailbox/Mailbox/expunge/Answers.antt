@@ -63,17 +63,17 @@ returns-clause-logged c = λ log s.
 pub returns-clause-moved : goal.returns-clause-moved
 returns-clause-moved c =
     let now = c.args.self.now in
-    let at = c.args.seat.now.at in
+    let at = c.args.handle.now.at in
     let all : take c.in-Ok._shown (changes_from at now.window) ≡ changes_from at now.window =
     take_all c.in-Ok._shown (changes_from at now.window) (omega (arith, c.in-Ok.ensures.count, c.admit.ensures.small, c.in_ok-admit.ensures.admitted.1, length-drop (at - now.window.base) now.window.changes)) in
-    subst (λ (cs : List Change). Updates now.cursors c.remove.new.self.cursors c.args.seat.now.slot (option_map (after_showing cs) (held now.cursors c.args.seat.now))) all
-    (subst (λ (k : CursorSet). Updates now.cursors k c.args.seat.now.slot (option_map (after_showing (take c.in-Ok._shown (changes_from at now.window))) (held now.cursors c.args.seat.now)))
+    subst (λ (cs : List Change). Updates now.cursors c.remove.new.self.cursors c.args.handle.now.slot (option_map (after_showing cs) (held now.cursors c.args.handle.now))) all
+    (subst (λ (k : CursorSet). Updates now.cursors k c.args.handle.now.slot (option_map (after_showing (take c.in-Ok._shown (changes_from at now.window))) (held now.cursors c.args.handle.now)))
     (sym (ap (λ (m : Mailbox). m.cursors) c.remove.ensures.rest)) c.in-Ok.ensures.moved)
 
 pub returns-clause-written : goal.returns-clause-written
 returns-clause-written c =
     let now = c.args.self.now in
-    let at = c.args.seat.now.at in
+    let at = c.args.handle.now.at in
     let all : take c.in-Ok._shown (changes_from at now.window) ≡ changes_from at now.window =
     take_all c.in-Ok._shown (changes_from at now.window) (omega (arith, c.in-Ok.ensures.count, c.admit.ensures.small, c.in_ok-admit.ensures.admitted.1, length-drop (at - now.window.base) now.window.changes)) in
-    subst (λ (cs : List Change). IfSome (held now.cursors c.args.seat.now) (λ (o : Open). c.feed.new.out.items ≡ c.args.out.now.items ++ lines o.view cs)) all c.in-Ok.ensures.written
+    subst (λ (cs : List Change). IfSome (held now.cursors c.args.handle.now) (λ (o : Open). c.feed.new.out.items ≡ c.args.out.now.items ++ lines o.view cs)) all c.in-Ok.ensures.written
