@@ -3,12 +3,15 @@
 
     tests/command_lines.py PROGRAM
 
-Words that are refused, settings that are wrong, help and version; and a server on free ports whose input is at its end at once.
+Words that are refused, settings that are wrong, help and version; names that are set; a server on free ports whose input is at its end at once; and how many
+peers one serves at a time. That each number reaches its own setting the worked cases show.
 """
 
+import select
 import socket
 import subprocess
 import sys
+import time
 
 WARNING = "UIDVALIDITY is the same at each start: give --uidvalidity a number that grows, as the time in seconds\n"
 
@@ -19,11 +22,16 @@ REFUSED = (
     "serve",
     "host alice",
     "script --shards 9 alice",
+    "script --depth 0 alice",
     "script --depth 1025 alice",
     "script --depth +5 alice",
+    "script --depth five alice",
     "script --depth 2 --depth 2 alice",
+    "script --ring=15 alice",
+    "script --uidvalidity 4294967296 alice",
     "script --lmtp-port 2424 alice",
     "serve --workers 0 alice",
+    "serve --sessions 5 alice",
     "serve --imap-port 80 alice",
     (b"script", b"\xff"),
 )
@@ -41,12 +49,23 @@ WRONG = (
     ("serve --lmtp-port 25 alice", "Ports"),
 )
 
+# Names that are given, and the reply to each line that they show in. That each number reaches its own setting the worked cases show, where they are set.
+NAMES = "script --host=mail.b.example --domain b.example alice"
+NAMES_INPUT = "L1 LHLO c.example\nL1 MAIL FROM:<s@a.example>\nL1 RCPT TO:<alice@b.example>\nL1 RCPT TO:<alice@example.org>\n"
+NAMES_REPLIES = ("220 mail.b.example LMTP ready", "250-mail.b.example", "250 2.1.0 Sender OK", "250 2.1.5 Recipient OK", "550 5.1.1 Mailbox unknown")
+
+# Servers whose peers are so many at a time: the options, how many of them connect to each port, and how many are greeted at once there.
+CROWDS = (
+    ("--workers=1 --sessions=2", 3, (1, 2)),
+    ("--workers=2 --sessions=1", 3, (2, 1)),
+)
+
 failures = []
 
 
-def run(program, words):
+def run(program, words, said=""):
     words = words.split() if isinstance(words, str) else list(words)
-    return subprocess.run([program, *words], stdin=subprocess.DEVNULL, capture_output=True, text=True, timeout=20)
+    return subprocess.run([program, *words], input=said, capture_output=True, text=True, timeout=20)
 
 
 def check(words, holds, ended):
@@ -73,6 +92,31 @@ def stops_at_once(program, more, behind):
     check(words, (ended.returncode, ended.stdout, ended.stderr) == (0, told, ""), ended)
 
 
+def greeted(port, count):
+    """How many of so many peers that connect one after another are greeted within a second."""
+    peers = [socket.create_connection(("127.0.0.1", port)) for _ in range(count)]
+    ready, until = set(), time.monotonic() + 1
+    while len(ready) < count and time.monotonic() < until:
+        ready.update(select.select(peers, (), (), until - time.monotonic())[0])
+        time.sleep(0.01)
+    for peer in peers:
+        peer.close()
+    return len(ready)
+
+
+def serves_crowd(program, options, count, wanted):
+    mail, sessions = free_ports(2)
+    words = f"serve --lmtp-port={mail} --imap-port={sessions} --uidvalidity=9 {options} alice"
+    with subprocess.Popen([program, *words.split()], stdin=subprocess.PIPE, stdout=subprocess.PIPE, text=True) as server:
+        server.stdout.readline()
+        server.stdout.readline()
+        found = tuple(greeted(port, count) for port in (mail, sessions))
+        server.stdin.close()
+        status = server.wait(timeout=20)
+    if (found, status) != (wanted, 0):
+        failures.append(f"{words!r}: status {status}, and of {count} peers {found} were greeted, not {wanted}")
+
+
 def main():
     program = sys.argv[1]
     for words in REFUSED:
@@ -82,15 +126,27 @@ def main():
         ended = run(program, words)
         check(words, (ended.returncode, ended.stdout, ended.stderr) == (3, "", f"post_house: bad configuration: {fault}\n"), ended)
     ended = run(program, "serve --help")
-    helps = ("Shards that keep the mailboxes: 1 to 8, and 1 where it is not given", "--workers <workers>", "example.org where it is not given")
+    helps = (
+        "--shards <shards>",
+        "Shards that keep the mailboxes: 1 to 8, and 1 where it is not given",
+        "1 to 16777216, and 1048576 where it is not given",
+        "--workers <workers>",
+        "1 to 8, and 4 where it is not given",
+        "example.org where it is not given",
+    )
     check("serve --help", (ended.returncode, ended.stderr) == (0, "") and all(help in ended.stdout for help in helps), ended)
     ended = run(program, "--version")
     check("--version", (ended.returncode, ended.stderr) == (0, "") and ended.stdout.startswith("post_house 0.1.0, proved with logic "), ended)
     stops_at_once(program, "--depth=4", WARNING)
     stops_at_once(program, "--uidvalidity=9", "")
+    ended = run(program, NAMES, NAMES_INPUT)
+    replies = [line.removeprefix("L1 ") for line in ended.stdout.splitlines() if line[3:] in NAMES_REPLIES]
+    check(NAMES, ended.returncode == 0 and tuple(replies) == NAMES_REPLIES, ended)
+    for options, count, wanted in CROWDS:
+        serves_crowd(program, options, count, wanted)
     for failure in failures:
         print(failure)
-    total = len(REFUSED) + len(WRONG) + 4
+    total = len(REFUSED) + len(WRONG) + 5 + len(CROWDS)
     print(f"{total - len(failures)} of {total} command lines")
     sys.exit(1 if failures else 0)
 

@@ -6,5 +6,3 @@ pub use asked::{Asked, asked_of};
 
 mod asked;
 mod options;
-#[cfg(test)]
-mod tests;

@@ -290,6 +290,13 @@ impl DeliveryCore {
         self.lanes.len()
     }
 
+    /// How many seats there are.
+    pub fn seats(&self) -> usize
+        ensures { result ≡ length self.now.replies }
+    {
+        self.replies.len()
+    }
+
     /// Whether a seat has put its end into the lane of any shard.
     pub fn has_ended(&self, seat: u8) -> bool
         ensures { result ≡ has_ended self.now seat }

@@ -113,7 +113,7 @@ is_number h n b iff e none = let t : b ≡ true = iff.1 none in let f : true ≡
 pub number_within : (h : House) (n : ℕ) → (IsNoNumber h n → ⊥) → (0 < n) × (n ≤ length h.callers + length h.visitors)
 number_within h zero not = absurd (not (inl refl))
 number_within h (suc n) not = elim (cases_lt (length h.callers + length h.visitors) (suc n)) [
-  | inl l ↦ absurd (not (inr l))
+  | inl l ↦ absurd (not (inr (inl l)))
   | inr l ↦ (omega arith, l)
 ]
 

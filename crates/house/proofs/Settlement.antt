@@ -346,7 +346,8 @@ wants_as Q Q' h o h1 o1 f c = record { happened = λ k s q st. c.happened k s (f
 
 nobody_there : (k : Setup) (h : House) (s : Scene) (n : ℕ) → 0 < n → n ≤ k.config.seats → StandsFor k h s → IsNoNumber h n ⊎ IsVacant h n → IsFree k s (seat_of n)
 nobody_there k h s n pos le st (inl (inl e)) = absurd (omega (arith, pos, e))
-nobody_there k h s n pos le st (inl (inr l)) = absurd (let e = st.seats in omega (arith, le, l, e))
+nobody_there k h s n pos le st (inl (inr (inl l))) = absurd (let e = st.seats in omega (arith, le, l, e))
+nobody_there k h s n pos le st (inl (inr (inr l))) = absurd (let e = st.core.seats in omega (arith, le, l, e))
 nobody_there k h s n pos le st (inr e) = vacant_free k h s (n - 1) st (let f = st.seats in omega (arith, pos, le, f)) e
 
 none_puts : (k : Setup) (s : Scene) (seat : ℕ) (t : Scene) (printed : List ℕ) → IsFree k s seat → PutPlay k true s seat t printed → ⊥
@@ -368,7 +369,8 @@ nobody_nothing k h s (Bytes connection piece) q st n = absurd q
 nobody_nothing k h s (Vanish connection) q st n = absurd q
 nobody_nothing k h s (Close shard) q st n = absurd q
 nobody_nothing k h s (End number shard) q st (inl (inl e)) = absurd (let a = q.0 in omega (arith, a, e))
-nobody_nothing k h s (End number shard) q st (inl (inr l)) = absurd (let a = q.1 in let e = st.seats in omega (arith, a, e, l))
+nobody_nothing k h s (End number shard) q st (inl (inr (inl l))) = absurd (let a = q.1 in let e = st.seats in omega (arith, a, e, l))
+nobody_nothing k h s (End number shard) q st (inl (inr (inr l))) = absurd (let a = q.1 in let e = st.core.seats in omega (arith, a, e, l))
 nobody_nothing k h s (End number shard) q st (inr l) = absurd (let a = q.2 in let e = st.core.shards in omega (arith, a, e, l))
 nobody_nothing k h s (Enter session user) q st n = absurd q
 nobody_nothing k h s (Say session piece) q st n = absurd q

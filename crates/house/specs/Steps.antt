@@ -80,9 +80,9 @@ pub record IsLeft (h : House) (session : ℕ) : Type 0 where
 abbrev pub IsSpentPlace : House → ℕ → Type 0
 IsSpentPlace h session = most_serials ≤ slice_index_or h.entered (place_of session) 0
 
--- there is no connection and no session of this number: those of sessions are behind those of connections
+-- there is no connection and no session of this number (those of sessions are behind those of connections), or no seat for it
 abbrev pub IsNoNumber : House → ℕ → Type 0
-IsNoNumber h number = (number ≡ 0) ⊎ (length h.callers + length h.visitors < number)
+IsNoNumber h number = (number ≡ 0) ⊎ ((length h.callers + length h.visitors < number) ⊎ (length h.core.replies < number))
 
 -- whether the connection or the session of a seat is there
 abbrev pub is_taken : House → (seat : ℕ) → Bool

@@ -314,6 +314,7 @@ impl House {
     // A connection hears the verdict at the front of its reply lane.
     fn hear_of_connection(&mut self, connection: u8, out: &mut Vec<u8>) -> Result<(), HouseFault>
         requires seat { HasSeat self.old connection }
+        requires lane { connection ≤ length self.old.core.replies }
         ensures follows { OnOk result (Follows self.old (events.Hear connection) self.new out.old.items out.new.items) }
         ensures effort { OnOk result (MakesLess (events.Hear connection) self.old self.new) }
         ensures marks { self.new.directory ≡ self.old.directory }
@@ -332,8 +333,7 @@ impl House {
             Ok(noted) => noted,
             Err(HearFault::NoMemory) => return Err(HouseFault::NoMemory),
             Err(HearFault::Nothing) => return Err(HouseFault::Nothing),
-            // The core has a seat for each number: this doesn't come.
-            Err(HearFault::Nobody) => return Err(HouseFault::Nothing),
+            Err(HearFault::Nobody) => return Err(HouseFault::Nobody),
         };
         let place = &mut self.callers[seat];
         caller_hears(place, &noted);
@@ -487,11 +487,14 @@ impl House {
         Ok(())
     }
 
-    // Whether there is neither a connection nor a session of this number.
+    // Whether there is neither a connection nor a session of this number, or no seat for it.
     fn has_no_number(&self, number: u8) -> bool
         ensures { IsTrue result ↔ IsNoNumber self.now number }
     {
-        number == 0 || usize::from(number) > self.callers.len() + self.visitors.len()
+        let number = usize::from(number);
+        number == 0
+            || number > self.callers.len() + self.visitors.len()
+            || number > self.desk.core.seats()
     }
 
     // A shard is marked as shut, where it wasn't.
@@ -535,8 +538,7 @@ impl House {
         match self.desk.core.end(number - 1, shard) {
             Ok(()) => {}
             Err(Fault::Nothing) => return Err(HouseFault::Nothing),
-            // The core has a seat for each number: this doesn't come.
-            Err(Fault::Nobody) => return Err(HouseFault::Nothing),
+            Err(Fault::Nobody) => return Err(HouseFault::Nobody),
         }
         Ok(())
     }

@@ -377,6 +377,7 @@ impl House {
         out: &mut Vec<u8>,
     ) -> Result<(), HouseFault>
         requires number { IsSession self.old number }
+        requires lane { number ≤ length self.old.core.replies }
         ensures follows { OnOk result (Follows self.old (events.Hear number) self.new out.old.items out.new.items) }
         ensures effort { OnOk result (MakesLess (events.Hear number) self.old self.new) }
         ensures marks { self.new.directory ≡ self.old.directory }
@@ -396,8 +397,7 @@ impl House {
             Ok(noted) => noted,
             Err(HearFault::NoMemory) => return Err(HouseFault::NoMemory),
             Err(HearFault::Nothing) => return Err(HouseFault::Nothing),
-            // The core has a seat for each number: this doesn't come.
-            Err(HearFault::Nobody) => return Err(HouseFault::Nothing),
+            Err(HearFault::Nobody) => return Err(HouseFault::Nobody),
         };
         let here = &mut self.visitors[place];
         visitor_hears(here, &noted);

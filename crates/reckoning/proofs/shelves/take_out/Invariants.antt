@@ -3,5 +3,5 @@ use Rattle.reckoning.proofs.shelves.take_out.Given as goal
 
 abbrev pub invariant-loop-behind : goal.invariant-loop-behind
 invariant-loop-behind l =
-    (length l.accepted.items + length l.behind-iterator.rest.items ≡ length l.fn.mailboxes.items)
-    × (length l.texts.items + length l.behind-iterator.rest.items ≡ length l.fn.mailboxes.items)
+    (length l.shelves.accepted.items + length l.behind-iterator.rest.items ≡ length l.fn.mailboxes.items)
+    × (length l.shelves.texts.items + length l.behind-iterator.rest.items ≡ length l.fn.mailboxes.items)
