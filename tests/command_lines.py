@@ -52,7 +52,7 @@ WRONG = (
 # Names that are given, and the reply to each line that they show in. That each number reaches its own setting the worked cases show, where they are set.
 NAMES = "script --host=mail.b.example --domain b.example alice"
 NAMES_INPUT = "L1 LHLO c.example\nL1 MAIL FROM:<s@a.example>\nL1 RCPT TO:<alice@b.example>\nL1 RCPT TO:<alice@example.org>\n"
-NAMES_REPLIES = ("220 mail.b.example LMTP ready", "250-mail.b.example", "250 2.1.0 Sender OK", "250 2.1.5 Recipient OK", "550 5.1.1 Mailbox unknown")
+NAMES_REPLIES = ("220 mail.b.example LMTP ready", "250-mail.b.example", "250 2.1.0 Sender OK", "250 2.1.5 Recipient OK", "550 5.1.2 Domain unknown")
 
 # Servers whose peers are so many at a time: the options, how many of them connect to each port, and how many are greeted at once there.
 CROWDS = (

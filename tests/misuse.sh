@@ -2,6 +2,8 @@
 # Seats that are misused: put with a seat that was ended, ended twice, copied, or let go. Each misuse is written into a scratch copy of `shard_queue`, and
 # the compiler must refuse it, at that file and with the answer that stands beside it. The same calls, used well, must be proved there: so a refusal is due to
 # the misuse and to nothing else. The checkout stays as it is.
+#
+#     tests/misuse.sh [ShardQueue | ReplyChannel]
 set -eu
 top=$(CDPATH= cd -- "$(dirname -- "$0")/.." && pwd)
 room=$(mktemp -d)
@@ -118,8 +120,14 @@ pub fn misuse(_ended: $3<u32>) {}
 RT
 }
 
-judge ShardQueue ProducerSeat Ended put_as IsProducer queue queue Seats
-judge ReplyChannel SenderSeat SenderEnded send_as IsSender ends reply Reply
+wanted=${1:-ShardQueue ReplyChannel}
+for lane in $wanted; do
+    case $lane in
+    ShardQueue) judge ShardQueue ProducerSeat Ended put_as IsProducer queue queue Seats ;;
+    ReplyChannel) judge ReplyChannel SenderSeat SenderEnded send_as IsSender ends reply Reply ;;
+    *) echo "no such lane: $lane" >&2; exit 2 ;;
+    esac
+done
 
 echo "$passed passed, $failed failed"
 test "$failed" = 0
