@@ -49,11 +49,12 @@ class DoesNotServe(RuntimeError):
 
 
 class House:
-    """A server with these users, which listens. `options` are further words of its command line, `environment` is what it has of it beside ours."""
+    """A server with these users, which listens. `options` are further words of its command line, `environment` is what it has of it beside ours. Where the
+    first of its ports is given it is started once, else on ports that are free."""
 
-    def __init__(self, program, users, options=(), environment=()):
-        self.users = list(users)
-        for _ in range(5):
+    def __init__(self, program, users, options=(), environment=(), port=None):
+        self.users, self._port = list(users), port
+        for _ in range(5 if port is None else 1):
             self._start(program, options, environment)
             if self._listens():
                 return
@@ -65,7 +66,7 @@ class House:
         raise fault
 
     def _start(self, program, options, environment):
-        self.lmtp_port = free_ports(1 + len(self.users))
+        self.lmtp_port = free_ports(1 + len(self.users)) if self._port is None else self._port
         self.imap_ports = [self.lmtp_port + 1 + number for number in range(len(self.users))]
         words = [program, "serve", "--lmtp-port", str(self.lmtp_port), "--imap-port", str(self.imap_ports[0]), *options, *self.users]
         self._faults = tempfile.TemporaryFile()
@@ -129,11 +130,7 @@ class House:
 
     def leaves_nothing(self):
         """Whether no process of its session is left, and nobody listens on its ports. Ask once it has ended."""
-        try:
-            os.killpg(self.pid, 0)
-            return False
-        except ProcessLookupError:
-            return all(_is_free(port) for port in [self.lmtp_port, *self.imap_ports])
+        return is_gone(self.pid) and all(_is_free(port) for port in [self.lmtp_port, *self.imap_ports])
 
     def kill(self):
         """Ends it at once, if it still runs."""
@@ -145,6 +142,15 @@ class House:
         self.process.wait()
         for end in (self.process.stdin, self.process.stdout, self._faults):
             end.close()
+
+
+def is_gone(session):
+    """Whether no process of this session is left, and so nobody who could listen."""
+    try:
+        os.killpg(session, 0)
+        return False
+    except ProcessLookupError:
+        return True
 
 
 def connect(port):
