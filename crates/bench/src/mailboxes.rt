@@ -58,153 +58,207 @@ pub enum Shows {
     Times,
 }
 
-// Prints what a script wrote, and where that is asked for what time it took.
-fn show<T: Print>(
-    rt: &T,
+// A new house, what it wrote for the last script, and what is shown of that.
+#[derive(Drop)]
+struct Trial {
+    house: House,
+    output: Vec<u8>,
     shows: Shows,
-    name: &str,
-    written: usize,
-    took: Duration,
-) -> io::Result<()> {
-    match shows {
+}
+
+// Prints what was written last, and where that is asked for what time it took.
+fn show<T: Print>(rt: &T, trial: &Trial, name: &str, took: Duration) -> io::Result<()> {
+    let written = trial.output.len();
+    match trial.shows {
         Shows::Bytes => println!(rt; "  {name}: {written} bytes"),
         Shows::Times => println!(rt; "  {name}: {written} bytes, {} us", took.as_micros()),
     }
 }
 
+// Plays a script, of which nothing is shown.
+fn prepare<T: AllocGlobal + CpuClock>(rt: &T, trial: &mut Trial, script: &[u8]) -> io::Result<()> {
+    play(rt, &mut trial.house, script, &mut trial.output)?;
+    Ok(())
+}
+
+// Plays a script and shows what it wrote by this name.
+fn answer<T: AllocGlobal + CpuClock + Print>(
+    rt: &T,
+    trial: &mut Trial,
+    name: &str,
+    script: &[u8],
+) -> io::Result<()> {
+    let took = play(rt, &mut trial.house, script, &mut trial.output)?;
+    show(rt, trial, name, took)
+}
+
+// The same of a script that was made for it.
+fn answer_made<T: AllocGlobal + CpuClock + Print>(
+    rt: &T,
+    trial: &mut Trial,
+    name: &str,
+    script: Vec<u8>,
+) -> io::Result<()> {
+    answer(rt, trial, name, &script)
+}
+
+// The first user's mailbox has so many messages from here on.
+fn fill<T: AllocGlobal + CpuClock>(rt: &T, trial: &mut Trial, messages: usize) -> io::Result<()> {
+    prepare(rt, trial, &deliveries(rt.alloc(), &USERS[..1], messages)?)
+}
+
 fn one_mailbox<T: AllocGlobal + CpuClock + Print>(
     rt: &T,
-    house: &mut House,
+    trial: &mut Trial,
     messages: usize,
-    shows: Shows,
 ) -> io::Result<()> {
-    let script = deliveries(rt.alloc(), &USERS[..1], messages)?;
-    let mut output = Vec::new(rt.alloc());
     println!(rt; "a mailbox of {messages} messages")?;
-    let took = play(rt, house, &script, &mut output)?;
-    show(rt, shows, "delivered", output.len(), took)?;
+    let script = deliveries(rt.alloc(), &USERS[..1], messages)?;
+    answer_made(rt, trial, "delivered", script)?;
     for (name, script) in ASKED {
-        let took = play(rt, house, script, &mut output)?;
-        show(rt, shows, name, output.len(), took)?;
+        answer(rt, trial, name, script)?;
     }
     Ok(())
 }
 
 fn parts_of_mailbox<T: AllocGlobal + CpuClock + Print>(
     rt: &T,
-    house: &mut House,
+    trial: &mut Trial,
     messages: u32,
-    shows: Shows,
 ) -> io::Result<()> {
-    let script = deliveries(rt.alloc(), &USERS[..1], messages as usize)?;
-    let mut output = Vec::new(rt.alloc());
-    play(rt, house, &script, &mut output)?;
+    let alloc = rt.alloc();
+    fill(rt, trial, messages as usize)?;
     let (_, select) = ASKED[0];
-    play(rt, house, select, &mut output)?;
+    prepare(rt, trial, select)?;
     println!(rt; "parts of a mailbox of {messages} messages")?;
-    let script = odd_fetch(rt.alloc(), messages.min(2_000))?;
-    let took = play(rt, house, &script, &mut output)?;
-    show(rt, shows, "the odd UIDs", output.len(), took)?;
-    let script = single_fetches(rt.alloc(), 1_000)?;
-    let took = play(rt, house, &script, &mut output)?;
-    show(rt, shows, "one UID, 1000 times", output.len(), took)?;
-    let script = statuses(rt.alloc(), 1_000)?;
-    let took = play(rt, house, &script, &mut output)?;
-    show(rt, shows, "STATUS, 1000 times", output.len(), took)?;
-    let script = scattered_removals(rt.alloc(), messages.min(1_000) / 2, messages)?;
-    let took = play(rt, house, &script, &mut output)?;
-    show(rt, shows, "removed, one by one", output.len(), took)
+    let script = odd_fetch(alloc, messages.min(2_000))?;
+    answer_made(rt, trial, "the odd UIDs", script)?;
+    let script = single_fetches(alloc, 1_000)?;
+    answer_made(rt, trial, "one UID, 1000 times", script)?;
+    let script = statuses(alloc, 1_000)?;
+    answer_made(rt, trial, "STATUS, 1000 times", script)?;
+    let script = scattered_removals(alloc, messages.min(1_000) / 2, messages)?;
+    answer_made(rt, trial, "removed, one by one", script)
+}
+
+// Delivers so many messages as this one, and gives the time that it took.
+fn deliver_to<T: AllocGlobal + CpuClock>(
+    rt: &T,
+    trial: &mut Trial,
+    wire: &[u8],
+    times: usize,
+) -> io::Result<Duration> {
+    deliver(rt, &mut trial.house, wire, times, &mut trial.output)
+}
+
+// Delivers a round and shows what it wrote by this name.
+fn answer_round<T: AllocGlobal + CpuClock + Print>(
+    rt: &T,
+    trial: &mut Trial,
+    name: &str,
+    wire: &[u8],
+    each: usize,
+) -> io::Result<()> {
+    let took = deliver_to(rt, trial, wire, each)?;
+    show(rt, trial, name, took)
 }
 
 fn sized_mail<T: AllocGlobal + CpuClock + Print>(
     rt: &T,
-    house: &mut House,
+    trial: &mut Trial,
     mail: Mail,
     times: usize,
-    shows: Shows,
 ) -> io::Result<()> {
     let wire = message(rt.alloc(), &USERS, mail)?;
-    let mut output = Vec::new(rt.alloc());
     println!(rt;
         "{times} messages, each of {} bytes with its commands, and {} copies",
         wire.len(),
         mail.recipients
     )?;
-    let took = deliver(rt, house, &wire, times, &mut output)?;
-    show(rt, shows, "delivered", output.len(), took)
+    answer_round(rt, trial, "delivered", &wire, times)
+}
+
+// Delivers so many rounds of as many messages as this one, and shows the first and the last.
+fn answer_rounds<T: AllocGlobal + CpuClock + Print>(
+    rt: &T,
+    trial: &mut Trial,
+    wire: &[u8],
+    rounds: usize,
+    each: usize,
+) -> io::Result<()> {
+    answer_round(rt, trial, "the first round", wire, each)?;
+    for _ in 2..rounds {
+        deliver_to(rt, trial, wire, each)?;
+    }
+    answer_round(rt, trial, "the last round", wire, each)
 }
 
 fn mail_in_rounds<T: AllocGlobal + CpuClock + Print>(
     rt: &T,
-    house: &mut House,
+    trial: &mut Trial,
     mail: Mail,
     rounds: usize,
     each: usize,
-    shows: Shows,
 ) -> io::Result<()> {
     let wire = message(rt.alloc(), &USERS, mail)?;
-    let mut output = Vec::new(rt.alloc());
     println!(rt;
         "{rounds} rounds of {each} messages, each of {} bytes with its commands",
         wire.len()
     )?;
-    let mut took = deliver(rt, house, &wire, each, &mut output)?;
-    show(rt, shows, "the first round", output.len(), took)?;
-    for _ in 1..rounds {
-        took = deliver(rt, house, &wire, each, &mut output)?;
-    }
-    show(rt, shows, "the last round", output.len(), took)
+    answer_rounds(rt, trial, &wire, rounds, each)
 }
+
+// Two sessions have selected the first user's mailbox.
+const BOTH: &[u8] = b"I1=alice\nI1 a1 SELECT INBOX\nI2=alice\nI2 a1 SELECT INBOX\n";
 
 fn scattered<T: AllocGlobal + CpuClock + Print>(
     rt: &T,
-    house: &mut House,
+    trial: &mut Trial,
     messages: u32,
-    shows: Shows,
 ) -> io::Result<()> {
-    let script = deliveries(rt.alloc(), &USERS[..1], messages as usize)?;
-    let mut output = Vec::new(rt.alloc());
-    play(rt, house, &script, &mut output)?;
-    play(
-        rt,
-        house,
-        b"I1=alice\nI1 a1 SELECT INBOX\nI2=alice\nI2 a1 SELECT INBOX\n",
-        &mut output,
-    )?;
+    fill(rt, trial, messages as usize)?;
+    prepare(rt, trial, BOTH)?;
     println!(rt; "half of a mailbox of {messages} messages removed in no order")?;
     let script = scattered_removals(rt.alloc(), messages / 2, messages)?;
-    let took = play(rt, house, &script, &mut output)?;
-    show(rt, shows, "removed", output.len(), took)?;
-    let took = play(rt, house, b"I2 a2 NOOP\n", &mut output)?;
-    show(rt, shows, "shown to another", output.len(), took)
+    answer_made(rt, trial, "removed", script)?;
+    answer(rt, trial, "shown to another", b"I2 a2 NOOP\n")
 }
 
 fn four_mailboxes<T: AllocGlobal + CpuClock + Print>(
     rt: &T,
-    house: &mut House,
+    trial: &mut Trial,
     each: usize,
-    shows: Shows,
 ) -> io::Result<()> {
-    let script = deliveries(rt.alloc(), &USERS, each)?;
-    let mut output = Vec::new(rt.alloc());
     println!(rt; "four mailboxes of {each} messages")?;
-    let took = play(rt, house, &script, &mut output)?;
-    show(rt, shows, "delivered", output.len(), took)
+    let script = deliveries(rt.alloc(), &USERS, each)?;
+    answer_made(rt, trial, "delivered", script)
 }
 
 fn short_sessions<T: AllocGlobal + CpuClock + Print>(
     rt: &T,
-    house: &mut House,
+    trial: &mut Trial,
     rounds: usize,
-    shows: Shows,
 ) -> io::Result<()> {
-    let script = deliveries(rt.alloc(), &USERS[..1], 10)?;
-    let mut output = Vec::new(rt.alloc());
-    play(rt, house, &script, &mut output)?;
-    let script = visits(rt.alloc(), rounds)?;
+    fill(rt, trial, 10)?;
     println!(rt; "{rounds} rounds of eight sessions")?;
-    let took = play(rt, house, &script, &mut output)?;
-    show(rt, shows, "answered", output.len(), took)
+    let script = visits(rt.alloc(), rounds)?;
+    answer_made(rt, trial, "answered", script)
+}
+
+fn run<T: AllocGlobal + CpuClock + Print>(
+    rt: &T,
+    trial: &mut Trial,
+    measure: Measure,
+) -> io::Result<()> {
+    match measure {
+        Measure::OneMailbox(messages) => one_mailbox(rt, trial, messages),
+        Measure::Parts(messages) => parts_of_mailbox(rt, trial, messages),
+        Measure::Mail(mail, times) => sized_mail(rt, trial, mail, times),
+        Measure::Rounds { mail, rounds, each } => mail_in_rounds(rt, trial, mail, rounds, each),
+        Measure::Scattered(messages) => scattered(rt, trial, messages),
+        Measure::FourMailboxes(each) => four_mailboxes(rt, trial, each),
+        Measure::Visits(rounds) => short_sessions(rt, trial, rounds),
+    }
 }
 
 /// Measures this of a new house in which four users have a mailbox.
@@ -213,16 +267,11 @@ pub fn measure_once<T: AllocGlobal + CpuClock + Print>(
     measure: Measure,
     shows: Shows,
 ) -> io::Result<()> {
-    let mut house = large_house(rt.alloc(), &USERS)?;
-    match measure {
-        Measure::OneMailbox(messages) => one_mailbox(rt, &mut house, messages, shows),
-        Measure::Parts(messages) => parts_of_mailbox(rt, &mut house, messages, shows),
-        Measure::Mail(mail, times) => sized_mail(rt, &mut house, mail, times, shows),
-        Measure::Rounds { mail, rounds, each } => {
-            mail_in_rounds(rt, &mut house, mail, rounds, each, shows)
-        }
-        Measure::Scattered(messages) => scattered(rt, &mut house, messages, shows),
-        Measure::FourMailboxes(each) => four_mailboxes(rt, &mut house, each, shows),
-        Measure::Visits(rounds) => short_sessions(rt, &mut house, rounds, shows),
-    }
+    let alloc = rt.alloc();
+    let mut trial = Trial {
+        house: large_house(alloc, &USERS)?,
+        output: Vec::new(alloc),
+        shows,
+    };
+    run(rt, &mut trial, measure)
 }

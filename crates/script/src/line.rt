@@ -13,7 +13,7 @@ use bstr::ByteSlice;
 pub const MOST_BYTES: usize = 65_536;
 
 /// A line of a script.
-#[derive(Clone, Copy, Debug, PartialEq, Eq)]
+#[derive(Clone, Copy)]
 pub enum ScriptLine<'a> {
     /// This line comes from the peer of a connection, numbered from 1 to 8.
     Says(u8, &'a [u8]),
