@@ -6,8 +6,8 @@ promise that a page gives as a function with its clause.
     tests/cited.py PAGE ..  other pages; names are looked up on each of them
 
 In the last cell of a row a name belongs to the path before it. Behind a file of specs/ or proofs/ it is a definition, a constructor, a field or
-a worked example of that file; behind one of the code a function, a type, a constant or a variant; behind tests/worked_cases a case with all its
-files. A path may have a star for what differs.
+a worked example of that file; behind one of the code a function, a type, a constant or a variant; behind tests/worked_cases and tests/dialogues a
+case with all its files. A path may have a star for what differs.
 
 A promise is cited as `drive` (crate `script`, clause `once`), with "clauses" before several, as `Visit::hear` (crate `imap_stream`, clause `ok`) where it
 is a type's, or with no clause. There has to be such a public function in that crate's src/, which ensures each of these clauses; where none is named it
@@ -25,7 +25,7 @@ TOP = os.path.dirname(os.path.dirname(os.path.abspath(__file__)))
 PAGES = ["README.md", "docs/ARCHITECTURE.md", "docs/CRATES.md", "docs/DECISIONS.md", "docs/OPERATING.md", "docs/PROMISE.md", "docs/SCRIPT.md", "docs/STANDARDS.md"]
 WITH_NAMES = "docs/STANDARDS.md"
 
-CASES = "tests/worked_cases"
+CASES = ("tests/worked_cases", "tests/dialogues")
 PARTS = ("args", "stdin", "stdout", "status")
 
 QUOTED = re.compile(r"`([^`]+)`")
@@ -77,7 +77,7 @@ class Names:
 
     def lacks(self, path, name):
         """Why a name isn't one of this path's, or None."""
-        if path == CASES:
+        if path in CASES:
             lacking = [part for part in PARTS if not os.path.exists(os.path.join(TOP, path, f"{name}.{part}"))]
             return f"has no case {name}" if lacking else None
         if not path.endswith((".antt", ".rt")):

@@ -37,7 +37,7 @@ REFUSED = (
 )
 
 # Settings that are wrong: status 3, nothing on the output, and their first fault. Words and options come in any order; what follows `--` is a mailbox, and
-# so is a word of no bytes.
+# so is a word of no bytes. Where several faults are there, the first is told: TooMany, BadName, Twice, Ring, Ports.
 WRONG = (
     ("script --ring 16 --messages 9 alice", "Ring"),
     ("script alice --ring=16 alice/Work --messages 9", "Ring"),
@@ -47,6 +47,18 @@ WRONG = (
     ("script alice alice", "Twice"),
     (("script", ""), "BadName"),
     ("serve --lmtp-port 25 alice", "Ports"),
+    ("script --ring 2047 alice alice/Work", "Ring"),
+    ("script --ring-max 2047 alice alice/Work", "Ring"),
+    ("serve --lmtp-port 25 --ring 2047 alice", "Ring"),
+    ("script --ring 16 alice alice", "Twice"),
+    ("script --host= --ring 16 alice alice", "BadName"),
+    ("script --host= --ring 16" + " *" * 65, "TooMany"),
+)
+
+# Settings that are just right: status 0, and nothing is said of an empty script.
+RIGHT = (
+    "script --ring 2048 alice alice/Work",
+    "script --ring-max 2048 alice alice/Work",
 )
 
 # Names that are given, and the reply to each line that they show in. That each number reaches its own setting the worked cases show, where they are set.
@@ -125,6 +137,9 @@ def main():
     for words, fault in WRONG:
         ended = run(program, words)
         check(words, (ended.returncode, ended.stdout, ended.stderr) == (3, "", f"post_house: bad configuration: {fault}\n"), ended)
+    for words in RIGHT:
+        ended = run(program, words)
+        check(words, (ended.returncode, ended.stdout, ended.stderr) == (0, "", ""), ended)
     ended = run(program, "serve --help")
     helps = (
         "--shards <shards>",
@@ -146,7 +161,7 @@ def main():
         serves_crowd(program, options, count, wanted)
     for failure in failures:
         print(failure)
-    total = len(REFUSED) + len(WRONG) + 5 + len(CROWDS)
+    total = len(REFUSED) + len(WRONG) + len(RIGHT) + 5 + len(CROWDS)
     print(f"{total - len(failures)} of {total} command lines")
     sys.exit(1 if failures else 0)
 

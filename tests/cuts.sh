@@ -1,14 +1,13 @@
 #!/bin/sh
-# Worked cases, with what each peer says cut at every place into two pieces and into single bytes: the program prints the same.
+# Worked cases and a dialogue, with what each peer says cut at every place into two pieces and into single bytes: the program prints the same.
 #
 #     tests/cuts.sh PROGRAM [CASE..]
 set -eu
 program=$1
 shift
 tests=$(CDPATH= cd -- "$(dirname -- "$0")" && pwd)
-cases=$tests/worked_cases
 if [ $# -eq 0 ]; then
-    set -- dots bare-cr-and-lf paths-and-folders noop-lf-quit expunge append append-with-flags
+    set -- dots bare-cr-and-lf paths-and-folders noop-lf-quit expunge append append-with-flags dialogues/literals-and-lines
 fi
 room=$(mktemp -d)
 trap 'rm -rf "$room"' EXIT
@@ -16,6 +15,10 @@ export LC_ALL=C
 
 passed=0 failed=0
 for case in "$@"; do
+    case $case in
+        */*) cases=$tests ;;
+        *) cases=$tests/worked_cases ;;
+    esac
     words=$(cat "$cases/$case.args")
     od -An -v -tx1 "$cases/$case.stdin" >"$room/bytes"
     first=0 length=$(wc -c <"$cases/$case.stdin")

@@ -1,16 +1,17 @@
 #!/bin/sh
-# The worked cases on a built program: what each prints, to the byte, and its exit status.
+# The cases of two folders on a built program: what each prints, to the byte, and its exit status.
 #
 #     tests/worked_cases.sh PROGRAM [CASE..]
 #
-# A case is worked_cases/NAME.args (a word a line), NAME.stdin, NAME.stdout and NAME.status. Where the command line is refused (status 2)
-# what the program prints is clap's, and isn't compared.
+# The worked rows of the specification stand in worked_cases/, and whole dialogues, with what RFC 9051, RFC 2033 and RFC 5321 say of them, in dialogues/.
+# A case is NAME.args (a word a line), NAME.stdin, NAME.stdout and NAME.status; one of the dialogues is asked for as dialogues/NAME. Where the command line
+# is refused (status 2) what the program prints is clap's, and isn't compared.
 set -eu
 program=$1
 shift
-cases=$(CDPATH= cd -- "$(dirname -- "$0")" && pwd)/worked_cases
+cases=$(CDPATH= cd -- "$(dirname -- "$0")" && pwd)
 if [ $# -eq 0 ]; then
-    set -- $(cd "$cases" && ls -- *.args | sed 's/\.args$//')
+    set -- $(cd "$cases" && ls -- worked_cases/*.args dialogues/*.args | sed 's/\.args$//')
 fi
 wrote=$(mktemp)
 trap 'rm -f "$wrote"' EXIT
@@ -26,7 +27,11 @@ run_with() {
 }
 
 passed=0 failed=0
-for case in "$@"; do
+for name in "$@"; do
+    case $name in
+        */*) case=$name ;;
+        *) case=worked_cases/$name ;;
+    esac
     status=0
     run_with "$cases/$case.args" <"$cases/$case.stdin" >"$wrote" 2>/dev/null || status=$?
     if [ "$status" -ne "$(cat "$cases/$case.status")" ]; then

@@ -1,21 +1,10 @@
-//! Tests of a house, of its promise and of scripts, as a program above them would call them. What is proved of them stands in their own crates.
+//! Tests of a house, of its promise and of scripts, as a program above them would call them, where no line of a script can show it. What is proved of them
+//! stands in their own crates, and what a script shows in tests/dialogues.
 #![tactic(auto)]
 
 #[cfg(test)]
-mod closing;
-#[cfg(test)]
-mod connections;
-#[cfg(test)]
-mod idling;
-#[cfg(test)]
-mod replays;
+mod events;
 #[cfg(test)]
 mod scripts;
 #[cfg(test)]
-mod sessions;
-#[cfg(test)]
 mod settings;
-#[cfg(test)]
-mod steps;
-#[cfg(test)]
-mod windows;

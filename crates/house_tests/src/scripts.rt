@@ -3,10 +3,11 @@
 
 ghost use Rattle.std.specs.Prelude.{◌≡◌, Some, false};
 
-use house::{Config, House};
+use crate::events::house;
+use house::House;
 use line_io::Sink;
 use script::{RunFault, drive};
-use std::alloc::{AllocError, Global};
+use std::alloc::Global;
 use std::io::{BufRead, Error, ErrorKind, Read};
 
 const SCRIPT: &[u8] = b"L1 LHLO c.example\n\
@@ -17,16 +18,21 @@ L1 hi\n\
 L1 .\n\
 TAIL alice\n";
 
-// What each line of the script prints.
-const PRINTED: [&[u8]; 7] = [
-    b"L1 220 mx.example.org LMTP ready\nL1 250-mx.example.org\nL1 250-PIPELINING\nL1 250-ENHANCEDSTATUSCODES\nL1 250 8BITMIME\n",
-    b"L1 250 2.1.0 Sender OK\n",
-    b"L1 250 2.1.5 Recipient OK\n",
-    b"L1 354 Start mail input\n",
-    b"",
-    b"L1 250 2.1.5 Delivered\n",
-    b"T alice add 1\nT alice total 1\n",
-];
+// What the script prints.
+const PRINTED: &[u8] = b"L1 220 mx.example.org LMTP ready\n\
+L1 250-mx.example.org\n\
+L1 250-PIPELINING\n\
+L1 250-ENHANCEDSTATUSCODES\n\
+L1 250 8BITMIME\n\
+L1 250 2.1.0 Sender OK\n\
+L1 250 2.1.5 Recipient OK\n\
+L1 354 Start mail input\n\
+L1 250 2.1.5 Delivered\n\
+T alice add 1\n\
+T alice total 1\n";
+
+// How many bytes of that its first lines have printed: none, one, and so on to six.
+const ENDS: [usize; 7] = [0, 116, 139, 165, 189, 189, 212];
 
 // Gives a script line by line, and fails in this way once its calls are used up.
 #[derive(Drop)]
@@ -61,10 +67,10 @@ impl BufRead for Torn<'_> {
 
 // Takes so many bytes, and then none.
 #[derive(Drop)]
-pub(crate) struct Narrow {
-    pub(crate) bytes: Vec<u8>,
-    pub(crate) room: usize,
-    pub(crate) has_failed: bool,
+struct Narrow {
+    bytes: Vec<u8>,
+    room: usize,
+    has_failed: bool,
 }
 
 impl Sink for Narrow {
@@ -84,125 +90,98 @@ impl Sink for Narrow {
     }
 }
 
-// What a run of a script answers and writes, where the writer takes so many bytes.
-fn run_over(
+// Whether a run in this house, over a writer that takes so many bytes, ends so and has written so much of what the script prints.
+fn runs(
     alloc: Global,
+    house: &mut House,
     reader: &mut Torn<'_>,
     room: usize,
-) -> Result<(Result<(), RunFault>, Vec<u8>), AllocError> {
-    let config = Config::new(alloc, &[b"alice".as_slice()])?;
-    let Ok(mut house) = House::new(alloc, &config) else {
-        return Err(AllocError);
-    };
+    wanted: Result<(), RunFault>,
+    told: usize,
+) -> bool {
     let mut writer = Narrow {
         bytes: Vec::new(alloc),
         room,
         has_failed: false,
     };
-    let done = drive(alloc, &mut house, reader, &mut writer);
-    Ok((done, writer.bytes))
+    drive(alloc, house, reader, &mut writer) == wanted
+        && PRINTED.get(..told) == Some(writer.bytes.as_slice())
 }
 
-// The same of the script above, of which the reader gives so many lines.
-fn run(
+// The same in a new house, of the script above, of which the reader gives so many lines before it fails in this way.
+fn ends_so(
     alloc: Global,
     lines: usize,
+    kind: ErrorKind,
     room: usize,
-) -> Result<(Result<(), RunFault>, Vec<u8>), AllocError> {
+    wanted: Result<(), RunFault>,
+    told: usize,
+) -> bool {
+    let Ok(mut house) = house(alloc) else {
+        return false;
+    };
     let mut reader = Torn {
         rest: SCRIPT,
         calls: lines,
-        kind: ErrorKind::BrokenPipe,
+        kind,
     };
-    run_over(alloc, &mut reader, room)
+    runs(alloc, &mut house, &mut reader, room, wanted, told)
 }
 
-// What the first lines print.
-fn printed(alloc: Global, lines: usize) -> Result<Vec<u8>, AllocError> {
-    let mut all = Vec::new(alloc);
-    for piece in PRINTED.iter().take(lines) {
-        all.extend_from_slice(piece)?;
-    }
-    Ok(all)
-}
-
-#[test]
-fn a_reader_that_fails_stops_the_run(rt: HostRuntime) -> Result<(), AllocError> {
-    for lines in 0..PRINTED.len() {
-        let (done, written) = run(rt.alloc(), lines, 1_000)?;
-        assert_eq!(rt; done, Err(RunFault::Read));
-        let told = printed(rt.alloc(), lines)?;
-        assert_eq!(rt; written.as_slice(), told.as_slice());
-    }
-    let (done, written) = run(rt.alloc(), 9, 1_000)?;
-    assert_eq!(rt; done, Ok(()));
-    let told = printed(rt.alloc(), 7)?;
-    assert_eq!(rt; written.as_slice(), told.as_slice());
-    Ok(())
-}
-
-#[test]
-fn a_writer_that_fails_is_told_to_the_byte(rt: HostRuntime) -> Result<(), AllocError> {
-    let whole = printed(rt.alloc(), 7)?;
-    for lines in 0..PRINTED.len() {
-        let begun = printed(rt.alloc(), lines)?.len();
-        let ended = printed(rt.alloc(), lines + 1)?.len();
-        for room in [begun, (begun + ended) / 2] {
-            if room < ended {
-                let (done, written) = run(rt.alloc(), 9, room)?;
-                let sent = room as u128;
-                assert_eq!(rt; done, Err(RunFault::Write { sent }));
-                let first = whole.as_slice().get(..room);
-                assert!(rt; first == Some(written.as_slice()));
-            }
+// The first number of lines behind which a reader that fails doesn't stop the run.
+fn first_unread(alloc: Global) -> Option<usize> {
+    for (lines, told) in ENDS.iter().enumerate() {
+        if !ends_so(
+            alloc,
+            lines,
+            ErrorKind::BrokenPipe,
+            1_000,
+            Err(RunFault::Read),
+            *told,
+        ) {
+            return Some(lines);
         }
     }
-    Ok(())
+    None
 }
 
 #[test]
-fn a_reader_that_wants_memory_is_told_so(rt: HostRuntime) -> Result<(), AllocError> {
-    let mut reader = Torn {
-        rest: SCRIPT,
-        calls: 1,
-        kind: ErrorKind::OutOfMemory,
-    };
-    let (done, _written) = run_over(rt.alloc(), &mut reader, 1_000)?;
-    assert_eq!(rt; done, Err(RunFault::NoMemory));
-    Ok(())
+fn a_reader_that_fails_stops_the_run(rt: HostRuntime) {
+    assert_eq!(rt; first_unread(rt.alloc()), None);
+    assert!(rt;
+        ends_so(
+            rt.alloc(),
+            9,
+            ErrorKind::BrokenPipe,
+            1_000,
+            Ok(()),
+            PRINTED.len()
+        )
+    );
+    assert!(rt;
+        ends_so(
+            rt.alloc(),
+            1,
+            ErrorKind::OutOfMemory,
+            1_000,
+            Err(RunFault::NoMemory),
+            116,
+        )
+    );
 }
 
-// Lines of a script that begin so and have so many bytes, and whether they are taken. Any but a comment has 65,536 at most.
-const LONG_LINES: &[(&[u8], usize, bool)] = &[
-    (b"L1 ", 65_536, true),
-    (b"L1 ", 65_537, false),
-    (b"# ", 65_537, true),
-    (b"# ", 70_000, true),
-];
-
-fn is_taken(alloc: Global, front: &[u8], length: usize) -> Result<bool, AllocError> {
-    let mut line = Vec::from_slice(alloc, front)?;
-    line.resize(length, b'x')?;
-    let mut reader = Torn {
-        rest: &line,
-        calls: 9,
-        kind: ErrorKind::BrokenPipe,
-    };
-    let (done, written) = run_over(alloc, &mut reader, 1_000)?;
-    Ok(done == Ok(()) && !written.starts_with(b"? "))
-}
-
-fn first_unlike(alloc: Global) -> Result<Option<usize>, AllocError> {
-    for (place, (front, length, wanted)) in LONG_LINES.iter().enumerate() {
-        if is_taken(alloc, front, *length)? != *wanted {
-            return Ok(Some(place));
+// The first room of a writer that isn't told as the run's end. The writer fails at each byte but the last.
+fn first_unwritten(alloc: Global) -> Option<usize> {
+    for room in 0..PRINTED.len() {
+        let wanted = Err(RunFault::Write { sent: room as u128 });
+        if !ends_so(alloc, 9, ErrorKind::BrokenPipe, room, wanted, room) {
+            return Some(room);
         }
     }
-    Ok(None)
+    None
 }
 
 #[test]
-fn a_line_has_65536_bytes_at_most(rt: HostRuntime) -> Result<(), AllocError> {
-    assert_eq!(rt; first_unlike(rt.alloc())?, None);
-    Ok(())
+fn a_writer_that_fails_is_told_to_the_byte(rt: HostRuntime) {
+    assert_eq!(rt; first_unwritten(rt.alloc()), None);
 }

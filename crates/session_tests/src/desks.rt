@@ -1,11 +1,10 @@
-//! Two sessions of one core, each served in its turn through the trait. The lines are those of RFC 9051, 7.4 and 7.5.
+//! The delivery core as a session's store: whom it turns away, and that it shows no more than is asked for. The lines are those of RFC 9051, 7.4.
 
-use change_ring::{FlagOp, Flags, NO_FLAGS};
+use change_ring::NO_FLAGS;
 use delivery_core::{DeliveryCore, Settings};
 use delivery_token::{CopyKey, Text};
-use imap_grammar::{Command, Named, SeqSet, read_line};
 use imap_session::Store;
-use mailbox::{Limits, MailFault, Opening, Row, Status};
+use mailbox::{Limits, MailFault, Opening, Status};
 use session_store::Desk;
 use std::alloc::{AllocError, Global};
 
@@ -24,19 +23,20 @@ const SMALL: Settings = Settings {
     sessions: 2,
 };
 
-const SEEN: Flags = Flags {
-    seen: true,
-    ..NO_FLAGS
-};
+/// A desk over a core with nothing in it: two mailboxes, which keep four changes.
+pub fn desk(alloc: Global) -> Result<Desk, AllocError> {
+    Ok(Desk {
+        core: DeliveryCore::new(alloc, SMALL)?,
+        session: 0,
+    })
+}
 
-const DELETED: Flags = Flags {
-    deleted: true,
-    ..NO_FLAGS
-};
+fn text(alloc: Global) -> Result<Text, AllocError> {
+    Text::new(Vec::from_slice(alloc, b"hi\r\n")?)
+}
 
-// A copy of "hi" goes the whole way to a mailbox.
-fn deliver(core: &mut DeliveryCore, alloc: Global, mailbox: u8) -> Result<(), AllocError> {
-    let text = Text::new(Vec::from_slice(alloc, b"hi\r\n")?)?;
+// Puts the first copy into the lane.
+fn puts(core: &mut DeliveryCore, mailbox: u8, text: &Text) -> bool {
     let key = CopyKey {
         seat: 0,
         serial: 0,
@@ -44,73 +44,23 @@ fn deliver(core: &mut DeliveryCore, alloc: Global, mailbox: u8) -> Result<(), Al
         recipient: 0,
     };
     if !core.may_put(key, mailbox) {
-        return Err(AllocError);
+        return false;
     }
-    let Ok(None) = core.put(key, mailbox, &text, NO_FLAGS) else {
-        return Err(AllocError);
-    };
-    let Ok(()) = core.take(0) else {
-        return Err(AllocError);
-    };
-    let Ok(()) = core.deliver(0) else {
-        return Err(AllocError);
-    };
-    Ok(())
+    core.put(key, mailbox, text, NO_FLAGS) == Ok(None)
 }
 
-// What a session found that removed a message.
-#[derive(Drop)]
-struct Found {
-    shown: usize,
-    // Those that it was shown.
-    messages: Vec<Named>,
-    row: Row,
-    flags: Flags,
-    gone: usize,
+/// A first copy, of "hi", goes the whole way to a mailbox.
+pub fn deliver(alloc: Global, core: &mut DeliveryCore, mailbox: u8) -> bool {
+    match text(alloc) {
+        Ok(text) => puts(core, mailbox, &text)
+            && core.take(0) == Ok(())
+            && core.deliver(0) == Ok(()),
+        Err(_) => false,
+    }
 }
 
 fn enter<S: Store>(store: &mut S, mailbox: u8) -> Result<Opening, MailFault> {
     store.enter(mailbox)
-}
-
-// The set of a UID FETCH.
-fn set_of(line: &[u8]) -> Option<SeqSet<'_>> {
-    let Ok((_tag, command)) = read_line(line) else {
-        return None;
-    };
-    match command {
-        Command::Fetch(fetch) => Some(fetch.set),
-        _ => None,
-    }
-}
-
-// A session is shown what is new, and reads, marks and removes the first message.
-fn remove_first<S: Store>(
-    store: &mut S,
-    alloc: Global,
-    out: &mut Vec<u8>,
-) -> Result<Found, MailFault> {
-    let shown = store.feed(64, out)?;
-    let Some(set) = set_of(b"a UID FETCH 1:* UID") else {
-        return Err(MailFault::Stranger);
-    };
-    let Some(messages) = store.choose(alloc, &set, true)? else {
-        return Err(MailFault::Stranger);
-    };
-    let Some(row) = store.read(1, true)? else {
-        return Err(MailFault::Stranger);
-    };
-    let Some(flags) = store.store(1, FlagOp::Set(DELETED))? else {
-        return Err(MailFault::Stranger);
-    };
-    let gone = store.expunge(Some(&[1]), out)?;
-    Ok(Found {
-        shown,
-        messages,
-        row,
-        flags,
-        gone,
-    })
 }
 
 fn feed<S: Store>(store: &mut S, limit: usize, out: &mut Vec<u8>) -> Result<usize, MailFault> {
@@ -125,12 +75,14 @@ fn leave<S: Store>(store: &mut S) -> Result<usize, MailFault> {
     store.leave(true)
 }
 
-// A desk over a core with nothing in it.
-fn desk(alloc: Global) -> Result<Desk, AllocError> {
-    Ok(Desk {
-        core: DeliveryCore::new(alloc, SMALL)?,
-        session: 0,
-    })
+const STRANGER: MailFault = MailFault::Stranger;
+
+// It has entered no mailbox, and there are none but 0 and 1.
+fn is_stranger(desk: &mut Desk, out: &mut Vec<u8>) -> bool {
+    feed(desk, 64, out) == Err(STRANGER)
+        && leave(desk) == Err(STRANGER)
+        && enter(desk, 2) == Err(STRANGER)
+        && count(desk, 2) == Err(STRANGER)
 }
 
 const EMPTY: Opening = Opening {
@@ -139,94 +91,25 @@ const EMPTY: Opening = Opening {
     uidvalidity: 7,
 };
 
-// What both sessions are shown of a message that came and went.
-const TOLD: &[u8] =
-    b"* 1 EXISTS\r\n* 1 FETCH (UID 1 FLAGS (\\Seen))\r\n* 1 FETCH (UID 1 FLAGS (\\Deleted))\r\n* 1 EXPUNGE\r\n";
-
-fn are_entered(desk: &mut Desk) -> bool {
-    desk.session = 0;
-    let is_first = enter(desk, 1) == Ok(EMPTY);
-    desk.session = 1;
-    is_first && enter(desk, 1) == Ok(EMPTY)
-}
-
-fn is_as_sent(row: &Row) -> bool {
-    row.uid == 1
-        && row.flags == SEEN
-        && row.newly_seen
-        && row.text.as_slice() == b"hi\r\n".as_slice()
-}
-
-fn is_found(found: &Found) -> bool {
-    (found.shown, found.flags, found.gone) == (1, DELETED, 1)
-        && found.messages.as_slice() == [Named { place: 1, uid: 1 }].as_slice()
-        && is_as_sent(&found.row)
-}
-
-// The second session removes the message.
-fn removes(alloc: Global, desk: &mut Desk, out: &mut Vec<u8>) -> bool {
-    let is_removed = match remove_first(desk, alloc, out) {
-        Ok(found) => is_found(&found),
-        Err(_) => false,
-    };
-    is_removed && feed(desk, 64, out) == Ok(1) && out.as_slice() == TOLD
-}
-
-// The first one is shown the same, three changes at a time, and leaves.
-fn follows(desk: &mut Desk, out: &mut Vec<u8>) -> bool {
-    desk.session = 0;
-    out.clear();
-    feed(desk, 3, out) == Ok(3)
-        && feed(desk, 3, out) == Ok(1)
-        && out.as_slice() == TOLD
+// It enters a mailbox once, is shown what comes there, once, and leaves it once.
+fn is_served(alloc: Global, desk: &mut Desk, out: &mut Vec<u8>) -> bool {
+    enter(desk, 1) == Ok(EMPTY)
+        && enter(desk, 0) == Err(STRANGER)
+        && deliver(alloc, &mut desk.core, 1)
+        && feed(desk, 0, out) == Ok(0)
+        && feed(desk, 64, out) == Ok(1)
+        && feed(desk, 64, out) == Ok(0)
+        && out.as_slice() == b"* 1 EXISTS\r\n".as_slice()
         && leave(desk) == Ok(0)
-        && leave(desk) == Err(MailFault::Stranger)
-}
-
-// What goes otherwise than it is to.
-fn unlike(alloc: Global, desk: &mut Desk, out: &mut Vec<u8>) -> Option<&'static str> {
-    if !are_entered(desk) {
-        return Some("enter");
-    }
-    if deliver(&mut desk.core, alloc, 1).is_err() {
-        return Some("deliver");
-    }
-    if !removes(alloc, desk, out) {
-        return Some("remove");
-    }
-    if follows(desk, out) {
-        None
-    } else {
-        Some("follow")
-    }
 }
 
 #[test]
-fn two_sessions_are_in_one_mailbox(rt: HostRuntime) -> Result<(), AllocError> {
+fn a_stranger_is_turned_away(rt: HostRuntime) -> Result<(), AllocError> {
     let mut desk = desk(rt.alloc())?;
-    let seen = unlike(rt.alloc(), &mut desk, &mut Vec::new(rt.alloc()));
-    assert_eq!(rt; seen, None);
-    Ok(())
-}
-
-const ONE: Status = Status {
-    messages: 1,
-    uidnext: 2,
-    uidvalidity: 7,
-    unseen: 1,
-    deleted: 0,
-    size: 4,
-};
-
-fn is_counted(alloc: Global, desk: &mut Desk) -> bool {
-    deliver(&mut desk.core, alloc, 1).is_ok()
-        && count(desk, 1) == Ok(ONE)
-        && count(desk, 2) == Err(MailFault::Stranger)
-}
-
-#[test]
-fn a_mailbox_is_counted(rt: HostRuntime) -> Result<(), AllocError> {
-    let mut desk = desk(rt.alloc())?;
-    assert!(rt; is_counted(rt.alloc(), &mut desk));
+    let mut out = Vec::new(rt.alloc());
+    let is_as_wanted = is_stranger(&mut desk, &mut out)
+        && is_served(rt.alloc(), &mut desk, &mut out)
+        && is_stranger(&mut desk, &mut out);
+    assert!(rt; is_as_wanted);
     Ok(())
 }

@@ -1,25 +1,16 @@
-//! Tests of IMAP's lines, sessions, connections and visitors, and of the delivery core as a session's store, as a server above them would call them. What is proved of them stands in their own crates.
+//! Tests of names, sessions, connections and visitors of IMAP, and of the delivery core as a session's store, as a server above them would call them, where
+//! no line of a script can show it. What is proved of them stands in their own crates, and what a script shows in tests/dialogues.
 #![tactic(auto)]
 
-#[cfg(test)]
-mod answers;
-#[cfg(test)]
-mod appends;
 #[cfg(test)]
 mod connections;
 #[cfg(test)]
 mod desks;
 #[cfg(test)]
-mod dialogues;
+mod names;
 #[cfg(test)]
-mod lines;
+mod sessions;
 #[cfg(test)]
-mod nowhere;
-#[cfg(test)]
-mod seats;
-#[cfg(test)]
-mod sets;
-#[cfg(test)]
-mod shelf;
+mod views;
 #[cfg(test)]
 mod visits;
