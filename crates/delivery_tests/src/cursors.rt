@@ -602,7 +602,7 @@ fn refused_by(
 }
 
 #[test]
-fn a_seat_of_another_set_is_a_stranger(rt: HostRuntime) -> Result<(), AllocError> {
+fn a_handle_of_another_set_is_a_stranger(rt: HostRuntime) -> Result<(), AllocError> {
     let (mut set, handle) = entered(rt.alloc(), 3, &[2, 4])?;
     let (_other, stranger) = entered(rt.alloc(), 4, &[])?;
     let _back = refused_by(rt.alloc(), &mut set, stranger)?;
@@ -624,7 +624,7 @@ fn entered_later(alloc: Global) -> Result<(CursorSet, CursorHandle), AllocError>
 }
 
 #[test]
-fn a_later_seat_of_a_set_with_the_same_number_is_a_stranger(
+fn a_later_handle_of_a_set_with_the_same_number_is_a_stranger(
     rt: HostRuntime,
 ) -> Result<(), AllocError> {
     let (mut older, second) = entered_later(rt.alloc())?;

@@ -147,7 +147,7 @@ fn play(
 }
 
 // A client's handle, where one can be had and the mailbox is told as it should be.
-fn seated(mailbox: &mut Mailbox, wanted: Opening) -> Result<CursorHandle, AllocError> {
+fn opened(mailbox: &mut Mailbox, wanted: Opening) -> Result<CursorHandle, AllocError> {
     match enter(mailbox) {
         Ok((handle, opening)) if opening == wanted => Ok(handle),
         _ => Err(AllocError),
@@ -200,7 +200,7 @@ const ACTS: &[Act] = &[
 
 // Whether each call answers as the table tells, and one message goes as the client leaves.
 fn answers(alloc: Global, mailbox: &mut Mailbox) -> bool {
-    let Ok(mut handle) = seated(mailbox, EMPTY) else {
+    let Ok(mut handle) = opened(mailbox, EMPTY) else {
         return false;
     };
     let at = play(alloc, mailbox, &mut handle, &mut Vec::new(alloc), ACTS);
@@ -231,7 +231,7 @@ const STRANGER: &[Act] = &[
 
 // Whether a mailbox of another number refuses each call of a client's handle.
 fn refuses_each(alloc: Global, own: &mut Mailbox, other: &mut Mailbox) -> bool {
-    let Ok(mut handle) = seated(own, EMPTY) else {
+    let Ok(mut handle) = opened(own, EMPTY) else {
         return false;
     };
     let at = play(alloc, other, &mut handle, &mut Vec::new(alloc), STRANGER);
@@ -245,7 +245,7 @@ fn refuses(alloc: Global) -> Result<bool, AllocError> {
 }
 
 #[test]
-fn a_held_mailbox_refuses_the_seat_of_another(rt: HostRuntime) -> Result<(), AllocError> {
+fn a_held_mailbox_refuses_the_handle_of_another(rt: HostRuntime) -> Result<(), AllocError> {
     assert!(rt; refuses(rt.alloc())?);
     Ok(())
 }

@@ -237,14 +237,14 @@ fn filled(alloc: Global, number: u8, limits: Limits, messages: u32) -> Result<Ma
 }
 
 // A client's handle, where one can be had.
-fn seated(mailbox: &mut Mailbox) -> Result<(CursorHandle, Opening), AllocError> {
+fn opened(mailbox: &mut Mailbox) -> Result<(CursorHandle, Opening), AllocError> {
     if !mailbox.can_open() {
         return Err(AllocError);
     }
-    let Ok(opened) = mailbox.open_cursor() else {
+    let Ok(both) = mailbox.open_cursor() else {
         return Err(AllocError);
     };
-    Ok(opened)
+    Ok(both)
 }
 
 // How many messages go where a client leaves.
@@ -525,7 +525,7 @@ const HALF_GOES: &[Act] = &[
 // Whether all is answered as a case tells, in this mailbox.
 fn goes(alloc: Global, mailbox: &mut Mailbox, case: &Case) -> Result<bool, AllocError> {
     fill(alloc, mailbox, case.messages)?;
-    let (mut handle, opening) = seated(mailbox)?;
+    let (mut handle, opening) = opened(mailbox)?;
     let at = play(alloc, mailbox, &mut handle, case.acts)?;
     let gone = leaves(mailbox, handle, case.remove);
     let (count, window) = case.left;
@@ -580,7 +580,7 @@ fn refused_by(
 }
 
 fn is_refused(alloc: Global, own: &mut Mailbox, other: &mut Mailbox) -> bool {
-    let Ok((handle, _opening)) = seated(own) else {
+    let Ok((handle, _opening)) = opened(own) else {
         return false;
     };
     match refused_by(alloc, other, handle) {
@@ -596,7 +596,7 @@ fn refuses(alloc: Global) -> Result<bool, AllocError> {
 }
 
 #[test]
-fn a_seat_of_another_mailbox_is_a_stranger(rt: HostRuntime) -> Result<(), AllocError> {
+fn a_handle_of_another_mailbox_is_a_stranger(rt: HostRuntime) -> Result<(), AllocError> {
     assert!(rt; refuses(rt.alloc())?);
     Ok(())
 }
@@ -620,8 +620,8 @@ const LAPPED: &[Act] = &[
 
 // Whether two clients are told what their tables say, of whom the second is shown nothing.
 fn falls_behind(alloc: Global, mailbox: &mut Mailbox) -> Result<bool, AllocError> {
-    let (mut handle, _opening) = seated(mailbox)?;
-    let (mut behind, _opening) = seated(mailbox)?;
+    let (mut handle, _opening) = opened(mailbox)?;
+    let (mut behind, _opening) = opened(mailbox)?;
     let ahead = play(alloc, mailbox, &mut handle, GROWS)?;
     let lapped = play(alloc, mailbox, &mut behind, LAPPED)?;
     let gone = leaves(mailbox, behind, true) == Ok(0);
