@@ -133,25 +133,38 @@ impl<'a, R: Wait, G: Gate, W: Sink + Drop> Place<'a, R, G, W> {
         ensures kept { (first : C) → C.kept first courier.old → C.kept first courier.new }
     {
         for _ in rt.forever() {
-            if self.is_stopped(rt, stop) {
+            if self.is_stopped(rt, stop)
+                || !self.serve_read(rt, alloc, courier, input, buffer, stop)
+            {
                 return;
-            }
-            let read = input.read(buffer);
-            if self.is_stopped(rt, stop) {
-                return;
-            }
-            match read {
-                Ok(0) => return,
-                Ok(count) => {
-                    if !self.hear(rt, alloc, courier, &buffer[..count]) {
-                        return;
-                    }
-                }
-                Err(fault) if fault.kind() == ErrorKind::Interrupted => {}
-                Err(_) => return,
             }
         }
         unreachable!()
+    }
+
+    // Reads once, and hears what came: whether the client is to be read again.
+    fn serve_read<I: Read, C: Courier>(
+        &self,
+        rt: &R,
+        alloc: Global,
+        courier: &mut C,
+        input: &mut I,
+        buffer: &mut [u8],
+        stop: &AtomicBool,
+    ) -> bool
+        requires ready { C.ready courier.old }
+        ensures ready { C.ready courier.new }
+        ensures kept { (first : C) → C.kept first courier.old → C.kept first courier.new }
+    {
+        let read = input.read(buffer);
+        if self.is_stopped(rt, stop) {
+            return false;
+        }
+        match read {
+            Ok(0) => false,
+            Ok(count) => self.hear(rt, alloc, courier, &buffer[..count]),
+            Err(fault) => fault.kind() == ErrorKind::Interrupted,
+        }
     }
 
     // Whether the house stops: then the client was dismissed.

@@ -7,7 +7,9 @@ ghost use Rattle.std.specs.Vec.{vec_capacity};
 ghost use Rattle.courier.specs.Carried.{Carried};
 ghost use Rattle.courier.specs.declared.Lost.{Lost};
 ghost use Rattle.session_thread.specs.Life.{Departs};
+ghost use Rattle.imap_connection.specs.Dialogue.{StandsFor};
 ghost use Rattle.imap_session.specs.Commands.{greeting};
+ghost use Rattle.imap_session.specs.Exchange.{nothing_sent};
 ghost use Rattle.imap_stream.specs.Visits.{Hears, HearsInPart, IsGreeted, SendsAll, SendsFirst, ShowsAll, ShowsInPart, Tells, Visit, awaited, farewell, is_over, takes_bytes};
 
 use crate::turns::{answer_and_show, show_all};
@@ -53,6 +55,38 @@ fn flush<W: Sink>(output: &mut W, written: &mut Vec<u8>) -> Result<(), VisitFaul
         Ok(()) => Ok(()),
         Err(_) => Err(VisitFault::Write),
     }
+}
+
+// The connection of a client that was greeted on `output`, and the room that this was written in.
+fn greeted<W: Sink>(
+    alloc: Global,
+    folders: Vec<Folder>,
+    most: Option<u32>,
+    output: &mut W,
+) -> Result<(ImapConnection, Vec<u8>), VisitFault>
+    requires live { W.failed output.old ≡ false }
+    ensures stands { IfOk result (λ made. StandsFor made.0 (record {
+      standing = record { folders = folders.items; selected = None; idling = None; ended = false; mailing = nothing_sent most };
+      begun = [];
+    })) }
+    ensures empty { IfOk result (λ made. made.1.items ≡ []) }
+    ensures took { OnOk result (Appends (W.taken output.old) (W.taken output.new) greeting) }
+    ensures live { OnOk result (W.failed output.new ≡ false) }
+    ensures untorn { IfErr result (λ fault. fault ≢ VisitFault.Torn) }
+    ensures short { result ≡ Err VisitFault.NoMemory → output.new ≡ output.old }
+    ensures cut { result ≡ Err VisitFault.Write →
+        (sent : ℕ) × (sent < length greeting) × Appends (W.taken output.old) (W.taken output.new) (take sent greeting) }
+    ensures failed { result ≡ Err VisitFault.Write → W.failed output.new ≡ true }
+{
+    let Ok(connection) = ImapConnection::new(alloc, folders, most) else {
+        return Err(VisitFault::NoMemory);
+    };
+    let mut out = Vec::new(alloc);
+    let Ok(()) = connection.greet(&mut out) else {
+        return Err(VisitFault::NoMemory);
+    };
+    flush(output, &mut out)?;
+    Ok((connection, out))
 }
 
 // Why a visit stops whose session brought no verdict, or was refused memory.
@@ -122,24 +156,17 @@ impl<'a, R: Wait, G: Gate, W: Sink> Visit<'a, R, G, W> {
             (sent : ℕ) × (sent < length greeting) × Appends (W.taken output) (W.taken stop.0) (take sent greeting)) }
         ensures failed { IfErr result (λ stop. stop.1 ≡ VisitFault.Write → W.failed stop.0 ≡ true) }
     {
-        let Ok(connection) = ImapConnection::new(alloc, folders, most) else {
-            return Err((output, VisitFault::NoMemory));
-        };
-        let mut out = Vec::new(alloc);
-        let Ok(()) = connection.greet(&mut out) else {
-            return Err((output, VisitFault::NoMemory));
-        };
-        let Ok(()) = flush(&mut output, &mut out) else {
-            return Err((output, VisitFault::Write));
-        };
-        Ok(Visit {
-            rt,
-            connection,
-            desk,
-            out,
-            output,
-            is_closed: false,
-        })
+        match greeted(alloc, folders, most, &mut output) {
+            Ok((connection, out)) => Ok(Visit {
+                rt,
+                connection,
+                desk,
+                out,
+                output,
+                is_closed: false,
+            }),
+            Err(fault) => Err((output, fault)),
+        }
     }
 
     /// Nothing more is done for the client: its session has ended, the output failed, bytes of it were

@@ -4,7 +4,7 @@ ghost use Rattle.std.specs.Prelude.{◌≡◌, ◌≢◌, ◌<◌, ◌≤◌, Al
 ghost use Rattle.std.specs.List.{list_any};
 ghost use Rattle.house.specs.Settings.{IsInRange, setup_of};
 ghost use Rattle.house_floor.specs.Users.{user_numbered};
-ghost use Rattle.running_house.specs.Plan.{IsFaultOf, are_too_many, is_shard_missing, count_of, is_someone_missing, most_producers, most_workers, of_config, of_reckoning, plan_fault, producers_in};
+ghost use Rattle.running_house.specs.Plan.{IsFaultOf, after_settings, are_too_many, is_shard_missing, count_of, is_someone_missing, most_producers, most_workers, of_config, of_reckoning, plan_fault, producers_in};
 
 use delivery_token::{CopyKey, Text, WorkerLog};
 use envelope::Directory;
@@ -152,6 +152,31 @@ fn is_shard_missing(closings: &[Vec<Closing>], shards: u8) -> bool
     closings.iter().any(|own| is_beyond(own.as_slice(), shards))
 }
 
+// What is wrong with the actors of a plan whose settings are right.
+fn fault_of_actors(plan: &Plan, directory: &Directory) -> Option<ConfigFault>
+    requires { directory.now ≡ (setup_of plan.now.config).directory }
+    ensures is { result ≡ after_settings plan.now None }
+    ensures few { result ≡ None → (length plan.now.workers.items ≤ most_workers) × (producers_in plan.now ≤ most_producers) }
+    ensures visits { result ≡ None → All (λ v. user_numbered v.user directory.now.homes ≢ None) plan.now.sessions.items }
+{
+    if MOST_WORKERS < plan.workers.len() {
+        return Some(ConfigFault::TooMany);
+    }
+    if MOST_PRODUCERS < plan.workers.len() + plan.sessions.len() {
+        return Some(ConfigFault::TooMany);
+    }
+    if are_too_many(&plan.sessions, plan.config.sessions) {
+        return Some(ConfigFault::TooMany);
+    }
+    if is_shard_missing(&plan.closings, plan.config.shards) {
+        return Some(ConfigFault::TooMany);
+    }
+    if is_someone_missing(directory, &plan.sessions) {
+        return Some(ConfigFault::BadName);
+    }
+    None
+}
+
 /// The directory that the house of this plan goes by.
 ///
 /// Errors: `Config` of the first fault: those of the settings, in the order of `House::new`; `TooMany`
@@ -169,20 +194,8 @@ pub(crate) fn directory_for(alloc: Global, plan: &Plan) -> Result<Directory, Wor
     ensures fault { IfErr result (IsFaultOf plan.now) }
 {
     let directory = directory_of(alloc, &plan.config)?;
-    if MOST_WORKERS < plan.workers.len() {
-        return Err(WorkFault::Config(ConfigFault::TooMany));
+    match fault_of_actors(plan, &directory) {
+        Some(fault) => Err(WorkFault::Config(fault)),
+        None => Ok(directory),
     }
-    if MOST_PRODUCERS < plan.workers.len() + plan.sessions.len() {
-        return Err(WorkFault::Config(ConfigFault::TooMany));
-    }
-    if are_too_many(&plan.sessions, plan.config.sessions) {
-        return Err(WorkFault::Config(ConfigFault::TooMany));
-    }
-    if is_shard_missing(&plan.closings, plan.config.shards) {
-        return Err(WorkFault::Config(ConfigFault::TooMany));
-    }
-    if is_someone_missing(&directory, &plan.sessions) {
-        return Err(WorkFault::Config(ConfigFault::BadName));
-    }
-    Ok(directory)
 }

@@ -1,7 +1,7 @@
 //! What the threads left is closed, compared and put together. Nothing runs any more.
 
 ghost use Rattle.std.specs.Global.{Global};
-ghost use Rattle.std.specs.Prelude.{◌≡◌, ◌⊎◌, ◌≤◌, ◌+◌, ◌∷◌, ℕ, [], IfErr, IfOk, OnOk, Vec, drop, map, take, vec_len};
+ghost use Rattle.std.specs.Prelude.{◌≡◌, ◌==◌, ◌⊎◌, ◌≤◌, ◌+◌, ◌∷◌, ℕ, [], IfErr, IfOk, OnOk, Vec, drop, length, map, take, vec_len};
 ghost use Rattle.agreement.specs.Lists.{ListsAgree};
 ghost use Rattle.house_floor.specs.Crew.{AllAt};
 ghost use Rattle.house_floor.specs.Opening.{AreBaskets};
@@ -15,8 +15,10 @@ use agreement::lists_agree;
 use envelope::Directory;
 use house_floor::{Baskets, Floor};
 use house_threads::Ran;
+use mailbox::Mailbox;
 use reckoning::{Books, Fault, Remains, Shelves, remains_of, settle, take_out};
 use std::alloc::{AllocError, Global};
+use std::sync::Mutex;
 
 // What a session said, where it said one text.
 fn text_of(mut said: Vec<Vec<u8>>) -> Vec<u8>
@@ -92,6 +94,35 @@ fn compare(
     })
 }
 
+// The report of what the books say and the mailboxes hold.
+fn report_on(
+    alloc: Global,
+    plan: &Plan,
+    directory: &Directory,
+    mailboxes: Vec<Mutex<Mailbox>>,
+    mut books: Books,
+) -> Result<Report, WorkFault>
+    requires shards { directory.now.shards ≤ vec_len books.copies }
+    requires workers { length plan.now.workers.items ≤ vec_len books.replies }
+    ensures lists { IfOk result (λ r. ListsAgree directory.now (length plan.now.sessions.items == 0) (notes_of r)
+        (map (λ c. c.items) books.copies.items) (accepted_of r) (texts_of r)) }
+    ensures parts { IfOk result (λ r. (r.replies.items ≡ take (length plan.now.workers.items) books.replies.items) × (r.logs ≡ books.logs) ×
+        (r.closed ≡ books.closed) × AreTexts (drop (length plan.now.workers.items) books.replies.items) r.sessions.items ×
+        (length plan.now.workers.items + vec_len r.sessions ≡ vec_len books.replies)) }
+    ensures fault { IfErr result (λ fault. (known : Fault) × (fault ≡ of_reckoning known)) }
+{
+    let sessions = part_sessions(alloc, &mut books.replies, plan.workers.len())?;
+    let shelves = take_out(alloc, mailboxes)?;
+    compare(
+        alloc,
+        directory,
+        plan.sessions.is_empty(),
+        books,
+        shelves,
+        sessions,
+    )
+}
+
 /// The report of a run whose threads have all been there.
 ///
 /// Errors: `Spawn` never; `NoMemory` where an actor wanted memory, or where it is refused here; `Torn`
@@ -126,15 +157,6 @@ pub(crate) fn report_of(
     } = ran;
     stands.destroy_empty();
     posts.destroy_empty();
-    let mut books = settle(alloc, lanes, channels, worked, consumed, baskets)?;
-    let sessions = part_sessions(alloc, &mut books.replies, plan.workers.len())?;
-    let shelves = take_out(alloc, mailboxes)?;
-    compare(
-        alloc,
-        &directory,
-        plan.sessions.is_empty(),
-        books,
-        shelves,
-        sessions,
-    )
+    let books = settle(alloc, lanes, channels, worked, consumed, baskets)?;
+    report_on(alloc, plan, &directory, mailboxes, books)
 }

@@ -4,7 +4,6 @@ use Rattle.std.specs.Prelude.{IfErr, OnOk, is_err}
 use Rattle.std.specs.Io.KnownBytes.{Appends}
 use Rattle.line_io.specs.declared.sink.SendFault.{SendFault}
 use Rattle.house.specs.declared.config.ConfigFault.{ConfigFault}
-use Rattle.serving.specs.inner.Faults.{IsOfSocket}
 use Rattle.serving.specs.declared.fault.ServeFault.{ServeFault}
 use Rattle.serving.specs.declared.fault.ServeFault.TheVariants as faults
 
@@ -31,13 +30,7 @@ all_told (Err f) old new bytes xs e same h = absurd (false_true (is_err {T = Uni
 pub whole_told : (old new : Option (List ℕ)) (xs : List ℕ) → Appends old new xs → (n : ℕ) × Appends old new (take n xs)
 whole_told old new xs h = (length xs, subst (λ (t : List ℕ). Appends old new t) (sym (take_whole xs)) h)
 
-same_fault : (a b : ServeFault) → ◌≡◌ {A = Result (Unit {0}) ServeFault} (Err a) (Err b) → a ≡ b
-same_fault a b e = cc
-
--- no socket is a fault of the settings
-pub no_setting : (f : ServeFault) (r : Result (Unit {0}) ServeFault) (x : ConfigFault) → IsOfSocket f → r ≡ Err f → r ≡ Err (faults.Config x) → ⊥
-no_setting f r x of is e = subst (λ (y : ServeFault). IsOfSocket y) (same_fault f (faults.Config x) (sym is ∙ e)) of
-
+-- what the end of a house comes to is no fault of the settings
 spawn_is_no_setting : (x : ConfigFault) → ◌≡◌ {A = Result (Unit {0}) ServeFault} (Err faults.Spawn) (Err (faults.Config x)) → ⊥
 spawn_is_no_setting x e = cc
 
@@ -47,7 +40,6 @@ torn_is_no_setting x e = cc
 done_is_no_setting : (x : ConfigFault) → ◌≡◌ {A = Result (Unit {0}) ServeFault} (Ok tt) (Err (faults.Config x)) → ⊥
 done_is_no_setting x e = cc
 
--- nor is what the end of a house comes to
 pub told_no_setting : (all whole : Bool) (r : Result (Unit {0}) ServeFault) → (all ≡ false → r ≡ Err faults.Spawn)
     → (all ≡ true → whole ≡ false → r ≡ Err faults.Torn) → (all ≡ true → whole ≡ true → r ≡ Ok tt) → (x : ConfigFault) → r ≡ Err (faults.Config x) → ⊥
 told_no_setting false whole r spawn torn done x e = spawn_is_no_setting x (sym (spawn refl) ∙ e)

@@ -1,20 +1,23 @@
 //! The whole of a server: settings, sockets, what is said of them, the house, and the end. What runs in between stands in `run`.
 
-ghost use Rattle.std.specs.Prelude.{ℕ, ◌≡◌, ◌≤◌, ◌<◌, ◌+◌, Err, None, OnOk, Some, false, take};
+ghost use Rattle.std.specs.Prelude.{ℕ, ◌≡◌, ◌≢◌, ◌≤◌, ◌<◌, ◌+◌, All, Err, IfErr, IfOk, None, OnOk, Some, false, length, take, vec_len};
 ghost use Rattle.std.specs.Io.KnownBytes.{Appends};
 ghost use Rattle.house.specs.Settings.{IsInRange, setup_of};
 ghost use Rattle.serving.specs.Producers.{server_fault};
 ghost use Rattle.mailbox.specs.declared.history.History.{History};
 ghost use Rattle.house.specs.declared.config.ConfigFault.{ConfigFault};
 ghost use Rattle.serving.specs.Announcing.{announcement};
+ghost use Rattle.serving.specs.inner.Faults.{IsOfSocket};
+ghost use Rattle.house_floor.specs.Users.{user_numbered};
 
 use crate::announcing::announce;
 use crate::fault::ServeFault;
 use crate::places::{count_users, places_for};
 use crate::run::run_house_in;
-use crate::sockets::open_sockets;
+use crate::sockets::{Sockets, open_sockets};
+use envelope::Directory;
 use house::{Config, ConfigFault, directory_of};
-use house_floor::{Opened, Sizes, open};
+use house_floor::{Opened, Sizes, Visit, open};
 use line_io::{Sink, send};
 use mailbox::{History, Limits};
 use std::alloc::Global;
@@ -64,6 +67,62 @@ fn sizes_of(config: &Config, places: usize) -> Sizes<'_>
     }
 }
 
+// Whom a server is for: the directory of its users, and the places of their sessions.
+struct Layout {
+    directory: Directory,
+    visits: Vec<Visit>,
+}
+
+// What these settings lay out. Errors: `Config` of their first fault, and `NoMemory`.
+fn lay_out(alloc: Global, config: &Config) -> Result<Layout, ServeFault>
+    requires range { IsInRange config.now }
+    ensures directory { IfOk result (λ l. l.directory ≡ (setup_of config.now).directory) }
+    ensures host { IfOk result (λ l. length config.now.host.items < 256) }
+    ensures named { IfOk result (λ l. All (λ v. user_numbered v.user l.directory.homes ≢ None) l.visits.items) }
+    ensures few { IfOk result (λ l. config.now.workers + vec_len l.visits ≤ 255) }
+    ensures right { IfOk result (λ l. server_fault config.now ≡ None) }
+    ensures wrong { (fault : ConfigFault) → result ≡ Err (ServeFault.Config fault) → server_fault config.now ≡ Some fault }
+{
+    let directory = directory_of(alloc, config)?;
+    let visits = places_for(alloc, &directory, config.sessions)?;
+    if MOST_PRODUCERS < usize::from(config.workers) + visits.len() {
+        return Err(ServeFault::Config(ConfigFault::TooMany));
+    }
+    Ok(Layout { directory, visits })
+}
+
+// Listens on the ports of these settings, and says so on `output`, in a line for each. Errors: `Device` and `NoMemory`.
+fn listen_and_tell<R: Net<Listener = TcpListener, Stream = TcpStream>, W: Sink>(
+    rt: &R,
+    alloc: Global,
+    config: &Config,
+    directory: &Directory,
+    uidvalidity: Uidvalidity,
+    output: &mut W,
+) -> Result<Sockets, ServeFault>
+    requires range { IsInRange config.now }
+    requires live { W.failed output.old ≡ false }
+    ensures told { (n : ℕ) × Appends (W.taken output.old) (W.taken output.new)
+        (take n (announcement config.now.lmtp_port config.now.imap_port directory.now.homes uidvalidity)) }
+    ensures all { OnOk result (Appends (W.taken output.old) (W.taken output.new)
+        (announcement config.now.lmtp_port config.now.imap_port directory.now.homes uidvalidity)) }
+    ensures fault { IfErr result IsOfSocket }
+{
+    let users = count_users(directory);
+    let lines = announce(
+        alloc,
+        directory,
+        config.lmtp_port,
+        config.imap_port,
+        uidvalidity,
+    )?;
+    let sockets = open_sockets(rt, alloc, config.lmtp_port, config.imap_port, users)?;
+    if send(output, &lines).is_err() {
+        return Err(ServeFault::Device);
+    }
+    Ok(sockets)
+}
+
 /// Serves a house of these settings on the loopback address until `stop` is at its end: mail on `lmtp_port` to so many connections at a
 /// time as there are `workers`, and each user's sessions on a port of its own, from `imap_port` on, so many at a time as `sessions` says.
 /// Once all listens it says so on `output`, in a line for each.
@@ -99,23 +158,8 @@ pub fn serve<
     ensures all { OnOk result (Appends (W.taken output.old) (W.taken output.new)
         (announcement config.now.lmtp_port config.now.imap_port (setup_of config.now).directory.homes uidvalidity)) }
 {
-    let directory = directory_of(alloc, config)?;
-    let visits = places_for(alloc, &directory, config.sessions)?;
-    if MOST_PRODUCERS < usize::from(config.workers) + visits.len() {
-        return Err(ServeFault::Config(ConfigFault::TooMany));
-    }
-    let users = count_users(&directory);
-    let lines = announce(
-        alloc,
-        &directory,
-        config.lmtp_port,
-        config.imap_port,
-        uidvalidity,
-    )?;
-    let sockets = open_sockets(rt, alloc, config.lmtp_port, config.imap_port, users)?;
-    if send(output, &lines).is_err() {
-        return Err(ServeFault::Device);
-    }
+    let Layout { directory, visits } = lay_out(alloc, config)?;
+    let sockets = listen_and_tell(rt, alloc, config, &directory, uidvalidity, output)?;
     let Opened {
         floor,
         crew,

@@ -122,6 +122,45 @@ fn start_worker<'s, E, H: Hall + Send, R: Threads + Wait + Sync>(
     }
 }
 
+// Starts the thread of the next worker, with the first of these posts and of these buffers, and puts it behind those in `hired`, which has
+// room for it. Answers whether the thread could be made.
+fn start_next<'s, E, H: Hall + Send, R: Threads + Wait + Sync>(
+    scope: &thread::Scope<'s, E>,
+    rt: &'s R,
+    floor: &'s Floor,
+    clerks: &'s [Mutex<Clerk<H>>],
+    listening: &'s Listening,
+    stop: &'s AtomicBool,
+    pause: &'s Pause,
+    slot: &'s Slot,
+    number: u8,
+    posts: &mut Vec<Post>,
+    buffers: &mut Vec<Buffers>,
+    hired: &mut Vec<Hired<'s>>,
+) -> bool
+    requires lanes { H.lanes ≡ Some floor.now.office.lanes.items }
+    requires depot { H.depot ≡ Some floor.now.depot }
+    requires house { IsHouse floor.now (length floor.now.depot.channels.items) }
+    requires number { number < length floor.now.depot.channels.items }
+    requires posts { AllAt (IsPost floor.now) number posts.old.items × (0 < vec_len posts.old) }
+    requires buffers { All (λ b. 0 < length b.input.items) buffers.old.items × (0 < vec_len buffers.old) }
+    requires hired { AllAt (IsHired floor.now) 0 hired.old.items × (vec_len hired.old ≡ number) }
+    requires room { vec_len hired.old < vec_capacity hired.old }
+    ensures posts { AllAt (IsPost floor.now) (number + 1) posts.new.items × (vec_len posts.new + 1 ≡ vec_len posts.old) }
+    ensures buffers { All (λ b. 0 < length b.input.items) buffers.new.items × (vec_len buffers.new + 1 ≡ vec_len buffers.old) }
+    ensures hired { AllAt (IsHired floor.now) 0 hired.new.items × (vec_len hired.new ≡ number + 1) }
+    ensures room { vec_capacity hired.new ≡ vec_capacity hired.old }
+{
+    let post = posts.remove(0);
+    let own = buffers.remove(0);
+    let one = start_worker(
+        scope, rt, floor, clerks, listening, stop, pause, slot, number, post, own,
+    );
+    let is_there = matches!(one, Hired::There(_));
+    hired.push_reserved(one);
+    is_there
+}
+
 /// The workers' threads, what is left of the posts, and whether each thread could be made.
 pub struct Begun<'a> {
     pub hired: Vec<Hired<'a>>,
@@ -160,10 +199,7 @@ pub fn start_workers<'s, E, H: Hall + Send, R: Threads + Wait + Sync>(
 {
     let mut all = true;
     for place in 0..slots.len() {
-        let post = posts.remove(0);
-        let own = buffers.remove(0);
-        let slot = &slots[place];
-        let one = start_worker(
+        let is_there = start_next(
             scope,
             rt,
             floor,
@@ -171,13 +207,13 @@ pub fn start_workers<'s, E, H: Hall + Send, R: Threads + Wait + Sync>(
             listening,
             stop,
             pause,
-            slot,
+            &slots[place],
             place as u8,
-            post,
-            own,
+            &mut posts,
+            &mut buffers,
+            &mut hired,
         );
-        all = all && matches!(one, Hired::There(_));
-        hired.push_reserved(one);
+        all = all && is_there;
     }
     Begun { hired, posts, all }
 }

@@ -1,4 +1,4 @@
-use Rattle.std.proofs.Common.{rules, ◌≡◌, ◌==◌, ◌∙◌, ℕ, map, drop, take, length, sym, ap, subst, arith}
+use Rattle.std.proofs.Common.{◌==◌, ◌∙◌, map, length, refl, sym, ap, subst, arith}
 use Rattle.std.proofs.lemmas.List.{length-map}
 use Rattle.lane_work.specs.declared.consumer.Consumed.{Consumed}
 use Rattle.lane_work.specs.declared.worker.Worked.{Worked}
@@ -7,7 +7,6 @@ use Rattle.lane_seats.specs.rows.SenderRows.{AreReceivers, AreSenderEndedHands}
 use Rattle.reckoning.proofs.Parts.{consumers_of, ended_of, receivers_of, sender_hands_of}
 use Rattle.agreement.specs.Lists.{ListsAgree}
 use Rattle.reckoning.specs.Settling.{IsSettled}
-use Rattle.running_house.specs.inner.Agree.{AreTexts}
 use Rattle.running_house.specs.Agree.{accepted_of, notes_of, texts_of}
 use Rattle.running_house.proofs.Moves.{if_ok}
 use Rattle.running_house.proofs.Reports.{agrees}
@@ -51,19 +50,15 @@ returns-clause-agrees c =
     let ws = c.args.ran.worked in
     let cs = c.args.ran.consumed in
     let books = c.in_ok-books.books in
+    let whole = length c.args.plan.now.sessions.items == 0 in
     let settled = subst (λ v. IsSettled v.items c.args.floor.depot.channels.items ws.items cs.items books) c.remains_of-directory.ensures.lanes
     (subst (λ v. IsSettled c.remains_of-directory.result.lanes.items v.items ws.items cs.items books) c.remains_of-directory.ensures.channels c.in_ok-books.ensures.settled) in
-    let is = c.remains_of-directory.ensures.directory in
-    let parted = c.in_ok-sessions.ensures in
-    let said = c.in_ok-sessions.sessions in
-    let workers : c.len.result ≡ length c.args.plan.now.workers.items = search rules in
     let producers = sym ws.ok.0 ∙ c.requires.all.worked in
     let laid = ap length settled.replies ∙ length-map ws.items (λ (w : Worked). w.replies) in
-    if_ok c.compare.result c.compare.ensures.lists c.compare.ensures.same
-    (λ r lists same. agrees c.args.plan.now c.args.floor c.requires.floor ws.items cs.items c.requires.worked c.requires.consumed
+    if_ok c.report_on.result c.report_on.ensures.lists c.report_on.ensures.parts
+    (λ r lists parts. agrees c.args.plan.now c.args.floor c.requires.floor ws.items cs.items c.requires.worked c.requires.consumed
     producers (sym cs.ok.0 ∙ c.requires.all.consumed) books settled
-    r (ap (λ v. v.items) same.0 ∙ parted.workers ∙ ap (λ (n : ℕ). take n books.replies.items) workers) same.1 same.3
-    (subst (λ v. AreTexts (drop (length c.args.plan.now.workers.items) books.replies.items) v.items) (sym same.2) (subst (λ (n : ℕ). AreTexts (drop n books.replies.items) said.items) workers parted.sessions))
-    (let counted = parted.count in let own = ap (λ v. length v.items) same.2 in omega (arith, counted, own, laid, producers, workers, said.ok.0, books.replies.ok.0))
-    c.is_empty.result (c.is_empty.ensures ∙ ap (λ n. n == 0) c.args.plan.now.sessions.ok.0)
-    (subst (λ d. ListsAgree d c.is_empty.result (notes_of r) (map (λ v. v.items) books.copies.items) (accepted_of r) (texts_of r)) is lists))
+    r parts.0 parts.1 parts.2 parts.3
+    (let counted = parts.4 in omega (arith, counted, laid, producers, r.sessions.ok.0, books.replies.ok.0))
+    whole refl
+    (subst (λ d. ListsAgree d whole (notes_of r) (map (λ v. v.items) books.copies.items) (accepted_of r) (texts_of r)) c.remains_of-directory.ensures.directory lists))
