@@ -261,7 +261,7 @@ static int is_possible(const struct plan *plan) {
 
 int main(int count, char **words) {
     struct plan plan = {.connections = 1, .recipients = 1, .size = 1024, .count = 10000, .users = 1, .window = 1};
-    long *places[] = {&plan.port, &plan.connections, &plan.recipients, &plan.size, &plan.count, &plan.users, &plan.window, &plan.pid};
+    long *targets[] = {&plan.port, &plan.connections, &plan.recipients, &plan.size, &plan.count, &plan.users, &plan.window, &plan.pid};
     static const struct option options[] = {
         {"port", 1, NULL, 0},  {"connections", 1, NULL, 1}, {"recipients", 1, NULL, 2}, {"size", 1, NULL, 3}, {"count", 1, NULL, 4},
         {"users", 1, NULL, 5}, {"window", 1, NULL, 6},      {"pid", 1, NULL, 7},        {NULL, 0, NULL, 0},
@@ -270,7 +270,7 @@ int main(int count, char **words) {
     while ((option = getopt_long(count, words, "", options, NULL)) != -1) {
         if (option == '?')
             die("the words can't be read");
-        *places[option] = strtol(optarg, NULL, 10);
+        *targets[option] = strtol(optarg, NULL, 10);
     }
     if (optind != count || !is_possible(&plan))
         die("the numbers can't be worked with");

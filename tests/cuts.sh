@@ -1,5 +1,5 @@
 #!/bin/sh
-# Worked cases and a dialogue, with what each peer says cut at every place into two pieces and into single bytes: the program prints the same.
+# Worked cases and a dialogue, with what each peer says cut at every position into two pieces and into single bytes: the program prints the same.
 #
 #     tests/cuts.sh PROGRAM [CASE..]
 set -eu

@@ -9,7 +9,7 @@ Parts; `--quick` tries every seventh case of each, or fewer.
   the next clients are served, each copy that was answered `250` stands once and no other does, and the end is as ever.
 - `resets`: connections that are reset behind each byte that was sent, and behind each that was read. Each copy whose `250` was read stands once; none stands
   whose data had not ended. The next client is served, and clients beside it notice nothing.
-- `cuts`: what clients say, cut at every place into two pieces, and byte by byte: the answers are those that the whole has, byte for byte.
+- `cuts`: what clients say, cut at every position into two pieces, and byte by byte: the answers are those that the whole has, byte for byte.
 - `slow`: two hundred connections to the port of mail and as many to a user's, which say nothing, or a byte a second, or never read. Mail goes on where a worker
   is free, memory doesn't grow, and the end of the input ends the server.
 - `lapped`: a session that idles and doesn't read while more changes come than its mailbox keeps: it is told them in order, or that it missed too many.

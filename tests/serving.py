@@ -8,7 +8,7 @@
   between commands is told `421`; one within a message is told nothing, and no copy of that is made; a session is told `BYE`, whatever it was about.
 - What a client appends is answered with its UID, and shown to another of the same user.
 - A connection for which no worker is free is served once the one before it has quit. A server starts at once on ports that another has just left.
-- As many workers and places as there may be are all served; one more is refused as `TooMany`. A port that is taken, and lines that can't be written, are a
+- As many workers and berths as there may be are all served; one more is refused as `TooMany`. A port that is taken, and lines that can't be written, are a
   fault of a device. Then nothing is announced, the server ends though its input doesn't, and leaves nobody who listens.
 
 What is heard is compared to the byte with what RFC 2033, RFC 4315, RFC 9051, docs/OPERATING.md and docs/STANDARDS.md say, up to the end of the connection,
@@ -43,7 +43,7 @@ REPLIES = b"".join(line + b"\r\n" for line in (*REPLIES_TO_HALF, DELIVERED, b"22
 # What is heard last, as the server stops.
 NOTHING, DISMISSED, BYE = b"", b"421 4.3.2 Shutting down\r\n", b"* BYE Shutting down\r\n"
 
-# Users, places of each and workers: with so many, 255 at most, all are served, and with so many none.
+# Users, berths of each and workers: with so many, 255 at most, all are served, and with so many none.
 SERVED = ((61, 4, 8), (62, 4, 7), (64, 3, 8))
 REFUSED = ((62, 4, 8), (64, 4, 4))
 
@@ -260,10 +260,10 @@ def names(count):
     return ["a" * number for number in range(1, count + 1)]
 
 
-def serve_many(program, users, places, workers):
-    """All places and all workers are taken at a time."""
-    with serving(program, names(users), ("--sessions", str(places), "--workers", str(workers))) as house:
-        sessions = [session(house, user) for user in range(users) for _ in range(places)]
+def serve_many(program, users, berths, workers):
+    """All berths and all workers are taken at a time."""
+    with serving(program, names(users), ("--sessions", str(berths), "--workers", str(workers))) as house:
+        sessions = [session(house, user) for user in range(users) for _ in range(berths)]
         peers = [mail(house) for _ in range(workers)]
         expect("what was delivered", peers[-1].deliver(names(users)[-1:], data_of("last")), [DELIVERED])
         select(sessions[-1], 1)
@@ -274,18 +274,18 @@ def serve_many(program, users, places, workers):
             expect_last(talk, DISMISSED)
 
 
-def refuse_many(program, users, places, workers):
-    """There would be too many workers and places."""
+def refuse_many(program, users, berths, workers):
+    """There would be too many workers and berths."""
     port = free_ports(1 + users)
     with endless() as stdin:
-        ended = run(program, port, names(users), ("--sessions", str(places), "--workers", str(workers)), stdin=stdin, stdout=subprocess.PIPE)
+        ended = run(program, port, names(users), ("--sessions", str(berths), "--workers", str(workers)), stdin=stdin, stdout=subprocess.PIPE)
     expect("the end", ended, (3, b"", TOO_MANY))
 
 
-def find_port_taken(program, place):
+def find_port_taken(program, position):
     """Somebody else listens on one of the ports."""
     port = free_ports(3)
-    with socket.create_server((ADDRESS, port + place)), endless() as stdin:
+    with socket.create_server((ADDRESS, port + position)), endless() as stdin:
         ended = run(program, port, ("alice", "bob"), stdin=stdin, stdout=subprocess.PIPE)
     expect("the end", ended, TAKEN)
 
@@ -328,12 +328,12 @@ def checks():
     yield "each session is told that the server stops", dismiss
     yield "a server starts on ports that were just left", start_again
     yield "a connection waits for a worker", wait_for_a_worker
-    for users, places, workers in SERVED:
-        yield f"{users} users with {places} places, and {workers} workers", serve_many, users, places, workers
-    for users, places, workers in REFUSED:
-        yield f"{users} users with {places} places, and {workers} workers, are too many", refuse_many, users, places, workers
-    for place, name in enumerate(PORTS):
-        yield f"the port of {name} is taken", find_port_taken, place
+    for users, berths, workers in SERVED:
+        yield f"{users} users with {berths} berths, and {workers} workers", serve_many, users, berths, workers
+    for users, berths, workers in REFUSED:
+        yield f"{users} users with {berths} berths, and {workers} workers, are too many", refuse_many, users, berths, workers
+    for position, name in enumerate(PORTS):
+        yield f"the port of {name} is taken", find_port_taken, position
     yield "the lines find no room", write_to_full
     yield "the lines go to a pipe that nobody reads", write_to_nobody
     yield "the output is closed", write_to_closed

@@ -105,9 +105,9 @@ class Vanisher(PacedSender):
     def settle(self):
         """Notes what may stand of what it sent."""
         unanswered = {copy for _, copy in self.awaited if copy}
-        for place, copies in self.ends:
+        for position, copies in self.ends:
             for copy in unanswered.intersection(copies):
-                self.ledger.vanish(*copy, is_whole=place <= self.written)
+                self.ledger.vanish(*copy, is_whole=position <= self.written)
 
     def vanish(self):
         """Goes, by a reset or in good order."""
@@ -193,22 +193,22 @@ class Mirror(Session):
         if count != len(self.rows):
             self.ledger.fail(f"a session was told of {count} messages where it had {len(self.rows) - 1}")
 
-    def go(self, place):
-        """The message at this place is gone."""
+    def go(self, position):
+        """The message at this position is gone."""
         self.went += 1
-        if not 1 <= place <= len(self.rows):
-            self.ledger.fail(f"a session was told that message {place} of {len(self.rows)} is gone")
+        if not 1 <= position <= len(self.rows):
+            self.ledger.fail(f"a session was told that message {position} of {len(self.rows)} is gone")
         else:
-            del self.rows[place - 1]
+            del self.rows[position - 1]
 
-    def show(self, place, uid, flags):
-        """What the message at this place is."""
-        if not 1 <= place <= len(self.rows):
-            self.ledger.fail(f"a session was told of message {place} of {len(self.rows)}")
+    def show(self, position, uid, flags):
+        """What the message at this position is."""
+        if not 1 <= position <= len(self.rows):
+            self.ledger.fail(f"a session was told of message {position} of {len(self.rows)}")
             return
-        row = self.rows[place - 1]
+        row = self.rows[position - 1]
         if uid is not None and row.uid not in (None, uid):
-            self.ledger.fail(f"message {place} had UID {row.uid} and has UID {uid}")
+            self.ledger.fail(f"message {position} had UID {row.uid} and has UID {uid}")
         row.uid = row.uid if uid is None else uid
         row.flags = row.flags if flags is None else flags
 
@@ -258,7 +258,7 @@ class Mirror(Session):
 
     def ask_unknown(self):
         """Asks for what it doesn't know of its messages, if there is any."""
-        unknown = [place for place, row in enumerate(self.rows, 1) if row.uid is None or row.flags is None]
+        unknown = [position for position, row in enumerate(self.rows, 1) if row.uid is None or row.flags is None]
         return [(b"FETCH %d:%d (UID FLAGS)" % (unknown[0], unknown[-1]), 0.0)] if unknown else []
 
     def some(self, count):
@@ -320,15 +320,15 @@ class Flagger(Mirror):
         flags = b" ".join(self.chance.sample(FLAGS, self.chance.randint(1, 2)))
         return b"UID STORE %s %sFLAGS%s (%s)" % (uids, sign, silent, flags), 0.02
 
-    def flag_by_place(self):
-        """Sets a flag of a message by its place, of those that there are as it is said."""
+    def flag_by_position(self):
+        """Sets a flag of a message by its position, of those that there are as it is said."""
         if not self.rows:
             return b"NOOP", 0.0
         return b"STORE %d +FLAGS (%s)" % (self.chance.randint(1, len(self.rows)), self.chance.choice(FLAGS)), 0.02
 
     def make_plan(self):
         plan = [*self.ask_unknown(), (b"IDLE", self.chance.uniform(0.02, 0.4)), self.flag(), self.flag()]
-        return [*plan, self.flag_by_place]
+        return [*plan, self.flag_by_position]
 
 
 class Remover(Flagger):
@@ -400,15 +400,15 @@ class Soak(Attendance):
 
     def renew(self, comes_back=True):
         """Peers that are over are replaced where that is their way; that of others is a fault."""
-        for place, peer in enumerate(self.peers):
+        for position, peer in enumerate(self.peers):
             if peer.is_over and isinstance(peer, (Vanisher, Remover)) and peer.leaves:
-                self.peers[place] = self.replace(peer, comes_back)
+                self.peers[position] = self.replace(peer, comes_back)
             elif peer.is_over:
                 self.account.fail(f"a {type(peer).__name__} was closed, behind {peer.was_read[-60:]!r}")
         self.peers = list(filter(None, self.peers))
 
     def replace(self, peer, comes_back):
-        """Lets a peer vanish, and gives the one that comes in its place, if one does."""
+        """Lets a peer vanish, and gives the one that comes instead, if one does."""
         if peer.stream.fileno() in self.selector.get_map():
             self.selector.unregister(peer.stream)
         if isinstance(peer, Vanisher):
@@ -490,9 +490,9 @@ class Soak(Attendance):
         if len(mirror.rows) != len(rows):
             self.account.fail(f"{name} has {len(mirror.rows)} messages of {len(rows)}")
             return
-        for place, (row, (uid, flags)) in enumerate(zip(mirror.rows, rows), 1):
+        for position, (row, (uid, flags)) in enumerate(zip(mirror.rows, rows), 1):
             if row.uid not in (None, uid) or row.flags not in (None, flags):
-                self.account.fail(f"{name} has {row.uid} {row.flags!r} at {place}, where {uid} {flags!r} stands")
+                self.account.fail(f"{name} has {row.uid} {row.flags!r} at {position}, where {uid} {flags!r} stands")
             self.account.counts["rows compared"] += row.uid is not None and row.flags is not None
             self.account.counts["rows of which not all was told"] += row.uid is None or row.flags is None
 

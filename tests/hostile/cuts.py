@@ -54,14 +54,14 @@ USERS = 50
 def pieces(text, cut):
     """The text in two pieces, or in single bytes where the cut is -1, or whole where it is 0."""
     if cut < 0:
-        return [text[place : place + 1] for place in range(len(text))]
+        return [text[position : position + 1] for position in range(len(text))]
     return [piece for piece in (text[:cut], text[cut:]) if piece]
 
 
 def say_in_pieces(talk, parts):
     """Sends the pieces, with a pause in which the other side can read; the first comes in without one."""
-    for place, part in enumerate(parts):
-        if place:
+    for position, part in enumerate(parts):
+        if position:
             time.sleep(0.003 if len(parts) == 2 else 0.0005)
         talk.say(part)
 
@@ -69,21 +69,21 @@ def say_in_pieces(talk, parts):
 def expect_same(came, wanted, before):
     """These bytes were to come, by the protocol; and the same as before, where the text was whole."""
     if came != wanted:
-        place = next((place for place, (one, other) in enumerate(zip(came, wanted)) if one != other), min(len(came), len(wanted)))
-        raise Wrong(f"at byte {place} came {came[max(0, place - 40):place + 40]!r} in place of {wanted[max(0, place - 40):place + 40]!r}")
+        position = next((position for position, (one, other) in enumerate(zip(came, wanted)) if one != other), min(len(came), len(wanted)))
+        raise Wrong(f"at byte {position} came {came[max(0, position - 40):position + 40]!r} in place of {wanted[max(0, position - 40):position + 40]!r}")
     if before is not None and came != before:
         raise Wrong("it isn't the same as that of the whole")
 
 
-def cut_places(text, is_quick):
-    """Whole, each place within, and single bytes."""
+def cut_positions(text, is_quick):
+    """Whole, each position within, and single bytes."""
     return [0, *range(1, len(text), STRIDE if is_quick else 1), -1]
 
 
 def cut_mail(tally, program, is_quick):
-    """What a mail client says, cut at every place. Each run leaves a copy for two users, which are looked at behind the last."""
+    """What a mail client says, cut at every position. Each run leaves a copy for two users, which are looked at behind the last."""
     house, whole, runs = House(program, ["alice", "bob"], ROOM), None, 0
-    for cut in cut_places(MAIL_SAID, is_quick):
+    for cut in cut_positions(MAIL_SAID, is_quick):
         with tally.case(f"cuts: mail, cut at {cut}"):
             talk = MailTalk(house.connect_lmtp())
             say_in_pieces(talk, pieces(MAIL_SAID, cut))
@@ -138,24 +138,24 @@ def hear_all(talk, said, cut, answers):
 
 
 def cut_sessions(tally, program, is_quick):
-    """What two sessions say, cut at every place: one removes messages, the other is told."""
+    """What two sessions say, cut at every position: one removes messages, the other is told."""
 
     def remove(house, user, cut, told):
         hear_all(ImapTalk(house.connect_imap(user)), REMOVES, cut, REMOVES_ANSWERS)
         hear_all(told, IS_TOLD, cut, IS_TOLD_ANSWERS)
 
-    cuts = cut_places(max(REMOVES, IS_TOLD, key=len), is_quick)
+    cuts = cut_positions(max(REMOVES, IS_TOLD, key=len), is_quick)
     cut_in_mailboxes(tally, program, cuts, "sessions", open_mailboxes, remove)
     print(f"cuts: what two sessions say, {len(REMOVES)} and {len(IS_TOLD)} bytes, in {len(cuts)} ways, each with a mailbox of its own")
 
 
 def cut_appends(tally, program, is_quick):
-    """What a session says that appends, cut at every place."""
+    """What a session says that appends, cut at every position."""
 
     def append(house, user, cut, _):
         hear_all(ImapTalk(house.connect_imap(user)), APPENDS, cut, APPENDS_ANSWERS)
 
-    cuts = cut_places(APPENDS, is_quick)
+    cuts = cut_positions(APPENDS, is_quick)
     cut_in_mailboxes(tally, program, cuts, "a session that appends", lambda house: house.users, append)
     print(f"cuts: what a session says that appends, {len(APPENDS)} bytes, in {len(cuts)} ways, each with a mailbox of its own")
 

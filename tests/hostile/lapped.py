@@ -32,10 +32,10 @@ class Racing:
         self.following += 1
         return b"* %d EXISTS" % len(self.uids)
 
-    def flag(self, place, sign, flag):
-        """Sets or takes a flag of the message at this place, and the line that tells of it."""
-        line = b"* %d FETCH (UID %d FLAGS (%s))" % (place, self.uids[place - 1], flag if sign == b"+" else b"")
-        answer = self.making.ask(b"UID STORE %d %sFLAGS (%s)" % (self.uids[place - 1], sign, flag))
+    def flag(self, position, sign, flag):
+        """Sets or takes a flag of the message at this position, and the line that tells of it."""
+        line = b"* %d FETCH (UID %d FLAGS (%s))" % (position, self.uids[position - 1], flag if sign == b"+" else b"")
+        answer = self.making.ask(b"UID STORE %d %sFLAGS (%s)" % (self.uids[position - 1], sign, flag))
         if answer[0][-1:] != [line] or answer[1] != b"OK UID STORE completed":
             raise Wrong(f"a STORE was answered {answer!r}")
         return line

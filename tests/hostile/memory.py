@@ -130,7 +130,7 @@ class Pair:
     def look(self):
         """Fetches what stands, counts it, and lists mailboxes."""
         texts = enumerate(((uid, standing(data)) for uid, data in self.kept.rows), 1)
-        rows = [b"* %d FETCH (UID %d FLAGS () BODY[] {%d}\r\n%s)" % (place, uid, len(text), text) for place, (uid, text) in texts]
+        rows = [b"* %d FETCH (UID %d FLAGS () BODY[] {%d}\r\n%s)" % (position, uid, len(text), text) for position, (uid, text) in texts]
         self.ask(b"UID FETCH 1:* (FLAGS BODY.PEEK[])", *rows)
         numbers = (len(self.kept.rows), self.kept.following)
         self.ask(b"STATUS INBOX (MESSAGES UIDNEXT)", b"* STATUS INBOX (MESSAGES %d UIDNEXT %d)" % numbers)

@@ -10,12 +10,12 @@ from talks import DELIVERED, GREETING, HELLO, PREAUTH, RECIPIENT_OK, SENDER_OK, 
 from talks import ImapTalk, MailTalk, Wrong, data_of, envelope, mail, opening, session
 
 
-# Each of so many places is tried, and behind them some.
+# Each of so many positions is tried, and behind them some.
 NEAR = 40
 
 
-def places_up_to(length, is_quick):
-    """Places behind which a connection is reset, of so many: each near one, and every seventh behind them; in a quick run every seventh."""
+def positions_up_to(length, is_quick):
+    """Positions behind which a connection is reset, of so many: each near one, and every seventh behind them; in a quick run every seventh."""
     near = range(1, min(NEAR, length) + 1, STRIDE if is_quick else 1)
     return [*near, *range(near[-1] + STRIDE, length, STRIDE), length]
 
@@ -154,8 +154,8 @@ def reset_all(tally, program, is_quick):
     with tally.case("resets: a server with clients"):
         resets = Resets(program)
     for who, act, sent, was_read in cases if resets else ():
-        plan = [(count, 0, pause) for pause in pauses for count in places_up_to(sent, is_quick)]
-        plan += [(None, count, pause) for pause in pauses for count in places_up_to(was_read, is_quick)]
+        plan = [(count, 0, pause) for pause in pauses for count in positions_up_to(sent, is_quick)]
+        plan += [(None, count, pause) for pause in pauses for count in positions_up_to(was_read, is_quick)]
         for count, read, pause in plan:
             with tally.case(f"resets: a {who} connection, {count} bytes sent, {read} read, {pause} s"):
                 getattr(resets, act)(count, read, pause)

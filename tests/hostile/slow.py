@@ -23,7 +23,7 @@ class Crowd:
 
     def __init__(self, port, talk, question, beginning):
         self.port, self.talk, self.question, self.beginning = port, talk, question, beginning
-        self.peers, self.said_at, self.place = [], 0.0, 0
+        self.peers, self.said_at, self.position = [], 0.0, 0
 
     def add(self, count):
         """So many connections more. Nobody waits here until one is made: the system may not have room."""
@@ -45,8 +45,8 @@ class Crowd:
         if time.monotonic() >= self.said_at + 1:
             self.said_at = time.monotonic()
             for peer in self.of_kind("byte"):
-                self.send(peer, self.talk[self.place % len(self.talk) :][:1])
-            self.place += 1
+                self.send(peer, self.talk[self.position % len(self.talk) :][:1])
+            self.position += 1
         for peer in self.of_kind("deaf"):
             self.send(peer, self.question)
         for peer in self.of_kind("endless"):
@@ -186,7 +186,7 @@ def dawdle(program, seconds):
 
 
 def expect_turn(house, connect, first_words):
-    """Who waits for a worker or a place is greeted once one is free, in the order of coming; who has left meanwhile is passed over."""
+    """Who waits for a worker or a berth is greeted once one is free, in the order of coming; who has left meanwhile is passed over."""
     served, leaver, next_one, last = [connect() for _ in range(4)]
     served.expect(first_words)
     if any(talk.has_more(0.5) for talk in (leaver, next_one, last)):

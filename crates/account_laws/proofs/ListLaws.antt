@@ -1,4 +1,4 @@
--- Places in lists, and what stands in them.
+-- Positions in lists, and what stands in them.
 use Rattle.std.proofs.Common.{◌≡◌, ◌⊎◌, inl, inr, ℕ, zero, suc, ◌<◌, List, [], ◌∷◌, ◌++◌, length, map, slice_index_or, refl, ap, subst, Contains, arith}
 use Rattle.std.specs.Prelude.{All, flat_map, zip}
 use Rattle.std.proofs.lemmas.List.Elements.{Contains-append_cases, All-cons, All-head, All-nil, All-tail}

@@ -4,7 +4,7 @@
 ghost use Rattle.account_laws.specs.Laws.{AccountIsOfLines, ClosedGetNothing, ConnectionsHaveTalked, EachIsADialogue, LinesAreATalk, LinesAreTold, HeardAreFirst, LogHasEachVerdict, PutWasSubmitted, StoredIsOnItsLane, TalkIsOfLines, TalksAreOfLines};
 
 /// A connection that was heard piece by piece is one dialogue over the whole lines of all its bytes, each
-/// line heard in its place and each message answered before the next line, and the other way round. The bytes
+/// line heard in its turn and each message answered before the next line, and the other way round. The bytes
 /// begin with those lines, and all their whole lines are among them, or the dialogue ended before. And so is
 /// each connection of a worker, one after the other; none of its messages is for a mailbox of a shard that
 /// the worker closed before it.

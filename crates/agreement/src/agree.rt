@@ -66,8 +66,8 @@ pub fn lists_agree(
     if accepted.len() != mailboxes || texts.len() != mailboxes {
         return Ok(false);
     }
-    for place in 0..mailboxes {
-        let mailbox = place as u8;
+    for position in 0..mailboxes {
+        let mailbox = position as u8;
         let shard = directory.shard_of(mailbox);
         if !mailbox_agrees(
             alloc,
@@ -75,8 +75,8 @@ pub fn lists_agree(
             logs,
             copies[shard].as_slice(),
             mailbox,
-            accepted[place].as_slice(),
-            texts[place].as_slice(),
+            accepted[position].as_slice(),
+            texts[position].as_slice(),
         )? {
             return Ok(false);
         }

@@ -13,9 +13,9 @@ use delivery_token::{CopyKey, Job, Text};
 fn pair_with(accepted: &[(CopyKey, u32)], uid: u32) -> Option<(CopyKey, &[(CopyKey, u32)])>
     ensures { option_map (λ found. (found.0, found.1.now)) result ≡ pair_with uid accepted.now }
 {
-    for place in 0..accepted.len() {
-        if accepted[place].1 == uid {
-            return Some((accepted[place].0, &accepted[place + 1..]));
+    for position in 0..accepted.len() {
+        if accepted[position].1 == uid {
+            return Some((accepted[position].0, &accepted[position + 1..]));
         }
     }
     None
@@ -25,9 +25,9 @@ fn pair_with(accepted: &[(CopyKey, u32)], uid: u32) -> Option<(CopyKey, &[(CopyK
 fn copy_with(mailbox: u8, copies: &[Job], key: CopyKey) -> Option<(&Text, &[Job])>
     ensures { option_map (λ found. (found.0.now, found.1.now)) result ≡ copy_with mailbox key copies.now }
 {
-    for place in 0..copies.len() {
-        if copies[place].mailbox == mailbox && copies[place].key == key {
-            return Some((&copies[place].text, &copies[place + 1..]));
+    for position in 0..copies.len() {
+        if copies[position].mailbox == mailbox && copies[position].key == key {
+            return Some((&copies[position].text, &copies[position + 1..]));
         }
     }
     None

@@ -153,7 +153,7 @@ fn agree(alloc: Global, directory: &Directory, case: &Case) -> Result<bool, Allo
     )
 }
 
-// The place of the first case that is answered otherwise, where there is one.
+// The position of the first case that is answered otherwise, where there is one.
 fn first_other(alloc: Global) -> Result<Option<usize>, AllocError> {
     let Ok(directory) = Directory::new(
         alloc,
@@ -163,9 +163,9 @@ fn first_other(alloc: Global) -> Result<Option<usize>, AllocError> {
     ) else {
         return Err(AllocError);
     };
-    for place in 0..CASES.len() {
-        if agree(alloc, &directory, &CASES[place])? != CASES[place].agree {
-            return Ok(Some(place));
+    for position in 0..CASES.len() {
+        if agree(alloc, &directory, &CASES[position])? != CASES[position].agree {
+            return Ok(Some(position));
         }
     }
     Ok(None)

@@ -15,7 +15,7 @@ struct Seen {
     lent: Result<(usize, usize), Lapped>,
 }
 
-// One push into a ring of four places that may grow by so many, after others of which none was
+// One push into a ring of four cells that may grow by so many, after others of which none was
 // wanted. Each adds the message whose UID is the change's number.
 struct Case {
     name: &'static str,
@@ -75,7 +75,7 @@ const CASES: &[Case] = &[
         },
     },
     Case {
-        name: "the second round begins in the first place",
+        name: "the second round begins in the first cell",
         more: 4,
         before: 7,
         keep_from: 9,

@@ -26,7 +26,7 @@ module _ (R A : RattleType) (g : Ghosts A.Denot) where
       owning_send O all
       (λ d. let n : ℕ = length d.written in (
         tt,
-        (lies (Array R n) (array_send R n s) d.at d.written, (room (array_of R (d.places - n)) (d.at +ₚ n * type_size R), f.frees d.alloc (array_of R d.places) d.at)),
+        (lies (Array R n) (array_send R n s) d.at d.written, (room (array_of R (d.capacity - n)) (d.at +ₚ n * type_size R), f.frees d.alloc (array_of R d.capacity) d.at)),
       ))
       (λ k. quiet (to O) (exits_of k (fields O)) ((struct_send (shape O) all).leaving k))
 

@@ -1,6 +1,6 @@
 -- What the five walks share. Assumes `Logic`.
 --     Cr, Bs      the rows of `Cells` and of `Base`.        word_made, mark_made      a value of one pointer and one of no bytes are made of nothing
---     block_had, block_made      what the owner has is taken apart, and put together.        place_out      a place is room, and what an item in it makes of the block
+--     block_had, block_made      what the owner has is taken apart, and put together.        cell_out      a cell is room, and what an item in it makes of the block
 --     seen_from, seen_before      of items that a `&` reaches, those from one on, and those before it
 use mathlib.Core.Path.{◌≡◌, refl, sym, ap, subst, ◌∙◌}
 use Prim.Native.Nat.{ℕ, zero, suc, ◌+◌, ◌-◌, ◌*◌, ◌<◌, ◌≤◌, ◌^◌}
@@ -109,13 +109,13 @@ module _ (E : El) {M : Type 1} {𝓤 : Ura M} {𝓛 : Logic 𝓤} {K : Type 0} {
   block_made k t b o n xs small = step (λ s. move k (1 ∷ []) $ as_raw k (ty_array (elτ E) (n - length xs)) b (o + length xs * sz E) $ move k (1 ∷ 0 ∷ 2 ∷ []) $ fjoin3 k $ flt_i k (n * sz E) (2 ^ 63) small $ fjoin k $ s)
 
 -- the items, where the i-th is written or is the first one behind them
-abbrev pub with_place : {X : Type 0} → List X → ℕ → X → List X
-with_place xs i x = take i xs ++ x ∷ drop (i + 1) xs
+abbrev pub with_cell : {X : Type 0} → List X → ℕ → X → List X
+with_cell xs i x = take i xs ++ x ∷ drop (i + 1) xs
 
-set_is : {X : Type 0} (xs : List X) (i : ℕ) (x : X) → i < length xs → set xs i x ≡ with_place xs i x
+set_is : {X : Type 0} (xs : List X) (i : ℕ) (x : X) → i < length xs → set xs i x ≡ with_cell xs i x
 set_is xs i x lt = let next : suc i ≡ i + 1 = omega arith in set_split xs i x lt ∙ ap (λ (k : ℕ). take i xs ++ x ∷ drop k xs) next
 
-push_is : {X : Type 0} (xs : List X) (i : ℕ) (x : X) → i ≡ length xs → xs ++ x ∷ [] ≡ with_place xs i x
+push_is : {X : Type 0} (xs : List X) (i : ℕ) (x : X) → i ≡ length xs → xs ++ x ∷ [] ≡ with_cell xs i x
 push_is {X} xs i x e =
     let all : length xs ≤ i = omega (arith, e) in
     let past : length xs ≤ i + 1 = omega (arith, e) in
@@ -142,7 +142,7 @@ module _ (E : El) {M : Type 1} {𝓤 : Ura M} (𝓛 : Logic 𝓤) (n b o : ℕ) 
       rewrite ! 0 (λ (k : ℕ). ‵ (part_at (Array (R E) k) full_share (set xs i x) b o)) (sym (length-set xs i x)) refl $
       rewrite ! 1 (λ (k : ℕ). ‵ (froom (ty_array (elτ E) (n - k)) b (o + k * sz E))) (sym (length-set xs i x)) refl $ done !)
 
-  -- the first place behind the items is room
+  -- the first cell behind the items is room
   behind : i ≡ length xs → i < n → ent 𝓤 (Whole xs) (sep 𝓤 (H.room (elτ E) b at) (Fills (xs ++ x ∷ [])))
   behind e lt =
       let m : ℕ = length xs in let one : m + 1 ≡ length (xs ++ x ∷ []) = sym (length-append xs (x ∷ [])) in let less : m < n = omega (arith, e) in
@@ -154,13 +154,13 @@ module _ (E : El) {M : Type 1} {𝓤 : Ura M} (𝓛 : Logic 𝓤) (n b o : ℕ) 
       rewrite ! 0 (λ (k : ℕ). ‵ (part_at (Array (R E) k) full_share (xs ++ x ∷ []) b o)) one refl $
       rewrite ! 1 (λ (k : ℕ). ‵ (froom (ty_array (elτ E) (n - k)) b (o + k * sz E))) one refl $ done !
 
-  abbrev Placed : List (el_x E) → Type 1
-  Placed ys = ent 𝓤 (Whole xs) (sep 𝓤 (H.room (elτ E) b at) (Fills ys))
+  abbrev CellOut : List (el_x E) → Type 1
+  CellOut ys = ent 𝓤 (Whole xs) (sep 𝓤 (H.room (elτ E) b at) (Fills ys))
 
-  pub place_out : i ≤ length xs → i < n → Placed (with_place xs i x)
-  place_out le lt = elim (cases_lt i (length xs)) [
-    | inl inside ↦ subst Placed (set_is xs i x inside) (over inside)
-    | inr past ↦ let last : i ≡ length xs = omega (arith, le, past) in subst Placed (push_is xs i x last) (behind last lt)
+  pub cell_out : i ≤ length xs → i < n → CellOut (with_cell xs i x)
+  cell_out le lt = elim (cases_lt i (length xs)) [
+    | inl inside ↦ subst CellOut (set_is xs i x inside) (over inside)
+    | inr past ↦ let last : i ≡ length xs = omega (arith, le, past) in subst CellOut (push_is xs i x last) (behind last lt)
   ]
 
 module _ (S : RattleType) {M : Type 1} {𝓤 : Ura M} (𝓛 : Logic 𝓤) (κ : Lft) (b : ℕ) where

@@ -1,4 +1,4 @@
--- Laws of a ring's order: what a change makes of it that takes the oldest one's place.
+-- Laws of a ring's order: what a change makes of it that takes the oldest one's cell.
 use Rattle.std.proofs.Common.{◌≡◌, ℕ, suc, ◌+◌, ◌<◌, ◌≤◌, List, [], ◌∷◌, ◌++◌, length, take, drop, get_or, sym, ap, ap₂, ◌∙◌, arith, append_assoc, append-nil, drop-cons, drop_of_length-le, length-append, take_at}
 use Rattle.std.proofs.lemmas.List.{drop_at, length-take-le}
 use Rattle.change_ring.specs.declared.change.Change.{Change}
@@ -17,11 +17,11 @@ module _ (xs : List Change) (s : ℕ) (x : Change) (inside : s < length xs) wher
   newer_long : length newer ≡ s + 1
   newer_long = length-append (take s xs) (x ∷ []) ∙ ap (λ (k : ℕ). k + 1) (length-take-le s xs (omega (arith, inside)))
 
-  -- the next place is the oldest one's
+  -- the next cell is the oldest one's
   next : around (s + 1) ys ≡ drop (s + 1) xs ++ newer
   next = ap₂ (λ (us vs : List Change). us ++ vs) (ap (drop (s + 1)) split_is ∙ drop_at newer (drop (s + 1) xs) (s + 1) newer_long) (ap (take (s + 1)) split_is ∙ take_at newer (drop (s + 1) xs) (s + 1) newer_long)
 
-  -- behind the last place comes the first
+  -- behind the last cell comes the first
   first : length xs ≤ s + 1 → around 0 ys ≡ drop (s + 1) xs ++ newer
   first last = append-nil ys ∙ split_is ∙ ap (λ (zs : List Change). newer ++ zs) (drop_of_length-le xs last) ∙ append-nil newer ∙ ap (λ (zs : List Change). zs ++ newer) (sym (drop_of_length-le xs last))
 

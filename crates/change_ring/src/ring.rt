@@ -1,8 +1,8 @@
 //! A ring of the last changes of a log: it drops the oldest, or grows up to its most where they are
 //! still wanted. Who wants them is not told here.
 //!
-//! The ring's changes begin in the place `start` of its block, and go on in the first place: `start` is
-//! the first place until the block is full.
+//! The ring's changes begin in the cell `start` of its block, and go on in the first cell: `start` is
+//! the first cell until the block is full.
 
 ghost use Rattle.std.specs.Prelude.{◌≡◌, ◌+◌, ◌*◌, ◌^◌, ◌<◌, ◌≤◌, ◌↔◌, [], ◌∷◌, ◌++◌, length, IfOk, OnOk, OnErr, IsSome, is_some, IsErr, option_to_list, min, ◌==◌, ◌⊎◌};
 ghost use Rattle.change_ring.specs.inner.Filled.{around};
@@ -40,10 +40,10 @@ impl Model for ChangeRing {
 
     ghost Value = { Window };
 
-    ghost view = { λ r. record { base = r.base; changes = around r.start r.block.written; capacity = r.block.places; max = r.max } };
+    ghost view = { λ r. record { base = r.base; changes = around r.start r.block.written; capacity = r.block.capacity; max = r.max } };
 
-    ghost invariant = { λ r. (r.base + length r.block.written ≤ 2 ^ 62) × (length r.block.written ≤ r.block.places) × (r.start < r.block.places)
-        × (0 < r.start → length r.block.written ≡ r.block.places) × (r.block.places ≤ r.max) };
+    ghost invariant = { λ r. (r.base + length r.block.written ≤ 2 ^ 62) × (length r.block.written ≤ r.block.capacity) × (r.start < r.block.capacity)
+        × (0 < r.start → length r.block.written ≡ r.block.capacity) × (r.block.capacity ≤ r.max) };
 }
 
 impl ChangeRing {
@@ -57,7 +57,7 @@ impl ChangeRing {
         ChangeRing::starting_at(alloc, 0, capacity, max)
     }
 
-    /// The same after `base` changes, of which it has none. No place is written before a change
+    /// The same after `base` changes, of which it has none. No cell is written before a change
     /// comes, so a large ring is made as soon as a small one.
     pub fn starting_at(
         alloc: Global,
@@ -101,7 +101,7 @@ impl ChangeRing {
         ensures most { self.now.capacity ≤ self.now.max }
         ensures some { 0 < self.now.capacity }
     {
-        self.block.places()
+        self.block.capacity()
     }
 
     /// Logs a change. A full ring overwrites its oldest change and hands it back, unless that is
@@ -138,7 +138,7 @@ impl ChangeRing {
             × (self.new.capacity ≡ min (2 * self.old.capacity) self.old.max)) }
     {
         let held = self.block.used();
-        let capacity = self.block.places();
+        let capacity = self.block.capacity();
         if held == capacity && keep_from <= self.base && capacity < self.max {
             self.grow();
         }
@@ -154,7 +154,7 @@ impl ChangeRing {
         ensures full { is_some result ≡ (length self.old.changes == self.old.capacity) }
         ensures within { length self.new.changes ≤ self.new.capacity }
     {
-        let capacity = self.block.places();
+        let capacity = self.block.capacity();
         if self.block.used() < capacity {
             self.block.push(change);
             return None;
@@ -168,14 +168,14 @@ impl ChangeRing {
     }
 
     // Doubles the capacity, up to the most, or leaves it where memory is refused. What begins in the
-    // first place stays where it is in the block.
+    // first cell stays where it is in the block.
     fn grow(&mut self)
         requires { self.old.capacity < self.old.max }
         ensures same { self.new ≡ record self.old { capacity = self.new.capacity } }
         ensures capacity { (self.new.capacity ≡ self.old.capacity)
             ⊎ ((self.old.capacity < self.new.capacity) × (self.new.capacity ≡ min (2 * self.old.capacity) self.old.max)) }
     {
-        let held = self.block.places();
+        let held = self.block.capacity();
         let capacity = if held <= self.max - held {
             2 * held
         } else {
@@ -188,7 +188,7 @@ impl ChangeRing {
         }
     }
 
-    // Lays the changes into a block of so many places, the oldest into the first, or leaves them where
+    // Lays the changes into a block of so many cells, the oldest into the first, or leaves them where
     // memory is refused.
     fn lay_anew(&mut self, capacity: usize)
         requires more { self.old.capacity < capacity }

@@ -31,20 +31,20 @@ pub one_more : {A : Type 0} (P : A → Type 0) (xs new : List A) (x : A) → new
 one_more P xs new x is all here = subst (All P) (sym is) (All-append P xs (x ∷ []) all here)
 
 -- all were in order, and this one is
-pub in_order : (was : Bool) (n place : ℕ) → (was && eqb n place) ≡ true → (was ≡ true) × (n ≡ place)
-in_order true n place so = (refl, go (eqb_tells n place)) where
-  go : ((eqb n place ≡ true) × (n ≡ place)) ⊎ ((eqb n place ≡ false) × (n ≢ place)) → n ≡ place
+pub in_order : (was : Bool) (n position : ℕ) → (was && eqb n position) ≡ true → (was ≡ true) × (n ≡ position)
+in_order true n position so = (refl, go (eqb_tells n position)) where
+  go : ((eqb n position ≡ true) × (n ≡ position)) ⊎ ((eqb n position ≡ false) × (n ≢ position)) → n ≡ position
   go (inl (yes_it, same)) = same
   go (inr (not_it, other)) = absurd (cc (so, not_it))
-in_order false n place so = absurd (cc so)
+in_order false n position so = absurd (cc so)
 
--- an element at each place below the end
+-- an element at each position below the end
 some_at : {A : Type 0} (xs : List A) (n : ℕ) → n < length xs → (x : A) × (slice_get xs n ≡ Some x)
 some_at [] n under = absurd (omega arith)
 some_at (x ∷ xs) zero under = (x, refl)
 some_at (x ∷ xs) (suc n) under = some_at xs n (omega arith)
 
--- what is left from a place on begins with the element there
+-- what is left from a position on begins with the element there
 from_here : {A : Type 0} (xs : List A) (n : ℕ) (x : A) → slice_get xs n ≡ Some x → drop n xs ≡ x ∷ drop (suc n) xs
 from_here [] n x is = absurd (cc)
 from_here (y ∷ xs) zero x is = cc

@@ -21,7 +21,7 @@ impl Gate for Unhindered {
     fn pass(&self, _who: Actor, _number: u64) {}
 }
 
-/// The clerks of all shards, each behind its lock at the place of its shard, with what they work on.
+/// The clerks of all shards, each behind its lock at the position of its shard, with what they work on.
 #[derive(Drop)]
 pub struct Clerks<'a, H: Hall, G> {
     clerks: &'a [Mutex<Clerk<H>>],

@@ -21,7 +21,7 @@ use std::sync::{Mutex, Wait};
 
 /// The clerks of all shards.
 pub struct Staff<H: Hall> {
-    /// Each behind its lock, at the place of its shard.
+    /// Each behind its lock, at the position of its shard.
     pub clerks: Vec<Mutex<Clerk<H>>>,
     /// For each, room for what is left of its senders.
     pub rooms: Vec<Vec<SenderEnded<Noted>>>,
@@ -33,7 +33,7 @@ pub struct Staff<H: Hall> {
 pub struct Dismissed {
     /// What each left, in their order.
     pub consumed: Vec<Consumed>,
-    /// Whether each clerk stood at the place of its shard. It always does, but a lock doesn't tell.
+    /// Whether each clerk stood at the position of its shard. It always does, but a lock doesn't tell.
     pub in_order: bool,
 }
 
@@ -62,16 +62,16 @@ impl<H: Hall> Staff<H> {
     }
 }
 
-// The clerk of the stand at this place, behind a lock, and the room that was there.
+// The clerk of the stand at this position, behind a lock, and the room that was there.
 fn hire<H: Hall>(
     floor: &Floor,
     stand: Stand,
-    place: usize,
+    position: usize,
 ) -> (Mutex<Clerk<H>>, Vec<SenderEnded<Noted>>)
     requires lanes { H.lanes ≡ Some floor.now.office.lanes.items }
     requires depot { H.depot ≡ Some floor.now.depot }
-    requires there { place < length floor.now.office.lanes.items }
-    requires stand { IsStand floor.now place stand }
+    requires there { position < length floor.now.office.lanes.items }
+    requires stand { IsStand floor.now position stand }
     ensures { (result.1.items ≡ []) × (length floor.now.depot.channels.items ≤ vec_capacity result.1) }
 {
     let Stand { stall, room } = stand;
@@ -89,8 +89,8 @@ pub fn hire_all<H: Hall>(floor: &Floor, mut stands: Vec<Stand>, mut staff: Staff
     ensures rooms { AreRooms (length floor.now.office.lanes.items) (length floor.now.depot.channels.items) result.rooms }
     ensures stands { result.stands ≡ staff.stands }
 {
-    for place in 0..floor.office.lanes.len() {
-        let (clerk, room) = hire(floor, stands.remove(0), place);
+    for position in 0..floor.office.lanes.len() {
+        let (clerk, room) = hire(floor, stands.remove(0), position);
         staff.clerks.push_reserved(clerk);
         staff.rooms.push_reserved(room);
     }
@@ -150,9 +150,9 @@ pub fn dismiss_all<H: Hall, R: Wait, G: Gate>(
     } = staff;
     stands.destroy_empty();
     let mut in_order = true;
-    for place in 0..floor.office.lanes.len() {
+    for position in 0..floor.office.lanes.len() {
         let (shard, one) = dismiss(rt, gate, floor, clerks.remove(0), rooms.remove(0));
-        in_order &= usize::from(shard) == place;
+        in_order &= usize::from(shard) == position;
         consumed.push_reserved(one);
     }
     clerks.destroy_empty();

@@ -11,14 +11,14 @@ use Rattle.change_ring.specs.declared.change.Change.TheVariants.{Add, Gone, Flag
 use Rattle.change_ring.specs.declared.change.Flags.{Flags}
 use Rattle.change_ring.specs.Log.{FitsView, Names, added, replay, shown, view_at, without}
 use Rattle.change_ring.proofs.LogLaws.{replay-append}
-use Rattle.cursor_set.specs.Lines.{flag_words, line, lines, place}
+use Rattle.cursor_set.specs.Lines.{flag_words, line, lines, position}
 use Rattle.client_list.specs.Client.{Client, Known, knowing, reads}
 use Rattle.client_list.specs.Beliefs.{ArePrinted, Each, Follows}
 use Rattle.client_list.proofs.Bytes.{reads-append}
 use Rattle.client_list.proofs.Each.{IsIn, WasTold, fetched_next, is_in}
-use Rattle.client_list.proofs.Follows.{follows_one, place_most, printed_first, shown_most}
+use Rattle.client_list.proofs.Follows.{follows_one, position_most, printed_first, shown_most}
 use Rattle.client_list.proofs.LinesRead.{reads_fetch, told_of}
-use Rattle.cursor_set.proofs.Places.{place_pos}
+use Rattle.cursor_set.proofs.Positions.{position_pos}
 use Rattle.client_flags.specs.Flags.{Believes, flags_at}
 use Rattle.client_flags.specs.Laws.{LinesTellFlags}
 use Rattle.client_flags.proofs.Distinct.{Distinct, front_distinct, is_away}
@@ -53,7 +53,7 @@ told_here P Q uid told f g (u ∷ us) (m ∷ ms) d is h = by (u == uid) refl is 
         let w = behind other in
         record {
           now = m ∷ w.now;
-          is = rw e (fetched_next (place uid us) told m ms w.now (place_pos uid us) w.is);
+          is = rw e (fetched_next (position uid us) told m ms w.now (position_pos uid us) w.is);
           each = (g u m (λ s. false≢true (sym e ∙ eq-eqb u uid s)) h.0, w.each);
         }
 
@@ -107,7 +107,7 @@ one_followed front (SetFlags uid flags) behind ms few small there d h =
     let t = told_here (Behind front (SetFlags uid flags ∷ behind)) (Past front (SetFlags uid flags) behind) uid (λ m. told_of uid flags m)
     (λ m b. told_past front behind uid flags m (is_in uid view there)) (λ u m apart b. goes_past front (SetFlags uid flags) behind u m apart b) view ms d (is_in uid view there) h in record {
       after = t.now;
-      reads = reads_fetch (Some ms) (place uid view) uid flags (omega (arith, few, place_most uid view)) small.0 ∙ ap knowing t.is;
+      reads = reads_fetch (Some ms) (position uid view) uid flags (omega (arith, few, position_most uid view)) small.0 ∙ ap knowing t.is;
       each = t.each;
     }
 

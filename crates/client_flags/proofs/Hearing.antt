@@ -5,7 +5,7 @@ use Rattle.std.specs.List.{list_any}
 use Rattle.std.proofs.lemmas.Bool.{false≢true}
 use Rattle.change_ring.specs.declared.change.Change.{Change}
 use Rattle.change_ring.specs.Log.{IsLegalLog, added}
-use Rattle.cursor_set.specs.Lines.{flag_words, place, spaced}
+use Rattle.cursor_set.specs.Lines.{flag_words, position, spaced}
 use Rattle.mailbox.specs.declared.clients.Row.{Row}
 use Rattle.imap_grammar.specs.Answers.{answered, fetch_answer, flags_last, is_flags, item_text, row_answer, uid_first}
 use Rattle.imap_grammar.specs.declared.items.FetchItem.{FetchItem}
@@ -16,7 +16,7 @@ use Rattle.client_list.specs.Fetches.{AreToldParts}
 use Rattle.client_list.proofs.Chosen.{small_in}
 use Rattle.client_list.proofs.Each.{IsIn, is_in}
 use Rattle.client_list.proofs.Fetched.{answer_read, answered_told, row_of, store_items, store_shape, store_told}
-use Rattle.client_list.proofs.Follows.{place_most}
+use Rattle.client_list.proofs.Follows.{position_most}
 use Rattle.client_list.proofs.Items.{flag_list, flag_list_other, words_append}
 use Rattle.client_list.proofs.Kept.{IsSmall, item_kept}
 use Rattle.client_list.proofs.LinesRead.{reads_fetch, told_of}
@@ -112,13 +112,13 @@ distinct_at p legal =
     front_distinct (take p.cursor p.log) (drop p.cursor p.log) (subst (λ (l : List Change). IsStrictlyIncreasing (added l)) (sym (take-append-drop p.cursor p.log)) legal.rising)
 
 answer_heard : (view : List ℕ) (row : Row) (list : List FetchItem) → Distinct view → IsIn row.uid view → length view + 1 < 2 ^ 64 → IsSmall row → AreToldParts list → Asks list
-    → HearsFlags view row.uid (flag_words row.flags) (fetch_answer (place row.uid view) (map (item_text row) list))
+    → HearsFlags view row.uid (flag_words row.flags) (fetch_answer (position row.uid view) (map (item_text row) list))
 answer_heard view row list d there few small parts asks known long =
     let ws : List (List ℕ) = words (spaced (map (item_kept row) list) ++ 41 ∷ []) in
     let t = told_here (λ (u : ℕ) (m : Known). Unit {0}) (λ (u : ℕ) (m : Known). u ≡ row.uid → Heard row m) row.uid (λ m. items (unopened (into_first 40 ws)) m)
     (λ m any same. opened_learn row ws (items_learn row list asks small parts) m) (λ u m apart any same. absurd (apart same)) view known d there (each_any view known long) in record {
       after = t.now;
-      reads = answer_read (Some known) (place row.uid view) row list (omega (arith, few, place_most row.uid view)) small parts ∙ ap knowing t.is;
+      reads = answer_read (Some known) (position row.uid view) row list (omega (arith, few, position_most row.uid view)) small parts ∙ ap knowing t.is;
       each = t.each;
     }
 
@@ -164,7 +164,7 @@ fetch_is_heard p uid by_uid list row legal there numbered is parts asks =
     let view : List ℕ = counted p in
     let i : IsIn uid view = is_in uid view there in
     let small : IsSmall row = record { uid = subst (λ (u : ℕ). u < 2 ^ 64) (sym is.0) (small_in uid view numbered.small i); text = is.1 } in
-    subst (λ (u : ℕ). HearsFlags view u (flag_words row.flags) (row_answer (place u view) by_uid list row)) is.0
+    subst (λ (u : ℕ). HearsFlags view u (flag_words row.flags) (row_answer (position u view) by_uid list row)) is.0
     (answer_heard view row (answered by_uid row.newly_seen list) (distinct_at p legal) (subst (λ (u : ℕ). IsIn u view) (sym is.0) i) numbered.few small
     (answered_told by_uid row.newly_seen list parts) (answered_asks by_uid row.newly_seen list asks))
 
@@ -178,7 +178,7 @@ pub store_is_heard : StoreIsHeard
 store_is_heard p uid by_uid flags legal there numbered =
     let view : List ℕ = counted p in
     let i : IsIn uid view = is_in uid view there in
-    subst (λ (t : List ℕ). HearsFlags view uid (flag_words flags) t) (store_shape by_uid (place uid view) uid flags)
+    subst (λ (t : List ℕ). HearsFlags view uid (flag_words flags) t) (store_shape by_uid (position uid view) uid flags)
     (answer_heard view (row_of uid flags) (store_items by_uid) (distinct_at p legal) i numbered.few (record { uid = small_in uid view numbered.small i; text = omega arith }) (store_told by_uid) (store_asks by_uid))
 
 pub change_is_heard : ChangeIsHeard
@@ -188,6 +188,6 @@ change_is_heard p uid flags legal there numbered known long =
     let t = told_here (λ (u : ℕ) (m : Known). Unit {0}) (λ (u : ℕ) (m : Known). u ≡ uid → m.flags ≡ Some (flag_words flags)) uid (λ m. told_of uid flags m)
     (λ m any same. refl) (λ u m apart any same. absurd (apart same)) view known (distinct_at p legal) i (each_any view known long) in record {
       after = t.now;
-      reads = reads_fetch (Some known) (place uid view) uid flags (omega (arith, numbered.few, place_most uid view)) (small_in uid view numbered.small i) ∙ ap knowing t.is;
+      reads = reads_fetch (Some known) (position uid view) uid flags (omega (arith, numbered.few, position_most uid view)) (small_in uid view numbered.small i) ∙ ap knowing t.is;
       each = t.each;
     }

@@ -5,7 +5,7 @@ use Rattle.std.specs.List.{list_any}
 use Rattle.std.proofs.lemmas.Bool.{false≢true}
 use Rattle.std.proofs.lemmas.Option.{none-some}
 use Rattle.change_ring.specs.declared.change.Flags.{Flags}
-use Rattle.cursor_set.specs.Lines.{place}
+use Rattle.cursor_set.specs.Lines.{position}
 use Rattle.mailbox.specs.declared.clients.Row.{Row}
 use Rattle.imap_grammar.specs.Answers.{marks_seen, row_answer}
 use Rattle.imap_grammar.specs.Reading.{read, is_done}
@@ -110,7 +110,7 @@ fetching_says tag view fetch mark done ends parts numbered (uid ∷ uids) p gone
         let is : counted q ≡ view = s.sees.leads ∙ same in
         let here : IsIn uid (counted q) = subst (λ (v : List ℕ). IsIn uid v) (sym is) there.0 in
         let few : length (counted q) + 1 < 2 ^ 64 = subst (λ (v : List ℕ). length v + 1 < 2 ^ 64) (sym is) numbered.few in (
-          subst (λ (v : List ℕ). LeavesFlags q (row_answer (place uid v) fetch.by_uid fetch.items row)) is
+          subst (λ (v : List ℕ). LeavesFlags q (row_answer (position uid v) fetch.by_uid fetch.items row)) is
               (row_tells q uid fetch.by_uid fetch.items row here few (small_in uid view numbered.small there.0) s.sees.fits.0 s.sees.fits.1 parts s.tells (still_within p (record { call = Read uid mark; answer = Found (Some row) }) q s)),
           more q gone is there.1,
         )
@@ -120,10 +120,10 @@ storing_says : (tag view : List ℕ) (store : Store) (done : Bool → Exchange) 
 storing_says tag view store done ends numbered [] p gone same there = ends p gone
 storing_says tag view store done ends numbered (uid ∷ uids) p gone same there = by (storing_says tag view store done ends numbered uids)
   where
-    silent_or : (q : Point) (b : Bool) (flags : Flags) → counted q ≡ view → flags_at uid q.log ≡ Some flags → q.cursor ≤ length q.log → LeavesFlags q (if b then [] else flags_answer store.by_uid (place uid view) uid flags)
+    silent_or : (q : Point) (b : Bool) (flags : Flags) → counted q ≡ view → flags_at uid q.log ≡ Some flags → q.cursor ≤ length q.log → LeavesFlags q (if b then [] else flags_answer store.by_uid (position uid view) uid flags)
     silent_or q true flags is has within = leaves q [] (λ messages. refl)
     silent_or q false flags is has within =
-        subst (λ (v : List ℕ). LeavesFlags q (flags_answer store.by_uid (place uid v) uid flags)) is
+        subst (λ (v : List ℕ). LeavesFlags q (flags_answer store.by_uid (position uid v) uid flags)) is
         (store_tells q uid store.by_uid flags (subst (λ (v : List ℕ). IsIn uid v) (sym is) there.0) (subst (λ (v : List ℕ). length v + 1 < 2 ^ 64) (sym is) numbered.few) (small_in uid view numbered.small there.0) has within)
 
     by : ((q : Point) (gone : Bool) → counted q ≡ view → AreIn uids view → SaysFlags tag q (storing store view done uids gone)) → (flags : Option Flags) (q : Point)

@@ -4,7 +4,7 @@ use Rattle.std.specs.Prelude.{Option, Some, None, codes, decimal, ◌&&◌}
 use Rattle.std.specs.List.{list_all}
 use Rattle.std.proofs.lemmas.Bool.{false≢true}
 use Rattle.change_ring.specs.declared.change.Flags.{Flags}
-use Rattle.cursor_set.specs.Lines.{flag_words, place, spaced}
+use Rattle.cursor_set.specs.Lines.{flag_words, position, spaced}
 use Rattle.mailbox.specs.declared.clients.Row.{Row}
 use Rattle.imap_grammar.specs.Answers.{answered, fetch_answer, item_text, part, row_answer, section}
 use Rattle.imap_grammar.specs.declared.items.FetchItem.{FetchItem}
@@ -16,7 +16,7 @@ use Rattle.client_list.proofs.Bytes.{decimal_digits, decimal_says}
 use Rattle.client_list.proofs.Each.{IsIn, is_in, is_told}
 use Rattle.client_list.proofs.Fetched.{answer_read, answered_told, row_of, store_items, store_shape, store_told}
 use Rattle.client_list.proofs.Chosen.{small_in}
-use Rattle.client_list.proofs.Follows.{place_most}
+use Rattle.client_list.proofs.Follows.{position_most}
 use Rattle.client_list.proofs.Items.{body_words, digits_closed, digits_other, flag_list, flag_list_other, flags_of, is_other, number_words, other_passes, tail, words_append}
 use Rattle.client_list.proofs.Kept.{body_word, count_kept, item_kept, IsSmall, part_small}
 use Rattle.client_flags.specs.Flags.{Believes, Point, counted, flags_at}
@@ -142,27 +142,27 @@ allows_now p row has within = record {
 }
 
 answer_tells : (p : Point) (row : Row) (list : List FetchItem) → IsIn row.uid (counted p) → length (counted p) + 1 < 2 ^ 64 → IsSmall row → AreToldParts list → flags_at row.uid p.log ≡ Some row.flags → p.cursor ≤ length p.log
-    → LeavesFlags p (fetch_answer (place row.uid (counted p)) (map (item_text row) list))
+    → LeavesFlags p (fetch_answer (position row.uid (counted p)) (map (item_text row) list))
 answer_tells p row list there few small parts has within known right =
     let ws : List (List ℕ) = words (spaced (map (item_kept row) list) ++ 41 ∷ []) in
     let t = is_told (Believes p) row.uid (λ m. items (unopened (into_first 40 ws)) m)
     (λ m is. opened_keep (Believes p row.uid) ws (items_keep (Believes p row.uid) (Believes p row.uid) row list (allows_now p row has within) small parts) m is) (counted p) known there right in record {
       after = t.now;
-      reads = answer_read (Some known) (place row.uid (counted p)) row list (omega (arith, few, place_most row.uid (counted p))) small parts ∙ ap knowing t.is;
+      reads = answer_read (Some known) (position row.uid (counted p)) row list (omega (arith, few, position_most row.uid (counted p))) small parts ∙ ap knowing t.is;
       each = t.each;
     }
 
 pub row_tells : (p : Point) (uid : ℕ) (by_uid : Bool) (list : List FetchItem) (row : Row) → IsIn uid (counted p) → length (counted p) + 1 < 2 ^ 64 → uid < 2 ^ 64 → row.uid ≡ uid → length row.text < 2 ^ 64
-    → AreToldParts list → flags_at uid p.log ≡ Some row.flags → p.cursor ≤ length p.log → LeavesFlags p (row_answer (place uid (counted p)) by_uid list row)
+    → AreToldParts list → flags_at uid p.log ≡ Some row.flags → p.cursor ≤ length p.log → LeavesFlags p (row_answer (position uid (counted p)) by_uid list row)
 row_tells p uid by_uid list row there few fits is small parts has within =
-    subst (λ (u : ℕ). LeavesFlags p (row_answer (place u (counted p)) by_uid list row)) is
+    subst (λ (u : ℕ). LeavesFlags p (row_answer (position u (counted p)) by_uid list row)) is
     (answer_tells p row (answered by_uid row.newly_seen list) (subst (λ (u : ℕ). IsIn u (counted p)) (sym is) there) few
     (record { uid = subst (λ (u : ℕ). u < 2 ^ 64) (sym is) fits; text = small }) (answered_told by_uid row.newly_seen list parts) (subst (λ (u : ℕ). flags_at u p.log ≡ Some row.flags) (sym is) has) within)
 
 pub store_tells : (p : Point) (uid : ℕ) (by_uid : Bool) (flags : Flags) → IsIn uid (counted p) → length (counted p) + 1 < 2 ^ 64 → uid < 2 ^ 64 → flags_at uid p.log ≡ Some flags → p.cursor ≤ length p.log
-    → LeavesFlags p (flags_answer by_uid (place uid (counted p)) uid flags)
+    → LeavesFlags p (flags_answer by_uid (position uid (counted p)) uid flags)
 store_tells p uid by_uid flags there few fits has within =
-    subst (λ (t : List ℕ). LeavesFlags p t) (store_shape by_uid (place uid (counted p)) uid flags)
+    subst (λ (t : List ℕ). LeavesFlags p t) (store_shape by_uid (position uid (counted p)) uid flags)
     (answer_tells p (row_of uid flags) (store_items by_uid) there few (record { uid = fits; text = omega arith }) (store_told by_uid) has within)
 
 pub row_tells_flags : RowTellsFlags

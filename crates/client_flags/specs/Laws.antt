@@ -5,7 +5,7 @@ use Rattle.change_ring.specs.declared.change.Change.{Change}
 use Rattle.change_ring.specs.declared.change.Change.TheVariants.{Flags as SetFlags}
 use Rattle.change_ring.specs.declared.change.Flags.{Flags}
 use Rattle.change_ring.specs.Log.{IsLegalLog}
-use Rattle.cursor_set.specs.Lines.{flag_words, line, lines, place}
+use Rattle.cursor_set.specs.Lines.{flag_words, line, lines, position}
 use Rattle.delivery_token.specs.declared.Verdict.{Verdict}
 use Rattle.mailbox.specs.declared.clients.Row.{Row}
 use Rattle.imap_grammar.specs.Answers.{is_flags, row_answer}
@@ -45,12 +45,12 @@ LinesTellFlags = (p : Point) (changes rest : List Change) → IsLegalLog p.log �
 -- the answer about a row, whatever was asked of it, whose flags are those that the message has now
 abbrev pub RowTellsFlags : Type 0
 RowTellsFlags = (p : Point) (uid : ℕ) (by_uid : Bool) (items : List FetchItem) (row : Row) → Contains (counted p) uid → IsNumbered (counted p) → IsRowOf uid (Some row) → AreToldParts items
-    → flags_at uid p.log ≡ Some row.flags → p.cursor ≤ length p.log → LeavesFlags p (row_answer (place uid (counted p)) by_uid items row)
+    → flags_at uid p.log ≡ Some row.flags → p.cursor ≤ length p.log → LeavesFlags p (row_answer (position uid (counted p)) by_uid items row)
 
 -- and the flags after a STORE
 abbrev pub StoreTellsFlags : Type 0
 StoreTellsFlags = (p : Point) (uid : ℕ) (by_uid : Bool) (flags : Flags) → Contains (counted p) uid → IsNumbered (counted p)
-    → flags_at uid p.log ≡ Some flags → p.cursor ≤ length p.log → LeavesFlags p (flags_answer by_uid (place uid (counted p)) uid flags)
+    → flags_at uid p.log ≡ Some flags → p.cursor ≤ length p.log → LeavesFlags p (flags_answer by_uid (position uid (counted p)) uid flags)
 
 -- ---- what is told is heard
 
@@ -66,12 +66,12 @@ ChangeIsHeard = (p : Point) (uid : ℕ) (flags : Flags) → IsLegalLog p.log →
 -- the flags after a STORE
 abbrev pub StoreIsHeard : Type 0
 StoreIsHeard = (p : Point) (uid : ℕ) (by_uid : Bool) (flags : Flags) → IsLegalLog p.log → Contains (counted p) uid → IsNumbered (counted p)
-    → HearsFlags (counted p) uid (flag_words flags) (flags_answer by_uid (place uid (counted p)) uid flags)
+    → HearsFlags (counted p) uid (flag_words flags) (flags_answer by_uid (position uid (counted p)) uid flags)
 
 -- and the answer to a FETCH that asked for FLAGS, or that has set \Seen
 abbrev pub FetchIsHeard : Type 0
 FetchIsHeard = (p : Point) (uid : ℕ) (by_uid : Bool) (items : List FetchItem) (row : Row) → IsLegalLog p.log → Contains (counted p) uid → IsNumbered (counted p) → IsRowOf uid (Some row) → AreToldParts items
-    → (list_any is_flags items || row.newly_seen) ≡ true → HearsFlags (counted p) uid (flag_words row.flags) (row_answer (place uid (counted p)) by_uid items row)
+    → (list_any is_flags items || row.newly_seen) ≡ true → HearsFlags (counted p) uid (flag_words row.flags) (row_answer (position uid (counted p)) by_uid items row)
 
 -- ---- turns
 

@@ -1,7 +1,7 @@
 -- The messages that a set names in a view are in the view.
 use Rattle.std.proofs.Common.{ℕ, ◌+◌, ◌^◌, ◌<◌, Bool, true, false, cond, List, [], ◌∷◌, length, inl, inr, refl, subst}
 use Rattle.std.specs.Prelude.{filter, Some, None, IfSome, if◌then◌else◌}
-use Rattle.imap_grammar.specs.Sets.{at_places, is_named, is_too_high, last_uid, named_in}
+use Rattle.imap_grammar.specs.Sets.{at_positions, is_named, is_too_high, last_uid, named_in}
 use Rattle.imap_grammar.specs.declared.set.SeqRange.{SeqRange}
 use Rattle.client_list.specs.Fetches.{AreSmall}
 use Rattle.client_list.proofs.Each.{IsIn}
@@ -31,11 +31,11 @@ filter_in test (uid ∷ uids) view h = by (test uid) (filter_in test uids view h
     by true more = (h.0, more)
     by false more = more
 
-places_in : (test : ℕ → Bool) (k : ℕ) (uids view : List ℕ) → AreIn uids view → AreIn (at_places test k uids) view
-places_in test k [] view h = tt
-places_in test k (uid ∷ uids) view h = by (test k) (places_in test (k + 1) uids view h.1)
+positions_in : (test : ℕ → Bool) (k : ℕ) (uids view : List ℕ) → AreIn uids view → AreIn (at_positions test k uids) view
+positions_in test k [] view h = tt
+positions_in test k (uid ∷ uids) view h = by (test k) (positions_in test (k + 1) uids view h.1)
   where
-    by : (t : Bool) → AreIn (at_places test (k + 1) uids) view → AreIn (if t then uid ∷ at_places test (k + 1) uids else at_places test (k + 1) uids) view
+    by : (t : Bool) → AreIn (at_positions test (k + 1) uids) view → AreIn (if t then uid ∷ at_positions test (k + 1) uids else at_positions test (k + 1) uids) view
     by true more = (h.0, more)
     by false more = more
 
@@ -43,6 +43,6 @@ pub named_are_in : (by_uid : Bool) (set : List SeqRange) (view : List ℕ) → I
 named_are_in true set view = filter_in (is_named set (last_uid view)) view view (all_in view)
 named_are_in false set view = by (is_too_high set (length view))
   where
-    by : (t : Bool) → IfSome (if t then None else Some (at_places (is_named set (length view)) 1 view)) (λ uids. AreIn uids view)
+    by : (t : Bool) → IfSome (if t then None else Some (at_positions (is_named set (length view)) 1 view)) (λ uids. AreIn uids view)
     by true = tt
-    by false = places_in (is_named set (length view)) 1 view view (all_in view)
+    by false = positions_in (is_named set (length view)) 1 view view (all_in view)

@@ -5,7 +5,7 @@ use Rattle.std.specs.List.{list_all, list_any}
 use Rattle.std.proofs.lemmas.Bool.{false≢true}
 use Rattle.std.proofs.lemmas.Option.{none-some}
 use Rattle.change_ring.specs.declared.change.Flags.{Flags}
-use Rattle.cursor_set.specs.Lines.{place}
+use Rattle.cursor_set.specs.Lines.{position}
 use Rattle.mailbox.specs.declared.clients.Row.{Row}
 use Rattle.imap_grammar.specs.Answers.{marks_seen}
 use Rattle.imap_grammar.specs.Reading.{read, is_done}
@@ -108,7 +108,7 @@ storing_says : (tag view : List ℕ) (store : Store) (done : Bool → Exchange) 
 storing_says tag view store done ends numbered [] gone there = ends gone
 storing_says tag view store done ends numbered (uid ∷ uids) gone there = by (storing_says tag view store done ends numbered uids)
   where
-    silent_or : (b : Bool) (flags : Flags) → Leaves view (if b then [] else flags_answer store.by_uid (place uid view) uid flags)
+    silent_or : (b : Bool) (flags : Flags) → Leaves view (if b then [] else flags_answer store.by_uid (position uid view) uid flags)
     silent_or true flags = leaves view [] (λ messages. refl)
     silent_or false flags = flags_leave view uid store.by_uid flags there.0 numbered.few (small_in uid view numbered.small there.0)
 

@@ -3,8 +3,8 @@ use Rattle.std.proofs.Common.{◌⊎◌, inl, inr, eq-eqb, ◌≡◌, ℕ, zero,
 use Rattle.std.specs.Prelude.{Some}
 use Rattle.std.proofs.lemmas.Bool.{false≢true, eqb-true, le-leb}
 use Rattle.change_ring.specs.Log.{without}
-use Rattle.cursor_set.specs.Lines.{place}
-use Rattle.cursor_set.proofs.Places.{place_pos}
+use Rattle.cursor_set.specs.Lines.{position}
+use Rattle.cursor_set.proofs.Positions.{position_pos}
 use Rattle.client_list.specs.Client.{Known, unknown, more, exists, expunged, fetched, put_first}
 use Rattle.client_list.specs.Beliefs.{Each}
 
@@ -25,7 +25,7 @@ exists_one ms =
     let one : length ms + 1 - length ms ≡ 1 = omega arith in
     rw (le-leb (length ms) (length ms + 1) (omega arith)) (ap (λ (n : ℕ). Some (ms ++ more n)) one)
 
--- ---- at a message's place
+-- ---- at a message's position
 
 -- the message is in the view
 abbrev pub IsIn : ℕ → List ℕ → Type 0
@@ -40,7 +40,7 @@ is_in uid (u ∷ us) (suc k, l, e) = inr (is_in uid us (k, omega arith, e))
 -- one has gone
 pub record Went (P : ℕ → Known → Type 0) (uid : ℕ) (view : List ℕ) (ms : List Known) : Type 0 where
   pub left : List Known
-  pub is : expunged (place uid view) ms ≡ Some left
+  pub is : expunged (position uid view) ms ≡ Some left
   pub each : Each P (without uid view) left
 
 expunged_next : (k : ℕ) (m : Known) (ms left : List Known) → 0 < k → expunged k ms ≡ Some left → expunged (k + 1) (m ∷ ms) ≡ Some (m ∷ left)
@@ -59,12 +59,12 @@ goes P uid (u ∷ us) (m ∷ ms) is h = by (u == uid) refl is (λ other. goes P 
     by false e (inl same) behind = absurd (false≢true (sym e ∙ eq-eqb u uid same))
     by false e (inr other) behind =
         let w = behind other in
-        record { left = m ∷ w.left; is = rw e (expunged_next (place uid us) m ms w.left (place_pos uid us) w.is); each = rw e (h.0, w.each) }
+        record { left = m ∷ w.left; is = rw e (expunged_next (position uid us) m ms w.left (position_pos uid us) w.is); each = rw e (h.0, w.each) }
 
 -- of one something was told
 pub record WasTold (P Q : ℕ → Known → Type 0) (uid : ℕ) (told : Known → Known) (view : List ℕ) (ms : List Known) : Type 0 where
   pub now : List Known
-  pub is : fetched (place uid view) told ms ≡ Some now
+  pub is : fetched (position uid view) told ms ≡ Some now
   pub each : Each Q view now
 
 pub fetched_next : (k : ℕ) (told : Known → Known) (m : Known) (ms now : List Known) → 0 < k → fetched k told ms ≡ Some now → fetched (k + 1) told (m ∷ ms) ≡ Some (m ∷ now)
@@ -92,4 +92,4 @@ is_told P uid told f (u ∷ us) (m ∷ ms) is h = by (u == uid) refl is (λ othe
     by false e (inl same) behind = absurd (false≢true (sym e ∙ eq-eqb u uid same))
     by false e (inr other) behind =
         let w = behind other in
-        record { now = m ∷ w.now; is = rw e (fetched_next (place uid us) told m ms w.now (place_pos uid us) w.is); each = (h.0, w.each) }
+        record { now = m ∷ w.now; is = rw e (fetched_next (position uid us) told m ms w.now (position_pos uid us) w.is); each = (h.0, w.each) }

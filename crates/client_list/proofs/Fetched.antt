@@ -3,7 +3,7 @@ use Rattle.std.proofs.Common.{◌≡◌, append-nil, ℕ, ◌+◌, ◌^◌, ◌<
 use Rattle.std.specs.Prelude.{decimal, codes, Some, ◌&&◌, not, if◌then◌else◌}
 use Rattle.std.specs.List.{list_any}
 use Rattle.change_ring.specs.declared.change.Flags.{Flags}
-use Rattle.cursor_set.specs.Lines.{flag_words, place, spaced}
+use Rattle.cursor_set.specs.Lines.{flag_words, position, spaced}
 use Rattle.mailbox.specs.declared.clients.Row.{Row}
 use Rattle.imap_grammar.specs.Answers.{answered, fetch_answer, flags_last, is_flags, is_uid, item_text, row_answer, uid_first}
 use Rattle.imap_grammar.specs.declared.items.FetchItem.{FetchItem}
@@ -14,7 +14,7 @@ use Rattle.client_list.specs.Beliefs.{IsOf, Leaves}
 use Rattle.client_list.specs.Fetches.{AreToldParts}
 use Rattle.client_list.proofs.Bytes.{decimal_word, words_are_inner}
 use Rattle.client_list.proofs.Each.{IsIn, is_told}
-use Rattle.client_list.proofs.Follows.{place_most}
+use Rattle.client_list.proofs.Follows.{position_most}
 use Rattle.client_list.proofs.Items.{items_harmless, opened_harmless}
 use Rattle.client_list.proofs.Kept.{Keeping, both_keeping, inner_keeping, item_kept, items_keeping, IsSmall, whole_kept}
 use Rattle.client_list.proofs.LinesRead.{not_a_count, numbered_told}
@@ -46,14 +46,14 @@ answer_read o k row list h small parts =
     ∙ ap (λ (t : List ℕ). knowing (told t o)) (begun_shape (decimal k) kept)
     ∙ ap knowing (numbered_told o k (codes "FETCH (" ++ (kept ++ 41 ∷ [])) h)
 
--- the answer for a message at its place
+-- the answer for a message at its position
 answer_leaves : (view : List ℕ) (row : Row) (list : List FetchItem) → IsIn row.uid view → length view + 1 < 2 ^ 64 → IsSmall row → AreToldParts list
-    → Leaves view (fetch_answer (place row.uid view) (map (item_text row) list))
+    → Leaves view (fetch_answer (position row.uid view) (map (item_text row) list))
 answer_leaves view row list there few small parts known right =
     let ws : List (List ℕ) = words (spaced (map (item_kept row) list) ++ 41 ∷ []) in
     let t = is_told IsOf row.uid (λ m. items (unopened (into_first 40 ws)) m) (λ m is. opened_harmless row.uid ws (items_harmless row list small parts) m is) view known there right in record {
       after = t.now;
-      reads = answer_read (Some known) (place row.uid view) row list (omega (arith, few, place_most row.uid view)) small parts ∙ ap knowing t.is;
+      reads = answer_read (Some known) (position row.uid view) row list (omega (arith, few, position_most row.uid view)) small parts ∙ ap knowing t.is;
       each = t.each;
     }
 
@@ -77,9 +77,9 @@ answered_told by_uid newly_seen list h =
     (parts_append list (flags_last newly_seen list) h (last_told (newly_seen && not (list_any is_flags list))))
 
 pub row_leaves : (view : List ℕ) (uid : ℕ) (by_uid : Bool) (list : List FetchItem) (row : Row) → IsIn uid view → length view + 1 < 2 ^ 64 → uid < 2 ^ 64 → row.uid ≡ uid → length row.text < 2 ^ 64 → AreToldParts list
-    → Leaves view (row_answer (place uid view) by_uid list row)
+    → Leaves view (row_answer (position uid view) by_uid list row)
 row_leaves view uid by_uid list row there few fits is small parts =
-    subst (λ (u : ℕ). Leaves view (row_answer (place u view) by_uid list row)) is
+    subst (λ (u : ℕ). Leaves view (row_answer (position u view) by_uid list row)) is
     (answer_leaves view row (answered by_uid row.newly_seen list) (subst (λ (u : ℕ). IsIn u view) (sym is) there) few
     (record { uid = subst (λ (u : ℕ). u < 2 ^ 64) (sym is) fits; text = small }) (answered_told by_uid row.newly_seen list parts))
 
@@ -111,7 +111,7 @@ store_shape false k uid flags =
     flat a b c d e = simp append_assoc
 
 pub flags_leave : (view : List ℕ) (uid : ℕ) (by_uid : Bool) (flags : Flags) → IsIn uid view → length view + 1 < 2 ^ 64 → uid < 2 ^ 64
-    → Leaves view (flags_answer by_uid (place uid view) uid flags)
+    → Leaves view (flags_answer by_uid (position uid view) uid flags)
 flags_leave view uid by_uid flags there few fits =
-    subst (λ (t : List ℕ). Leaves view t) (store_shape by_uid (place uid view) uid flags)
+    subst (λ (t : List ℕ). Leaves view t) (store_shape by_uid (position uid view) uid flags)
     (answer_leaves view (row_of uid flags) (store_items by_uid) there few (record { uid = fits; text = omega arith }) (store_told by_uid))

@@ -5,18 +5,18 @@ use Rattle.std.proofs.lemmas.Option.{none-some}
 use Rattle.change_ring.specs.declared.change.Change.{Change}
 use Rattle.change_ring.specs.declared.change.Change.TheVariants.{Add, Gone, Flags as SetFlags}
 use Rattle.change_ring.specs.Log.{shown, replay, without, Names, FitsView}
-use Rattle.cursor_set.specs.Lines.{line, lines, place}
+use Rattle.cursor_set.specs.Lines.{line, lines, position}
 use Rattle.client_list.specs.Client.{Known, Client, knowing, unknown, reads, exists}
 use Rattle.client_list.specs.Beliefs.{Each, IsOf, ArePrinted, Follows}
 use Rattle.client_list.proofs.Bytes.{reads-append}
 use Rattle.client_list.proofs.Each.{each_length, each_more, exists_one, is_in, goes, is_told}
 use Rattle.client_list.proofs.LinesRead.{reads_exists, reads_expunge, reads_fetch, told_of}
 
-pub place_most : (uid : ℕ) (view : List ℕ) → place uid view ≤ length view + 1
-place_most uid [] = omega arith
-place_most uid (u ∷ us) = by (u == uid) (place_most uid us)
+pub position_most : (uid : ℕ) (view : List ℕ) → position uid view ≤ length view + 1
+position_most uid [] = omega arith
+position_most uid (u ∷ us) = by (u == uid) (position_most uid us)
   where
-    by : (t : Bool) → place uid us ≤ length us + 1 → (if t then 1 else place uid us + 1) ≤ length (u ∷ us) + 1
+    by : (t : Bool) → position uid us ≤ length us + 1 → (if t then 1 else position uid us + 1) ≤ length (u ∷ us) + 1
     by true h = omega arith
     by false h = omega arith
 
@@ -49,13 +49,13 @@ follows_one P view (Add uid) ms fits small there tells h =
 follows_one P view (Gone uid) ms fits small there tells h =
     let went = goes P uid view ms (is_in uid view there) h in record {
       after = went.left;
-      reads = reads_expunge (Some ms) (place uid view) (omega (arith, fits, place_most uid view)) ∙ ap knowing went.is;
+      reads = reads_expunge (Some ms) (position uid view) (omega (arith, fits, position_most uid view)) ∙ ap knowing went.is;
       each = went.each;
     }
 follows_one P view (SetFlags uid flags) ms fits small there tells h =
     let told = is_told P uid (λ m. told_of uid flags m) tells view ms (is_in uid view there) h in record {
       after = told.now;
-      reads = reads_fetch (Some ms) (place uid view) uid flags (omega (arith, fits, place_most uid view)) small.0 ∙ ap knowing told.is;
+      reads = reads_fetch (Some ms) (position uid view) uid flags (omega (arith, fits, position_most uid view)) small.0 ∙ ap knowing told.is;
       each = told.each;
     }
 
@@ -92,7 +92,7 @@ uids_told (Add uid ∷ cs) = ((λ n e. absurd (none-some n e)), uids_told cs)
 uids_told (Gone uid ∷ cs) = (tt, uids_told cs)
 uids_told (SetFlags uid flags ∷ cs) = ((λ m h n e. sym (ap (the_one 0) e)), uids_told cs)
 
--- The lines that show changes, read by a client: it has as many messages as the view that they lead to, and each UID that it knows stands in its place.
+-- The lines that show changes, read by a client: it has as many messages as the view that they lead to, and each UID that it knows stands at its position.
 pub lines_are_followed : (view : List ℕ) (cs : List Change) (ms : List Known) → length view + length cs < 2 ^ 64 → ArePrinted cs → FitsView view cs
     → Each IsOf view ms → Follows IsOf ms (lines view cs) (replay view cs)
 lines_are_followed view cs ms fits small there h = follows IsOf view cs ms fits small there (uids_told cs) h

@@ -16,7 +16,7 @@ Each P (uid ∷ view) (message ∷ list) = P uid message × Each P view list
 abbrev pub IsOf : ℕ → Known → Type 0
 IsOf uid message = (n : ℕ) → message.uid ≡ Some n → n ≡ uid
 
--- The client is right about the messages that its session counts: each has its place in the list, and no other, and where the client knows a UID it is the one at that place.
+-- The client is right about the messages that its session counts: each has its position in the list, and no other, and where the client knows a UID it is the one at that position.
 abbrev pub IsRight : List ℕ → List Known → Type 0
 IsRight view list = Each IsOf view list
 

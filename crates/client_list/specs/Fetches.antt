@@ -3,7 +3,7 @@ use Rattle.std.specs.Prelude.{ℕ, ◌+◌, ◌<◌, ◌^◌, List, [], ◌∷�
 use Rattle.imap_grammar.specs.declared.items.FetchItem.{FetchItem}
 use Rattle.imap_grammar.specs.declared.items.FetchItem.TheVariants as fetch
 
--- the place where a part of a text begins (RFC 9051, 7.5.2) is told with it
+-- the position where a part of a text begins (RFC 9051, 7.5.2) is told with it
 abbrev pub IsToldPart : FetchItem → Type 0
 IsToldPart (fetch.Body peek which (Some span)) = span.origin < 2 ^ 64
 IsToldPart item = Unit {0}
@@ -16,7 +16,7 @@ abbrev pub AreSmall : List ℕ → Type 0
 AreSmall [] = Unit {0}
 AreSmall (uid ∷ view) = (uid < 2 ^ 64) × AreSmall view
 
--- each UID and each place of a view
+-- each UID and each position of a view
 pub record IsNumbered (view : List ℕ) : Type 0 where
   pub few : length view + 1 < 2 ^ 64
   pub small : AreSmall view

@@ -3,7 +3,7 @@ use Rattle.std.specs.Prelude.{◌≡◌, ℕ, ◌<◌, ◌^◌, Bool, Contains, 
 use Rattle.change_ring.specs.declared.change.Change.{Change}
 use Rattle.change_ring.specs.declared.change.Flags.{Flags}
 use Rattle.change_ring.specs.Log.{replay}
-use Rattle.cursor_set.specs.Lines.{lines, place}
+use Rattle.cursor_set.specs.Lines.{lines, position}
 use Rattle.mailbox.specs.declared.clients.Opening.{Opening}
 use Rattle.mailbox.specs.declared.clients.Row.{Row}
 use Rattle.mailbox.specs.declared.clients.MailFault.{MailFault}
@@ -99,14 +99,14 @@ VerdictIsFollowed = (now : Standing) (verdict : Verdict) (view : List ℕ) (answ
 
 -- ---- answers about messages
 
--- the answer about a row, whatever was asked of it, at its place in the view
+-- the answer about a row, whatever was asked of it, at its position in the view
 abbrev pub RowIsTold : Type 0
 RowIsTold = (view : List ℕ) (uid : ℕ) (by_uid : Bool) (items : List FetchItem) (row : Row) → Contains view uid → IsNumbered view → IsRowOf uid (Some row) → AreToldParts items
-    → Leaves view (row_answer (place uid view) by_uid items row)
+    → Leaves view (row_answer (position uid view) by_uid items row)
 
 -- and the flags after a STORE
 abbrev pub FlagsAreTold : Type 0
-FlagsAreTold = (view : List ℕ) (uid : ℕ) (by_uid : Bool) (flags : Flags) → Contains view uid → IsNumbered view → Leaves view (flags_answer by_uid (place uid view) uid flags)
+FlagsAreTold = (view : List ℕ) (uid : ℕ) (by_uid : Bool) (flags : Flags) → Contains view uid → IsNumbered view → Leaves view (flags_answer by_uid (position uid view) uid flags)
 
 -- What SELECT says of a mailbox before its tagged line leads a client with no messages to the view of a session that enters there, which is as long as the mailbox is told to be.
 abbrev pub OpeningIsFollowed : Type 0

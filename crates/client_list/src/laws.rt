@@ -37,7 +37,7 @@ pub fn turns_are_followed()
     ensures idle { IdleTurnIsFollowed }
 {}
 
-/// The answer to a FETCH about a message at its place, with any items and the literals of any text, and the flags after a
+/// The answer to a FETCH about a message at its position, with any items and the literals of any text, and the flags after a
 /// STORE leave a client as right as it was (7.5.2). What SELECT and EXAMINE say of a mailbox before their tagged line
 /// leads a client with no messages to a list as long as the mailbox (6.3.2).
 pub fn messages_are_told()

@@ -70,7 +70,7 @@ length_replay view (Add uid ∷ cs) = omega (arith, length_replay (view ++ uid �
 length_replay view (Gone uid ∷ cs) = omega (arith, length_replay (without uid view) cs, length_without uid view)
 length_replay view (SetFlags uid flags ∷ cs) = length_replay view cs
 
--- ---- a log that was shown up to a place
+-- ---- a log that was shown up to a position
 
 -- the first changes, and of those behind them the first, are as many first changes, whatever is logged behind
 pub taken : (c l : ℕ) (log more : List Change) → c ≤ length log → take (c + length (take l (drop c log))) (log ++ more) ≡ take c log ++ take l (drop c log)

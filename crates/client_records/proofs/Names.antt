@@ -171,7 +171,7 @@ told_text u (x ∷ xs) h = by (x.1 == u) refl h (λ t. told_text u xs t)
 given : (k : Config) (b : Box) → BoxOk k b → (u : ℕ) → IsIn u (added b.log) → u < next_uid k b
 given k b B u h = (in_range u k.first_uid (length b.accepted) (subst (IsIn u) B.counted h)).1
 
--- all UIDs that are counted at any place of a log were added
+-- all UIDs that are counted at any position of a log were added
 counted_added : (log : List Change) (c u : ℕ) → IsIn u (view_at log c) → IsIn u (added log)
 counted_added log c u h = subst (IsIn u) (sym parts) (in_front u (added (take c log)) (added (drop c log)) (by (in_replay u [] (take c log) h)))
   where

@@ -53,7 +53,7 @@ heard_small k events w p h is noted heard = by noted.verdict refl
     by (Stored uid) e =
         let once : StandsOnce (pairs (w.box noted.mailbox).accepted) noted.key uid = (always k events w is).answered p uid noted heard e in
         let there : IsIn uid (numbers (w.box noted.mailbox).accepted) =
-        pair_number noted.key uid (w.box noted.mailbox).accepted (is_in (noted.key, uid) (pairs (w.box noted.mailbox).accepted) (once.place, once.within, once.here)) in
+        pair_number noted.key uid (w.box noted.mailbox).accepted (is_in (noted.key, uid) (pairs (w.box noted.mailbox).accepted) (once.position, once.within, once.here)) in
         let B = S.kept.boxes noted.mailbox in
         let range = in_range uid k.first_uid (length (w.box noted.mailbox).accepted) (subst (IsIn uid) (sym B.given ∙ B.counted) there) in
         omega (arith, range.1, (S.small noted.mailbox).next)

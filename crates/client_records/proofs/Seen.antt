@@ -41,7 +41,7 @@ use Rattle.client_records.proofs.Logs.{are_printed, length_replay, small_behind,
 
 -- ---- what is shown
 
--- the changes behind a place of a log, at most so many
+-- the changes behind a position of a log, at most so many
 pub may_show : (log : List Change) (c l : ℕ) → FitsView [] log → AreSmall (added log) → length (added log) ≤ last_uid → length log ≤ most_changes → MayShow (view_at log c) (take l (drop c log))
 may_show log c l fits small few short =
     let front : List Change = take c log in

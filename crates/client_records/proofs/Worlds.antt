@@ -30,7 +30,7 @@ added_small k w S m = rw (S.kept.boxes m).counted (small_range k.first_uid (leng
 pub added_few : (k : Config) (w : World) → Sound k w → (m : ℕ) → length (added (w.box m).log) ≤ last_uid
 added_few k w S m = rw ((S.kept.boxes m).counted, length-range_with_len k.first_uid (length (w.box m).accepted)) (omega (arith, (S.small m).next))
 
--- up to any place
+-- up to any position
 pub numbered_at : (log : List Change) (c : ℕ) → AreSmall (added log) → length (added log) ≤ last_uid → IsNumbered (view_at log c)
 numbered_at log c small few =
     let parts : added log ≡ added (take c log) ++ added (drop c log) = ap added (sym (take-append-drop c log)) ∙ added-append (take c log) (drop c log) in

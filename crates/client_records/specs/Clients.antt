@@ -71,7 +71,7 @@ abbrev pub hears_all : Option Client → List Told → Option Client
 hears_all client [] = client
 hears_all client (one ∷ more) = hears_all (hears client one) more
 
--- Where it knows that it is in a mailbox it is between two lines, it was told no number that it can't have, its list is as long as this view, and each UID that it knows is the one at that place.
+-- Where it knows that it is in a mailbox it is between two lines, it was told no number that it can't have, its list is as long as this view, and each UID that it knows is the one at that position.
 abbrev pub IsRightAbout : List ℕ → Option Client → Type 0
 IsRightAbout view None = Unit {0}
 IsRightAbout view (Some client) = (list : List Known) × (client ≡ knowing (Some list)) × IsRight view list

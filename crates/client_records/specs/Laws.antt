@@ -9,7 +9,7 @@ use Rattle.client_list.specs.Turns.{Sees}
 use Rattle.client_records.specs.Sizes.{HasShortTexts, HasSmallNumbers}
 use Rattle.client_records.specs.Views.{IsOfOthers, IsOpened, NamesTheSame, messages_of, view_of}
 
--- its UIDs and its places are numbers that a line can have
+-- its UIDs and its positions are numbers that a line can have
 abbrev pub ViewsAreNumbered : Type 0
 ViewsAreNumbered = (k : Config) (events : List Event) (w : World) (n : ℕ) → HasSmallNumbers k → IsWorld k events w → IsNumbered (view_of w n)
 

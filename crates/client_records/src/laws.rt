@@ -10,7 +10,7 @@ ghost use Rattle.client_records.specs.Records.{ClientsKeepUp, ClientsOfHousesKee
 ghost use Rattle.client_records.specs.Selecting.{KnowingIsSelected};
 ghost use Rattle.client_records.specs.Turns.{StandsStill, TurnIsKnown};
 
-/// In every world that came from the empty one: the UIDs and the places of what a session counts can be printed, and what
+/// In every world that came from the empty one: the UIDs and the positions of what a session counts can be printed, and what
 /// others do leaves it as it was. What a call of the session shows may be shown to its client, what is read is the row of the
 /// UID that was asked for, and what is counted can be printed. A session that enters a mailbox counts all that is there, as
 /// many as it tells, and one that leaves counts nothing.
@@ -42,7 +42,7 @@ pub fn turns_are_known()
 {}
 
 /// So it is at each moment of a session's life, with all that others do between its turns: since a SELECT or EXAMINE was
-/// answered OK, the client's list is as long as what the session counts, each UID that it knows is the one at that place, and
+/// answered OK, the client's list is as long as what the session counts, each UID that it knows is the one at that position, and
 /// no number was out of its list. It knows where it is from that answer on, for as long as it asks for none of SELECT, EXAMINE, CLOSE
 /// and UNSELECT. Where it knows where it is, its session has selected a mailbox.
 pub fn lives_are_known()

@@ -11,8 +11,8 @@ use Rattle.std.proofs.lemmas.List.Sums.{prefix_len_is, prefix_len-le-length}
 use Rattle.std.proofs.lemmas.List.Kept.{AllPairs-from_increasing}
 use Rattle.cursor_set.specs.Leaving.{counted, AreIn}
 use Rattle.cursor_set.specs.inner.Leaving.{below}
-use Rattle.cursor_set.specs.Lines.{place}
-use Rattle.cursor_set.proofs.Places.{Rises, Rises-from, Rises-to, Rises-first, all-first, not_falling, place_at}
+use Rattle.cursor_set.specs.Lines.{position}
+use Rattle.cursor_set.proofs.Positions.{Rises, Rises-from, Rises-to, Rises-first, all-first, not_falling, position_at}
 
 -- ---- one UID is removed
 
@@ -259,7 +259,7 @@ below_few i gone view h = (below_most i gone (up_of gone view h), prefix_len-le-
 -- a message that counts stands at this index of the view
 pub record IsFound (gone view : List ℕ) (uid i : ℕ) : Type 0 where
   pub low : below i gone ≤ i
-  pub place : i - below i gone + 1 ≡ place uid (counted gone view)
+  pub position : i - below i gone + 1 ≡ position uid (counted gone view)
   pub within : i - below i gone < length (counted gone view)
   pub others : All (λ other. other ≢ i) gone
 
@@ -289,7 +289,7 @@ module _ (gone view : List ℕ) (uid : ℕ) (h : AreIn gone view) (up : IsStrict
       let rises : Rises (counted gone view) =
       Rises-first (counted gone view) [] (rises_counted gone view [] (Rises-from (view ++ []) (subst IsStrictlyIncreasing (sym (append-nil view)) up))) in record {
         low = omega (arith, s.moved);
-        place = sym (place_at uid (counted gone view) there.0 rises there.1 here ∙ ap (λ (n : ℕ). n + 1) (sym at));
+        position = sym (position_at uid (counted gone view) there.0 rises there.1 here ∙ ap (λ (n : ℕ). n + 1) (sym at));
         within = omega (arith, at, there.1);
         others = All-from_recursion (λ y. y ≢ spot.0) gone s.counts;
       }

@@ -8,7 +8,7 @@ use Rattle.change_ring.specs.declared.change.Change.TheVariants.{Add, Gone, Flag
 use Rattle.change_ring.specs.Log.{IsLegalLog, added, shown, replay, view_at}
 use Rattle.change_ring.proofs.LogLaws.{FitsView-first, added-append}
 use Rattle.cursor_set.specs.Legal.{IsLegalOn}
-use Rattle.cursor_set.proofs.Places.{Rises, Rises-from, Rises-to, Rises-first, Rises-without}
+use Rattle.cursor_set.proofs.Positions.{Rises, Rises-from, Rises-to, Rises-first, Rises-without}
 
 -- the view's own UIDs rise
 pub legal_rises : (view : List ℕ) (cs : List Change) → IsLegalOn view cs → IsStrictlyIncreasing view

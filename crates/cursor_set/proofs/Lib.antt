@@ -5,6 +5,6 @@ pub mod LeavingLaws
 pub mod LegalLaws
 pub mod Numbers
 pub mod OpenedLemmas
-pub mod Places
+pub mod Positions
 pub mod ShowLaws
 pub mod WindowParts

@@ -5,7 +5,7 @@ use Rattle.change_ring.specs.declared.change.Change.{Change}
 use Rattle.change_ring.specs.declared.change.Change.TheVariants.{Add}
 use Rattle.change_ring.specs.Log.{FitsView, added, shown, replay}
 use Rattle.cursor_set.specs.Lines.{line, lines}
-use Rattle.cursor_set.proofs.Places.{Rises-from, Rises-to, Rises-first}
+use Rattle.cursor_set.proofs.Positions.{Rises-from, Rises-to, Rises-first}
 
 module _ (view new : List ℕ) (x : Change) (all rest : List Change) (split : all ≡ x ∷ rest) (now : new ≡ shown view x) where
   pub fits_after : FitsView view all → FitsView new rest

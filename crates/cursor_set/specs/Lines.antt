@@ -18,10 +18,10 @@ spaced [] = []
 spaced (w ∷ []) = w
 spaced (w ∷ v ∷ ws) = w ++ 32 ∷ spaced (v ∷ ws)
 
--- a message's sequence number: its place in the view, counted from 1; one past the last where it isn't there
-abbrev pub place : ℕ → List ℕ → ℕ
-place uid [] = 1
-place uid (u ∷ uids) = if u == uid then 1 else place uid uids + 1
+-- a message's sequence number: its position in the view, counted from 1; one past the last where it isn't there
+abbrev pub position : ℕ → List ℕ → ℕ
+position uid [] = 1
+position uid (u ∷ uids) = if u == uid then 1 else position uid uids + 1
 
 -- so many messages are there now
 abbrev pub exists_line : ℕ → List ℕ
@@ -39,8 +39,8 @@ fetch_line k uid flags =
 -- the line that shows a change to a client that counts these UIDs
 abbrev pub line : List ℕ → Change → List ℕ
 line view (Add uid) = exists_line (length view + 1)
-line view (Gone uid) = expunge_line (place uid view)
-line view (SetFlags uid flags) = fetch_line (place uid view) uid flags
+line view (Gone uid) = expunge_line (position uid view)
+line view (SetFlags uid flags) = fetch_line (position uid view) uid flags
 
 -- the lines that show changes, each to the view that the one before it left
 abbrev pub lines : List ℕ → List Change → List ℕ

@@ -8,7 +8,7 @@ ghost use Rattle.std.specs.List.Sorted.{IsStrictlyIncreasing};
 ghost use Rattle.change_ring.specs.Log.{without};
 ghost use Rattle.cursor_set.specs.Leaving.{counted, AreIn};
 ghost use Rattle.cursor_set.specs.inner.Leaving.{below};
-ghost use Rattle.cursor_set.specs.Lines.{place};
+ghost use Rattle.cursor_set.specs.Lines.{position};
 
 use crate::gap::Gap;
 use change_ring::Change;
@@ -68,13 +68,13 @@ impl Leaving {
         self.gone.partition_point(|other| *other < index)
     }
 
-    /// The place of a message among those that count, from 1.
-    pub fn place(&mut self, view: &[u32], uid: u32) -> usize
+    /// The position of a message among those that count, from 1.
+    pub fn position(&mut self, view: &[u32], uid: u32) -> usize
         requires gone { AreIn self.old.gone.items view.now }
         requires there { Contains (counted self.old.gone.items view.now) uid }
         requires rising { IsStrictlyIncreasing view.now }
         ensures gone { self.new.gone.items ≡ self.old.gone.items }
-        ensures place { result ≡ place uid (counted self.old.gone.items view.now) }
+        ensures position { result ≡ position uid (counted self.old.gone.items view.now) }
     {
         let index = index_near(view, uid, self.last);
         self.last = index;
@@ -103,7 +103,7 @@ impl Leaving {
         view.remove(index - before);
     }
 
-    /// Takes out a message, and answers the place that it had.
+    /// Takes out a message, and answers the position that it had.
     pub fn take_out(&mut self, view: &mut Vec<u32>, uid: u32) -> usize
         requires gone { AreIn self.old.gone.items view.old.items }
         requires there { Contains (counted self.old.gone.items view.old.items) uid }
@@ -111,7 +111,7 @@ impl Leaving {
         ensures gone { AreIn self.new.gone.items view.new.items }
         ensures counted { counted self.new.gone.items view.new.items ≡ without uid (counted self.old.gone.items view.old.items) }
         ensures rising { (later : List ℕ) → IsStrictlyIncreasing (view.old.items ++ later) → IsStrictlyIncreasing (view.new.items ++ later) }
-        ensures place { result ≡ place uid (counted self.old.gone.items view.old.items) }
+        ensures position { result ≡ position uid (counted self.old.gone.items view.old.items) }
         ensures len { vec_len view.new ≤ vec_len view.old }
         ensures capacity { vec_capacity view.new ≡ vec_capacity view.old }
     {

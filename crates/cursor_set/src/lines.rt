@@ -126,10 +126,10 @@ fn show_change(change: Change, leaving: &mut Leaving, view: &mut Vec<u32>, out: 
             put_numbered(leaving.count(view), b" EXISTS\r\n", out);
         }
         Change::Gone(uid) => {
-            let place = leaving.take_out(view, uid);
-            put_numbered(place, b" EXPUNGE\r\n", out);
+            let position = leaving.take_out(view, uid);
+            put_numbered(position, b" EXPUNGE\r\n", out);
         }
-        Change::Flags(uid, flags) => put_fetch(leaving.place(view, uid), uid, flags, out),
+        Change::Flags(uid, flags) => put_fetch(leaving.position(view, uid), uid, flags, out),
     }
 }
 

@@ -26,7 +26,7 @@ use Rattle.world.specs.Law.{IsPart, pair_of, pairs}
 use Rattle.world.proofs.Base.{part_append}
 use Rattle.delivery_core.specs.inner.DeliveryCore.{AreKept}
 use Rattle.delivery_core.specs.Stands.{StandsForBox, text_of, accepted_text}
-use Rattle.delivery_core.specs.inner.Boxes.{verdict_of, BoxDelivers, stores, has_no_uid, has_no_place, has_no_memory}
+use Rattle.delivery_core.specs.inner.Boxes.{verdict_of, BoxDelivers, stores, has_no_uid, has_no_space, has_no_memory}
 
 pub same_uid : (k : Config) (b : Mailbox) (w : Box) → StandsForBox k b w → mail_uid b ≡ next_uid k w
 same_uid k b w S = omega (arith, S.first_uid, ap length S.accepted, length-map w.accepted pair_of)
@@ -67,8 +67,8 @@ spent k flags b w S e = go (or_true _ _ e)
 full : (k : Config) (b : Mailbox) (w : Box) → StandsForBox k b w → mail_full b ≡ true → is_full k w
 full k b w S e = omega (arith, leb-true _ _ e, same_rows k b w S, S.messages)
 
-has_place : (k : Config) (b : Mailbox) (w : Box) → StandsForBox k b w → mail_full b ≡ false → length (rows_of w.log) < k.messages
-has_place k b w S e = omega (arith, leb-false _ _ e, same_rows k b w S, S.messages)
+is_not_full : (k : Config) (b : Mailbox) (w : Box) → StandsForBox k b w → mail_full b ≡ false → length (rows_of w.log) < k.messages
+is_not_full k b w S e = omega (arith, leb-false _ _ e, same_rows k b w S, S.messages)
 
 base_after : (k : Config) (b new : Mailbox) (w : Box) (cs : List Change) → StandsForBox k b w → Moves b.cursors b.window new.window cs → BaseAfter k.ring (length w.log) w.base cs new.window.base
 base_after k b new w cs S moves =
@@ -76,7 +76,7 @@ base_after k b new w cs S moves =
     (subst (λ (n : ℕ). BaseAfter k.ring (total b.window) n cs new.window.base) S.base
     (BaseAfter-less b.window.capacity k.ring (total b.window) b.window.base cs new.window.base S.ring (moves_base b.cursors b.window new.window cs moves)))
 
--- where a mailbox neither said that it has no UID nor that it has no place, it has both
+-- where a mailbox neither said that it has no UID nor that it has no room, it has both
 open_of : (flags : Flags) (old : Mailbox) (A B : Type 0) → (A → ⊥) → (B → ⊥) → A ↔ (is_spent flags old ≡ true) → B ↔ ((is_spent flags old ≡ false) × (mail_full old ≡ true)) → (is_spent flags old ≡ false) × (mail_full old ≡ false)
 open_of flags old A B na nb spends fills = go (is_spent flags old) (mail_full old) spends fills
   where
@@ -95,7 +95,7 @@ stored k old new w c uid S room logs accepts messages drops stays is =
     let has : HasUid k c.flags w = has_uid k c.flags old w S room.0 in
     stores
     (record { log = w.log ++ arrival (next_uid k w) c.flags; base = new.window.base; accepted = w.accepted ++ (c, next_uid k w) ∷ [] })
-    has (has_place k old w S room.1)
+    has (is_not_full k old w S room.1)
     (record { room = has.1; log = refl; base = subst (λ (u : ℕ). BaseAfter k.ring (length w.log) w.base (arrival u c.flags) new.window.base) n (base_after k old new w (arrival (mail_uid old) c.flags) S drops); accepted = refl })
     (ap Stored (is ∙ n))
     (record {
@@ -119,14 +119,14 @@ pub box_delivers : (k : Config) (old new : Mailbox) (w : Box) (c : Job) (r : Res
     → (r ≡ Err UidSpent) ↔ (is_spent c.flags old ≡ true) → (r ≡ Err MailboxFull) ↔ ((is_spent c.flags old ≡ false) × (mail_full old ≡ true)) → (r ≡ Err Full → ⊥) → (r ≡ Err Shut → ⊥)
     → OnErr r (new ≡ old) → OnOk r (MailLogs old new (arrival (mail_uid old) c.flags)) → OnOk r (new.accepted ≡ old.accepted ++ (c.key, mail_uid old) ∷ [])
     → OnOk r (new.messages ≡ old.messages ++ record { uid = mail_uid old; flags = c.flags; text = c.text } ∷ [])
-    → OnOk r (Moves old.cursors old.window new.window (arrival (mail_uid old) c.flags)) → OnOk r (SameMailbox old new) → IfOk r (λ x. x ≡ record { mailbox = old.number; key = c.key; uid = mail_uid old; place = length old.accepted })
+    → OnOk r (Moves old.cursors old.window new.window (arrival (mail_uid old) c.flags)) → OnOk r (SameMailbox old new) → IfOk r (λ x. x ≡ record { mailbox = old.number; key = c.key; uid = mail_uid old; position = length old.accepted })
     → BoxDelivers k w c (verdict_of r) new
 box_delivers k old new w c (Ok x) S spends fills queued shut same logs accepts messages drops stays uid = stored k old new w c x.uid S (open_of c.flags old _ _ (λ e. cc) (λ e. cc) spends fills) logs accepts messages drops stays (ap (λ y. y.uid) uid)
 box_delivers k old new w c (Err UidSpent) S spends fills queued shut same logs accepts messages drops stays uid = has_no_uid (spent k c.flags old w S (spends.0 refl)) refl (rw same S)
-box_delivers k old new w c (Err MailboxFull) S spends fills queued shut same logs accepts messages drops stays uid = has_no_place (has_uid k c.flags old w S (fills.0 refl).0) (full k old w S (fills.0 refl).1) refl (rw same S)
+box_delivers k old new w c (Err MailboxFull) S spends fills queued shut same logs accepts messages drops stays uid = has_no_space (has_uid k c.flags old w S (fills.0 refl).0) (full k old w S (fills.0 refl).1) refl (rw same S)
 box_delivers k old new w c (Err NoMemory) S spends fills queued shut same logs accepts messages drops stays uid =
     let room : (is_spent c.flags old ≡ false) × (mail_full old ≡ false) = open_of c.flags old _ _ (λ e. cc) (λ e. cc) spends fills in
-    has_no_memory (has_uid k c.flags old w S room.0) (has_place k old w S room.1) refl (rw same S)
+    has_no_memory (has_uid k c.flags old w S room.0) (is_not_full k old w S room.1) refl (rw same S)
 box_delivers k old new w c (Err Full) S spends fills queued shut same logs accepts messages drops stays uid = absurd (queued refl)
 box_delivers k old new w c (Err Shut) S spends fills queued shut same logs accepts messages drops stays uid = absurd (shut refl)
 

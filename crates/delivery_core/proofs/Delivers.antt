@@ -10,14 +10,14 @@ use Rattle.world.specs.declared.hand.Hand.TheVariants.{Taken, Done}
 use Rattle.world.proofs.Known.{HandKnown, known_always}
 use Rattle.delivery_core.specs.DeliveryCore.{DeliveryCore}
 use Rattle.delivery_core.specs.Stands.{EachAt, StandsFor, StandsForBox}
-use Rattle.delivery_core.specs.inner.Boxes.{BoxDelivers, stores, has_no_uid, has_no_place, has_no_memory}
+use Rattle.delivery_core.specs.inner.Boxes.{BoxDelivers, stores, has_no_uid, has_no_space, has_no_memory}
 use Rattle.delivery_core.specs.Seated.{cursors_of}
 use Rattle.delivery_core.proofs.Follow.{each_here, each_set, next_same, reached_step}
 use Rattle.delivery_core.proofs.SeatedLaws.{cursors_same}
 
 -- the copy in a hand is for a mailbox that is there
-pub job_place : (k : Config) (w : World) (old : DeliveryCore) (s : ℕ) (c : Job) → StandsFor k old w → s < length old.hands → Taken c ≡ get_or old.hands s (Taken c) → c.mailbox < length old.boxes
-job_place k w old s c S ins is =
+pub job_within : (k : Config) (w : World) (old : DeliveryCore) (s : ℕ) (c : Job) → StandsFor k old w → s < length old.hands → Taken c ≡ get_or old.hands s (Taken c) → c.mailbox < length old.boxes
+job_within k w old s c S ins is =
     let known : HandKnown k w (w.hand s) = (known_always k S.reached.0 w S.reached.1).hands s in
     let here : HandKnown k w (Taken c) = subst (HandKnown k w) (sym (is ∙ S.hands s (Taken c) ins)) known in
     omega (arith, here.mailbox, S.mailboxes)
@@ -58,13 +58,13 @@ pub deliver_follows : (k : Config) (w : World) (old new : DeliveryCore) (s : ℕ
     → new.clients ≡ old.clients → b.cursors ≡ before.cursors
     → (v : World) × Steps k w (Deliver s ∷ []) v × StandsFor k new v
 deliver_follows k w old new s c verdict before b S ins is there does hands boxes lanes replies heard next clients kept =
-    go (does (w.box c.mailbox) (rw there (S.boxes c.mailbox before (job_place k w old s c S ins is))))
+    go (does (w.box c.mailbox) (rw there (S.boxes c.mailbox before (job_within k w old s c S ins is))))
   where
     was : w.hand s ≡ Taken c
     was = sym (is ∙ S.hands s (Taken c) ins)
 
     cursors : cursors_of (set old.boxes c.mailbox b) ≡ cursors_of old.boxes
-    cursors = cursors_same old.boxes c.mailbox before b (job_place k w old s c S ins is) there kept
+    cursors = cursors_same old.boxes c.mailbox before b (job_within k w old s c S ins is) there kept
 
     -- the mailbox said no, and its box is as it was
     no : (said : Verdict) → verdict ≡ said → StandsForBox k b (w.box c.mailbox) → DeliverStep k w s (refused w s (reply_to c said)) → (v : World) × Steps k w (Deliver s ∷ []) v × StandsFor k new v
@@ -87,5 +87,5 @@ deliver_follows k w old new s c verdict before b S ins is there does hands boxes
               (each_set (λ x y. StandsForBox k x y) old.boxes w.box c.mailbox b u S.boxes box),
         )
     go (has_no_uid spent e box) = no (Refused UidSpent) e box (deliver_spent c was spent refl)
-    go (has_no_place has full e box) = no (Refused MailboxFull) e box (deliver_full c was has full refl)
+    go (has_no_space has full e box) = no (Refused MailboxFull) e box (deliver_full c was has full refl)
     go (has_no_memory has room e box) = no (Refused NoMemory) e box (deliver_no_memory c was has room refl)

@@ -1,4 +1,4 @@
--- What is changed at one place, the world changes at the same place.
+-- What is changed at one position, the world changes at the same position.
 use Rattle.std.proofs.Common.{◌≡◌, ◌≢◌, ◌⊎◌, inl, inr, true, false, ℕ, zero, suc, ◌<◌, List, [], ◌∷◌, ◌++◌, length, get_or, set, refl, sym, ap, subst, arith, eqb, get_or-set_same, get_or-set_other, length-set, Result, Ok, Err, OnOk, OnErr}
 use Rattle.std.proofs.lemmas.Bool.Decides.{eqb_tells}
 use Rattle.shard_queue.specs.At.{set_at}
@@ -10,7 +10,7 @@ use Rattle.delivery_core.specs.Stands.{EachAt, StandsFor, IsNext, Reached, Follo
 use Rattle.delivery_core.specs.inner.Stands.{Runs, Lives}
 use Rattle.delivery_token.specs.declared.CopyKey.{CopyKey}
 
--- an element is changed, and what is said of its place holds of it
+-- an element is changed, and what is said of its position holds of it
 pub each_here : {A : Type 0} (P : ℕ → A → Type 0) (xs : List A) (i : ℕ) (x : A) → EachAt P xs → P i x → EachAt P (set xs i x)
 each_here P xs i x all here j d l = go (eqb_tells j i)
   where
@@ -21,13 +21,13 @@ each_here P xs i x all here j d l = go (eqb_tells j i)
     go (inl (t, same)) = let lt2 : i < length xs = omega (arith, length-set xs i x) in rw (same, get_or-set_same xs i x d lt2) here
     go (inr (t, other)) = rw (get_or-set_other xs i j x d other) (all j d lt)
 
--- element and place are changed together
+-- element and position are changed together
 pub each_set : {A B : Type 0} (R : A → B → Type 0) (xs : List A) (f : ℕ → B) (i : ℕ) (x : A) (y : B) → EachAt (λ j a. R a (f j)) xs → R x y → EachAt (λ j a. R a (set_at f i y j)) (set xs i x)
 each_set R xs f i x y all here j d l = at_cases (R (get_or (set xs i x) j d)) f i y j
     (λ same. let lt : i < length xs = omega (arith, length-set xs i x) in rw (same, get_or-set_same xs i x d lt) here)
     (λ other. rw (get_or-set_other xs i j x d other) (all j d (omega (arith, length-set xs i x))))
 
--- an element is changed, and what is said of the places changes, at the others by this
+-- an element is changed, and what is said of the positions changes, at the others by this
 pub each_but : {A : Type 0} (P Q : ℕ → A → Type 0) (xs : List A) (i : ℕ) (x : A) → EachAt P xs → ((j : ℕ) (a : A) → j ≢ i → P j a → Q j a) → Q i x → EachAt Q (set xs i x)
 each_but P Q xs i x all more here j d l = go (eqb_tells j i)
   where
@@ -38,7 +38,7 @@ each_but P Q xs i x all more here j d l = go (eqb_tells j i)
     go (inl (t, same)) = let lt2 : i < length xs = omega (arith, length-set xs i x) in rw (same, get_or-set_same xs i x d lt2) here
     go (inr (t, other)) = rw (get_or-set_other xs i j x d other) (more j (get_or xs j d) other (all j d lt))
 
--- at a place of the list the default is of no account
+-- at a position of the list the default is of no account
 pub get_or-any : {A : Type 0} (xs : List A) (i : ℕ) (c d : A) → i < length xs → get_or xs i c ≡ get_or xs i d
 get_or-any [] i c d l = absurd (omega arith)
 get_or-any (x ∷ xs) zero c d l = refl

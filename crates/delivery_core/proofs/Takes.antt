@@ -84,8 +84,8 @@ take_follows k w old new s l l2 t hand S ins inh is there front held lanes hands
 -- Answer
 
 -- the verdict in a hand is for a seat that is there, and its reply lane is live
-pub reply_place : (k : Config) (w : World) (old : DeliveryCore) (s : ℕ) (r : Noted) → StandsFor k old w → s < length old.hands → Done r ≡ get_or old.hands s (Done r) → r.key.seat < length old.replies
-reply_place k w old s r S inh is =
+pub reply_within : (k : Config) (w : World) (old : DeliveryCore) (s : ℕ) (r : Noted) → StandsFor k old w → s < length old.hands → Done r ≡ get_or old.hands s (Done r) → r.key.seat < length old.replies
+reply_within k w old s r S inh is =
     let known : HandKnown k w (w.hand s) = (known_always k S.reached.0 w S.reached.1).hands s in
     let here : HandKnown k w (Done r) = subst (HandKnown k w) (sym (is ∙ S.hands s (Done r) inh)) known in
     omega (arith, here.seat, S.seats)

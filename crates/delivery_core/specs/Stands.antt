@@ -13,7 +13,7 @@ use Rattle.delivery_core.specs.declared.client.Client.{Client}
 use Rattle.delivery_core.specs.Seated.{AreSeated, cursors_of}
 use Rattle.delivery_core.specs.DeliveryCore.{DeliveryCore}
 
--- P holds of each place and the element there
+-- P holds of each position and the element there
 abbrev pub EachAt : {A : Type 0} → (ℕ → A → Type 0) → List A → Type 0
 EachAt {A} P xs = (i : ℕ) (d : A) → i < length xs → P i (slice_index_or xs i d)
 

@@ -387,13 +387,13 @@ impl DeliveryCore {
         let Hand::Taken(job) = &self.hands[at] else {
             return Err(Fault::Nothing);
         };
-        let place = usize::from(job.mailbox);
-        if place >= self.boxes.len() {
+        let position = usize::from(job.mailbox);
+        if position >= self.boxes.len() {
             return Err(Fault::Nothing);
         }
         let key = job.key;
         let mailbox = job.mailbox;
-        let verdict = deliver_to(&mut self.boxes[place], job);
+        let verdict = deliver_to(&mut self.boxes[position], job);
         self.hands[at] = Hand::Done(Noted {
             key,
             mailbox,

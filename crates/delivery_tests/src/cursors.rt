@@ -72,7 +72,7 @@ fn all_uids(alloc: Global, uids: &[u32], changes: &[Change]) -> Result<Vec<u32>,
 }
 
 // Where a message stands, if it is there.
-fn place_of(view: &[u32], uid: u32) -> Option<usize>
+fn position_of(view: &[u32], uid: u32) -> Option<usize>
     ensures { result ≡ position (λ other. other == uid) view.now }
 {
     view.iter().position(|other| *other == uid)
@@ -82,10 +82,10 @@ fn place_of(view: &[u32], uid: u32) -> Option<usize>
 fn drops(view: &mut Vec<u32>, uid: u32) -> bool
     ensures { IsTrue result → Names view.old.items (Gone uid) × (view.new.items ≡ without uid view.old.items) }
 {
-    let Some(place) = place_of(view.as_slice(), uid) else {
+    let Some(index) = position_of(view.as_slice(), uid) else {
         return false;
     };
-    view.remove(place);
+    view.remove(index);
     true
 }
 
@@ -277,7 +277,7 @@ const CASES: &[(&str, Case<'static>)] = &[
         },
     ),
     (
-        "flags name the place and the UID",
+        "flags name the position and the UID",
         Case {
             room: 16,
             uids: &[1, 2, 3],
@@ -442,18 +442,18 @@ fn removals(alloc: Global, uids: &[u32]) -> Result<Vec<Change>, AllocError> {
     Ok(changes)
 }
 
-// A line for the removal at each of these places.
-fn expunges(alloc: Global, places: &[u32]) -> Result<String, AllocError> {
+// A line for the removal at each of these positions.
+fn expunges(alloc: Global, positions: &[u32]) -> Result<String, AllocError> {
     let mut lines = String::new(alloc);
-    for place in places {
-        let Ok(()) = write!(lines, "* {} EXPUNGE\r\n", *place) else {
+    for position in positions {
+        let Ok(()) = write!(lines, "* {} EXPUNGE\r\n", *position) else {
             return Err(AllocError);
         };
     }
     Ok(lines)
 }
 
-// Whether a client that counts a thousand UIDs is told that every second of them is removed. The UID 2(k + 1) has the place 2(k + 1),
+// Whether a client that counts a thousand UIDs is told that every second of them is removed. The UID 2(k + 1) has the position 2(k + 1),
 // less the k that were removed before it.
 fn half_goes(alloc: Global) -> Result<bool, AllocError> {
     let uids = numbers(alloc, 1, 1, 1000)?;
@@ -479,7 +479,7 @@ fn every_second_of_a_thousand_is_removed(rt: HostRuntime) -> Result<(), AllocErr
 }
 
 // Whether a client that counts a thousand UIDs is told that all behind the first three hundred are removed, the last one first. So each
-// has its UID for its place.
+// has its UID for its position.
 fn last_ones_go(alloc: Global) -> Result<bool, AllocError> {
     let uids = numbers(alloc, 1, 1, 1000)?;
     let mut gone = numbers(alloc, 301, 1, 700)?;
@@ -637,9 +637,9 @@ fn a_later_handle_of_a_set_with_the_same_number_is_a_stranger(
 }
 
 // Cursors that stand at these.
-fn standing(alloc: Global, places: &[u64]) -> CursorSet {
+fn standing(alloc: Global, positions: &[u64]) -> CursorSet {
     let mut set = CursorSet::new(alloc, 3);
-    for at in places {
+    for at in positions {
         if set.can_open() {
             let _ = set.enter(&[], *at);
         }

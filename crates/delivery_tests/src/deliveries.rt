@@ -219,7 +219,7 @@ fn step(
     }
 }
 
-// The place of the first act that answers otherwise, where there is one.
+// The position of the first act that answers otherwise, where there is one.
 fn play(alloc: Global, settings: Settings, acts: &[Act]) -> Result<Option<usize>, AllocError>
     requires { 0 < settings.limits.ring }
 {

@@ -358,11 +358,11 @@ const SUBMITTED: &[(&[u8], &[u8], usize, &[u8], usize)] = &[
     ),
 ];
 
-// The place of the first of these at which something else is submitted.
+// The position of the first of these at which something else is submitted.
 fn first_unlike(alloc: Global, directory: &Directory) -> Result<Option<usize>, DirectoryFault> {
-    for (place, (begun, bytes, used, text, size)) in SUBMITTED.iter().enumerate() {
+    for (position, (begun, bytes, used, text, size)) in SUBMITTED.iter().enumerate() {
         if submitted(alloc, directory, (begun, bytes, text))? != ((*used, *size), true) {
-            return Ok(Some(place));
+            return Ok(Some(position));
         }
     }
     Ok(None)

@@ -33,7 +33,7 @@ const KEY: CopyKey = CopyKey {
 
 // A call, and what it is to answer.
 enum Act {
-    // A copy for a recipient: the UID and the place.
+    // A copy for a recipient: the UID and the position.
     Deliver(u8, Result<(u32, usize), Refusal>),
     Count(Status),
     // The UIDs that the client counts.
@@ -68,7 +68,7 @@ fn delivers(
         return false;
     };
     match deliver(mailbox, &copy) {
-        Ok(r) => r.key() == copy.key && r.mailbox() == 3 && wanted == Ok((r.uid(), r.place())),
+        Ok(r) => r.key() == copy.key && r.mailbox() == 3 && wanted == Ok((r.uid(), r.position())),
         Err(refusal) => wanted == Err(refusal),
     }
 }
@@ -130,7 +130,7 @@ fn step(
     }
 }
 
-// The place of the first act that answers otherwise, where there is one.
+// The position of the first act that answers otherwise, where there is one.
 fn play(
     alloc: Global,
     mailbox: &mut Mailbox,
@@ -138,9 +138,9 @@ fn play(
     out: &mut Vec<u8>,
     acts: &[Act],
 ) -> Option<usize> {
-    for (place, act) in acts.iter().enumerate() {
+    for (position, act) in acts.iter().enumerate() {
         if !step(alloc, mailbox, handle, out, act) {
-            return Some(place);
+            return Some(position);
         }
     }
     None

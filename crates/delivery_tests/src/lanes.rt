@@ -52,7 +52,7 @@ fn step(lane: &mut PlainLane<u8>, act: &Act) -> bool {
     }
 }
 
-// The place of the first act that answers otherwise, where there is one.
+// The position of the first act that answers otherwise, where there is one.
 fn play(
     alloc: Global,
     capacity: usize,

@@ -42,7 +42,7 @@ const GROWING: Limits = Limits {
 
 // A call, and what it is to answer.
 enum Act {
-    // A copy for a recipient: the mailbox's number, the UID and the place.
+    // A copy for a recipient: the mailbox's number, the UID and the position.
     Deliver(u8, &'static [u8], Result<(u8, u32, usize), Refusal>),
     // The same, of a copy that has flags.
     Bring(u8, Flags, Result<(u8, u32, usize), Refusal>),
@@ -94,7 +94,7 @@ fn delivers(
 ) -> Result<bool, AllocError> {
     let copy = job(alloc, recipient, bytes, flags)?;
     match mailbox.deliver(&copy) {
-        Ok(r) => Ok(r.key() == copy.key && wanted == Ok((r.mailbox(), r.uid(), r.place()))),
+        Ok(r) => Ok(r.key() == copy.key && wanted == Ok((r.mailbox(), r.uid(), r.position()))),
         Err(refusal) => Ok(wanted == Err(refusal)),
     }
 }
@@ -199,7 +199,7 @@ fn step(
     }
 }
 
-// The place of the first act that answers otherwise, where there is one.
+// The position of the first act that answers otherwise, where there is one.
 fn play(
     alloc: Global,
     mailbox: &mut Mailbox,

@@ -14,7 +14,7 @@ use std::alloc::AllocError;
 use std::marker::Model;
 use std::sync::Arc;
 
-/// Which copy it is: the connection's seat and serial, its message, and the place of the recipient
+/// Which copy it is: the connection's seat and serial, its message, and the position of the recipient
 /// among those accepted. Keys of one seat stand in the order of the fields.
 #[derive(Clone, Copy, Debug, PartialEq, Eq, PartialOrd, Ord)]
 pub struct CopyKey {
@@ -88,7 +88,7 @@ pub struct Job {
 /// Why a copy is not stored.
 #[derive(Clone, Copy, Debug, PartialEq, Eq)]
 pub enum Refusal {
-    /// The shard's queue has no place.
+    /// The shard's queue has no room.
     Full,
     /// The mailbox holds as many messages as it may.
     MailboxFull,

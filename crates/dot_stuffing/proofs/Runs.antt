@@ -9,11 +9,11 @@ use Rattle.line_io.proofs.Appended.{take_two_of}
 use Rattle.dot_stuffing.specs.Data.{Plain}
 use Rattle.dot_stuffing.specs.Unstuffing.{text_so_far, Collects, IsOpenAt, StandsFor, Tells, Unstuffer}
 use Rattle.dot_stuffing.specs.inner.Unstuffing.{after, after_two}
-use Rattle.dot_stuffing.specs.declared.place.Place.{Place}
-use Rattle.dot_stuffing.specs.declared.place.Place.TheVariants.{Start, Cr, Inside}
+use Rattle.dot_stuffing.specs.declared.context.Context.{Context}
+use Rattle.dot_stuffing.specs.declared.context.Context.TheVariants.{Start, Cr, Inside}
 use Rattle.dot_stuffing.specs.declared.Progress.{Progress}
 use Rattle.dot_stuffing.specs.declared.Progress.TheVariants.{More, Done}
-use Rattle.dot_stuffing.proofs.Places.{cr_byte, cr_lf, inside_byte, start_byte}
+use Rattle.dot_stuffing.proofs.Contexts.{cr_byte, cr_lf, inside_byte, start_byte}
 
 never : {A : Type 0} → (b : Bool) → b ≡ true → b ≡ false → A
 never b t f = absurd (let e : true ≡ false = sym t ∙ f in cc)
@@ -26,11 +26,11 @@ after_byte : (first second byte : ℕ) (wire : List ℕ) → IsOpenAt (after_two
     IsOpenAt (after_two second byte) (wire ++ byte ∷ []) × (text_so_far (after_two second byte) (wire ++ byte ∷ []) ≡ text_so_far (after_two first second) wire ++ byte ∷ [])
 after_byte first second byte wire at no_dot = cases (second == 13) refl (first == 13) refl (second == 10) refl (byte == 10) refl (byte == 13) refl at
   where
-    Added : Place → Place → Type 0
-    Added place next = IsOpenAt next (wire ++ byte ∷ []) × (text_so_far next (wire ++ byte ∷ []) ≡ text_so_far place wire ++ byte ∷ [])
+    Added : Context → Context → Type 0
+    Added context next = IsOpenAt next (wire ++ byte ∷ []) × (text_so_far next (wire ++ byte ∷ []) ≡ text_so_far context wire ++ byte ∷ [])
 
-    goal : (place : Place) (next : Place) → Added place (after byte) → next ≡ after byte → Added place next
-    goal place next h e = subst (λ (n : Place). Added place n) (sym e) h
+    goal : (context : Context) (next : Context) → Added context (after byte) → next ≡ after byte → Added context next
+    goal context next h e = subst (λ (n : Context). Added context n) (sym e) h
 
     cases : (s13 : Bool) → (second == 13) ≡ s13 → (f13 : Bool) → (first == 13) ≡ f13 → (s10 : Bool) → (second == 10) ≡ s10 → (b10 : Bool) → (byte == 10) ≡ b10 → (b13 : Bool) → (byte == 13) ≡ b13 →
         IsOpenAt (if s13 then Cr else if f13 && s10 then Start else Inside) wire →
@@ -43,14 +43,14 @@ after_byte first second byte wire at no_dot = cases (second == 13) refl (first =
     cases false s true f false t b10 b b13 c at = goal Inside (if b13 then Cr else Inside) (inside_byte byte wire at) (sym (after_is byte b13 c))
     cases false s false f s10 t b10 b b13 c at = goal Inside (if b13 then Cr else Inside) (inside_byte byte wire at) (sym (after_is byte b13 c))
 
--- the place after the first n bytes of a run, where it was inside a line before them
-abbrev place_at : List ℕ → ℕ → Place
-place_at run n = after_two (get_or (0 ∷ 0 ∷ run) n 0) (get_or (0 ∷ run) n 0)
+-- the context after the first n bytes of a run, where it was inside a line before them
+abbrev context_at : List ℕ → ℕ → Context
+context_at run n = after_two (get_or (0 ∷ 0 ∷ run) n 0) (get_or (0 ∷ run) n 0)
 
 -- bytes that have no dot behind a CRLF add themselves
 pub text_run : (wire run : List ℕ) (n : ℕ) → n ≤ length run →
     ((k : ℕ) → k + 2 < n → get_or run k 0 ≡ 13 → get_or run (k + 1) 0 ≡ 10 → get_or run (k + 2) 0 ≡ 46 → ⊥) → IsOpenAt Inside wire →
-    IsOpenAt (place_at run n) (wire ++ take n run) × (text_so_far (place_at run n) (wire ++ take n run) ≡ text_so_far Inside wire ++ take n run)
+    IsOpenAt (context_at run n) (wire ++ take n run) × (text_so_far (context_at run n) (wire ++ take n run) ≡ text_so_far Inside wire ++ take n run)
 text_run wire run zero h no_dot at = (
   subst (λ (w : List ℕ). IsOpenAt Inside w) (sym (append-nil wire)) at,
   ap (λ w. text_so_far Inside w) (append-nil wire) ∙ sym (append-nil (text_so_far Inside wire)),
@@ -63,7 +63,7 @@ text_run wire run (suc n) h no_dot at =
     let one = after_byte (get_or (0 ∷ 0 ∷ run) n 0) (get_or (0 ∷ run) n 0) byte front before.0 (third n no_dot) in
     let last : take (suc n) run ≡ take n run ++ byte ∷ [] = take-suc run n 0 (omega arith) in
     let more : wire ++ take (suc n) run ≡ front ++ byte ∷ [] = ap (λ t. wire ++ t) last ∙ sym (append_assoc wire (take n run) (byte ∷ [])) in
-    let next : Place = place_at run (suc n) in (
+    let next : Context = context_at run (suc n) in (
       subst (λ (w : List ℕ). IsOpenAt next w) (sym more) one.0,
       ap (λ w. text_so_far next w) more ∙ one.1 ∙ ap (λ t. t ++ byte ∷ []) before.1
           ∙ append_assoc text (take n run) (byte ∷ []) ∙ ap (λ t. text ++ t) (sym last),
@@ -75,18 +75,18 @@ text_run wire run (suc n) h no_dot at =
     third (suc zero) none a b c = let e : ◌≡◌ {A = ℕ} 0 13 = a in omega (arith, e)
     third (suc (suc k)) none a b c = none k (omega arith) a (rw (add-one k) b) (ap (λ m. get_or run m 0) (let e : k + 2 ≡ suc (suc k) = omega arith in e) ∙ c)
 
--- the place after all of them
-pub place_at_end : (run : List ℕ) (place : Place) → (length run ≡ 0 → place ≡ Inside) → (length run ≡ 1 → place ≡ after (get_or run 0 0)) →
-    ((n : ℕ) → length run ≡ n + 2 → place ≡ after_two (get_or run n 0) (get_or run (n + 1) 0)) → place ≡ place_at run (length run)
-place_at_end run place none one more = cases (length run) refl
+-- the context after all of them
+pub context_at_end : (run : List ℕ) (context : Context) → (length run ≡ 0 → context ≡ Inside) → (length run ≡ 1 → context ≡ after (get_or run 0 0)) →
+    ((n : ℕ) → length run ≡ n + 2 → context ≡ after_two (get_or run n 0) (get_or run (n + 1) 0)) → context ≡ context_at run (length run)
+context_at_end run context none one more = cases (length run) refl
   where
-    cases : (n : ℕ) → length run ≡ n → place ≡ place_at run n
+    cases : (n : ℕ) → length run ≡ n → context ≡ context_at run n
     cases zero e = none e
     cases (suc zero) e = one e
     cases (suc (suc n)) e = let two : length run ≡ n + 2 = omega (arith, e) in more n two ∙ ap (λ k. after_two (get_or run n 0) (get_or run k 0)) (add-one n)
 
 -- what the unstuffer knows after such bytes
-pub stands_run : (old new : Unstuffer) (wire piece : List ℕ) (n : ℕ) → StandsFor old wire → old.place ≡ Inside → new.place ≡ place_at (take n piece) (length (take n piece)) →
+pub stands_run : (old new : Unstuffer) (wire piece : List ℕ) (n : ℕ) → StandsFor old wire → old.context ≡ Inside → new.context ≡ context_at (take n piece) (length (take n piece)) →
     n ≤ length piece → ((k : ℕ) → k + 2 < n → get_or piece k 0 ≡ 13 → get_or piece (k + 1) 0 ≡ 10 → get_or piece (k + 2) 0 ≡ 46 → ⊥) →
     ((text : List ℕ) → Collects old.collected text → Collects new.collected (text ++ take n piece)) →
     StandsFor new (wire ++ take n piece)
@@ -95,12 +95,12 @@ stands_run old new wire piece n s from to h no_dot add =
     let len : length run ≡ n = length-take-le n piece h in
     let none : (k : ℕ) → k + 2 < length run → get_or run k 0 ≡ 13 → get_or run (k + 1) 0 ≡ 10 → get_or run (k + 2) 0 ≡ 46 → ⊥ =
     λ k l a b c. no_dot k (omega (arith, len)) (sym (get_or-take n piece k 0 (omega (arith, len))) ∙ a) (sym (get_or-take n piece (k + 1) 0 (omega (arith, len))) ∙ b) (sym (get_or-take n piece (k + 2) 0 (omega (arith, len))) ∙ c) in
-    let w = text_run wire run (length run) (omega arith) none (subst (λ (p : Place). IsOpenAt p wire) from s.wire_at) in
-    let v = subst (λ (r : List ℕ). IsOpenAt (place_at run (length run)) (wire ++ r) × (text_so_far (place_at run (length run)) (wire ++ r) ≡ text_so_far Inside wire ++ r)) (take-length run) w in
-    let text : text_so_far new.place (wire ++ run) ≡ text_so_far old.place wire ++ run =
+    let w = text_run wire run (length run) (omega arith) none (subst (λ (p : Context). IsOpenAt p wire) from s.wire_at) in
+    let v = subst (λ (r : List ℕ). IsOpenAt (context_at run (length run)) (wire ++ r) × (text_so_far (context_at run (length run)) (wire ++ r) ≡ text_so_far Inside wire ++ r)) (take-length run) w in
+    let text : text_so_far new.context (wire ++ run) ≡ text_so_far old.context wire ++ run =
     ap (λ p. text_so_far p (wire ++ run)) to ∙ v.1 ∙ ap (λ p. text_so_far p wire ++ run) (sym from) in
     record {
-      wire_at = subst (λ (p : Place). IsOpenAt p (wire ++ run)) (sym to) v.0;
+      wire_at = subst (λ (p : Context). IsOpenAt p (wire ++ run)) (sym to) v.0;
       collects = subst (λ (t : List ℕ). Collects new.collected t) (sym text) (add _ s.collects);
     }
 

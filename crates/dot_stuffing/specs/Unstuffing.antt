@@ -2,15 +2,15 @@
 use Rattle.std.specs.Prelude.{◌≡◌, ◌≢◌, ℕ, ◌<◌, ◌≤◌, List, [], ◌∷◌, ◌++◌, length, map, Contains, Bool, true, false, Option, None, Some}
 use Rattle.line_io.specs.Wire.{EndsInCr, joined, wire_lines, wire_rest}
 use Rattle.dot_stuffing.specs.Data.{undotted, IsOpen, Plain}
-use Rattle.dot_stuffing.specs.declared.place.Place.{Place}
-use Rattle.dot_stuffing.specs.declared.place.Place.TheVariants.{Start, Dot, DotCr, Inside, Cr}
+use Rattle.dot_stuffing.specs.declared.context.Context.{Context}
+use Rattle.dot_stuffing.specs.declared.context.Context.TheVariants.{Start, Dot, DotCr, Inside, Cr}
 use Rattle.dot_stuffing.specs.declared.Outcome.{Outcome}
 use Rattle.dot_stuffing.specs.declared.Outcome.TheVariants.{Nul, TooBig, NoMemory, Ok}
 use Rattle.dot_stuffing.specs.declared.Progress.{Progress}
 use Rattle.dot_stuffing.specs.declared.Progress.TheVariants.{More, Done}
 
--- where in its line the wire stands
-abbrev pub IsAt : Place → List ℕ → Type 0
+-- the context of the next byte: what stands in its line before it
+abbrev pub IsAt : Context → List ℕ → Type 0
 IsAt Start rest = rest ≡ []
 IsAt Dot rest = rest ≡ 46 ∷ []
 IsAt DotCr rest = rest ≡ 46 ∷ 13 ∷ []
@@ -18,18 +18,18 @@ IsAt Inside rest = (rest ≢ []) × (rest ≢ 46 ∷ []) × (EndsInCr rest → �
 IsAt Cr rest = (rest ≢ 46 ∷ 13 ∷ []) × EndsInCr rest
 
 -- of the line that has not ended, what is known to be text: after a dot and a CR the line may be the end
-abbrev pub known : Place → List ℕ → List ℕ
+abbrev pub known : Context → List ℕ → List ℕ
 known DotCr rest = []
-known place rest = undotted rest
+known context rest = undotted rest
 
 -- the text that the wire has brought
-abbrev pub text_so_far : Place → List ℕ → List ℕ
-text_so_far place wire = joined (map undotted (wire_lines wire)) ++ known place (wire_rest wire)
+abbrev pub text_so_far : Context → List ℕ → List ℕ
+text_so_far context wire = joined (map undotted (wire_lines wire)) ++ known context (wire_rest wire)
 
--- the wire is open, and stands at this place in its line
-pub record IsOpenAt (place : Place) (wire : List ℕ) : Type 0 where
+-- the wire is open, and this is the context of its next byte
+pub record IsOpenAt (context : Context) (wire : List ℕ) : Type 0 where
   pub is_open : IsOpen wire
-  pub at : IsAt place (wire_rest wire)
+  pub at : IsAt context (wire_rest wire)
 
 -- what a `Buffer` holds: the text so far, and what stands before it
 pub record Buffer : Type 0 where
@@ -71,15 +71,15 @@ IsOutcome Ok max text = (Contains text 0 → ⊥) × (length text ≤ max)
 
 -- what an `Unstuffer` knows
 pub record Unstuffer : Type 0 where
-  pub place : Place
+  pub context : Context
   pub collected : Collector
   -- what came of the data, once it has ended
   pub outcome : Option Outcome
 
 -- the unstuffer has taken this wire, and the data has not ended
 pub record StandsFor (u : Unstuffer) (wire : List ℕ) : Type 0 where
-  pub wire_at : IsOpenAt u.place wire
-  pub collects : Collects u.collected (text_so_far u.place wire)
+  pub wire_at : IsOpenAt u.context wire
+  pub collects : Collects u.collected (text_so_far u.context wire)
 
 abbrev pub outcome_of : Progress → Option Outcome
 outcome_of More = None

@@ -5,9 +5,9 @@
 
 mod buffer;
 mod collector;
+mod context;
 mod dots;
 mod laws;
-mod place;
 mod unstuffer;
 
 pub use dots::stuff;

@@ -5,7 +5,7 @@ ghost use Rattle.std.specs.Prelude.{◌≡◌, ◌≢◌, ℕ, ◌<◌, ◌≤�
 ghost use Rattle.dot_stuffing.specs.Unstuffing.{IsBehind, StandsFor, outcome_of, Tells};
 
 use crate::collector::Collector;
-use crate::place::{Next, Place, place_behind, step_from};
+use crate::context::{Context, Next, context_behind, step_from};
 use crate::{CR, Outcome, Progress, Taken};
 use memchr::memmem::Finder;
 use std::alloc::Global;
@@ -27,7 +27,7 @@ fn before_dot(finder: &Finder<'_>, piece: &[u8]) -> usize
 /// Takes mail data from the wire, in pieces, and gives its text (RFC 5321, section 4.5.2).
 #[derive(Drop)]
 pub struct Unstuffer {
-    place: Place,
+    context: Context,
     collector: Collector,
     outcome: Option<Outcome>,
 }
@@ -39,7 +39,7 @@ impl Model for Unstuffer {
 
     ghost Value = { Unstuffer };
 
-    ghost view = { λ a. record { place = a.place; collected = a.collector; outcome = a.outcome } };
+    ghost view = { λ a. record { context = a.context; collected = a.collector; outcome = a.outcome } };
 
     ghost invariant = { λ a. a.outcome ≡ Some outcomes.Ok → a.collector.no_memory ≡ false };
 }
@@ -53,7 +53,7 @@ impl Unstuffer {
         ensures behind { IsBehind result.collected [] }
     {
         Unstuffer {
-            place: Place::Start,
+            context: Context::Start,
             collector: Collector::new(alloc, max),
             outcome: None,
         }
@@ -67,7 +67,7 @@ impl Unstuffer {
         ensures stands { StandsFor self.new [] }
         ensures behind { IsBehind self.new.collected (flat_map (λ part. part.now) parts.now) }
     {
-        self.place = Place::Start;
+        self.context = Context::Start;
         self.outcome = None;
         self.collector.begin_behind(parts);
     }
@@ -129,12 +129,12 @@ impl Unstuffer {
         ensures outcome { self.new.outcome ≡ None }
         ensures stands { (wire : List ℕ) → StandsFor self.old wire → StandsFor self.new (wire ++ take result piece.now) }
     {
-        let Place::Inside = self.place else {
+        let Context::Inside = self.context else {
             return 0;
         };
         let len = before_dot(finder, piece);
         self.collector.add_run(&piece[..len]);
-        self.place = place_behind(&piece[..len]);
+        self.context = context_behind(&piece[..len]);
         len
     }
 
@@ -146,20 +146,20 @@ impl Unstuffer {
         ensures outcome { self.new.outcome ≡ outcome_of result }
         ensures data { (wire : List ℕ) → StandsFor self.old wire → Tells result self.new wire (byte ∷ []) }
     {
-        match step_from(self.place, byte) {
-            Next::Silent(place) => {
-                self.place = place;
+        match step_from(self.context, byte) {
+            Next::Silent(context) => {
+                self.context = context;
                 Progress::More
             }
-            Next::Adds(place) => {
+            Next::Adds(context) => {
                 self.collector.add(byte);
-                self.place = place;
+                self.context = context;
                 Progress::More
             }
-            Next::AddsBoth(place) => {
+            Next::AddsBoth(context) => {
                 self.collector.add(CR);
                 self.collector.add(byte);
-                self.place = place;
+                self.context = context;
                 Progress::More
             }
             Next::Ends => {

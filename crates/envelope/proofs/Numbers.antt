@@ -66,15 +66,15 @@ same_word a b =
     let d = same_home (home_of a) (home_of b) in
     same_from_decides (is_exactly (home_of a) (home_of b)) (bytes_eq a b) (λ e. one_home a b (d.0 e), λ e. d.1 (ap home_of e)) (bytes_eq-Decides a b)
 
--- ---- places
+-- ---- positions
 
-same_place : (word : List ℕ) (words : List (List ℕ)) →
+same_position : (word : List ℕ) (words : List (List ℕ)) →
     prefix_len (λ h. not (is_exactly (home_of word) h)) (map home_of words) ≡ prefix_len (λ w. not (bytes_eq word w)) words
-same_place word [] = refl
-same_place word (w ∷ ws) = ap₂ (λ b n. cond (not b) (1 + n) 0) (same_word word w) (same_place word ws)
+same_position word [] = refl
+same_position word (w ∷ ws) = ap₂ (λ b n. cond (not b) (1 + n) 0) (same_word word w) (same_position word ws)
 
-pub number_is_place : (directory : Directory) (words : List (List ℕ)) (word : List ℕ) →
+pub number_is_position : (directory : Directory) (words : List (List ℕ)) (word : List ℕ) →
     directory.homes ≡ map home_of words → number_of directory word ≡ position (bytes_eq word) words
-number_is_place directory words word e =
+number_is_position directory words word e =
     ap (position (is_exactly (home_of word))) e
-    ∙ ap₂ (λ place len. if nat_lt place len then Some place else None) (same_place word words) (length-map words home_of)
+    ∙ ap₂ (λ index len. if nat_lt index len then Some index else None) (same_position word words) (length-map words home_of)

@@ -221,14 +221,14 @@ fn copied_homes(alloc: Global, homes: &[StoredHome]) -> Result<Vec<StoredHome>, 
     Ok(copied)
 }
 
-fn place_of_wanted(homes: &[StoredHome], value: LocalValue<'_>) -> Option<usize>
+fn position_of_wanted(homes: &[StoredHome], value: LocalValue<'_>) -> Option<usize>
     ensures value { result ≡ position (is_home (wanted (value_left value.entry))) homes.now }
     ensures within { IfSome result (λ n. n < length homes.now) }
 {
     homes.iter().position(|home| home.is_wanted(value))
 }
 
-fn place_of_word(homes: &[StoredHome], word: Word<'_>) -> Option<usize>
+fn position_of_word(homes: &[StoredHome], word: Word<'_>) -> Option<usize>
     ensures value { result ≡ position (is_exactly (word_home word.entry)) homes.now }
     ensures within { IfSome result (λ n. n < length homes.now) }
 {
@@ -299,8 +299,8 @@ impl Directory {
         ensures value { result ≡ numbered self.now (wanted (value_left value.entry)) }
         ensures within { IfOk result (λ n. n < length self.now.homes) }
     {
-        match place_of_wanted(&self.homes, value) {
-            Some(place) => Ok(place as u8),
+        match position_of_wanted(&self.homes, value) {
+            Some(index) => Ok(index as u8),
             None => Err(NoSuch::User),
         }
     }
@@ -340,8 +340,8 @@ impl Directory {
         ensures value { result ≡ number_of self.now word.now }
         ensures within { IfSome result (λ n. n < length self.now.homes) }
     {
-        match place_of_word(&self.homes, Word::cut(word)) {
-            Some(place) => Some(place as u8),
+        match position_of_word(&self.homes, Word::cut(word)) {
+            Some(index) => Some(index as u8),
             None => None,
         }
     }

@@ -14,7 +14,7 @@ mod word;
 
 pub use command::{CommandFault, ForwardPath, LmtpCommand, Mailbox, ReversePath, Verb};
 pub use directory::{Directory, DirectoryFault, NoSuch};
-pub use laws::words_have_their_places;
+pub use laws::words_have_their_positions;
 pub use names::{is_folder, is_name, is_user};
 pub use reading::read_command;
 pub use recipients::{Recipients, TooMany};

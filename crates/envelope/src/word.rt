@@ -19,12 +19,12 @@ pub struct Word<'a> {
     pub folder: Option<&'a [u8]>,
 }
 
-/// What stands past the byte at this place, where there is one.
-fn past(place: usize, bytes: &[u8]) -> Option<&[u8]>
-    ensures { option_copied result ≡ (if nat_lt place (length bytes.now) then Some (drop (place + 1) bytes.now) else None) }
+/// What stands past the byte at this position, where there is one.
+fn past(index: usize, bytes: &[u8]) -> Option<&[u8]>
+    ensures { option_copied result ≡ (if nat_lt index (length bytes.now) then Some (drop (index + 1) bytes.now) else None) }
 {
-    if place < bytes.len() {
-        Some(&bytes[place + 1..])
+    if index < bytes.len() {
+        Some(&bytes[index + 1..])
     } else {
         None
     }

@@ -7,7 +7,7 @@ use Rattle.change_ring.specs.declared.change.Change.{Change}
 use Rattle.change_ring.specs.declared.change.Change.TheVariants.{Add, Gone, Flags as SetFlags}
 use Rattle.change_ring.specs.declared.change.Flags.{Flags}
 use Rattle.change_ring.specs.Log.{shown}
-use Rattle.cursor_set.specs.Lines.{lines, line, place, flag_words, spaced}
+use Rattle.cursor_set.specs.Lines.{lines, line, position, flag_words, spaced}
 use Rattle.line_io.specs.Wire.{IsCut, crlf, wire_lines, wire_rest}
 use Rattle.line_io.specs.inner.WireLaws.{cut_end, cut_more, cut_none, reading_cut}
 use Rattle.mailbox.specs.declared.clients.MailFault.{MailFault}
@@ -66,8 +66,8 @@ cut_of bytes (inr (front, e)) =
 
 line_whole : (view : List ℕ) (c : Change) → IsWhole (line view c)
 line_whole view (Add uid) = ends (codes "* " ++ decimal (length view + 1)) (codes " EXISTS")
-line_whole view (Gone uid) = ends (codes "* " ++ decimal (place uid view)) (codes " EXPUNGE")
-line_whole view (SetFlags uid flags) = ends (codes "* " ++ decimal (place uid view) ++ codes " FETCH (UID " ++ decimal uid ++ codes " FLAGS (" ++ spaced (flag_words flags)) (codes "))")
+line_whole view (Gone uid) = ends (codes "* " ++ decimal (position uid view)) (codes " EXPUNGE")
+line_whole view (SetFlags uid flags) = ends (codes "* " ++ decimal (position uid view) ++ codes " FETCH (UID " ++ decimal uid ++ codes " FLAGS (" ++ spaced (flag_words flags)) (codes "))")
 
 lines_whole : (view : List ℕ) (changes : List Change) → IsWhole (lines view changes)
 lines_whole view [] = inl refl
@@ -298,7 +298,7 @@ in_done command false true = tt
 in_done command false false = tt
 
 fetched_whole : (fetch : Fetch) (view : List ℕ) (uid : ℕ) (row : Row) → IsWhole (fetched fetch view uid row)
-fetched_whole fetch view uid row = ends (codes "* " ++ decimal (place uid view) ++ codes " FETCH (" ++ spaced (map (item_text row) (answered fetch.by_uid row.newly_seen fetch.items))) (codes ")")
+fetched_whole fetch view uid row = ends (codes "* " ++ decimal (position uid view) ++ codes " FETCH (" ++ spaced (map (item_text row) (answered fetch.by_uid row.newly_seen fetch.items))) (codes ")")
 
 in_fetching : (fetch : Fetch) (mark : Bool) (view : List ℕ) (done : Bool → Exchange) → ((gone : Bool) → SaysWhole (done gone)) → (uids : List ℕ) (gone : Bool) → SaysWhole (fetching fetch mark view done uids gone)
 in_fetching fetch mark view done p [] gone = p gone
@@ -316,7 +316,7 @@ stored_whole false text p = p
 in_storing : (store : Store) (view : List ℕ) (done : Bool → Exchange) → ((gone : Bool) → SaysWhole (done gone)) → (uids : List ℕ) (gone : Bool) → SaysWhole (storing store view done uids gone)
 in_storing store view done p [] gone = p gone
 in_storing store view done p (uid ∷ uids) gone =
-    elim [ None ↦ in_storing store view done p uids true | Some flags ↦ (stored_whole store.silent _ (flags_whole store.by_uid (place uid view) uid flags), in_storing store view done p uids gone) ]
+    elim [ None ↦ in_storing store view done p uids true | Some flags ↦ (stored_whole store.silent _ (flags_whole store.by_uid (position uid view) uid flags), in_storing store view done p uids gone) ]
 
 opening_whole : (read_only : Bool) (name : List ℕ) (opening : Opening) → IsWhole (opening_text read_only name opening)
 opening_whole read_only name opening = inr (

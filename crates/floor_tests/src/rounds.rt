@@ -187,8 +187,8 @@ fn labour<H: Hall, R: Wait + Abort>(
     ensures { AreSomeones floor.now.office.lanes.items (manually_drop_value {X = Left} result).ended.items }
 {
     let Post { mut desk, room } = ManuallyDrop::into_inner(parcel);
-    let place = usize::from(desk.number);
-    let channel = floor.depot.channels.get(place).expect(rt, "a channel");
+    let position = usize::from(desk.number);
+    let channel = floor.depot.channels.get(position).expect(rt, "a channel");
     let stored = put_all(rt, floor, clerks, channel, &mut desk);
     let Desk {
         number,
@@ -396,7 +396,7 @@ fn run_in<H: Hall + Send, T: Threads + Wait + Sync + Abort>(
     let told = collect_all(&floor, left, &mut lists, &mut receivers);
     let Dismissed { consumed, in_order } = dismiss_all(rt, &Unhindered, &floor, staff, consumed);
     if !in_order {
-        panic!(rt; "a clerk stood at another's place")
+        panic!(rt; "a clerk stood at another's position")
     }
     let seats = part(consumed, consumers, &mut sender_hands);
     let Floor {
@@ -430,8 +430,8 @@ fn run_in<H: Hall + Send, T: Threads + Wait + Sync + Abort>(
 
 // Whether no key stands there twice.
 fn each_once(keys: &[CopyKey]) -> bool {
-    for (place, key) in keys.iter().enumerate() {
-        if keys[place + 1..].contains(key) {
+    for (position, key) in keys.iter().enumerate() {
+        if keys[position + 1..].contains(key) {
             return false;
         }
     }

@@ -18,10 +18,10 @@ use Rattle.house_connection.specs.ConnectionStands.{StandsForConnection}
 use Rattle.house.specs.inner.Steps.{IsOf}
 use Rattle.house.specs.Stands.{StandsFor, StandsForOne}
 use Rattle.house.specs.Steps.{is_unread}
-use Rattle.house.specs.inner.Steps.{PlaceWentOn, StandsForMaybe}
+use Rattle.house.specs.inner.Steps.{CallerWentOn, StandsForMaybe}
 use Rattle.house_connection.proofs.Arrivals.{more_stands}
 use Rattle.house_connection.proofs.Connections.{unread_stands}
-use Rattle.house.proofs.Places.{after_going, at_there}
+use Rattle.house.proofs.Callers.{after_going, at_there}
 
 -- where a line stands at a seat, so does a caller of the scene
 pub record IsAt (k : Setup) (s : Scene) (seat : ℕ) (next : CopyKey) (h : HouseConnection) : Type 0 where
@@ -49,13 +49,13 @@ some_line (Some g) h = (g, refl)
 peer_there : (k : Terms) (seat : ℕ) (next : CopyKey) (heard : List Noted) (o : Option HouseConnection) (g : HouseConnection) (b : Caller) → o ≡ Some g → is_unread o ≡ false → StandsForConnection k seat next heard g b → b.gone ≡ false
 peer_there k seat next heard o g b e u s = sym s.gone ∙ subst (λ (x : Option HouseConnection). is_unread x ≡ false) e u
 
-pub received : (k : Setup) (h : House) (s : Scene) (number seat : ℕ) (piece : List ℕ) (directory : Directory) (l : Option HouseConnection) (place : Option HouseConnection) (whole : Bool) (old new : List ℕ)
-    → StandsFor k h s → number ≡ seat + 1 → directory ≡ h.directory → seat < length h.callers → IsSome (get_or h.callers seat None) → is_unread (get_or h.callers seat None) ≡ false → place ≡ option_map (with_more piece) (get_or h.callers seat None)
-    → ((x : Terms) (p : ℕ) (next : CopyKey) (heard : List Noted) (b : Caller) → IsOf x number p directory → StandsForMaybe x p next heard place (Some b) → PlaceWentOn x whole p next heard b l old new)
+pub received : (k : Setup) (h : House) (s : Scene) (number seat : ℕ) (piece : List ℕ) (directory : Directory) (l : Option HouseConnection) (occupant : Option HouseConnection) (whole : Bool) (old new : List ℕ)
+    → StandsFor k h s → number ≡ seat + 1 → directory ≡ h.directory → seat < length h.callers → IsSome (get_or h.callers seat None) → is_unread (get_or h.callers seat None) ≡ false → occupant ≡ option_map (with_more piece) (get_or h.callers seat None)
+    → ((x : Terms) (p : ℕ) (next : CopyKey) (heard : List Noted) (b : Caller) → IsOf x number p directory → StandsForMaybe x p next heard occupant (Some b) → CallerWentOn x whole p next heard b l old new)
     → (t : Scene) × (printed : List ℕ) × BytesPlay k whole s seat piece t printed
     × StandsFor k (record { core = h.core; callers = set h.callers seat l; serials = h.serials; visitors = h.visitors; entered = h.entered; directory = h.directory; host = h.host; max_message = h.max_message }) t
     × (new ≡ old ++ printed)
-received k h s number seat piece directory l place whole old new st e dir lt some read is f =
+received k h s number seat piece directory l occupant whole old new st e dir lt some read is f =
     let g = some_line (get_or h.callers seat None) some in
     let y = first_key seat in
     let a = at_seat k h s seat y g.0 st lt g.1 in
@@ -72,13 +72,13 @@ received k h s number seat piece directory l place whole old new st e dir lt som
       w.out,
     )
 
-pub vanished : (k : Setup) (h : House) (s : Scene) (number seat : ℕ) (directory : Directory) (l : Option HouseConnection) (place : Option HouseConnection) (whole : Bool) (old new : List ℕ)
-    → StandsFor k h s → number ≡ seat + 1 → directory ≡ h.directory → seat < length h.callers → IsSome (get_or h.callers seat None) → is_unread (get_or h.callers seat None) ≡ false → place ≡ option_map with_nobody_there (get_or h.callers seat None)
-    → ((x : Terms) (p : ℕ) (next : CopyKey) (heard : List Noted) (b : Caller) → IsOf x number p directory → StandsForMaybe x p next heard place (Some b) → PlaceWentOn x whole p next heard b l old new)
+pub vanished : (k : Setup) (h : House) (s : Scene) (number seat : ℕ) (directory : Directory) (l : Option HouseConnection) (occupant : Option HouseConnection) (whole : Bool) (old new : List ℕ)
+    → StandsFor k h s → number ≡ seat + 1 → directory ≡ h.directory → seat < length h.callers → IsSome (get_or h.callers seat None) → is_unread (get_or h.callers seat None) ≡ false → occupant ≡ option_map with_nobody_there (get_or h.callers seat None)
+    → ((x : Terms) (p : ℕ) (next : CopyKey) (heard : List Noted) (b : Caller) → IsOf x number p directory → StandsForMaybe x p next heard occupant (Some b) → CallerWentOn x whole p next heard b l old new)
     → (t : Scene) × (printed : List ℕ) × VanishPlay k whole s seat t printed
     × StandsFor k (record { core = h.core; callers = set h.callers seat l; serials = h.serials; visitors = h.visitors; entered = h.entered; directory = h.directory; host = h.host; max_message = h.max_message }) t
     × (new ≡ old ++ printed)
-vanished k h s number seat directory l place whole old new st e dir lt some read is f =
+vanished k h s number seat directory l occupant whole old new st e dir lt some read is f =
     let g = some_line (get_or h.callers seat None) some in
     let y = first_key seat in
     let a = at_seat k h s seat y g.0 st lt g.1 in
@@ -111,7 +111,7 @@ vacant k s seat next (Some b) e w = absurd w
 pub welcomed : (k : Setup) (h : House) (s : Scene) (number seat : ℕ) (piece : List ℕ) (directory : Directory) (l : Option HouseConnection) (g : HouseConnection) (whole : Bool) (old new : List ℕ)
     → StandsFor k h s → number ≡ seat + 1 → directory ≡ h.directory → seat < length h.callers → get_or h.callers seat None ≡ None → get_or h.serials seat 0 < most_serials
     → ((x : Terms) (next : CopyKey) (heard : List Noted) → x.host ≡ h.host → x.max_message ≡ h.max_message → AtLeast next (record { seat = seat; serial = get_or h.serials seat 0; message = 0; recipient = 0 }) → StandsForConnection x seat next heard g (more_waits (greeted x seat (get_or h.serials seat 0)) piece))
-    → ((x : Terms) (p : ℕ) (next : CopyKey) (heard : List Noted) (b : Caller) → IsOf x number p directory → StandsForMaybe x p next heard (Some g) (Some b) → PlaceWentOn x whole p next heard b l old new)
+    → ((x : Terms) (p : ℕ) (next : CopyKey) (heard : List Noted) (b : Caller) → IsOf x number p directory → StandsForMaybe x p next heard (Some g) (Some b) → CallerWentOn x whole p next heard b l old new)
     → (t : Scene) × (printed : List ℕ) × BytesPlay k whole s seat piece t printed
     × StandsFor k (record { core = h.core; callers = set h.callers seat l; serials = set h.serials seat (get_or h.serials seat 0 + 1); visitors = h.visitors; entered = h.entered; directory = h.directory; host = h.host; max_message = h.max_message }) t
     × (new ≡ old ++ printed)

@@ -1,6 +1,6 @@
 pub mod Seats
 pub mod Worldly
-pub mod Places
+pub mod Callers
 pub mod Events
 pub mod Turns
 pub mod Ended

@@ -36,7 +36,7 @@ use Rattle.house.specs.Scene.{EnterPlay, HearPlay, LeavePlay, PutPlay, SayPlay, 
 use Rattle.house.specs.Stands.{StandsFor, StandsForVisit, first_of}
 use Rattle.house.specs.Steps.{PutsNext, is_left}
 use Rattle.house.specs.inner.Steps.{HasLingered, MayNotPut, PlaceTalked, PlaceVisited, StandsForSomebody, with_more_came}
-use Rattle.house.proofs.Places.{at_there}
+use Rattle.house.proofs.Callers.{at_there}
 use Rattle.house.proofs.Seats.{heard_is, one_step, seat_within}
 use Rattle.house.proofs.Turns.{hear_moves, may_of, step_of}
 use Rattle.house.proofs.Visiting.{IsAtPlace, after_visiting, at_place, goes_serial, lingers_serial, talks_serial, visit_stands, visited_scene, who_stays, with_visits}

@@ -28,9 +28,9 @@ use Rattle.house_connection.specs.ConnectionStands.{StandsForConnection}
 use Rattle.house.specs.inner.Steps.{IsOf}
 use Rattle.house.specs.Stands.{StandsFor}
 use Rattle.house.specs.Steps.{PutsNext}
-use Rattle.house.specs.inner.Steps.{MayNotPut, PlaceWentOn, StandsForMaybe}
+use Rattle.house.specs.inner.Steps.{CallerWentOn, MayNotPut, StandsForMaybe}
 use Rattle.house.proofs.Events.{IsAt, at_seat}
-use Rattle.house.proofs.Places.{after_going}
+use Rattle.house.proofs.Callers.{after_going}
 use Rattle.house_connection.proofs.Putting.{heard_stands, next_copy, put_stands}
 use Rattle.house.proofs.Seats.{heard_is, one_step, seat_behind}
 
@@ -52,13 +52,13 @@ hear_moves w p v (hears_one s r others h e) f = longer (w.heard p) _ (sym (set_a
 pub step_of : (k : Config) (w v : World) (c : Job) (p q lanes : ℕ) → p ≡ q → lanes ≡ k.shards → Step k w (world.Put p (c.mailbox % lanes) c) v → Step k w (world.Put q (shard_of k c.mailbox) c) v
 step_of k w v c p q lanes e f h = subst (λ (n : ℕ). PutStep k w q (c.mailbox % n) c v) f (subst (λ (n : ℕ). PutStep k w n (c.mailbox % lanes) c v) e h)
 
-pub put_led : (k : Setup) (h : House) (s : Scene) (number seat : ℕ) (directory : Directory) (g : HouseConnection) (c : DeliveryCore) (why : Option Refusal) (place l : Option HouseConnection) (whole : Bool) (old new : List ℕ)
-    → StandsFor k h s → number ≡ seat + 1 → directory ≡ h.directory → seat < length h.callers → get_or h.callers seat None ≡ Some g → PutsNext h.core (due g) c why → place ≡ Some (noted_put (heard_verdict why) g)
-    → ((x : Terms) (p : ℕ) (next : CopyKey) (heard : List Noted) (b : Caller) → IsOf x number p directory → StandsForMaybe x p next heard place (Some b) → PlaceWentOn x whole p next heard b l old new)
+pub put_led : (k : Setup) (h : House) (s : Scene) (number seat : ℕ) (directory : Directory) (g : HouseConnection) (c : DeliveryCore) (why : Option Refusal) (occupant l : Option HouseConnection) (whole : Bool) (old new : List ℕ)
+    → StandsFor k h s → number ≡ seat + 1 → directory ≡ h.directory → seat < length h.callers → get_or h.callers seat None ≡ Some g → PutsNext h.core (due g) c why → occupant ≡ Some (noted_put (heard_verdict why) g)
+    → ((x : Terms) (p : ℕ) (next : CopyKey) (heard : List Noted) (b : Caller) → IsOf x number p directory → StandsForMaybe x p next heard occupant (Some b) → CallerWentOn x whole p next heard b l old new)
     → (t : Scene) × (printed : List ℕ) × ConnectionPuts k whole s seat t printed
     × StandsFor k (record { core = c; callers = set h.callers seat l; serials = h.serials; visitors = h.visitors; entered = h.entered; directory = h.directory; host = h.host; max_message = h.max_message }) t
     × (new ≡ old ++ printed)
-put_led k h s number seat directory g c why place l whole old new st e dir lt some puts is f =
+put_led k h s number seat directory g c why occupant l whole old new st e dir lt some puts is f =
     let y = first_key seat in
     let a = at_seat k h s seat y g st lt some in
     let n = next_copy (terms_of k s.shut) seat (get_or h.core.next seat y) (s.world.heard seat) g a.caller puts.copy puts.others a.stands puts.front in
@@ -122,7 +122,7 @@ put_idles k h s seat g t printed st lt some (inr (c, others, front, isnt)) p = i
 pub heard_led : (k : Setup) (h : House) (s : Scene) (number seat : ℕ) (directory : Directory) (g : HouseConnection) (c : DeliveryCore) (r : Noted) (q : HouseConnection) (l : Option HouseConnection) (whole : Bool) (old new : List ℕ)
     → StandsFor k h s → number ≡ seat + 1 → directory ≡ h.directory → seat < length h.callers → get_or h.callers seat None ≡ Some g
     → ((x : Config) → core.Follows x h.core (world.Hear seat ∷ []) c) → Hears h.core c seat (r ∷ []) → c.next ≡ h.core.next → HearsVerdict g r q
-    → ((x : Terms) (p : ℕ) (next : CopyKey) (heard : List Noted) (b : Caller) → IsOf x number p directory → StandsForMaybe x p next heard (Some q) (Some b) → PlaceWentOn x whole p next heard b l old new)
+    → ((x : Terms) (p : ℕ) (next : CopyKey) (heard : List Noted) (b : Caller) → IsOf x number p directory → StandsForMaybe x p next heard (Some q) (Some b) → CallerWentOn x whole p next heard b l old new)
     → (t : Scene) × (printed : List ℕ) × ConnectionHears k whole s seat t printed
     × StandsFor k (record { core = c; callers = set h.callers seat l; serials = h.serials; visitors = h.visitors; entered = h.entered; directory = h.directory; host = h.host; max_message = h.max_message }) t
     × (new ≡ old ++ printed)
@@ -148,7 +148,7 @@ heard_led k h s number seat directory g c r q l whole old new st e dir lt some f
 pub hear_changes_nothing : (k : Setup) (h : House) (s : Scene) (seat : ℕ) (t : Scene) (printed : List ℕ) → StandsFor k h s → ((x : Config) → core.ChangesNothing x h.core (world.Hear seat)) → ConnectionHears k true s seat t printed → ⊥
 hear_changes_nothing k h s seat t printed st still p = hear_moves s.world seat p.moved p.step (still k.config s.world p.moved st.core p.step)
 
--- who stands at a place heard it
+-- who stands at a seat heard it
 pub heard_at : (o p : Option HouseConnection) (r : Noted) (g : HouseConnection) → o ≡ Some g → MatchOption o (p ≡ None) (λ h. IsSomeAnd p (HearsVerdict h r)) → (q : HouseConnection) × (p ≡ Some q) × HearsVerdict g r q
 heard_at None p r g e m = absurd (let x : None ≡ Some g = e in cc)
 heard_at (Some h) None r g e m = absurd m

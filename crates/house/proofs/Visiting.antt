@@ -32,7 +32,7 @@ use Rattle.house.specs.Scene.{Lingers, Parts, Scene, SessionGoes, SessionTalks, 
 use Rattle.house.specs.Stands.{StandsFor, StandsForPlace, StandsForVisit, first_of}
 use Rattle.house.specs.Steps.{IsNoPlace}
 use Rattle.house.specs.inner.Steps.{HasLingered, PlaceTalked, PlaceVisited, StandsForSomebody}
-use Rattle.house.proofs.Places.{at_there, later_connection}
+use Rattle.house.proofs.Callers.{at_there, later_connection}
 use Rattle.house.proofs.Seats.{heard_is, place_kept, seat_kept, seat_within}
 
 pub delivery_then : (a b c : DeliveryCore) → SameDelivery a b → SameDelivery b c → SameDelivery a c

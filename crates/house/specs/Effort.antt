@@ -12,16 +12,16 @@ use Rattle.house_connection.specs.Taking.{line_effort}
 use Rattle.house.specs.Scene.{place_of}
 use Rattle.house_session.specs.SeatedSession.{SeatedSession, seat_effort}
 
-abbrev pub place_effort : Option HouseConnection → ℕ
-place_effort None = 0
-place_effort (Some h) = line_effort h
+abbrev pub caller_effort : Option HouseConnection → ℕ
+caller_effort None = 0
+caller_effort (Some h) = line_effort h
 
 abbrev pub visit_effort : Option SeatedSession → ℕ
 visit_effort None = 0
 visit_effort (Some p) = seat_effort p
 
 abbrev pub effort : House → ℕ
-effort h = sum_by place_effort h.callers + (sum_by visit_effort h.visitors + load h.core)
+effort h = sum_by caller_effort h.callers + (sum_by visit_effort h.visitors + load h.core)
 
 -- the same of a session's turns while it idles: it may end, and so many changes it is behind its mailbox's log
 abbrev pub turns_left : Option SeatedSession → ℕ → ℕ

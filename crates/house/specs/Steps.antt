@@ -36,7 +36,7 @@ IsNoSeat h connection = (connection ≡ 0) ⊎ (length h.callers < connection)
 abbrev pub IsEmptySeat : House → ℕ → Type 0
 IsEmptySeat h connection = slice_index_or h.callers (seat_of connection) None ≡ None
 
--- somebody stands at this place, and the peer is gone
+-- somebody stands at this seat or place, and the peer is gone
 abbrev pub is_unread : Option HouseConnection → Bool
 is_unread None = false
 is_unread (Some l) = l.gone

@@ -201,7 +201,7 @@ impl Config {
     }
 
     /// Whether there is a mailbox, and each number is in its range: what `House::new`, and whoever else makes a house, asks of
-    /// its settings. Names are not looked at, nor the ring's and the ports' places beside others; these are faults that `House::new` tells.
+    /// its settings. Names are not looked at, nor how the ring's and the ports' stand to others; these are faults that `House::new` tells.
     pub fn is_in_range(&self) -> bool
         ensures within { result ≡ true → IsInRange self.now }
         ensures beyond { result ≡ false → IsInRange self.now → ⊥ }

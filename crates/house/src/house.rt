@@ -15,11 +15,11 @@ ghost use Rattle.house.specs.Scene as scene;
 ghost use Rattle.house_connection.specs.Caller.{Terms, greeted, more_waits};
 ghost use Rattle.house.specs.Setup.{Setup};
 ghost use Rattle.house.specs.Stands.{StandsFor};
-ghost use Rattle.house.specs.Effort.{MakesLess, place_effort};
+ghost use Rattle.house.specs.Effort.{MakesLess, caller_effort};
 ghost use Rattle.delivery_core.specs.Load.{load};
 ghost use Rattle.std.specs.Borrow.{Bor};
 ghost use Rattle.house.specs.Steps.{CannotNote, CorePuts, Follows, FollowsInPart, HasNoRoom, IsBusy, IsEmptySeat, ChangesNothing, IsNoNumber, IsNobody, KeepsMarks, Led, MayWant, PutsNext, is_unread};
-ghost use Rattle.house.specs.inner.Steps.{HasSeat, IsNoNext, IsOpen, IsRead, MayNotPut, PlaceWentOn, StandsForMaybe, fault_of, job_of};
+ghost use Rattle.house.specs.inner.Steps.{CallerWentOn, HasSeat, IsNoNext, IsOpen, IsRead, MayNotPut, StandsForMaybe, fault_of, job_of};
 ghost use Rattle.house.specs.declared.event.Event.TheVariants as events;
 
 use crate::event::{Event, HouseFault};
@@ -70,7 +70,7 @@ impl Model for House {
         × (length h.entered.items ≡ length h.visitors.items) × (h.max_message < 4294967296) };
 }
 
-// The place of a connection or a session, which are numbered from 1, among all of its kind.
+// The seat of a connection or the place of a session, which are numbered from 1, among all of its kind.
 pub(crate) fn index_of(number: u8) -> usize
     requires { 0 < number }
     ensures { result ≡ number - 1 }
@@ -78,30 +78,30 @@ pub(crate) fn index_of(number: u8) -> usize
     usize::from(number - 1)
 }
 
-// The caller at a place goes on, and leaves it where its connection has ended.
+// The caller at a seat goes on, and leaves it where its connection has ended.
 fn caller_goes_on(
-    place: &mut Option<HouseConnection>,
+    occupant: &mut Option<HouseConnection>,
     number: u8,
     directory: &Directory,
     out: &mut Vec<u8>,
 ) -> Result<(), AllocError>
-    ensures less { place_effort place.new ≤ place_effort place.old }
+    ensures less { caller_effort occupant.new ≤ caller_effort occupant.old }
     ensures ok { OnOk result ((k : Terms) (seat : ℕ) (next : CopyKey) (heard : List Noted) (b : spec.Caller) →
-        IsOf k number seat directory.now → StandsForMaybe k seat next heard place.old (Some b) →
-        PlaceWentOn k true seat next heard b place.new out.old.items out.new.items) }
+        IsOf k number seat directory.now → StandsForMaybe k seat next heard occupant.old (Some b) →
+        CallerWentOn k true seat next heard b occupant.new out.old.items out.new.items) }
     ensures err { OnErr result ((k : Terms) (seat : ℕ) (next : CopyKey) (heard : List Noted) (b : spec.Caller) →
-        IsOf k number seat directory.now → StandsForMaybe k seat next heard place.old (Some b) →
-        PlaceWentOn k false seat next heard b place.new out.old.items out.new.items) }
-    ensures asks { OnErr result (IfSome place.old (λ h. h.gone ≡ false)) }
+        IsOf k number seat directory.now → StandsForMaybe k seat next heard occupant.old (Some b) →
+        CallerWentOn k false seat next heard b occupant.new out.old.items out.new.items) }
+    ensures asks { OnErr result (IfSome occupant.old (λ h. h.gone ≡ false)) }
 {
-    let Some(caller) = place else {
+    let Some(caller) = occupant else {
         return Ok(());
     };
     let Ok(what) = proceed(caller, number, directory, out) else {
         return Err(AllocError);
     };
     if let What::Quit = what {
-        *place = None;
+        *occupant = None;
     }
     Ok(())
 }
@@ -129,32 +129,32 @@ fn opened(
     Ok(caller)
 }
 
-// Bytes more wait for the caller at a place.
-fn append_to_caller(place: &mut Option<HouseConnection>, piece: &[u8]) -> Result<(), AllocError>
-    ensures ok { OnOk result (place.new ≡ option_map (with_more piece.now) place.old) }
-    ensures err { OnErr result (place.new ≡ place.old) }
+// Bytes more wait for the caller at a seat.
+fn append_to_caller(occupant: &mut Option<HouseConnection>, piece: &[u8]) -> Result<(), AllocError>
+    ensures ok { OnOk result (occupant.new ≡ option_map (with_more piece.now) occupant.old) }
+    ensures err { OnErr result (occupant.new ≡ occupant.old) }
 {
-    match place {
+    match occupant {
         Some(caller) => caller.append(piece),
         None => Ok(()),
     }
 }
 
-// Whether somebody stands at a place whose peer is gone.
-fn is_unread(place: &Option<HouseConnection>) -> bool
-    ensures { result ≡ is_unread place.now }
+// Whether somebody stands at a seat whose peer is gone.
+fn is_unread(occupant: &Option<HouseConnection>) -> bool
+    ensures { result ≡ is_unread occupant.now }
 {
-    match place {
+    match occupant {
         Some(caller) => caller.is_gone(),
         None => false,
     }
 }
 
-// The peer of the caller at a place is gone.
-fn caller_vanishes(place: &mut Option<HouseConnection>)
-    ensures { place.new ≡ option_map with_nobody_there place.old }
+// The peer of the caller at a seat is gone.
+fn caller_vanishes(occupant: &mut Option<HouseConnection>)
+    ensures { occupant.new ≡ option_map with_nobody_there occupant.old }
 {
-    if let Some(caller) = place {
+    if let Some(caller) = occupant {
         caller.vanish();
     }
 }
@@ -181,20 +181,20 @@ pub(crate) fn put_copy(
     }
 }
 
-// Puts the next copy of the caller at a place.
+// Puts the next copy of the caller at a seat.
 fn put_next(
     core: &mut DeliveryCore,
-    place: &Option<HouseConnection>,
+    occupant: &Option<HouseConnection>,
 ) -> Result<Option<Refusal>, HouseFault>
-    ensures nobody { (result ≡ Err HouseFault.Nobody) ↔ (place.now ≡ None) }
+    ensures nobody { (result ≡ Err HouseFault.Nobody) ↔ (occupant.now ≡ None) }
     ensures busy { result ≢ Err HouseFault.Busy }
-    ensures nothing { result ≡ Err HouseFault.Nothing → (h : HouseConnection) × (place.now ≡ Some h) × MayNotPut core.old (due h) }
-    ensures memory { result ≡ Err HouseFault.NoMemory → (h : HouseConnection) × (place.now ≡ Some h) × CannotNote core.old (due h) }
-    ensures puts { IfOk result (λ why. (h : HouseConnection) × (place.now ≡ Some h) × PutsNext core.old (due h) core.new why) }
+    ensures nothing { result ≡ Err HouseFault.Nothing → (h : HouseConnection) × (occupant.now ≡ Some h) × MayNotPut core.old (due h) }
+    ensures memory { result ≡ Err HouseFault.NoMemory → (h : HouseConnection) × (occupant.now ≡ Some h) × CannotNote core.old (due h) }
+    ensures puts { IfOk result (λ why. (h : HouseConnection) × (occupant.now ≡ Some h) × PutsNext core.old (due h) core.new why) }
     ensures load { OnOk result (load core.new ≤ load core.old + 4) }
     ensures refused { OnErr result (core.new ≡ core.old) }
 {
-    let Some(caller) = place else {
+    let Some(caller) = occupant else {
         return Err(HouseFault::Nobody);
     };
     let Some(copy) = caller.next_copy() else {
@@ -203,58 +203,58 @@ fn put_next(
     put_copy(core, copy)
 }
 
-// The next copy of the caller at a place was put, and this was heard of it at once.
-fn caller_notes_put(place: &mut Option<HouseConnection>, why: Option<Refusal>)
-    requires { IfSome place.old (λ h. 0 < length (due h)) }
-    ensures { place.new ≡ option_map (noted_put (heard_verdict why)) place.old }
+// The next copy of the caller at a seat was put, and this was heard of it at once.
+fn caller_notes_put(occupant: &mut Option<HouseConnection>, why: Option<Refusal>)
+    requires { IfSome occupant.old (λ h. 0 < length (due h)) }
+    ensures { occupant.new ≡ option_map (noted_put (heard_verdict why)) occupant.old }
 {
     let verdict = match why {
         Some(why) => Some(Verdict::Refused(why)),
         None => None,
     };
-    if let Some(caller) = place {
+    if let Some(caller) = occupant {
         caller.note_put(verdict);
     }
 }
 
-// The caller at a place hears a verdict.
-fn caller_hears(place: &mut Option<HouseConnection>, noted: &Noted)
-    ensures { MatchOption place.old (place.new ≡ None) (λ h. IsSomeAnd place.new (HearsVerdict h noted.now)) }
+// The caller at a seat hears a verdict.
+fn caller_hears(occupant: &mut Option<HouseConnection>, noted: &Noted)
+    ensures { MatchOption occupant.old (occupant.new ≡ None) (λ h. IsSomeAnd occupant.new (HearsVerdict h noted.now)) }
 {
-    if let Some(caller) = place {
+    if let Some(caller) = occupant {
         caller.hear(noted);
     }
 }
 
 impl House {
-    // Bytes came for a connection that stands at its place.
+    // Bytes came for a connection that stands at its seat.
     fn receive(&mut self, connection: u8, piece: &[u8], out: &mut Vec<u8>) -> Result<(), HouseFault>
         requires there { IsRead self.old connection }
         ensures follows { OnOk result (Follows self.old (events.Bytes connection piece.entry) self.new out.old.items out.new.items) }
         ensures only { IfErr result (λ e. e ≡ HouseFault.NoMemory) }
         ensures no_memory { OnErr result (FollowsInPart self.old (events.Bytes connection piece.entry) self.new out.old.items out.new.items) }
     {
-        let place = &mut self.callers[index_of(connection)];
-        let Ok(()) = append_to_caller(place, piece) else {
+        let occupant = &mut self.callers[index_of(connection)];
+        let Ok(()) = append_to_caller(occupant, piece) else {
             return Err(HouseFault::NoMemory);
         };
-        let Ok(()) = caller_goes_on(place, connection, &self.directory, out) else {
+        let Ok(()) = caller_goes_on(occupant, connection, &self.directory, out) else {
             return Err(HouseFault::NoMemory);
         };
         Ok(())
     }
-    // The peer of a connection that stands at its place is gone.
+    // The peer of a connection that stands at its seat is gone.
     fn lose(&mut self, connection: u8, out: &mut Vec<u8>)
         requires there { IsRead self.old connection }
         ensures { Follows self.old (events.Vanish connection) self.new out.old.items out.new.items }
     {
-        let place = &mut self.callers[index_of(connection)];
-        caller_vanishes(place);
+        let occupant = &mut self.callers[index_of(connection)];
+        caller_vanishes(occupant);
         // Nobody is told anything any more, so this asks for no memory.
-        let _ = caller_goes_on(place, connection, &self.directory, out);
+        let _ = caller_goes_on(occupant, connection, &self.directory, out);
     }
 
-    // Bytes came for a connection at whose place nobody stands: one is opened first, with the seat's next serial.
+    // Bytes came for a connection at whose seat nobody stands: one is opened first, with the seat's next serial.
     fn welcome(&mut self, connection: u8, piece: &[u8], out: &mut Vec<u8>) -> Result<(), HouseFault>
         requires vacant { IsOpen self.old connection }
         ensures follows { OnOk result (Follows self.old (events.Bytes connection piece.entry) self.new out.old.items out.new.items) }
@@ -277,9 +277,9 @@ impl House {
             return Err(HouseFault::NoMemory);
         };
         self.serials[seat] = serial + 1;
-        let place = &mut self.callers[seat];
-        *place = Some(caller);
-        let Ok(()) = caller_goes_on(place, connection, &self.directory, out) else {
+        let occupant = &mut self.callers[seat];
+        *occupant = Some(caller);
+        let Ok(()) = caller_goes_on(occupant, connection, &self.directory, out) else {
             return Err(HouseFault::NoMemory);
         };
         Ok(())
@@ -303,9 +303,9 @@ impl House {
             Ok(why) => why,
             Err(fault) => return Err(fault),
         };
-        let place = &mut self.callers[seat];
-        caller_notes_put(place, why);
-        let Ok(()) = caller_goes_on(place, connection, &self.directory, out) else {
+        let occupant = &mut self.callers[seat];
+        caller_notes_put(occupant, why);
+        let Ok(()) = caller_goes_on(occupant, connection, &self.directory, out) else {
             return Err(HouseFault::NoMemory);
         };
         Ok(())
@@ -335,9 +335,9 @@ impl House {
             Err(HearFault::Nothing) => return Err(HouseFault::Nothing),
             Err(HearFault::Nobody) => return Err(HouseFault::Nobody),
         };
-        let place = &mut self.callers[seat];
-        caller_hears(place, &noted);
-        let Ok(()) = caller_goes_on(place, connection, &self.directory, out) else {
+        let occupant = &mut self.callers[seat];
+        caller_hears(occupant, &noted);
+        let Ok(()) = caller_goes_on(occupant, connection, &self.directory, out) else {
             return Err(HouseFault::NoMemory);
         };
         Ok(())

@@ -140,14 +140,14 @@ pub fn directory_of(alloc: Global, config: &Config) -> Result<Directory, ConfigF
 }
 
 // At each seat nobody.
-fn empty_places(alloc: Global) -> Result<Vec<Option<HouseConnection>>, AllocError>
+fn empty_seats(alloc: Global) -> Result<Vec<Option<HouseConnection>>, AllocError>
     ensures { IfOk result (λ v. v.items ≡ replicate CONNECTIONS None) }
 {
-    let mut places = Vec::new(alloc);
+    let mut seats = Vec::new(alloc);
     for _seat in 0..CONNECTIONS {
-        places.push(None)?;
+        seats.push(None)?;
     }
-    Ok(places)
+    Ok(seats)
 }
 
 // At each place nobody.
@@ -199,7 +199,7 @@ impl House {
                 core: DeliveryCore::new(alloc, settings)?,
                 session: 0,
             },
-            callers: empty_places(alloc)?,
+            callers: empty_seats(alloc)?,
             serials: vec![in alloc; 0; usize::from(CONNECTIONS)]?,
             visitors: free_places(alloc)?,
             entered: vec![in alloc; 0; usize::from(SESSIONS)]?,

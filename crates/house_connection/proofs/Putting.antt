@@ -14,7 +14,7 @@ use Rattle.lmtp_machine.specs.Dialogue.{Phase, Setting, Submission, keys_from}
 use Rattle.lmtp_machine.specs.Kept.{AreMessages, IsMessage}
 use Rattle.submission.specs.Copies.{copies}
 use Rattle.submission.specs.Heard.{SlotsFor}
-use Rattle.submission.specs.Laws.{TellPlaces}
+use Rattle.submission.specs.Laws.{TellPositions}
 use Rattle.submission.specs.Verdicts.{Hears}
 use Rattle.submission.specs.inner.Verdicts.{heard_verdict}
 use Rattle.submission.proofs.Copies.{behind_front, front_key, front_mailbox, front_within, length-copies}
@@ -25,9 +25,9 @@ use Rattle.house_connection.specs.Taking.{HearsVerdict, due, noted_put}
 use Rattle.house_connection.specs.ConnectionStands.{IsAwaited, StandsForConnection}
 use Rattle.house_connection.proofs.Copies.{copies-one, keys-one}
 
--- ---- keys by their places
+-- ---- keys by their positions
 
--- the keys of a message are numbered by their places
+-- the keys of a message are numbered by their positions
 pub key_at : (setting : Setting) (message j i : ℕ) (mailboxes : List ℕ) (d : CopyKey) → i < length (keys_from setting message j mailboxes)
     → get_or (keys_from setting message j mailboxes) i d ≡ record { seat = setting.seat; serial = setting.serial; message = message; recipient = j + i }
 key_at setting message j i [] d h = absurd (omega arith)
@@ -54,7 +54,7 @@ few_pending : (pending : List Submission) (phase : Phase) → IsAwaited pending 
 few_pending [] phase a = omega arith
 few_pending (s ∷ ss) phase a = let e = ap (λ (l : List Submission). length l) a.0 in omega (arith, e)
 
--- what is known of the copy that is next: its key is that of its place
+-- what is known of the copy that is next: its key is that of its position
 pub record IsNextCopy (k : Terms) (seat : ℕ) (h : HouseConnection) (b : Caller) (message : ℕ) (c : Job) (others : List Job) : Type 0 where
   pub key : c.key ≡ record { seat = seat; serial = b.serial; message = message; recipient = length h.verdicts }
   pub room : length h.verdicts < length (keys_of b.talk.pending)
@@ -150,7 +150,7 @@ module _ (k : Terms) (seat : ℕ) (next : CopyKey) (heard : List Noted) where
 
   pub heard_stands : (b : Caller) (h : HouseConnection) (r : Noted) (g : HouseConnection) (now : List Noted) → StandsForConnection k seat next heard h b → HearsVerdict h r g → now ≡ heard ++ r ∷ [] → StandsForConnection k seat next now g b
   heard_stands b h r g now s q en =
-      let tell : TellPlaces (keys_of b.talk.pending) = λ i d lt. ap (λ (x : CopyKey). x.recipient) (numbers b h s i d lt) in
+      let tell : TellPositions (keys_of b.talk.pending) = λ i d lt. ap (λ (x : CopyKey). x.recipient) (numbers b h s i d lt) in
       let keys = ap keys_of s.pending in
       let o = hears_slots heard (keys_of b.talk.pending) h.verdicts r g.verdicts tell s.verdicts (subst (λ (x : List CopyKey). Hears x h.verdicts r g.verdicts) keys q.hears) in
       subst (λ (x : HouseConnection). StandsForConnection k seat next now x b) (sym q.rest) (record {

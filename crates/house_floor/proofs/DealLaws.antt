@@ -23,7 +23,7 @@ IsHand lanes n v = AreSeats lanes n v.items × All IsNew v.items
 abbrev pub IsSenderHand : List (ReplyChannel Noted) → ℕ → Vec (SenderSeat Noted) Global → Type 0
 IsSenderHand channels n v = AreSenders channels n v.items × All (λ s. sent_on s ≡ []) v.items
 
--- the end of the channel at this place, and of the lane
+-- the end of the channel at this position, and of the lane
 abbrev pub IsReceiverAt : List (ReplyChannel Noted) → ℕ → ReceiverSeat Noted → Type 0
 IsReceiverAt channels n seat = (channel : ReplyChannel Noted) → slice_get channels n ≡ Some channel → IsReceiver channel seat
 
@@ -38,7 +38,7 @@ pub sender_hands_at : (channels : List (ReplyChannel Noted)) (n : ℕ) (vs : Lis
 sender_hands_at channels n [] h = tt
 sender_hands_at channels n (v ∷ vs) h = (h.0, sender_hands_at channels (suc n) vs h.1)
 
--- these are what stands in all from place n on
+-- these are what stands in all from position n on
 abbrev pub IsRest : {A : Type 0} → List A → ℕ → List A → Type 0
 IsRest {A} all n xs = (i : ℕ) → slice_get all (n + i) ≡ slice_get xs i
 
@@ -49,7 +49,7 @@ module _ {A : Type 0} where
   tail_of : (all : List A) (n : ℕ) (x : A) (xs : List A) → IsRest all n (x ∷ xs) → IsRest all (suc n) xs
   tail_of all n x xs rest i = let e : suc n + i ≡ n + suc i = omega arith in ap (slice_get all) e ∙ rest (suc i)
 
-  -- what is at a place is that value
+  -- what is at a position is that value
   same_at : (all : List A) (n : ℕ) (x y : A) → slice_get all n ≡ Some x → slice_get all n ≡ Some y → x ≡ y
   same_at all n x y here there = let e : Some x ≡ Some y = sym here ∙ there in cc
 

@@ -1,3 +1,3 @@
 mod UserLaws
-pub mod Places
+pub mod Positions
 mod DealLaws

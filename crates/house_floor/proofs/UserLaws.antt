@@ -5,7 +5,7 @@ use Rattle.std.proofs.Math.Dec.{eqb-suc-zero}
 use Rattle.envelope.specs.Directory.{Home}
 use Rattle.house_floor.specs.Users.{is_inbox, user_numbered}
 
--- the mailbox at this place is, or isn't, an INBOX
+-- the mailbox at this position is, or isn't, an INBOX
 abbrev pub IsInboxAt : List Home → ℕ → Bool → Type 0
 IsInboxAt homes m b = IfSome (slice_get homes m) (λ home. b ≡ is_inbox home.folder)
 

@@ -14,7 +14,7 @@ use Rattle.house_floor.specs.declared.floor.Post.{Post}
 use Rattle.house_floor.specs.declared.floor.Stand.{Stand}
 use Rattle.house_floor.specs.declared.floor.Crew.{Crew}
 
--- each has the property of its place, where the first is at n
+-- each has the property of its position, where the first is at n
 abbrev pub AllAt : {A : Type 0} → (ℕ → A → Type 0) → ℕ → List A → Type 0
 AllAt P n [] = Unit {0}
 AllAt P n (x ∷ xs) = P n x × AllAt P (suc n) xs

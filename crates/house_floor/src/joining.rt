@@ -89,7 +89,7 @@ fn man(floor: &Floor, producers: u8, shards: u8, undealt: Undealt, lists: CrewLi
 struct Leavings<E> {
     // For each actor's.
     hands: Vec<Vec<E>>,
-    // For each place a list, for what is left there of all actors' seats.
+    // For each position a list, for what is left there of all actors' seats.
     lists: Vec<Vec<E>>,
 }
 

@@ -6,7 +6,7 @@ use Rattle.delivery_token.specs.declared.Verdict.{Verdict}
 use Rattle.delivery_token.specs.declared.log.Noted.{Noted}
 use Rattle.submission.specs.Copies as submission
 use Rattle.submission.specs.Heard.{AreAnswered, SlotsFor}
-use Rattle.submission.specs.Laws.{TellPlaces}
+use Rattle.submission.specs.Laws.{TellPositions}
 use Rattle.submission.specs.Verdicts.{AreKnown, Hears}
 use Rattle.submission.proofs.Copies.{all_put, no-key}
 use Rattle.submission.proofs.Slots.{all-full, heard-for, hears_slots, no-slots}
@@ -261,7 +261,7 @@ vanished seat next heard v p s = record {
   ahead = s.ahead;
 }
 
-one_key : (seat serial : ℕ) (sent : Option Sent) → TellPlaces (keys_of seat serial sent)
+one_key : (seat serial : ℕ) (sent : Option Sent) → TellPositions (keys_of seat serial sent)
 one_key seat serial None i d l = absurd (omega (arith, l))
 one_key seat serial (Some sent) zero d l = refl
 one_key seat serial (Some sent) (suc i) d l = absurd (omega (arith, l))

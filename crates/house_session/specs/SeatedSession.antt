@@ -61,7 +61,7 @@ with_slots slots p = record { place = p.place; number = p.number; serial = p.ser
 abbrev pub with_place : HouseSession → SeatedSession → SeatedSession
 with_place new p = record { place = new; number = p.number; serial = p.serial; gone = p.gone; slots = p.slots }
 
--- The verdict is noted at its place, where it is awaited, and nothing else is changed.
+-- The verdict is noted at its copy's position, where it is awaited, and nothing else is changed.
 pub record HearsVerdict (p : SeatedSession) (r : Noted) (new : SeatedSession) : Type 0 where
   pub hears : Hears (keys_of p.number p.serial (submitted_at p)) p.slots r new.slots
   pub rest : new ≡ with_slots new.slots p

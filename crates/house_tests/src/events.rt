@@ -163,7 +163,7 @@ const APPENDED: &[Step] = &[
     Step::Refused(Event::Idle(1), HouseFault::Busy),
 ];
 
-// Sessions have the places 1 to 8.
+// Sessions have the positions 1 to 8.
 const NO_PLACE: &[Step] = &[
     Step::Made(Event::Enter(8, b"alice")),
     Step::Forget,
@@ -285,11 +285,11 @@ fn goes(house: &mut House, step: Step, out: &mut Vec<u8>) -> bool {
     }
 }
 
-// The place of the first step that doesn't come to what is wanted.
+// The position of the first step that doesn't come to what is wanted.
 fn first_unlike(house: &mut House, steps: &[Step], out: &mut Vec<u8>) -> Option<usize> {
-    for (place, step) in steps.iter().enumerate() {
+    for (position, step) in steps.iter().enumerate() {
         if !goes(house, *step, out) {
-            return Some(place);
+            return Some(position);
         }
     }
     None
@@ -305,7 +305,7 @@ pub fn house(alloc: Global) -> Result<House, ConfigFault> {
     House::new(alloc, &config)
 }
 
-// Goes through these steps in a new house, and gives the place of the first that doesn't come to what is wanted.
+// Goes through these steps in a new house, and gives the position of the first that doesn't come to what is wanted.
 fn played(alloc: Global, steps: &[Step]) -> Result<Option<usize>, ConfigFault> {
     let mut house = house(alloc)?;
     Ok(first_unlike(&mut house, steps, &mut Vec::new(alloc)))

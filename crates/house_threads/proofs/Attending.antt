@@ -33,14 +33,14 @@ same_books office now desk seat serial notes carried there own first books =
     (subst (λ (n : ℕ). AreBooksOf now.directory (rooms_of now.lanes.items) n (map (judged_of n 0) carried) (notes_tell notes) (received desk.receiver) (map put_by desk.seats.items)) own
     (subst (λ (s : ℕ). AreBooksOf now.directory (rooms_of now.lanes.items) desk.number (map (judged_of desk.number s) carried) (notes_tell notes) (received desk.receiver) (map put_by desk.seats.items)) first books))
 
-pub session_account : (floor : Floor) (now : Office) (desk : Desk) (seat serial : ℕ) (visit : Visit) (user : List ℕ) (place : LockedDesk) (carried : List Carried) (text : List ℕ) (replies : List (List ℕ)) (notes kept : List Noted)
+pub session_account : (floor : Floor) (now : Office) (desk : Desk) (seat serial : ℕ) (visit : Visit) (user : List ℕ) (selection : LockedDesk) (carried : List Carried) (text : List ℕ) (replies : List (List ℕ)) (notes kept : List Noted)
     (hears : List (Entry Noted)) (after : List (List (Entry Job)))
     → now ≡ floor.office → desk.number ≡ seat → serial ≡ 0 → kept ≡ notes
-    → user_numbered visit.user floor.office.directory.homes ≡ Some user → place ≡ record { mailboxes = length floor.depot.mailboxes.items; entered = None }
-    → HasLived floor user place visit carried text → replies ≡ text ∷ []
+    → user_numbered visit.user floor.office.directory.homes ≡ Some user → selection ≡ record { mailboxes = length floor.depot.mailboxes.items; entered = None }
+    → HasLived floor user selection visit carried text → replies ≡ text ∷ []
     → HasCarried now desk serial (notes_tell notes) carried → IsStartOf (received desk.receiver) hears → HaveEnded desk.number (map put_by desk.seats.items) after
     → SessionAccount (premises_of floor.office) (length floor.depot.mailboxes.items) floor.turns seat visit replies kept hears after
-session_account floor now desk seat serial visit user place carried text replies notes kept hears after there own first same named outside lived one books grew ended = record {
+session_account floor now desk seat serial visit user selection carried text replies notes kept hears after there own first same named outside lived one books grew ended = record {
   carried = carried;
   text = text;
   visited = record {

@@ -1,4 +1,4 @@
-pub mod Places
+pub mod Positions
 pub mod Lives
 pub mod Leaving
 pub mod Attending

@@ -1,4 +1,4 @@
--- A life that was led with what lies at one's own place.
+-- A life that was led with what lies at one's own position.
 use Rattle.std.proofs.Common.{◌≡◌, ◌<◌, ◌+◌, ◌∙◌, ◌∷◌, ℕ, zero, suc, arith, sym, ap, subst, List, [], All, Option, None, Some, IfSome, Vec, map, length, slice_get, slice_index_or}
 use Rattle.std.specs.Global.{Global}
 use Rattle.std.proofs.lemmas.Option.{get_or_from_slice_get, slice_get-get_or}
@@ -31,13 +31,13 @@ here_at xs i n d same under = slice_get-get_or xs n d under ∙ ap (λ k. Some (
 pub found_at : {A : Type 0} (xs : List A) (i n : ℕ) (d x : A) → i ≡ n → slice_get xs n ≡ Some x → slice_index_or xs i d ≡ x
 found_at xs i n d x same is = ap (λ k. slice_index_or xs k d) same ∙ get_or_from_slice_get xs n x d is
 
--- there is nothing at a place behind the end of a list
+-- there is nothing at a position behind the end of a list
 pub nothing_at : {A : Type 0} (xs : List A) (n k : ℕ) (x : A) → n ≡ length xs + k → slice_get xs n ≡ Some x → ⊥
 nothing_at [] n k x is at = let e : None ≡ Some x = at in cc
 nothing_at (y ∷ ys) zero k x is at = omega (arith, is)
 nothing_at (y ∷ ys) (suc n) k x is at = nothing_at ys n k x (omega (arith, is)) at
 
--- what a worker at its place left
+-- what a worker at its position left
 pub work_of : (floor : Floor) (plans : Plans) (visits : List Visit) (i n number : ℕ) (c : ReplyChannel Noted) (p : Vec (Vec ℕ Global) Global) (bytes : List (Vec ℕ Global)) (w : Worked)
     → i ≡ n → n < length plans → number ≡ n → bytes ≡ (slice_index_or plans i p).items
     → IsWorked floor.office (slice_index_or floor.depot.channels.items i c) number (map (λ b. b.items) bytes) w → IsProduceOf floor plans visits n w
@@ -53,7 +53,7 @@ work_of floor plans visits i n number c p bytes w same under of are worked =
       session = λ k visit behind at whole. absurd (omega (arith, under, behind));
     }
 
--- what a session at its place left
+-- what a session at its position left
 pub attended_of : (floor : Floor) (plans : Plans) (visits : List Visit) (i n number j : ℕ) (c : ReplyChannel Noted) (v : Visit) (w : Worked)
     → i ≡ n → number ≡ n → n ≡ length plans + j
     → IsAttended floor (slice_index_or floor.depot.channels.items i c) number (slice_index_or visits j v) w → IsProduceOf floor plans visits n w

@@ -51,7 +51,7 @@ fn consume_there<R: Wait, G: Gate>(
     requires stand { IsStand floor.now shard (manually_drop_value stand) }
     ensures { IsServiceOf floor.now shard (manually_drop_value result) }
 {
-    let place = usize::from(shard);
+    let position = usize::from(shard);
     let stand = ManuallyDrop::into_inner(stand);
     let mut pace = Pace::new(gate, Actor::Consumer(shard));
     if manned.shards.load(Ordering::SeqCst) <= u64::from(shard) {
@@ -63,7 +63,7 @@ fn consume_there<R: Wait, G: Gate>(
         rt,
         &mut pace,
         &floor.depot,
-        &floor.office.lanes[place],
+        &floor.office.lanes[position],
         stall,
         room,
         Vec::new(floor.alloc),
@@ -99,11 +99,11 @@ fn start_consumer<'s, E, R: Threads + Wait + Sync, G: Gate + Sync>(
 }
 
 // The first that has no thread, after one more was tried.
-fn first_without(first: usize, place: usize, is_there: bool) -> usize
+fn first_without(first: usize, position: usize, is_there: bool) -> usize
     ensures { result ≤ first }
 {
-    if !is_there && place < first {
-        place
+    if !is_there && position < first {
+        position
     } else {
         first
     }
@@ -128,11 +128,11 @@ pub(crate) fn start_consumers<'s, E, R: Threads + Wait + Sync, G: Gate + Sync>(
     ensures first { result.1 ≤ length floor.now.office.lanes.items }
 {
     let mut first = floor.office.lanes.len();
-    for place in 0..floor.office.lanes.len() {
+    for position in 0..floor.office.lanes.len() {
         let stand = stands.remove(0);
-        let one = start_consumer(scope, rt, floor, gate, place as u8, stand, manned);
+        let one = start_consumer(scope, rt, floor, gate, position as u8, stand, manned);
         let is_there = matches!(one, Kept::There(_));
-        first = first_without(first, place, is_there);
+        first = first_without(first, position, is_there);
         kept.push_reserved(one);
     }
     stands.destroy_empty();

@@ -45,11 +45,11 @@ pub(crate) enum Hired<'a> {
 
 /// Who a producer is at the gate, behind so many workers.
 pub(crate) fn actor_of(workers: usize, number: u8) -> Actor {
-    let place = usize::from(number);
-    if place < workers {
+    let position = usize::from(number);
+    if position < workers {
         Actor::Worker(number)
     } else {
-        Actor::Session((place - workers) as u8)
+        Actor::Session((position - workers) as u8)
     }
 }
 
@@ -68,7 +68,7 @@ fn work_at<R: Wait, G: Gate>(
     requires post { IsPost floor.now number post }
     ensures { IsProduceOf floor.now plans.now visits.now number result }
 {
-    let place = usize::from(number);
+    let position = usize::from(number);
     let mut pace = Pace::new(gate, Actor::Worker(number));
     let Post { desk, room } = post;
     work(
@@ -77,10 +77,10 @@ fn work_at<R: Wait, G: Gate>(
         &mut pace,
         &floor.office,
         &floor.bells,
-        &floor.depot.channels[place],
+        &floor.depot.channels[position],
         desk,
         room,
-        plans[place].as_slice(),
+        plans[position].as_slice(),
     )
 }
 
@@ -201,9 +201,9 @@ pub(crate) fn start_producers<'s, E, R: Threads + Wait + Sync, G: Gate + Sync>(
     ensures count { vec_len result.0 ≡ length plans.now + length visits.now }
 {
     let mut all = true;
-    for place in 0..plans.len() + visits.len() {
+    for position in 0..plans.len() + visits.len() {
         let post = posts.remove(0);
-        let number = place as u8;
+        let number = position as u8;
         let one = start_producer(scope, rt, floor, gate, plans, visits, number, post, manned);
         all = all && matches!(one, Hired::There(_));
         hired.push_reserved(one);

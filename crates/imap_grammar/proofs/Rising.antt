@@ -2,7 +2,7 @@
 use Rattle.std.proofs.Common.{◌≡◌, ℕ, zero, suc, ◌+◌, ◌-◌, ◌<◌, ◌≤◌, Bool, true, false, cond, List, [], ◌∷◌, length, map, get_or, refl, ap, arith, sym, subst}
 use Rattle.std.specs.List.Sorted.{IsNonDecreasing, IsStrictlyIncreasing}
 use Rattle.std.proofs.lemmas.List.{get_or_default}
-use Rattle.imap_grammar.specs.Sets.{is_named, at_places, named_at}
+use Rattle.imap_grammar.specs.Sets.{is_named, at_positions, named_at}
 use Rattle.imap_grammar.specs.declared.set.SeqRange.{SeqRange}
 use Rattle.imap_grammar.specs.declared.view.Named.{Named}
 
@@ -40,16 +40,16 @@ kept : (t : Bool) (a x : ℕ) (xs ys : List ℕ) → a ≤ x → RisesFrom (suc 
 kept true a x xs ys le h = (le, h)
 kept false a x xs ys le h = lower a (suc x) ys (omega arith) h
 
-places_rise : (test : ℕ → Bool) (place a : ℕ) (view : List ℕ) → RisesFrom a view → RisesFrom a (at_places test place view)
-places_rise test place a [] h = tt
-places_rise test place a (x ∷ xs) h =
-    kept (test place) a x xs (at_places test (place + 1) xs) h.0 (places_rise test (place + 1) (suc x) xs h.1)
+positions_rise : (test : ℕ → Bool) (position a : ℕ) (view : List ℕ) → RisesFrom a view → RisesFrom a (at_positions test position view)
+positions_rise test position a [] h = tt
+positions_rise test position a (x ∷ xs) h =
+    kept (test position) a x xs (at_positions test (position + 1) xs) h.0 (positions_rise test (position + 1) (suc x) xs h.1)
 
-pub named_rise : (set : List SeqRange) (view uids : List ℕ) → uids ≡ at_places (is_named set (length view)) 1 view → IsStrictlyIncreasing view → IsStrictlyIncreasing uids
+pub named_rise : (set : List SeqRange) (view uids : List ℕ) → uids ≡ at_positions (is_named set (length view)) 1 view → IsStrictlyIncreasing view → IsStrictlyIncreasing uids
 named_rise set view uids e h =
-    subst IsStrictlyIncreasing (sym e) (increases 0 (at_places (is_named set (length view)) 1 view) (places_rise (is_named set (length view)) 1 0 view (rises view h)))
+    subst IsStrictlyIncreasing (sym e) (increases 0 (at_positions (is_named set (length view)) 1 view) (positions_rise (is_named set (length view)) 1 0 view (rises view h)))
 
--- messages at their places have the UIDs that they were found by
+-- messages at their positions have the UIDs that they were found by
 pub uids_named : (view uids : List ℕ) → map (λ (m : Named). m.uid) (map (named_at view) uids) ≡ uids
 uids_named view [] = refl
 uids_named view (uid ∷ uids) = ap (λ (l : List ℕ). uid ∷ l) (uids_named view uids)

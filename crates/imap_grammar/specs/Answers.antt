@@ -97,7 +97,7 @@ answered by_uid newly_seen items = uid_first by_uid items ++ (items ++ flags_las
 abbrev pub fetch_answer : ℕ → List (List ℕ) → List ℕ
 fetch_answer k texts = codes "* " ++ decimal k ++ codes " FETCH (" ++ spaced texts ++ codes ")\r\n"
 
--- the answer for the message at this place
+-- the answer for the message at this position
 abbrev pub row_answer : ℕ → Bool → List FetchItem → Row → List ℕ
 row_answer k by_uid items row = fetch_answer k (map (item_text row) (answered by_uid row.newly_seen items))
 

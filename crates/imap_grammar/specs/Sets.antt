@@ -1,7 +1,7 @@
 -- Sets of messages: how they are spelled, and which messages they name (RFC 9051, 9: sequence-set).
 use Rattle.std.specs.Prelude.{ℕ, ◌+◌, ◌-◌, Bool, true, false, List, [], ◌∷◌, length, filter, Option, Some, None, map, option_map, min, max, nat_le, nat_lt, ◌==◌, ◌&&◌, ◌||◌, if◌then◌else◌, slice_index}
 use Rattle.std.specs.List.{list_any, slice_split, filter_map}
-use Rattle.cursor_set.specs.Lines.{place}
+use Rattle.cursor_set.specs.Lines.{position}
 use Rattle.envelope.specs.Reading.{◌>>=◌, first_is}
 use Rattle.imap_grammar.specs.Bytes.{is_comma}
 use Rattle.imap_grammar.specs.Numbers.{number_up_to}
@@ -53,10 +53,10 @@ is_between a b n = nat_le (min a b) n && nat_le n (max a b)
 abbrev pub is_named : List SeqRange → ℕ → ℕ → Bool
 is_named set greatest n = list_any (λ range. is_between (numeric greatest range.from) (numeric greatest range.to) n) set
 
--- the UIDs whose places pass the test, the first of them at this place
-abbrev pub at_places : (ℕ → Bool) → ℕ → List ℕ → List ℕ
-at_places test place [] = []
-at_places test place (uid ∷ uids) = if test place then uid ∷ at_places test (place + 1) uids else at_places test (place + 1) uids
+-- the UIDs whose positions pass the test, the first of them at this position
+abbrev pub at_positions : (ℕ → Bool) → ℕ → List ℕ → List ℕ
+at_positions test position [] = []
+at_positions test position (uid ∷ uids) = if test position then uid ∷ at_positions test (position + 1) uids else at_positions test (position + 1) uids
 
 -- a message that isn't there is named
 abbrev pub is_above : ℕ → SeqNumber → Bool
@@ -74,19 +74,19 @@ last_uid view = slice_index view (length view - 1)
 abbrev pub by_uid : List SeqRange → List ℕ → List ℕ
 by_uid set view = filter (is_named set (last_uid view)) view
 
--- the UIDs of the messages that a set of places in the view names, or nothing where one isn't there
-abbrev pub by_place : List SeqRange → List ℕ → Option (List ℕ)
-by_place set view = if is_too_high set (length view) then None else Some (at_places (is_named set (length view)) 1 view)
+-- the UIDs of the messages that a set of positions in the view names, or nothing where one isn't there
+abbrev pub by_position : List SeqRange → List ℕ → Option (List ℕ)
+by_position set view = if is_too_high set (length view) then None else Some (at_positions (is_named set (length view)) 1 view)
 
 -- the messages that a set names in a view
 abbrev pub named_in : Bool → List SeqRange → List ℕ → Option (List ℕ)
 named_in true set view = Some (by_uid set view)
-named_in false set view = by_place set view
+named_in false set view = by_position set view
 
--- a message of a view, at its place there
+-- a message of a view, at its position there
 abbrev pub named_at : List ℕ → ℕ → Named
-named_at view uid = record { place = place uid view; uid = uid }
+named_at view uid = record { position = position uid view; uid = uid }
 
--- the same, each at its place
+-- the same, each at its position
 abbrev pub messages_in : Bool → List SeqRange → List ℕ → Option (List Named)
 messages_in by_uid set view = option_map (map (named_at view)) (named_in by_uid set view)

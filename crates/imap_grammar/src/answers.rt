@@ -336,41 +336,41 @@ fn put_answered(
 
 /// Appends the answer to a FETCH, or a part of it.
 fn put_row(
-    place: usize,
+    position: usize,
     by_uid: bool,
     items: &[FetchItem],
     row: &Row,
     out: &mut Vec<u8>,
 ) -> Result<(), AllocError>
-    ensures ok { OnOk result (out.new.items ≡ out.old.items ++ row_answer place by_uid items.now row.now) }
+    ensures ok { OnOk result (out.new.items ≡ out.old.items ++ row_answer position by_uid items.now row.now) }
     ensures err { OnErr result (StartsWith out.new.items out.old.items) }
     ensures room { vec_capacity out.old ≤ vec_capacity out.new }
 {
     let mut digits = Buffer::new();
-    let number = digits.format(place).as_bytes();
+    let number = digits.format(position).as_bytes();
     append_parts(&[b"* ".as_slice(), number, b" FETCH (".as_slice()], out)?;
     put_answered(by_uid, row, items, out)?;
     append_parts(&[b")\r\n".as_slice()], out)
 }
 
-/// Appends the answer to a FETCH for the message at this place: the items in the order asked, before them
+/// Appends the answer to a FETCH for the message at this position: the items in the order asked, before them
 /// UID under UID FETCH where it wasn't asked, behind them FLAGS where \Seen is newly set and they
 /// weren't asked (RFC 9051, 7.5.2).
 ///
 /// Errors: `AllocError` where memory is refused; then `out` is as it was.
 pub fn write_row(
-    place: usize,
+    position: usize,
     by_uid: bool,
     items: &[FetchItem],
     row: &Row,
     out: &mut Vec<u8>,
 ) -> Result<(), AllocError>
-    ensures ok { OnOk result (out.new.items ≡ out.old.items ++ row_answer place by_uid items.now row.now) }
+    ensures ok { OnOk result (out.new.items ≡ out.old.items ++ row_answer position by_uid items.now row.now) }
     ensures err { OnErr result (out.new.items ≡ out.old.items) }
     ensures room { vec_capacity out.old ≤ vec_capacity out.new }
 {
     let before = out.len();
-    let Ok(()) = put_row(place, by_uid, items, row, out) else {
+    let Ok(()) = put_row(position, by_uid, items, row, out) else {
         out.truncate(before);
         return Err(AllocError);
     };

@@ -5,8 +5,8 @@ ghost use Rattle.std.specs.Prelude.{◌≡◌, ◌<◌, ◌==◌, length, IfSome
 ghost use Rattle.std.specs.Option.{option_map};
 ghost use Rattle.imap_grammar.specs.Cuts.{cut_at};
 
-/// The place of the first such byte.
-fn place_of(byte: u8, text: &[u8]) -> Option<usize>
+/// The position of the first such byte.
+fn position_of(byte: u8, text: &[u8]) -> Option<usize>
     ensures value { result ≡ position (λ x. x == byte) text.now }
     ensures bound { IfSome result (λ n. n < length text.now) }
 {
@@ -18,7 +18,7 @@ pub fn cut_at(byte: u8, text: &[u8]) -> Option<(&[u8], &[u8])>
     ensures value { option_map (λ x. (x.0.now, x.1.now)) result ≡ cut_at byte text.now }
     ensures shorter { IfSome result (λ x. length x.1.now < length text.now) }
 {
-    match place_of(byte, text) {
+    match position_of(byte, text) {
         None => None,
         Some(n) => Some((&text[..n], &text[n + 1..])),
     }

@@ -13,7 +13,7 @@ mod laws;
 mod list;
 mod name;
 mod number;
-mod places;
+mod positions;
 mod print;
 mod ranges;
 mod reading;

@@ -50,13 +50,13 @@ fn step(pattern: &[u8], name: &[u8], ok: &mut [bool])
     }
 }
 
-/// For each place of a name, whether the empty pattern stands for what is left from there on.
+/// For each position of a name, whether the empty pattern stands for what is left from there on.
 fn ends(alloc: Global, name: &[u8]) -> Result<Vec<bool>, AllocError>
     ensures counted { IfOk result (λ v. length v.items ≡ length name.now + 1) }
     ensures reached { IfOk result (λ v. Reached [] name.now v.items) }
 {
     let mut ok = Vec::new(alloc);
-    for _place in 0..name.len() {
+    for _position in 0..name.len() {
         ok.push(false)?;
     }
     ok.push(true)?;

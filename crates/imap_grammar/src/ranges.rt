@@ -1,12 +1,12 @@
 //! The ranges of a set, and which messages of a view they name. How a set is called and what it refuses is told in `set`, and how
-//! messages are chosen by their places in `places`.
+//! messages are chosen by their positions in `positions`.
 
 ghost use Rattle.std.specs.Prelude.{◌≡◌, ℕ, ◌-◌, ◌++◌, IfOk, OnOk, Some, None, length, option_to_list};
 ghost use Rattle.std.specs.List.Sorted.{IsNonDecreasing};
-ghost use Rattle.imap_grammar.specs.Sets.{range_of, ranges_of, numeric, is_named, is_above, is_too_high, by_uid, at_places, last_uid};
+ghost use Rattle.imap_grammar.specs.Sets.{range_of, ranges_of, numeric, is_named, is_above, is_too_high, by_uid, at_positions, last_uid};
 
 use crate::cut::cut_at;
-use crate::places::{chosen_at, named_places, places_of_named_uids};
+use crate::positions::{chosen_at, named_positions, positions_of_named_uids};
 use crate::set::{SeqNumber, SeqRange, range_in};
 use std::alloc::{AllocError, Global};
 
@@ -96,18 +96,18 @@ pub(crate) fn uids_in(
     requires { IsNonDecreasing view.now }
     ensures { IfOk result (λ v. v.items ≡ by_uid ranges.now view.now) }
 {
-    let places = places_of_named_uids(alloc, ranges, last_uid(view), view)?;
-    Ok(chosen_at(alloc, &places, view)?)
+    let positions = positions_of_named_uids(alloc, ranges, last_uid(view), view)?;
+    Ok(chosen_at(alloc, &positions, view)?)
 }
 
-/// The UIDs of the messages that ranges of places in a view name.
-pub(crate) fn places_in(
+/// The UIDs of the messages that ranges of positions in a view name.
+pub(crate) fn positions_in(
     alloc: Global,
     ranges: &[SeqRange],
     view: &[u32],
 ) -> Result<Vec<u32>, AllocError>
-    ensures { IfOk result (λ v. v.items ≡ at_places (is_named ranges.now (length view.now)) 1 view.now) }
+    ensures { IfOk result (λ v. v.items ≡ at_positions (is_named ranges.now (length view.now)) 1 view.now) }
 {
-    let places = named_places(alloc, ranges, view.len())?;
-    chosen_at(alloc, &places, view)
+    let positions = named_positions(alloc, ranges, view.len())?;
+    chosen_at(alloc, &positions, view)
 }

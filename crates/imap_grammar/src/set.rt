@@ -10,8 +10,8 @@ ghost use Rattle.imap_grammar.specs.Sets.{seq_number_of, range_of, ranges_of};
 use crate::bytes::past_byte;
 use crate::cut::cut_at;
 use crate::number::number_up_to;
-use crate::ranges::{is_one_too_high, places_in, ranges_in, uids_in};
-use crate::view::{Named, placed};
+use crate::ranges::{is_one_too_high, positions_in, ranges_in, uids_in};
+use crate::view::{Named, with_positions};
 use mailbox::View;
 use std::alloc::{AllocError, Global};
 use std::marker::Model;
@@ -139,16 +139,16 @@ impl<'a> SeqSet<'a> {
             return Err(SetFault::TooHigh);
         }
         let ranges = ranges_in(alloc, self.spelled)?;
-        Ok(places_in(alloc, &ranges, view)?)
+        Ok(positions_in(alloc, &ranges, view)?)
     }
 
-    /// The messages of a view that the set names, each once, in the view's order, with their places. By
-    /// place a number is a message's place in the view, counted from 1, and `*` the last place; by UID
+    /// The messages of a view that the set names, each once, in the view's order, with their positions. By
+    /// position a number is a message's position in the view, counted from 1, and `*` the last position; by UID
     /// what isn't in the view is passed over, and `*` is the view's last UID (RFC 9051, 9: seq-number).
     /// A view's UIDs rise, so it costs the set's ranges, what they name, and the logarithm of the view's
     /// length for each of both.
     ///
-    /// Errors, in this order: `TooHigh` exactly where a number by place is above the view's length, or
+    /// Errors, in this order: `TooHigh` exactly where a number by position is above the view's length, or
     /// `*` is said of an empty view; `NoMemory` where memory was refused.
     pub fn resolve(
         &self,
@@ -162,6 +162,6 @@ impl<'a> SeqSet<'a> {
     {
         let shown = view.uids();
         let uids = self.uids(alloc, shown, by_uid)?;
-        Ok(placed(alloc, &uids, shown)?)
+        Ok(with_positions(alloc, &uids, shown)?)
     }
 }

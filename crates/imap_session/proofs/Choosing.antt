@@ -38,7 +38,7 @@ pub chosen_none : (view : List ℕ) (x : Option (List ℕ)) → None ≡ option_
 chosen_none view None e = refl
 chosen_none view (Some uids) e = cc
 
--- messages at their places, by number
+-- messages at their positions, by number
 pub message_there : (view uids : List ℕ) (i : ℕ) (d : Named) → i < length (map (named_at view) uids) → get_or (map (named_at view) uids) i d ≡ named_at view (get_or uids i 0)
 message_there view [] i d h = absurd (omega arith)
 message_there view (uid ∷ uids) zero d h = refl

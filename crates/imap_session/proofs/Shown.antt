@@ -1,9 +1,9 @@
--- Each command shows changes only in their place.
+-- Each command shows changes only where they belong.
 use Rattle.std.proofs.Common.{◌≡◌, ◌⊎◌, inl, inr, ℕ, is_some, ◌++◌, append_assoc, Bool, true, false, codes, List, [], ◌∷◌, Option, Some, None, refl, if◌then◌else◌}
 use Rattle.std.specs.Prelude.{◌&&◌}
 use Rattle.change_ring.specs.declared.change.Flags.{Flags}
 use Rattle.mailbox.specs.declared.clients.Row.{Row}
-use Rattle.cursor_set.specs.Lines.{place, flag_words, spaced}
+use Rattle.cursor_set.specs.Lines.{position, flag_words, spaced}
 use Rattle.std.specs.Prelude.{decimal, map}
 use Rattle.imap_grammar.specs.Answers.{answered, fetch_answer, item_text, status_text}
 use Rattle.imap_grammar.specs.Reading.{is_done}
@@ -18,7 +18,7 @@ use Rattle.imap_grammar.specs.declared.command.Append.{Append}
 use Rattle.imap_session.specs.Exchange.{Exchange, Expunge, Feed, Folder, ForNothing, Standing, Wait, bye}
 use Rattle.imap_session.specs.Commands.{awaiting, most_unasked, nowhere, is_over, number_named, over, wanting, on_command, on_idle_line, counting, folder_of, showing, completed, closing, entering, on_folder, on_chosen, messages_done, on_found, fetching, storing, fetched, stored, flags_answer, if_writable, expunge_set, store_messages, fetch_messages, unlimited, wrong_state, says, notice, noticing}
 use Rattle.imap_session.proofs.Appends.{asked_at, sent_at}
-use Rattle.imap_session.specs.Shows.{DoneShowsInPlace, IsFetchLine, IsNotice, MaySay, ShowsBefore, ShowsInPlace, may_show}
+use Rattle.imap_session.specs.Shows.{DoneShowsInOrder, IsFetchLine, IsNotice, MaySay, ShowsBefore, ShowsInOrder, may_show}
 
 no_must : (b : Bool) (o : Option Selected) → o ≡ None → (b && is_some o) ≡ true → ⊥
 no_must true None n e = cc
@@ -29,44 +29,44 @@ may_not : (b c : Bool) → b ≡ false → (b && c) ≡ true → ⊥
 may_not true c n e = cc
 may_not false c n e = cc
 
-in_either : (now : Standing) (command : Command) (b : Bool) (x y : Exchange) → ShowsInPlace now command x → ShowsInPlace now command y → ShowsInPlace now command (if b then x else y)
+in_either : (now : Standing) (command : Command) (b : Bool) (x y : Exchange) → ShowsInOrder now command x → ShowsInOrder now command y → ShowsInOrder now command (if b then x else y)
 in_either now command true x y p q = p
 in_either now command false x y p q = q
 
-in_showing : (now : Standing) (command : Command) → may_show command ≡ true → (selected : Option Selected) → now.selected ≡ selected → ShowsInPlace now command (showing selected (completed command))
+in_showing : (now : Standing) (command : Command) → may_show command ≡ true → (selected : Option Selected) → now.selected ≡ selected → ShowsInOrder now command (showing selected (completed command))
 in_showing now command m None is = λ must. absurd (no_must (may_show command) now.selected is must)
 in_showing now command m (Some selected) is = (m, refl, refl)
 
-in_folder : (now : Standing) (command : Command) (next : Folder → Exchange) → ((folder : Folder) → ShowsInPlace now command (next folder)) → (found : Option Folder)
-    → ShowsInPlace now command (on_found next (says (codes "NO [NONEXISTENT] No such mailbox")) found)
+in_folder : (now : Standing) (command : Command) (next : Folder → Exchange) → ((folder : Folder) → ShowsInOrder now command (next folder)) → (found : Option Folder)
+    → ShowsInOrder now command (on_found next (says (codes "NO [NONEXISTENT] No such mailbox")) found)
 in_folder now command next p None = λ must. refl
 in_folder now command next p (Some folder) = p folder
 
 in_closing : (now : Standing) (command : Command) (selected : Option Selected) (x : Exchange) → MaySay now command (codes "* OK [CLOSED] Previous mailbox is closed\r\n")
-    → ShowsInPlace now command x → ShowsInPlace now command (closing selected x)
+    → ShowsInOrder now command x → ShowsInOrder now command (closing selected x)
 in_closing now command None x s p = p
 in_closing now command (Some selected) x s p = (s, p)
 
-in_chosen : (now : Standing) (command : Command) (chosen : Option (List ℕ)) (next : List ℕ → Exchange) → ((uids : List ℕ) → ShowsInPlace now command (next uids))
-    → ShowsInPlace now command (on_chosen chosen next)
+in_chosen : (now : Standing) (command : Command) (chosen : Option (List ℕ)) (next : List ℕ → Exchange) → ((uids : List ℕ) → ShowsInOrder now command (next uids))
+    → ShowsInOrder now command (on_chosen chosen next)
 in_chosen now command None next p = λ must. refl
 in_chosen now command (Some uids) next p = p uids
 
-in_done : (now : Standing) (command : Command) (by_uid gone : Bool) → may_show command ≡ by_uid → ShowsInPlace now command (messages_done command by_uid gone)
+in_done : (now : Standing) (command : Command) (by_uid gone : Bool) → may_show command ≡ by_uid → ShowsInOrder now command (messages_done command by_uid gone)
 in_done now command true gone m = (m, refl, refl)
 in_done now command false true m = λ must. refl
 in_done now command false false m = λ must. absurd (may_not (may_show command) (is_some now.selected) m must)
 
-in_fetching : (now : Standing) (command : Command) (fetch : Fetch) (mark : Bool) (view : List ℕ) (done : Bool → Exchange) → ((gone : Bool) → ShowsInPlace now command (done gone))
+in_fetching : (now : Standing) (command : Command) (fetch : Fetch) (mark : Bool) (view : List ℕ) (done : Bool → Exchange) → ((gone : Bool) → ShowsInOrder now command (done gone))
     → ((uid : ℕ) (row : Row) → MaySay now command (fetched fetch view uid row))
-    → (uids : List ℕ) (gone : Bool) → ShowsInPlace now command (fetching fetch mark view done uids gone)
+    → (uids : List ℕ) (gone : Bool) → ShowsInOrder now command (fetching fetch mark view done uids gone)
 in_fetching now command fetch mark view done p s [] gone = p gone
 in_fetching now command fetch mark view done p s (uid ∷ uids) gone =
     elim [ None ↦ in_fetching now command fetch mark view done p s uids true | Some row ↦ (s uid row, in_fetching now command fetch mark view done p s uids gone) ]
 
-in_storing : (now : Standing) (command : Command) (store : Store) (view : List ℕ) (done : Bool → Exchange) → ((gone : Bool) → ShowsInPlace now command (done gone))
+in_storing : (now : Standing) (command : Command) (store : Store) (view : List ℕ) (done : Bool → Exchange) → ((gone : Bool) → ShowsInOrder now command (done gone))
     → ((uid : ℕ) (flags : Flags) → MaySay now command (stored store view uid flags))
-    → (uids : List ℕ) (gone : Bool) → ShowsInPlace now command (storing store view done uids gone)
+    → (uids : List ℕ) (gone : Bool) → ShowsInOrder now command (storing store view done uids gone)
 in_storing now command store view done p s [] gone = p gone
 in_storing now command store view done p s (uid ∷ uids) gone =
     elim [ None ↦ in_storing now command store view done p s uids true | Some flags ↦ (s uid flags, in_storing now command store view done p s uids gone) ]
@@ -85,27 +85,27 @@ flags_form : (by_uid : Bool) (k uid : ℕ) (flags : Flags) → IsFetchLine (flag
 flags_form by_uid k uid flags =
     (k, _, joined (codes "* " ++ decimal k ++ codes " FETCH (") (if by_uid then codes "UID " ++ decimal uid ++ codes " " else []) (codes "FLAGS (") (spaced (flag_words flags)) (codes "))\r\n"))
 
-in_found : (now : Standing) (command : Command) (selected : Option Selected) (next : Selected → Exchange) → ((s : Selected) → ShowsInPlace now command (next s))
-    → ShowsInPlace now command (on_found next wrong_state selected)
+in_found : (now : Standing) (command : Command) (selected : Option Selected) (next : Selected → Exchange) → ((s : Selected) → ShowsInOrder now command (next s))
+    → ShowsInOrder now command (on_found next wrong_state selected)
 in_found now command None next p = λ must. refl
 in_found now command (Some s) next p = p s
 
-in_writable : (now : Standing) (command : Command) (selected : Option Selected) (x : Exchange) → ShowsInPlace now command x
-    → ShowsInPlace now command (on_found (if_writable x) wrong_state selected)
+in_writable : (now : Standing) (command : Command) (selected : Option Selected) (x : Exchange) → ShowsInOrder now command x
+    → ShowsInOrder now command (on_found (if_writable x) wrong_state selected)
 in_writable now command selected x p = in_found now command selected (if_writable x) (λ s. in_either now command s.read_only (says (codes "NO Mailbox is read-only")) x (λ must. refl) p)
 
 may_not_be : (c : Bool) → (false && c) ≡ false
 may_not_be c = refl
 
-in_named : (now : Standing) (command : Command) (next : ℕ → Exchange) → ((m : ℕ) → ShowsInPlace now command (next m)) → (found : Option ℕ) → ShowsInPlace now command (on_found next nowhere found)
+in_named : (now : Standing) (command : Command) (next : ℕ → Exchange) → ((m : ℕ) → ShowsInOrder now command (next m)) → (found : Option ℕ) → ShowsInOrder now command (on_found next nowhere found)
 in_named now command next p None = λ must. refl
 in_named now command next p (Some m) = p m
 
-in_over : (now : Standing) (command : Command) (most : Option ℕ) → ShowsInPlace now command (over most)
+in_over : (now : Standing) (command : Command) (most : Option ℕ) → ShowsInOrder now command (over most)
 in_over now command None = λ must. refl
 in_over now command (Some most) = λ must. refl
 
-in_append : (now : Standing) (most : Option ℕ) (a : Append) (found : Option ℕ) → ShowsInPlace now (commands.Append a) (if a.literal.waits then wanting (asked_at most a found) else sent_at most a found)
+in_append : (now : Standing) (most : Option ℕ) (a : Append) (found : Option ℕ) → ShowsInOrder now (commands.Append a) (if a.literal.waits then wanting (asked_at most a found) else sent_at most a found)
 in_append now most a found =
     in_either now (commands.Append a) a.literal.waits (wanting (asked_at most a found)) (sent_at most a found) (
       inl refl,
@@ -116,51 +116,51 @@ in_append now most a found =
     (inr (inr refl), refl) (inl refl, (inl refl, refl)))
 
 notice_shown : (now : Standing) (command : Command) (said : Option (List ℕ)) → ((bytes : List ℕ) → IsNotice said bytes → MaySay now command bytes) → may_show command ≡ false
-    → ShowsInPlace now command (noticing said (completed command))
+    → ShowsInOrder now command (noticing said (completed command))
 notice_shown now command None says quiet = λ must. absurd (may_not (may_show command) (is_some now.selected) quiet must)
 notice_shown now command (Some words) says quiet = (says _ refl, λ must. absurd (may_not (may_show command) (is_some now.selected) quiet must))
 
-pub shown_in_place : (now : Standing) (command : Command) → ShowsInPlace now command (on_command now command)
-shown_in_place now commands.Noop = in_showing now commands.Noop refl now.selected refl
-shown_in_place now commands.Logout = (refl, λ must. absurd (may_not false (is_some now.selected) refl must))
-shown_in_place now commands.Idle = (refl, may_not_be (is_some now.selected))
-shown_in_place now commands.Login = λ must. refl
-shown_in_place now commands.Authenticate = λ must. refl
-shown_in_place now commands.StartTls = λ must. refl
-shown_in_place now (commands.Select name) = (
+pub shown_in_order : (now : Standing) (command : Command) → ShowsInOrder now command (on_command now command)
+shown_in_order now commands.Noop = in_showing now commands.Noop refl now.selected refl
+shown_in_order now commands.Logout = (refl, λ must. absurd (may_not false (is_some now.selected) refl must))
+shown_in_order now commands.Idle = (refl, may_not_be (is_some now.selected))
+shown_in_order now commands.Login = λ must. refl
+shown_in_order now commands.Authenticate = λ must. refl
+shown_in_order now commands.StartTls = λ must. refl
+shown_in_order now (commands.Select name) = (
   inl refl,
   in_closing now (commands.Select name) now.selected (on_folder name now.folders (entering false)) (inr (inl refl))
       (in_folder now (commands.Select name) (entering false) (λ folder opening. (inr (inr (folder.name, opening, refl)), λ must. absurd (may_not false (is_some now.selected) refl must))) (folder_of name now.folders)),
 )
-shown_in_place now (commands.Examine name) = (
+shown_in_order now (commands.Examine name) = (
   inl refl,
   in_closing now (commands.Examine name) now.selected (on_folder name now.folders (entering true)) (inr (inl refl))
       (in_folder now (commands.Examine name) (entering true) (λ folder opening. (inr (inr (folder.name, opening, refl)), λ must. absurd (may_not false (is_some now.selected) refl must))) (folder_of name now.folders)),
 )
-shown_in_place now (commands.List reference pattern) = (refl, in_showing now (commands.List reference pattern) refl now.selected refl)
-shown_in_place now (commands.Status name items) = (
+shown_in_order now (commands.List reference pattern) = (refl, in_showing now (commands.List reference pattern) refl now.selected refl)
+shown_in_order now (commands.Status name items) = (
   inl refl,
   in_folder now (commands.Status name items) (counting now name items)
       (λ folder status. (inr (_, joined (codes "* STATUS ") folder.name (codes " (") (spaced (map (status_text status) items)) (codes ")\r\n")), in_showing now (commands.Status name items) refl now.selected refl)) (folder_of name now.folders),
 )
-shown_in_place now commands.Close = in_found now commands.Close now.selected _ (λ s must. absurd (may_not false (is_some now.selected) refl must))
-shown_in_place now commands.Unselect = in_found now commands.Unselect now.selected _ (λ s must. absurd (may_not false (is_some now.selected) refl must))
-shown_in_place now commands.Expunge = in_writable now commands.Expunge now.selected (Expunge None (Feed unlimited (completed commands.Expunge))) (refl, (refl, refl, refl))
-shown_in_place now (commands.UidExpunge set) =
+shown_in_order now commands.Close = in_found now commands.Close now.selected _ (λ s must. absurd (may_not false (is_some now.selected) refl must))
+shown_in_order now commands.Unselect = in_found now commands.Unselect now.selected _ (λ s must. absurd (may_not false (is_some now.selected) refl must))
+shown_in_order now commands.Expunge = in_writable now commands.Expunge now.selected (Expunge None (Feed unlimited (completed commands.Expunge))) (refl, (refl, refl, refl))
+shown_in_order now (commands.UidExpunge set) =
     in_writable now (commands.UidExpunge set) now.selected (expunge_set set)
     (λ view. in_chosen now (commands.UidExpunge set) (named_in true set view)
     (λ uids. Expunge (Some uids) (Feed unlimited (completed (commands.UidExpunge set)))) (λ uids. (refl, (refl, refl, refl))))
-shown_in_place now (commands.Fetch fetch) =
+shown_in_order now (commands.Fetch fetch) =
     in_found now (commands.Fetch fetch) now.selected (fetch_messages fetch)
     (λ s view. in_chosen now (commands.Fetch fetch) (named_in fetch.by_uid fetch.set view) _
-    (λ uids. in_fetching now (commands.Fetch fetch) fetch _ view _ (λ gone. in_done now (commands.Fetch fetch) fetch.by_uid gone refl) (λ uid row. fetch_form (place uid view) (map (item_text row) (answered fetch.by_uid row.newly_seen fetch.items))) uids false))
-shown_in_place now (commands.Store store) =
+    (λ uids. in_fetching now (commands.Fetch fetch) fetch _ view _ (λ gone. in_done now (commands.Fetch fetch) fetch.by_uid gone refl) (λ uid row. fetch_form (position uid view) (map (item_text row) (answered fetch.by_uid row.newly_seen fetch.items))) uids false))
+shown_in_order now (commands.Store store) =
     in_writable now (commands.Store store) now.selected (store_messages store)
     (λ view. in_chosen now (commands.Store store) (named_in store.by_uid store.set view) _
     (λ uids. in_storing now (commands.Store store) store view _ (λ gone. in_done now (commands.Store store) store.by_uid gone refl)
-    (λ uid flags. in_silence store.silent (flags_answer store.by_uid (place uid view) uid flags) (flags_form store.by_uid (place uid view) uid flags)) uids false))
-shown_in_place now (commands.Append append) = in_append now now.mailing.most append (number_named append.name now.folders)
-shown_in_place now command = notice_shown now command (notice command) (λ bytes is. is) refl
+    (λ uid flags. in_silence store.silent (flags_answer store.by_uid (position uid view) uid flags) (flags_form store.by_uid (position uid view) uid flags)) uids false))
+shown_in_order now (commands.Append append) = in_append now now.mailing.most append (number_named append.name now.folders)
+shown_in_order now command = notice_shown now command (notice command) (λ bytes is. is) refl
 
 in_idle_line : (b : Bool) (selected : Option Selected)
     → ShowsBefore (completed commands.Idle) (λ bytes. ⊥) b (b && is_some selected) false (if b then showing selected (completed commands.Idle) else says (codes "BAD Expected DONE"))
@@ -168,5 +168,5 @@ in_idle_line true None = λ must. absurd (no_must true None refl must)
 in_idle_line true (Some s) = (refl, refl, refl)
 in_idle_line false selected = λ must. refl
 
-pub done_in_place : (selected : Option Selected) (line : List ℕ) → DoneShowsInPlace selected line (on_idle_line selected line)
-done_in_place selected line = in_idle_line (is_done line) selected
+pub done_in_order : (selected : Option Selected) (line : List ℕ) → DoneShowsInOrder selected line (on_idle_line selected line)
+done_in_order selected line = in_idle_line (is_done line) selected

@@ -13,7 +13,7 @@ use Rattle.delivery_token.specs.declared.Refusal.TheVariants.{Full, MailboxFull,
 use Rattle.imap_session.specs.declared.standing.Selected.{Selected}
 use Rattle.imap_session.specs.Exchange.{Answer, Appending, Call, Exchange, ForVerdict, Mailing, Sent, Standing, Wait, closed, tagged}
 use Rattle.imap_session.specs.Commands.{appended_words, is_over, kept_text, last_number, nowhere, on_found, on_rest, on_text, on_verdict, refused_words, says, showing, over, taking, turn_with, wanting, with_bytes, without_sent}
-use Rattle.imap_session.specs.Shows.{IsNoOk, RestShowsNone, ShowsBefore, VerdictShowsInPlace}
+use Rattle.imap_session.specs.Shows.{IsNoOk, RestShowsNone, ShowsBefore, VerdictShowsInOrder}
 use Rattle.imap_session.specs.Store.{AnswersVerdict}
 use Rattle.imap_session.specs.inner.Store.{Plays}
 
@@ -89,7 +89,7 @@ refused_says NoMemory = refl
 refused_says UidSpent = refl
 refused_says Shut = refl
 
-pub verdict_shown : (selected : Option Selected) (mailbox : ℕ) (verdict : Verdict) → VerdictShowsInPlace selected verdict (on_verdict selected mailbox verdict)
+pub verdict_shown : (selected : Option Selected) (mailbox : ℕ) (verdict : Verdict) → VerdictShowsInOrder selected verdict (on_verdict selected mailbox verdict)
 verdict_shown selected mailbox (Stored uid) = λ status. shown_before selected (appended_words status.uidvalidity uid)
 verdict_shown selected mailbox (Refused why) = refused_says why
 

@@ -5,7 +5,7 @@ use Rattle.std.specs.List.{list_any}
 use Rattle.std.specs.Str.{bytes_eq}
 use Rattle.mailbox.specs.declared.clients.Opening.{Opening}
 use Rattle.mailbox.specs.declared.clients.Row.{Row}
-use Rattle.cursor_set.specs.Lines.{lines, place, flag_words, spaced}
+use Rattle.cursor_set.specs.Lines.{lines, position, flag_words, spaced}
 use Rattle.mailbox.specs.declared.clients.MailFault.TheVariants.{Lapped, Stranger}
 use Rattle.change_ring.specs.declared.change.Flags.{Flags}
 use Rattle.imap_grammar.specs.declared.set.SeqRange.{SeqRange}
@@ -127,9 +127,9 @@ messages_done command true gone = Feed unlimited (completed command)
 messages_done command false true = says (codes "NO [EXPUNGEISSUED] Some messages are gone")
 messages_done command false false = completed command
 
--- the answer for a message that was read, at its place in the view
+-- the answer for a message that was read, at its position in the view
 abbrev pub fetched : Fetch → List ℕ → ℕ → Row → List ℕ
-fetched fetch view uid row = row_answer (place uid view) fetch.by_uid fetch.items row
+fetched fetch view uid row = row_answer (position uid view) fetch.by_uid fetch.items row
 
 -- reads each message, and tells of those that are there
 abbrev pub fetching : Fetch → Bool → List ℕ → (Bool → Exchange) → List ℕ → Bool → Exchange
@@ -144,9 +144,9 @@ flags_answer by_uid k uid flags =
     codes "* " ++ decimal k ++ codes " FETCH (" ++ (if by_uid then codes "UID " ++ decimal uid ++ codes " " else [])
     ++ codes "FLAGS (" ++ spaced (flag_words flags) ++ codes "))\r\n"
 
--- the same for a message at its place in the view, or nothing where the client asked for silence
+-- the same for a message at its position in the view, or nothing where the client asked for silence
 abbrev pub stored : Store → List ℕ → ℕ → Flags → List ℕ
-stored store view uid flags = if store.silent then [] else flags_answer store.by_uid (place uid view) uid flags
+stored store view uid flags = if store.silent then [] else flags_answer store.by_uid (position uid view) uid flags
 
 -- changes the flags of each message, and tells of those that are there
 abbrev pub storing : Store → List ℕ → (Bool → Exchange) → List ℕ → Bool → Exchange

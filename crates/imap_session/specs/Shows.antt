@@ -35,7 +35,7 @@ may_remove _ = false
 
 -- ---- what may be said beside them
 
--- a line of this kind, about the message at this place
+-- a line of this kind, about the message at this position
 abbrev pub IsFetchLine : List ℕ → Type 0
 IsFetchLine bytes = (k : ℕ) × (rest : List ℕ) × (bytes ≡ codes "* " ++ decimal k ++ codes " FETCH (" ++ rest)
 
@@ -88,13 +88,13 @@ ShowsBefore ok says shows must removes (Expunge uids x) = (removes ≡ true) × 
 ShowsBefore ok says shows must removes (Feed limit x) = (shows ≡ true) × (limit ≡ unlimited) × (x ≡ ok)
 ShowsBefore ok says shows must removes (Leave remove x) = ShowsBefore ok says shows must removes x
 
--- A command shows changes in its place, where a mailbox is selected, and there alone. IDLE itself shows none, nor does the line of an APPEND
-abbrev pub ShowsInPlace : Standing → Command → Exchange → Type 0
-ShowsInPlace now command = ShowsBefore (completed command) (MaySay now command) (may_show command) (may_show command && is_some now.selected) (may_remove command)
+-- A command shows changes before it ends, where a mailbox is selected, and there alone. IDLE itself shows none, nor does the line of an APPEND
+abbrev pub ShowsInOrder : Standing → Command → Exchange → Type 0
+ShowsInOrder now command = ShowsBefore (completed command) (MaySay now command) (may_show command) (may_show command && is_some now.selected) (may_remove command)
 
 -- the line that ends an IDLE shows changes where it is DONE and a mailbox is selected, right before the tagged OK. Any other line shows none
-abbrev pub DoneShowsInPlace : Option Selected → List ℕ → Exchange → Type 0
-DoneShowsInPlace selected line = ShowsBefore (completed commands.Idle) (λ bytes. ⊥) (is_done line) (is_done line && is_some selected) false
+abbrev pub DoneShowsInOrder : Option Selected → List ℕ → Exchange → Type 0
+DoneShowsInOrder selected line = ShowsBefore (completed commands.Idle) (λ bytes. ⊥) (is_done line) (is_done line && is_some selected) false
 
 -- The rest of a line behind a literal asks nothing of the store, and says no tagged OK: the message is refused, or it is submitted and nothing is said.
 abbrev pub RestShowsNone : Exchange → Type 0
@@ -116,6 +116,6 @@ CountsThenShows selected uid _ = ⊥
 
 -- The verdict on an appended message shows changes right before its tagged OK, where a mailbox is selected. Where the message was refused there is no tagged
 -- OK, and none are shown.
-abbrev pub VerdictShowsInPlace : Option Selected → Verdict → Exchange → Type 0
-VerdictShowsInPlace selected (Stored uid) = CountsThenShows selected uid
-VerdictShowsInPlace selected (Refused why) = IsRefused
+abbrev pub VerdictShowsInOrder : Option Selected → Verdict → Exchange → Type 0
+VerdictShowsInOrder selected (Stored uid) = CountsThenShows selected uid
+VerdictShowsInOrder selected (Refused why) = IsRefused

@@ -36,7 +36,7 @@ Feeds step limit before after (Ok n) =
     (view : List ℕ) × (changes : List Change) × step (Fed view changes) × (length changes ≡ n) × (n ≤ limit) × (after ≡ before ++ lines view changes)
 Feeds step limit before after (Err fault) = step (Refused fault) × (after ≡ before)
 
--- What a choice did: it looked at a view, and answered which of its messages the set names, or that it says a place that isn't there.
+-- What a choice did: it looked at a view, and answered which of its messages the set names, or that it says a position that isn't there.
 abbrev pub Chooses : (Answer → Type 0) → Bool → List SeqRange → Result (Option (Vec Named Global)) MailFault → Type 0
 Chooses step by_uid set (Ok chosen) = (view : List ℕ) × step (Looked view) × (option_map (λ named. named.items) chosen ≡ messages_in by_uid set view)
 Chooses step by_uid set (Err fault) = step (Refused fault)

@@ -4,7 +4,7 @@ ghost use Rattle.std.specs.Prelude.{◌≡◌, ◌+◌, ◌≤◌, ◌++◌, fal
 ghost use Rattle.std.specs.Vec.{vec_capacity};
 ghost use Rattle.imap_grammar.specs.Answers.{list_answer, status_answer};
 ghost use Rattle.imap_grammar.specs.declared.command.Command.TheVariants as commands;
-ghost use Rattle.imap_session.specs.Exchange.{Exchange, Count, Folder as Place, Write, nothing_sent};
+ghost use Rattle.imap_session.specs.Exchange.{Exchange, Count, Folder as FolderSpec, Write, nothing_sent};
 ghost use Rattle.imap_session.specs.Commands.{completed, counting, on_folder, showing, wanting};
 ghost use Rattle.imap_session.specs.inner.Store.{Does, last};
 
@@ -120,7 +120,7 @@ pub(crate) fn count_mailbox<S: Store>(
 
 // The names of folders, in their order.
 fn names_of<'a>(alloc: Global, folders: &'a [Folder]) -> Result<Vec<&'a [u8]>, AllocError>
-    ensures { IfOk result (λ names. map (λ name. name.now) names.items ≡ map (λ (folder : Place). folder.name) folders.now) }
+    ensures { IfOk result (λ names. map (λ name. name.now) names.items ≡ map (λ (folder : FolderSpec). folder.name) folders.now) }
 {
     let mut names = Vec::with_capacity(alloc, folders.len())?;
     for folder in folders {
@@ -142,7 +142,7 @@ fn write_names(
 ) -> Result<(), MailFault>
     requires room { vec_len out.old + keep ≤ vec_capacity out.old }
     ensures text { OnOk result (out.new.items ≡ out.old.items ++
-        list_answer reference.now pattern.now (map (λ (folder : Place). folder.name) folders.now)) }
+        list_answer reference.now pattern.now (map (λ (folder : FolderSpec). folder.name) folders.now)) }
     ensures err { OnErr result (out.new.items ≡ out.old.items) }
     ensures fault { IfErr result (λ f. f ≡ MailFault.NoMemory) }
     ensures room { vec_len out.new + keep ≤ vec_capacity out.new }
@@ -170,7 +170,7 @@ pub(crate) fn list_folders<S: Store>(
 ) -> Result<&'static [u8], MailFault>
     requires room { vec_len out.old + keep ≤ vec_capacity out.old }
     ensures done { Does S.step
-        (Write (list_answer reference.now pattern.now (map (λ (folder : Place). folder.name) folders.now))
+        (Write (list_answer reference.now pattern.now (map (λ (folder : FolderSpec). folder.name) folders.now))
         (showing selected (completed (commands.List reference.now pattern.now))))
         last store.old store.new out.old.items out.new.items result }
     ensures short { IfOk result (λ words. length words.now ≤ MOST_WORDS) }

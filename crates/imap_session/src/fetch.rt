@@ -17,23 +17,23 @@ use imap_grammar::{Fetch, FetchItem, Named, write_row};
 use mailbox::{MailFault, Row};
 use std::alloc::{AllocError, Global};
 
-// Writes the answer for the message at this place, with room for `keep` more bytes behind it.
+// Writes the answer for the message at this position, with room for `keep` more bytes behind it.
 fn write_fetched(
     by_uid: bool,
     items: &[FetchItem],
-    place: usize,
+    position: usize,
     row: &Row,
     keep: usize,
     out: &mut Vec<u8>,
 ) -> Result<(), MailFault>
     requires room { vec_len out.old + keep ≤ vec_capacity out.old }
-    ensures text { OnOk result (out.new.items ≡ out.old.items ++ row_answer place by_uid items.now row.now) }
+    ensures text { OnOk result (out.new.items ≡ out.old.items ++ row_answer position by_uid items.now row.now) }
     ensures err { OnErr result (out.new.items ≡ out.old.items) }
     ensures fault { IfErr result (λ f. f ≡ MailFault.NoMemory) }
     ensures room { vec_len out.new + keep ≤ vec_capacity out.new }
 {
     let start = out.len();
-    if write_row(place, by_uid, items, row, out).is_err() {
+    if write_row(position, by_uid, items, row, out).is_err() {
         return Err(MailFault::NoMemory);
     }
     hold_room(start, keep, out)
@@ -59,7 +59,14 @@ fn fetch_one<S: Store>(
     match store.read(message.uid, mark) {
         Err(fault) => Err(fault),
         Ok(None) => Ok(false),
-        Ok(Some(row)) => match write_fetched(fetch.by_uid, items, message.place, &row, keep, out) {
+        Ok(Some(row)) => match write_fetched(
+            fetch.by_uid,
+            items,
+            message.position,
+            &row,
+            keep,
+            out,
+        ) {
             Err(fault) => Err(fault),
             Ok(()) => Ok(true),
         },

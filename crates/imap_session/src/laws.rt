@@ -7,20 +7,20 @@ ghost use Rattle.std.specs.Prelude.{◌≡◌, ◌&&◌, ◌++◌, ℕ, Bool, tr
 ghost use Rattle.delivery_token.specs.declared.Verdict.{Verdict};
 ghost use Rattle.imap_session.specs.Exchange.{Appending, Mailing, Standing, kept_tag, refusal_text};
 ghost use Rattle.imap_session.specs.Commands.{appended_words, fault_text, on_command, on_idle_line, on_rest, on_verdict, turn_of_long_line, with_bytes};
-ghost use Rattle.imap_session.specs.Shows.{DoneShowsInPlace, RestShowsNone, ShowsInPlace, VerdictShowsInPlace};
+ghost use Rattle.imap_session.specs.Shows.{DoneShowsInOrder, RestShowsNone, ShowsInOrder, VerdictShowsInOrder};
 ghost use Rattle.imap_session.specs.Telling.{LineTellsNoUid, RefusalTellsNoUid, TellsNoUid, VerdictTellsUid, WordsTellWhich, fault_tag, tells_uid};
 ghost use Rattle.imap_session.specs.declared.standing.Selected.{Selected};
 
 /// Changes are shown right before the tagged OK of NOOP, EXPUNGE, STATUS, LIST, UID FETCH, UID STORE and UID EXPUNGE, and as EXPUNGE and
 /// UID EXPUNGE remove messages: nowhere else, and no other line that these commands say is of that kind. Where a mailbox is selected no such
 /// tagged OK comes without them. A plain FETCH and a plain STORE show none (RFC 9051, 7.5.1), and IDLE shows none before its turns.
-pub fn changes_are_shown_in_place()
-    ensures { (now : Standing) (command : Command) → ShowsInPlace now command (on_command now command) }
+pub fn changes_are_shown_in_order()
+    ensures { (now : Standing) (command : Command) → ShowsInOrder now command (on_command now command) }
 {}
 
 /// The line that ends an IDLE shows changes right before its tagged OK where it is DONE. Any other line shows none.
-pub fn done_shows_in_place()
-    ensures { (selected : Option Selected) (line : List ℕ) → DoneShowsInPlace selected line (on_idle_line selected line) }
+pub fn done_shows_in_order()
+    ensures { (selected : Option Selected) (line : List ℕ) → DoneShowsInOrder selected line (on_idle_line selected line) }
 {}
 
 /// What stands behind a literal shows no changes, asks nothing of the store and has no tagged OK: the message is refused, or it is submitted and
@@ -31,9 +31,9 @@ pub fn rest_shows_none()
 
 /// The verdict on an appended message shows changes right before the tagged OK that tells its UID, where a mailbox is selected. A message that was
 /// refused has no tagged OK, and shows none.
-pub fn verdicts_show_in_place()
+pub fn verdicts_show_in_order()
     ensures { (selected : Option Selected) (mailbox : ℕ) (verdict : Verdict) →
-        VerdictShowsInPlace selected verdict (on_verdict selected mailbox verdict) }
+        VerdictShowsInOrder selected verdict (on_verdict selected mailbox verdict) }
 {}
 
 /// A tagged last line begins `OK [APPENDUID` where it answers a verdict that was `Stored`, and nowhere else: not where it ends a command or an IDLE, not

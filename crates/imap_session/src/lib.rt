@@ -21,8 +21,8 @@ mod tag;
 mod turn;
 
 pub use laws::{
-    changes_are_shown_in_place, done_shows_in_place, literals_may_be_cut,
-    only_a_stored_verdict_tells_a_uid, rest_shows_none, verdicts_show_in_place,
+    changes_are_shown_in_order, done_shows_in_order, literals_may_be_cut,
+    only_a_stored_verdict_tells_a_uid, rest_shows_none, verdicts_show_in_order,
 };
 pub use session::Session;
 pub use standing::{After, Append, Folder, Selected, SessionFault};

@@ -51,18 +51,18 @@ fn append_flags(flags: Flags, out: &mut Vec<u8>) -> Result<(), AllocError>
 // Appends the answer to a STORE, or a part of it.
 fn append_answer(
     by_uid: bool,
-    place: usize,
+    position: usize,
     uid: u32,
     flags: Flags,
     out: &mut Vec<u8>,
 ) -> Result<(), AllocError>
-    ensures ok { OnOk result (out.new.items ≡ out.old.items ++ flags_answer by_uid place uid flags) }
+    ensures ok { OnOk result (out.new.items ≡ out.old.items ++ flags_answer by_uid position uid flags) }
     ensures err { OnErr result (StartsWith out.new.items out.old.items) }
     ensures room { vec_capacity out.old ≤ vec_capacity out.new }
 {
     let mut digits = Buffer::new();
     out.extend_from_slice(b"* ")?;
-    out.extend_from_slice(digits.format(place).as_bytes())?;
+    out.extend_from_slice(digits.format(position).as_bytes())?;
     out.extend_from_slice(b" FETCH (")?;
     append_uid(by_uid, uid, out)?;
     out.extend_from_slice(b"FLAGS (")?;
@@ -81,7 +81,7 @@ fn write_stored(
 ) -> Result<(), MailFault>
     requires room { vec_len out.old + keep ≤ vec_capacity out.old }
     ensures text { OnOk result (out.new.items ≡ out.old.items ++
-        (if command.now.silent then [] else flags_answer command.now.by_uid message.place message.uid flags)) }
+        (if command.now.silent then [] else flags_answer command.now.by_uid message.position message.uid flags)) }
     ensures err { OnErr result (out.new.items ≡ out.old.items) }
     ensures fault { IfErr result (λ f. f ≡ MailFault.NoMemory) }
     ensures room { vec_len out.new + keep ≤ vec_capacity out.new }
@@ -90,7 +90,7 @@ fn write_stored(
         return Ok(());
     }
     let start = out.len();
-    if append_answer(command.by_uid, message.place, message.uid, flags, out).is_err() {
+    if append_answer(command.by_uid, message.position, message.uid, flags, out).is_err() {
         out.truncate(start);
         return Err(MailFault::NoMemory);
     }

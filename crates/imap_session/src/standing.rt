@@ -58,9 +58,9 @@ pub struct Folder {
 }
 
 impl Model for Folder {
-    ghost use Rattle.imap_session.specs.Exchange.{Folder as Place};
+    ghost use Rattle.imap_session.specs.Exchange.{Folder as FolderSpec};
 
-    ghost Value = { Place };
+    ghost Value = { FolderSpec };
 
     ghost view = { λ f. record { name = f.name.items; mailbox = f.mailbox } };
 }

@@ -25,7 +25,7 @@ pub trait Store {
         ensures { step self.old (Enter mailbox) (answer Entered result) self.new };
 
     /// Looks at the view, the UIDs that the session was shown, and answers which of its messages a set names
-    /// (RFC 9051, 9: sequence-set), in the view's order, with their places. None where the set says a place that
+    /// (RFC 9051, 9: sequence-set), in the view's order, with their positions. None where the set says a position that
     /// isn't there. It is no event.
     fn choose(
         &self,

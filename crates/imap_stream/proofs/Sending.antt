@@ -14,7 +14,7 @@ use Rattle.imap_stream.specs.inner.Visits.{Looks, cut, cut_in_part, in_part, who
 
 -- each dialogue was led by P, behind what stood in the room before
 abbrev pub Led : (Moment → Moment → Type 0) → Visit → List ℕ → List ℕ → Visit → Type 0
-Led P old before said new = (d : Dialogue) → StandsFor old.link d → (next : Dialogue) × StandsFor new.link next × P (moment d old.place before) (moment next new.place said)
+Led P old before said new = (d : Dialogue) → StandsFor old.link d → (next : Dialogue) × StandsFor new.link next × P (moment d old.selection before) (moment next new.selection said)
 
 -- the output took the first bytes
 abbrev pub TookFirst : Visit → List ℕ → Visit → Type 0
@@ -22,7 +22,7 @@ TookFirst old said new = (sent : ℕ) × (sent < length said) × Appends old.tak
 
 led : (P : Moment → Moment → Type 0) (old new : Visit) (before said : List ℕ) → before ≡ [] → Led P old before said new → LeadsTo P old said new
 led P old new before said empty h d s =
-    let t = h d s in (t.0, t.1, subst (λ (b : List ℕ). P (moment d old.place b) (moment t.0 new.place said)) empty t.2)
+    let t = h d s in (t.0, t.1, subst (λ (b : List ℕ). P (moment d old.selection b) (moment t.0 new.selection said)) empty t.2)
 
 pub tells_all : (P : Moment → Moment → Type 0) (old seen new : Visit) (before said : List ℕ) → seen ≡ old → before ≡ [] → Led P seen before said new
     → Appends seen.taken new.taken said → new.failed ≡ false → Tells P SendsAll old new

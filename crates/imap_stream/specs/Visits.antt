@@ -15,7 +15,7 @@ use Rattle.courier.specs.declared.Lost.TheVariants as lost
 -- What is known of a visit. Between two calls nothing that was said is left unsent.
 pub record Visit : Type 0 where
   pub link : ImapConnection
-  pub place : LockedDesk
+  pub selection : LockedDesk
   -- the bytes that its output took, where that tells them
   pub taken : Option (List ℕ)
   -- the output failed
@@ -78,7 +78,7 @@ pub data HearsInPart (room : ℕ) (piece : List ℕ) (why : Lost) (before after 
 
 -- Each dialogue for which the connection stood was led by P to one for which it stands, and this was said on the way.
 abbrev pub LeadsTo : (Moment → Moment → Type 0) → Visit → List ℕ → Visit → Type 0
-LeadsTo P old said new = (d : Dialogue) → StandsFor old.link d → (next : Dialogue) × StandsFor new.link next × P (moment d old.place []) (moment next new.place said)
+LeadsTo P old said new = (d : Dialogue) → StandsFor old.link d → (next : Dialogue) × StandsFor new.link next × P (moment d old.selection []) (moment next new.selection said)
 
 -- All that was said was sent.
 pub record SendsAll (old : Visit) (said : List ℕ) (new : Visit) : Type 0 where
@@ -102,9 +102,9 @@ pub record Tells (P : Moment → Moment → Type 0) (Sends : Visit → List ℕ 
 -- ---- the first and the last words
 
 -- The client was greeted (RFC 9051, 7.1.4), and nothing else was done: its session is in no mailbox, it takes messages of at most so many bytes, or none, and its line has not begun.
-pub record IsGreeted (most : Option ℕ) (folders : List Folder) (place : LockedDesk) (taken : Option (List ℕ)) (visit : Visit) : Type 0 where
+pub record IsGreeted (most : Option ℕ) (folders : List Folder) (selection : LockedDesk) (taken : Option (List ℕ)) (visit : Visit) : Type 0 where
   pub stands : StandsFor visit.link (record { standing = record { folders = folders; selected = None; idling = None; ended = false; mailing = nothing_sent most }; begun = [] })
-  pub desk : visit.place ≡ place
+  pub desk : visit.selection ≡ selection
   pub took : Appends taken visit.taken greeting
   pub live : visit.failed ≡ false
   pub goes_on : visit.closed ≡ false

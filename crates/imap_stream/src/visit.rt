@@ -1,5 +1,5 @@
 //! One client's visit: its session, and where its answers go. Nothing is left unsent between two calls.
-//! Whose threads make the calls stands in `place`.
+//! Whose threads make the calls stands in `berth`.
 
 ghost use Rattle.std.specs.Prelude.{◌≡◌, ◌≢◌, ◌⊎◌, ℕ, ◌<◌, ◌++◌, [], List, None, Ok, Err, false, true, length, take, IfOk, IfErr, OnErr, OnOk};
 ghost use Rattle.std.specs.Io.KnownBytes.{Appends};
@@ -122,7 +122,7 @@ impl<'a, R: Wait, G: Gate, W: Sink> Model for Visit<'a, R, G, W> {
 
     ghost view = { λ v. record {
       link = v.connection;
-      place = v.desk;
+      selection = v.desk;
       taken = W.taken v.output;
       failed = W.failed v.output;
       closed = v.is_closed;
@@ -302,7 +302,7 @@ impl<'a, R: Wait, G: Gate, W: Sink> Visit<'a, R, G, W> {
         ensures fault { IfErr result (λ fault. fault ≡ VisitFault.Write) }
         ensures cut { OnErr result (SendsFirst self.old farewell self.new) }
         ensures ends { is_over self.new ≡ true }
-        ensures rest { (self.new.link ≡ self.old.link) × (self.new.place ≡ self.old.place) × (self.new.room ≡ self.old.room) }
+        ensures rest { (self.new.link ≡ self.old.link) × (self.new.selection ≡ self.old.selection) × (self.new.room ≡ self.old.room) }
     {
         if self.is_over() {
             return Ok(());
@@ -318,8 +318,8 @@ impl<'a, R: Wait, G: Gate, W: Sink> Visit<'a, R, G, W> {
     /// lets a visit go calls this before, whatever happened: else the mailbox keeps the session's
     /// cursor.
     pub fn leave(&mut self)
-        ensures departs { Departs self.old.place self.new.place }
-        ensures rest { self.new ≡ record self.old { place = self.new.place; closed = true } }
+        ensures departs { Departs self.old.selection self.new.selection }
+        ensures rest { self.new ≡ record self.old { selection = self.new.selection; closed = true } }
     {
         self.is_closed = true;
         let _ = self.desk.leave(false);

@@ -227,7 +227,7 @@ consumers_set (x ∷ qs) [] h i q s is = absurd h
 consumers_set (x ∷ qs) (y ∷ ss) h zero q s is = (is, h.1)
 consumers_set (x ∷ qs) (y ∷ ss) h (suc i) q s is = (h.0, consumers_set qs ss h.1 i q s is)
 
--- the same, where the two at a place were read
+-- the same, where the two at a position were read
 pub consumer_read : (qs : List (ShardQueue Job)) (ss : List (ConsumerSeat Job)) → AreConsumers qs ss → (i : ℕ) → i < length qs → (q : ShardQueue Job) (s : ConsumerSeat Job)
     → q ≡ slice_index_or qs i q → s ≡ slice_index_or ss i s → IsConsumer q s
 consumer_read qs ss h i under q s qe se =

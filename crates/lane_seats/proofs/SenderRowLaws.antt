@@ -213,7 +213,7 @@ receivers_set (x ∷ qs) [] h i q s is = absurd h
 receivers_set (x ∷ qs) (y ∷ ss) h zero q s is = (is, h.1)
 receivers_set (x ∷ qs) (y ∷ ss) h (suc i) q s is = (h.0, receivers_set qs ss h.1 i q s is)
 
--- the same, where the two at a place were read
+-- the same, where the two at a position were read
 pub receiver_read : (qs : List (ReplyChannel Noted)) (ss : List (ReceiverSeat Noted)) → AreReceivers qs ss → (i : ℕ) → i < length qs → (q : ReplyChannel Noted) (s : ReceiverSeat Noted)
     → q ≡ slice_index_or qs i q → s ≡ slice_index_or ss i s → IsReceiver q s
 receiver_read qs ss h i under q s qe se =

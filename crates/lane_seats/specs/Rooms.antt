@@ -8,14 +8,14 @@ use Rattle.lane_seats.specs.declared.rooms.SeatRooms.{SeatRooms}
 abbrev pub AreRooms : {T : Type 0} → ℕ → ℕ → Vec (Vec T Global) Global → Type 0
 AreRooms count each lists = (vec_len lists ≡ count) × All (λ v. (v.items ≡ []) × (each ≤ vec_capacity v)) lists.items
 
--- an empty list for each of so many actors, with room for its seat at each of so many places, and room for these lists
+-- an empty list for each of so many actors, with room for its seat at each of so many positions, and room for these lists
 abbrev pub AreHandRooms : {T : Type 0} → ℕ → ℕ → Hands T → Type 0
-AreHandRooms actors places hands = AreRooms actors places hands.each × (hands.all.items ≡ []) × (actors ≤ vec_capacity hands.all)
+AreHandRooms actors positions hands = AreRooms actors positions hands.each × (hands.all.items ≡ []) × (actors ≤ vec_capacity hands.all)
 
--- the same for what the actors leave, and an empty list for each place, with room for what all actors leave there
+-- the same for what the actors leave, and an empty list for each position, with room for what all actors leave there
 abbrev pub AreSeatRooms : {S E : Type 0} → ℕ → ℕ → SeatRooms S E → Type 0
-AreSeatRooms actors places rooms =
-    AreHandRooms actors places rooms.seats × AreHandRooms actors places rooms.ended × AreRooms places actors rooms.lists
+AreSeatRooms actors positions rooms =
+    AreHandRooms actors positions rooms.seats × AreHandRooms actors positions rooms.ended × AreRooms positions actors rooms.lists
 
 -- all lists are empty
 abbrev pub AreEmptyHands : {T : Type 0} → Hands T → Type 0

@@ -40,18 +40,18 @@ pub fn spend_lists<T>(mut lists: Vec<Vec<T>>)
 
 /// Room for what several actors hold, a list for each.
 pub struct Hands<T> {
-    /// For each actor an empty list, with room for one element at each place.
+    /// For each actor an empty list, with room for one element at each position.
     pub each: Vec<Vec<T>>,
     /// No list yet, with room for one of each actor.
     pub all: Vec<Vec<T>>,
 }
 
-/// Room for `actors` lists, and as many empty lists with room for `places` elements. An error where
+/// Room for `actors` lists, and as many empty lists with room for `positions` elements. An error where
 /// memory is refused; nothing is left then.
-pub fn make_hands<T>(alloc: Global, actors: usize, places: usize) -> Result<Hands<T>, AllocError>
-    ensures { IfOk result (λ hands. AreHandRooms actors places hands) }
+pub fn make_hands<T>(alloc: Global, actors: usize, positions: usize) -> Result<Hands<T>, AllocError>
+    ensures { IfOk result (λ hands. AreHandRooms actors positions hands) }
 {
-    let each = make_lists(alloc, actors, places)?;
+    let each = make_lists(alloc, actors, positions)?;
     match Vec::with_capacity(alloc, actors) {
         Ok(all) => Ok(Hands { each, all }),
         Err(e) => {
@@ -70,35 +70,35 @@ pub fn spend_hands<T>(hands: Hands<T>)
     all.destroy_empty();
 }
 
-/// Room for the seats of actors that have one at each of several places, as workers on lanes and
+/// Room for the seats of actors that have one at each of several positions, as workers on lanes and
 /// consumers on channels, and for what is left of the seats after their ends.
 pub struct SeatRooms<S, E> {
     /// For each actor's seats.
     pub seats: Hands<S>,
     /// For what is left of each actor's seats.
     pub ended: Hands<E>,
-    /// For each place an empty list, with room for what is left of all actors' seats there.
+    /// For each position an empty list, with room for what is left of all actors' seats there.
     pub lists: Vec<Vec<E>>,
 }
 
-/// Room for the seats of `actors` actors at `places` places. An error where memory is refused;
+/// Room for the seats of `actors` actors at `positions` positions. An error where memory is refused;
 /// nothing is left then.
 pub fn make_seat_rooms<S, E>(
     alloc: Global,
     actors: usize,
-    places: usize,
+    positions: usize,
 ) -> Result<SeatRooms<S, E>, AllocError>
-    ensures { IfOk result (λ rooms. AreSeatRooms actors places rooms) }
+    ensures { IfOk result (λ rooms. AreSeatRooms actors positions rooms) }
 {
-    let seats = make_hands(alloc, actors, places)?;
-    let ended = match make_hands(alloc, actors, places) {
+    let seats = make_hands(alloc, actors, positions)?;
+    let ended = match make_hands(alloc, actors, positions) {
         Ok(ended) => ended,
         Err(e) => {
             spend_hands(seats);
             return Err(e);
         }
     };
-    match make_lists(alloc, places, actors) {
+    match make_lists(alloc, positions, actors) {
         Ok(lists) => Ok(SeatRooms {
             seats,
             ended,

@@ -59,17 +59,17 @@ copies_at (x ∷ keys) (y ∷ mailboxes) text zero k m under within kis mis =
 copies_at (x ∷ keys) (y ∷ mailboxes) text (suc i) k m under within kis mis =
     let r = copies_at keys mailboxes text i k m (omega arith) (omega arith) kis mis in ((let u = r.0 in omega (arith, u)), r.1)
 
--- one more verdict was heard, and filled in at the place of its copy
+-- one more verdict was heard, and filled in at the position of its copy
 pub heard_next : (old new : List (Entry Noted)) (keys : List CopyKey) (mailboxes text : List ℕ) (ss ts us : List (Option Verdict)) (shard : ℕ) (n : Noted) → new ≡ old ++ Item shard n ∷ []
     → FillsIn keys mailboxes n ts us → WereHeard old (copies keys mailboxes text) ss ts → WereHeard new (copies keys mailboxes text) ss us
 heard_next old new keys mailboxes text ss ts us shard n grew f h =
     let cs = copies keys mailboxes text in
     let copy : Job = record { key = n.key; mailbox = n.mailbox; text = text; flags = no_flags } in
-    let place = n.key.recipient in
-    let there = copies_at keys mailboxes text place n.key n.mailbox f.there.put.known f.there.known (sym (f.there.put.same n.key)) (sym (f.there.same n.mailbox)) in
+    let position = n.key.recipient in
+    let there = copies_at keys mailboxes text position n.key n.mailbox f.there.put.known f.there.known (sym (f.there.put.same n.key)) (sym (f.there.same n.mailbox)) in
     let here : IsHeard new (note_of (copy, n.verdict)) = (shard, old, [], grew) in
     subst (λ (l : List (Option Verdict)). WereHeard new cs ss l) (sym f.fills)
-    (were_heard_set new cs ss ts place n.verdict copy there.0 there.1 here (were_heard_later old new cs ss ts (Item shard n ∷ [], grew) h))
+    (were_heard_set new cs ss ts position n.verdict copy there.0 there.1 here (were_heard_later old new cs ss ts (Item shard n ∷ [], grew) h))
 
 pub under_way_next : (d : Directory) (lane : ℕ) (cs : List Job) (ss : List (Option Verdict)) (c : Job) (s : Option Verdict) → length ss ≡ length cs
     → under_way d lane (cs ++ c ∷ []) (ss ++ s ∷ []) ≡ under_way d lane cs ss ++ under_way d lane (c ∷ []) (s ∷ [])
@@ -99,16 +99,16 @@ put_next d sents after before shard lane p copy None cs ss B same under at was s
   go : ((eqb (shard_of d copy.mailbox) lane ≡ true) × (shard_of d copy.mailbox ≡ lane)) ⊎ ((eqb (shard_of d copy.mailbox) lane ≡ false) × (shard_of d copy.mailbox ≢ lane))
       → slice_index_or (slice_set sents shard (slice_index_or sents shard [] ++ Item p copy ∷ [])) lane [] ≡ before ++ map (λ job. Item p job) (under_way d lane (cs ++ copy ∷ []) (ss ++ None ∷ []))
   go (inl (is, here)) =
-      let place : shard ≡ lane = at ∙ here in
+      let position : shard ≡ lane = at ∙ here in
       let one : under_way d lane (copy ∷ []) (None ∷ []) ≡ copy ∷ [] = ap (λ b. if b then copy ∷ [] else []) is in
-      subst (λ n. slice_index_or (slice_set sents n (slice_index_or sents n [] ++ Item p copy ∷ [])) lane [] ≡ before ++ map (λ job. Item p job) (under_way d lane (cs ++ copy ∷ []) (ss ++ None ∷ []))) (sym place)
+      subst (λ n. slice_index_or (slice_set sents n (slice_index_or sents n [] ++ Item p copy ∷ [])) lane [] ≡ before ++ map (λ job. Item p job) (under_way d lane (cs ++ copy ∷ []) (ss ++ None ∷ []))) (sym position)
       (get_or-set_same sents lane (slice_index_or sents lane [] ++ Item p copy ∷ []) [] under
       ∙ ap (λ l. l ++ Item p copy ∷ []) so
       ∙ append_assoc before (map (λ job. Item p job) (under_way d lane cs ss)) (Item p copy ∷ [])
       ∙ ap (λ l. before ++ l) (sym (ap (map (λ job. Item p job)) (e ∙ ap (λ l. under_way d lane cs ss ++ l) one) ∙ map-append (λ job. Item p job) (under_way d lane cs ss) (copy ∷ []))))
   go (inr (is, there)) =
       let nil : under_way d lane (copy ∷ []) (None ∷ []) ≡ [] = ap (λ b. if b then copy ∷ [] else []) is in
-      let away : lane ≢ shard = λ same_place. there (sym at ∙ sym same_place) in
+      let away : lane ≢ shard = λ same_position. there (sym at ∙ sym same_position) in
       get_or-set_other sents shard lane (slice_index_or sents shard [] ++ Item p copy ∷ []) [] away ∙ so
       ∙ ap (λ l. before ++ map (λ job. Item p job) l) (sym (e ∙ ap (λ l. under_way d lane cs ss ++ l) nil ∙ append-nil (under_way d lane cs ss)))
 
@@ -321,7 +321,7 @@ one_put d rooms p heard lane copy None verdict before after jobs under so put_th
   [],
   elsewhere copy verdict there none,
   ap (λ (l : List (List (Entry Job))). slice_index_or l lane []) put_there
-      ∙ get_or-set_other before (shard_of d copy.mailbox) lane (slice_index_or before (shard_of d copy.mailbox) [] ++ Item p copy ∷ []) [] (λ same_place. there (sym same_place))
+      ∙ get_or-set_other before (shard_of d copy.mailbox) lane (slice_index_or before (shard_of d copy.mailbox) [] ++ Item p copy ∷ []) [] (λ same_position. there (sym same_position))
       ∙ so
       ∙ ap (map (λ job. Item p job)) (sym (append-nil jobs)),
 )
@@ -373,12 +373,12 @@ pub judged_at_once : (d : Directory) (rooms : List Room) (p : ℕ) (copy : Job) 
     → MatchOption slot (after ≡ slice_set before (shard_of d copy.mailbox) (slice_index_or before (shard_of d copy.mailbox) [] ++ Item p copy ∷ []))
     (λ v. (after ≡ before) × IsAtOnce (FoundFull (room_at rooms (shard_of d copy.mailbox)) p (slice_index_or before (shard_of d copy.mailbox) [])) v)
     → WasJudged d rooms p copy verdict heard before after
-judged_at_once d rooms p copy slot verdict heard before after within len is placed = record {
+judged_at_once d rooms p copy slot verdict heard before after within len is put_or_full = record {
   at_once = Some verdict;
   within = within;
   lanes = len;
   put = subst (λ (o : Option Verdict). MatchOption o (after ≡ slice_set before (shard_of d copy.mailbox) (slice_index_or before (shard_of d copy.mailbox) [] ++ Item p copy ∷ []))
-      (λ v. (after ≡ before) × IsAtOnce (FoundFull (room_at rooms (shard_of d copy.mailbox)) p (slice_index_or before (shard_of d copy.mailbox) [])) v)) is placed;
+      (λ v. (after ≡ before) × IsAtOnce (FoundFull (room_at rooms (shard_of d copy.mailbox)) p (slice_index_or before (shard_of d copy.mailbox) [])) v)) is put_or_full;
   told = refl;
 }
 
@@ -388,12 +388,12 @@ pub judged_later : (d : Directory) (rooms : List Room) (p : ℕ) (copy : Job) (s
     (λ v. (after ≡ before) × IsAtOnce (FoundFull (room_at rooms (shard_of d copy.mailbox)) p (slice_index_or before (shard_of d copy.mailbox) [])) v)
     → IfOk r (λ v. IsHeard heard (note_of (copy, v)))
     → IfOk r (λ v. WasJudged d rooms p copy v heard before after)
-judged_later d rooms p copy slot (Ok verdict) heard before after within len is placed told = record {
+judged_later d rooms p copy slot (Ok verdict) heard before after within len is put_or_full told = record {
   at_once = None;
   within = within;
   lanes = len;
   put = subst (λ (o : Option Verdict). MatchOption o (after ≡ slice_set before (shard_of d copy.mailbox) (slice_index_or before (shard_of d copy.mailbox) [] ++ Item p copy ∷ []))
-      (λ v. (after ≡ before) × IsAtOnce (FoundFull (room_at rooms (shard_of d copy.mailbox)) p (slice_index_or before (shard_of d copy.mailbox) [])) v)) is placed;
+      (λ v. (after ≡ before) × IsAtOnce (FoundFull (room_at rooms (shard_of d copy.mailbox)) p (slice_index_or before (shard_of d copy.mailbox) [])) v)) is put_or_full;
   told = told;
 }
-judged_later d rooms p copy slot (Err e) heard before after within len is placed told = tt
+judged_later d rooms p copy slot (Err e) heard before after within len is put_or_full told = tt

@@ -115,7 +115,7 @@ puts_at ss i p d old new job (Some v) room same rooms under is number put =
       subst (λ (r : Room). IsAtOnce (FoundFull r p (slice_index_or (map put_by ss) i [])) v) (sym rooms) two,
     )
 
--- the same, where the two at a place were read
+-- the same, where the two at a position were read
 pub seat_read : (qs : List (ShardQueue Job)) (p : ℕ) (ss : List LaneSeat) → AreSeats qs p ss → (i : ℕ) → i < length qs → (q : ShardQueue Job) (s : LaneSeat)
     → q ≡ slice_index_or qs i q → s ≡ slice_index_or ss i s → IsSeat q s × (seat_number s ≡ p)
 seat_read qs p ss h i under q s qe se =
@@ -128,7 +128,7 @@ pub seats_written : (qs : List (ShardQueue Job)) (p : ℕ) (ss : List LaneSeat) 
     → q ≡ slice_index_or qs i q → IsSeat q s → seat_number s ≡ p → AreSeats qs p (slice_set ss i s)
 seats_written qs p ss h i q s qe is number = seats_set qs p ss h i q s (subst (λ (x : ShardQueue Job). IsSeat x s) qe is) number
 
--- the same, where the lane is named by its place
+-- the same, where the lane is named by its position
 pub seat_here : (qs : List (ShardQueue Job)) (p : ℕ) (ss : List LaneSeat) → AreSeats qs p ss → (i : ℕ) → i < length qs → (q : ShardQueue Job) (s : LaneSeat)
     → s ≡ slice_index_or ss i s → IsSeat (slice_index_or qs i q) s × (seat_number s ≡ p)
 seat_here qs p ss h i under q s se =

@@ -18,21 +18,21 @@ use Rattle.lane_work.specs.Talk.{Judged}
 -- how many producers a lane has, and how many entries have room there
 pub record Room : Type 0 where
   pub producers : ℕ
-  pub places : ℕ
+  pub capacity : ℕ
 
 abbrev pub room_of : ShardQueue Job → Room
-room_of lane = record { producers = producers_of lane; places = capacity_of lane }
+room_of lane = record { producers = producers_of lane; capacity = capacity_of lane }
 
 abbrev pub rooms_of : List (ShardQueue Job) → List Room
 rooms_of lanes = map room_of lanes
 
--- that of the lane at this place
+-- that of the lane at this position
 abbrev pub room_at : List Room → ℕ → Room
-room_at rooms lane = slice_index_or rooms lane (record { producers = 0; places = 0 })
+room_at rooms lane = slice_index_or rooms lane (record { producers = 0; capacity = 0 })
 
 -- This producer, which had put just these entries on the lane, tried one more, and at one moment of the try as many waited as there is room for.
 abbrev pub FoundFull : Room → ℕ → List (Entry Job) → Type 0
-FoundFull room seat sent = (seen : List (Entry Job)) × WasFull room.producers room.places seat sent seen
+FoundFull room seat sent = (seen : List (Entry Job)) × WasFull room.producers room.capacity seat sent seen
 
 -- the copies of a message, in the order of its recipients
 abbrev pub copies : List CopyKey → List ℕ → List ℕ → List Job

@@ -100,8 +100,8 @@ pub fn serve_copy<R: Wait, G: Gate>(
     ensures served { Serves (length depot.now.mailboxes.items) (length depot.now.channels.items) shard producer job.now
         (map sent_on senders.old.items) (map sent_on senders.new.items) }
 {
-    let place = usize::from(producer);
-    if place >= depot.channels.len() {
+    let position = usize::from(producer);
+    if position >= depot.channels.len() {
         return false;
     }
     pace.pass();
@@ -112,6 +112,12 @@ pub fn serve_copy<R: Wait, G: Gate>(
         mailbox: job.mailbox,
         verdict,
     };
-    answer(rt, pace, &depot.channels[place], &mut senders[place], noted);
+    answer(
+        rt,
+        pace,
+        &depot.channels[position],
+        &mut senders[position],
+        noted,
+    );
     usize::from(job.mailbox) < depot.mailboxes.len()
 }

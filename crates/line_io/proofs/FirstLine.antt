@@ -6,7 +6,7 @@ use Rattle.std.proofs.lemmas.List.Elements.{All-cons, All-nil}
 use Rattle.line_io.specs.Wire.{IsUncut, joined, crlf, wire_lines, wire_rest}
 use Rattle.line_io.specs.inner.WireLaws.{lines_are, reading_cut}
 
--- a CRLF stands at no place
+-- a CRLF stands at no position
 pub uncut_each : (bytes : List ℕ) → ((k : ℕ) → k + 1 < length bytes → get_or bytes k 0 ≡ 13 → get_or bytes (k + 1) 0 ≡ 10 → ⊥) → IsUncut bytes
 uncut_each bytes h (front, back, e) =
     let long : length bytes ≡ length front + length (13 ∷ 10 ∷ back) = ap length e ∙ length-append front (13 ∷ 10 ∷ back) in

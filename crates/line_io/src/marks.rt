@@ -10,7 +10,7 @@ use itoa::Buffer;
 use memchr::memchr;
 use std::alloc::AllocError;
 
-// Where the first CR stands, from a place on.
+// Where the first CR stands, from a position on.
 fn next_cr(bytes: &[u8], from: usize) -> Option<usize>
     requires { from ≤ length bytes.now }
     ensures within { IfSome result (λ at. (from ≤ at) × (at < length bytes.now)) }

@@ -1,4 +1,4 @@
--- The conversation at a place among bytes that lead somewhere.
+-- The conversation at a position among bytes that lead somewhere.
 use Rattle.std.proofs.Common.{◌≡◌, ◌⊎◌, inl, inr, ℕ, List, [], ◌∷◌, ◌++◌, refl, ap, sym, subst, ◌∙◌}
 use Rattle.std.specs.Prelude.{codes}
 use Rattle.envelope.specs.Directory.{Directory}
@@ -6,7 +6,7 @@ use Rattle.line_io.specs.Wire.{IsCut, joined, wire_lines, wire_rest}
 use Rattle.line_io.specs.inner.WireLaws.{lines_are, reading_cut}
 use Rattle.lmtp_machine.specs.Dialogue.{Standing, Setting, Event, Line, Starved, Turn, dialogue, on_event}
 use Rattle.lmtp_machine.specs.Conversation.{◌⨾◌, Heard, none, line, starved, IsListening, EachMayBeHeard}
-use Rattle.lmtp_machine.specs.Laws.{AnyPlace}
+use Rattle.lmtp_machine.specs.Laws.{AnyPosition}
 use Rattle.lmtp_machine.proofs.Pieces.{cut-append, goes_on, hears, nil_back, nil_front}
 
 -- what is heard of some lines and then of others
@@ -52,8 +52,8 @@ may_then : (setting : Setting) (directory : Directory) (s : Standing) (es fs : L
 may_then setting directory s [] fs h = h
 may_then setting directory s (e ∷ es) fs h = may_then setting directory (on_event setting directory s e).standing es fs h.1
 
-pub any_place : AnyPlace
-any_place setting directory a c first second t h =
+pub any_position : AnyPosition
+any_position setting directory a c first second t h =
     let x : List ℕ = a.unfinished ++ first in
     let y : List ℕ = wire_rest x ++ second in
     let bytes : List ℕ = a.unfinished ++ (first ++ second) in
@@ -68,7 +68,7 @@ any_place setting directory a c first second t h =
     let turns : t ≡ one ⨾ two = h.turns ∙ ap (λ (es : List Event). dialogue setting directory a.standing es) p.is ∙ goes_on setting directory a.standing p.first p.second in
     let after : EachMayBeHeard setting directory one.standing p.second = may_then setting directory a.standing p.first p.second may in
     let heard : IsListening one.standing.phase ⊎ ((wire_lines y ≡ []) × (p.second ≡ [])) = hears setting directory one.standing p.two after in
-    -- where nothing is heard behind the place, the dialogue stands there where it stands in the end
+    -- where nothing is heard behind the position, the dialogue stands there where it stands in the end
     let same : p.second ≡ [] → t.standing ≡ one.standing = λ e. ap (λ (v : Turn). v.standing) turns ∙ ap (λ (es : List Event). (dialogue setting directory one.standing es).standing) e in
     let left : wire_lines y ≡ [] → wire_rest x ++ second ≡ c.unfinished = λ e. (reading_cut y).whole ∙ ap (λ (ls : List (List ℕ)). joined ls ++ wire_rest y) e ∙ rest in
     record {

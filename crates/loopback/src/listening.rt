@@ -38,7 +38,7 @@ impl Listening {
 
     /// Waits for the next connection.
     ///
-    /// Errors: where the system has no place for one more, where the peer has gone, and always once it is shut.
+    /// Errors: where the system has no room for one more, where the peer has gone, and always once it is shut.
     pub fn accept(&self) -> io::Result<TcpStream> {
         let (stream, _) = self.listener.accept()?;
         Ok(stream)

@@ -10,7 +10,7 @@ use Rattle.change_ring.specs.declared.flag_op.FlagOp.TheVariants.{Set}
 use Rattle.change_ring.specs.Log.{no_flags}
 use Rattle.change_ring.specs.Logged.{arrival, flags_differ, flags_logged, new_flags}
 use Rattle.change_ring.specs.Window.{total}
-use Rattle.cursor_set.proofs.Places.{Rises, Rises-from}
+use Rattle.cursor_set.proofs.Positions.{Rises, Rises-from}
 use Rattle.mailbox.specs.Events.{Logs}
 use Rattle.mailbox.specs.Mailbox.{Mailbox, Message, flagged, is_spent, message_with, next_uid, row_of, uids_of}
 use Rattle.mailbox.specs.Stands.{Stands}

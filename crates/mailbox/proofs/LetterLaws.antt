@@ -12,12 +12,12 @@ use Rattle.std.proofs.lemmas.List.Elements.{All-from_recursion, All-push, recurs
 use Rattle.std.proofs.lemmas.List.Sums.{count_by-le-length, sum_by-cons, sum_by-le, sum_by_push}
 use Rattle.std.proofs.lemmas.Option.{slice_get-get_or, slice_get_within}
 use Rattle.change_ring.specs.declared.change.Flags.{Flags}
-use Rattle.cursor_set.proofs.Places.{Rises, Rises-first, Rises-from, Rises-to}
+use Rattle.cursor_set.proofs.Positions.{Rises, Rises-first, Rises-from, Rises-to}
 use Rattle.mailbox.proofs.MarkLaws.{length_reflagged, not_falling}
 use Rattle.mailbox.specs.Counts.{bytes_in_all, unseen_count}
 use Rattle.mailbox.specs.declared.letters.Letter.{Letter}
 use Rattle.mailbox.specs.declared.letters.Letters.TheInside.{Inside}
-use Rattle.mailbox.specs.inner.Letters.{AreCounted, Placed, in_front, letter_uids, message_of, messages_of, placed, reflagged, under, without_message}
+use Rattle.mailbox.specs.inner.Letters.{AreCounted, Filed, filed, in_front, letter_uids, message_of, messages_of, reflagged, under, without_message}
 use Rattle.mailbox.specs.Mailbox.{Message, message_with, uids_of}
 
 -- 1 where it is so
@@ -68,7 +68,7 @@ front_reflagged uid u new flags None ms off = refl
 front_reflagged uid u new flags (Some t) ms off = ap (λ (b : Bool). if b then record (message_of u flags t) { flags = new } ∷ ms else message_of u flags t ∷ reflagged uid new ms) off
 
 -- none is there that is above it
-none_above : (uid : ℕ) (ls : List Placed) → AllByRecursion (λ v. uid < v) (letter_uids ls) → message_with uid (messages_of ls) ≡ None
+none_above : (uid : ℕ) (ls : List Filed) → AllByRecursion (λ v. uid < v) (letter_uids ls) → message_with uid (messages_of ls) ≡ None
 none_above uid [] h = refl
 none_above uid (l ∷ ls) h = front_with uid l.uid l.flags l.text (messages_of ls) (eqb_above l.uid uid h.0) ∙ none_above uid ls h.1
 
@@ -91,19 +91,19 @@ reflagged_none uid flags (m ∷ ms) none = by_case (m.uid == uid) none (λ f. re
     by_case true f h = cc
     by_case false f h = ap (λ (ns : List Message). m ∷ ns) (h f)
 
--- ---- a letter at a place
+-- ---- a letter at a position
 
 -- the first one is below it
-low : (u : ℕ) (ls : List Placed) (k : ℕ) (l : Placed) → AllByRecursion (λ v. u < v) (letter_uids ls) → k < length ls → get_or ls k l ≡ l → u < l.uid
+low : (u : ℕ) (ls : List Filed) (k : ℕ) (l : Filed) → AllByRecursion (λ v. u < v) (letter_uids ls) → k < length ls → get_or ls k l ≡ l → u < l.uid
 low u [] k l up within at = absurd (omega (arith, within))
-low u (x ∷ ls) zero l up within at = subst (λ (y : Placed). u < y.uid) at up.0
+low u (x ∷ ls) zero l up within at = subst (λ (y : Filed). u < y.uid) at up.0
 low u (x ∷ ls) (suc k) l up within at = low u ls k l up.1 (omega (arith, within)) at
 
 -- what is found
-pub with_at : (ls : List Placed) (place : ℕ) (l : Placed) → Rises (letter_uids ls) → place < length ls → get_or ls place l ≡ l →
+pub with_at : (ls : List Filed) (position : ℕ) (l : Filed) → Rises (letter_uids ls) → position < length ls → get_or ls position l ≡ l →
     message_with l.uid (messages_of ls) ≡ option_map (λ (t : List ℕ). message_of l.uid l.flags t) l.text
-with_at [] place l up within at = absurd (omega (arith, within))
-with_at (x ∷ ls) zero l up within at = subst (λ (y : Placed). message_with y.uid (messages_of (x ∷ ls)) ≡ option_map (λ (t : List ℕ). message_of y.uid y.flags t) y.text) at (by_case x.text)
+with_at [] position l up within at = absurd (omega (arith, within))
+with_at (x ∷ ls) zero l up within at = subst (λ (y : Filed). message_with y.uid (messages_of (x ∷ ls)) ≡ option_map (λ (t : List ℕ). message_of y.uid y.flags t) y.text) at (by_case x.text)
   where
     by_case : (t : Option (List ℕ)) → message_with x.uid (in_front x.uid x.flags t (messages_of ls)) ≡ option_map (λ (y : List ℕ). message_of x.uid x.flags y) t
     by_case None = none_above x.uid ls up.0
@@ -112,11 +112,11 @@ with_at (x ∷ ls) (suc k) l up within at =
     front_with l.uid x.uid x.flags x.text (messages_of ls) (eqb_below x.uid l.uid (low x.uid ls k l up.0 (omega (arith, within)) at)) ∙ with_at ls k l up.1 (omega (arith, within)) at
 
 -- its flags are set
-pub reflagged_at : (flags : Flags) (ls : List Placed) (place : ℕ) (l : Placed) → Rises (letter_uids ls) → place < length ls → get_or ls place l ≡ l →
-    messages_of (slice_set ls place (record { uid = l.uid; flags = flags; text = l.text })) ≡ reflagged l.uid flags (messages_of ls)
-reflagged_at flags [] place l up within at = absurd (omega (arith, within))
+pub reflagged_at : (flags : Flags) (ls : List Filed) (position : ℕ) (l : Filed) → Rises (letter_uids ls) → position < length ls → get_or ls position l ≡ l →
+    messages_of (slice_set ls position (record { uid = l.uid; flags = flags; text = l.text })) ≡ reflagged l.uid flags (messages_of ls)
+reflagged_at flags [] position l up within at = absurd (omega (arith, within))
 reflagged_at flags (x ∷ ls) zero l up within at =
-    subst (λ (y : Placed). messages_of (slice_set (x ∷ ls) 0 (record { uid = y.uid; flags = flags; text = y.text })) ≡ reflagged y.uid flags (messages_of (x ∷ ls))) at (by_case x.text)
+    subst (λ (y : Filed). messages_of (slice_set (x ∷ ls) 0 (record { uid = y.uid; flags = flags; text = y.text })) ≡ reflagged y.uid flags (messages_of (x ∷ ls))) at (by_case x.text)
   where
     by_case : (t : Option (List ℕ)) → in_front x.uid flags t (messages_of ls) ≡ reflagged x.uid flags (in_front x.uid x.flags t (messages_of ls))
     by_case None = sym (reflagged_none x.uid flags (messages_of ls) (none_above x.uid ls up.0))
@@ -126,11 +126,11 @@ reflagged_at flags (x ∷ ls) (suc k) l up within at =
     ∙ sym (front_reflagged l.uid x.uid flags x.flags x.text (messages_of ls) (eqb_below x.uid l.uid (low x.uid ls k l up.0 (omega (arith, within)) at)))
 
 -- its text is taken
-pub without_at : (ls : List Placed) (place : ℕ) (l : Placed) → Rises (letter_uids ls) → place < length ls → get_or ls place l ≡ l →
-    messages_of (slice_set ls place (record { uid = l.uid; flags = l.flags; text = None })) ≡ without_message l.uid (messages_of ls)
-without_at [] place l up within at = absurd (omega (arith, within))
+pub without_at : (ls : List Filed) (position : ℕ) (l : Filed) → Rises (letter_uids ls) → position < length ls → get_or ls position l ≡ l →
+    messages_of (slice_set ls position (record { uid = l.uid; flags = l.flags; text = None })) ≡ without_message l.uid (messages_of ls)
+without_at [] position l up within at = absurd (omega (arith, within))
 without_at (x ∷ ls) zero l up within at =
-    subst (λ (y : Placed). messages_of (slice_set (x ∷ ls) 0 (record { uid = y.uid; flags = y.flags; text = None })) ≡ without_message y.uid (messages_of (x ∷ ls))) at (by_case x.text)
+    subst (λ (y : Filed). messages_of (slice_set (x ∷ ls) 0 (record { uid = y.uid; flags = y.flags; text = None })) ≡ without_message y.uid (messages_of (x ∷ ls))) at (by_case x.text)
   where
     by_case : (t : Option (List ℕ)) → messages_of ls ≡ without_message x.uid (in_front x.uid x.flags t (messages_of ls))
     by_case None = sym (without_none x.uid (messages_of ls) (none_above x.uid ls up.0))
@@ -139,78 +139,78 @@ without_at (x ∷ ls) (suc k) l up within at =
     ap (in_front x.uid x.flags x.text) (without_at ls k l up.1 (omega (arith, within)) at)
     ∙ sym (front_without l.uid x.uid x.flags x.text (messages_of ls) (eqb_below x.uid l.uid (low x.uid ls k l up.0 (omega (arith, within)) at)))
 
--- ---- letters and UIDs, place by place
+-- ---- letters and UIDs, position by position
 
-pub uids_placed : (us : List ℕ) (ls : List Letter) → length ls ≡ length us → letter_uids (placed us ls) ≡ us
-uids_placed [] ls beside = refl
-uids_placed (u ∷ us) [] beside = absurd (omega (arith, beside))
-uids_placed (u ∷ us) (l ∷ ls) beside = ap (λ (vs : List ℕ). u ∷ vs) (uids_placed us ls (omega (arith, beside)))
+pub uids_filed : (us : List ℕ) (ls : List Letter) → length ls ≡ length us → letter_uids (filed us ls) ≡ us
+uids_filed [] ls beside = refl
+uids_filed (u ∷ us) [] beside = absurd (omega (arith, beside))
+uids_filed (u ∷ us) (l ∷ ls) beside = ap (λ (vs : List ℕ). u ∷ vs) (uids_filed us ls (omega (arith, beside)))
 
-pub length_placed : (us : List ℕ) (ls : List Letter) → length ls ≡ length us → length (placed us ls) ≡ length us
-length_placed [] ls beside = refl
-length_placed (u ∷ us) [] beside = absurd (omega (arith, beside))
-length_placed (u ∷ us) (l ∷ ls) beside = ap suc (length_placed us ls (omega (arith, beside)))
+pub length_filed : (us : List ℕ) (ls : List Letter) → length ls ≡ length us → length (filed us ls) ≡ length us
+length_filed [] ls beside = refl
+length_filed (u ∷ us) [] beside = absurd (omega (arith, beside))
+length_filed (u ∷ us) (l ∷ ls) beside = ap suc (length_filed us ls (omega (arith, beside)))
 
 same_uid : {u v : ℕ} → Some u ≡ Some v → u ≡ v
 same_uid e = cc
 
-placed_get : (us : List ℕ) (ls : List Letter) (place uid : ℕ) (l : Letter) → length ls ≡ length us → slice_get us place ≡ Some uid → get_or ls place l ≡ l → get_or (placed us ls) place (under uid l) ≡ under uid l
-placed_get [] ls place uid l beside found at = refl
-placed_get (u ∷ us) [] place uid l beside found at = refl
-placed_get (u ∷ us) (x ∷ ls) zero uid l beside found at = ap (λ (v : ℕ). under v x) (same_uid found) ∙ ap (under uid) at
-placed_get (u ∷ us) (x ∷ ls) (suc k) uid l beside found at = placed_get us ls k uid l (omega (arith, beside)) found at
+filed_get : (us : List ℕ) (ls : List Letter) (position uid : ℕ) (l : Letter) → length ls ≡ length us → slice_get us position ≡ Some uid → get_or ls position l ≡ l → get_or (filed us ls) position (under uid l) ≡ under uid l
+filed_get [] ls position uid l beside found at = refl
+filed_get (u ∷ us) [] position uid l beside found at = refl
+filed_get (u ∷ us) (x ∷ ls) zero uid l beside found at = ap (λ (v : ℕ). under v x) (same_uid found) ∙ ap (under uid) at
+filed_get (u ∷ us) (x ∷ ls) (suc k) uid l beside found at = filed_get us ls k uid l (omega (arith, beside)) found at
 
-placed_set : (us : List ℕ) (ls : List Letter) (place uid : ℕ) (new : Letter) → slice_get us place ≡ Some uid → placed us (slice_set ls place new) ≡ slice_set (placed us ls) place (under uid new)
-placed_set [] ls place uid new found = cc
-placed_set (u ∷ us) [] place uid new found = refl
-placed_set (u ∷ us) (x ∷ ls) zero uid new found = ap (λ (v : ℕ). under v new ∷ placed us ls) (same_uid found)
-placed_set (u ∷ us) (x ∷ ls) (suc k) uid new found = ap (λ (ps : List Placed). under u x ∷ ps) (placed_set us ls k uid new found)
+filed_set : (us : List ℕ) (ls : List Letter) (position uid : ℕ) (new : Letter) → slice_get us position ≡ Some uid → filed us (slice_set ls position new) ≡ slice_set (filed us ls) position (under uid new)
+filed_set [] ls position uid new found = cc
+filed_set (u ∷ us) [] position uid new found = refl
+filed_set (u ∷ us) (x ∷ ls) zero uid new found = ap (λ (v : ℕ). under v new ∷ filed us ls) (same_uid found)
+filed_set (u ∷ us) (x ∷ ls) (suc k) uid new found = ap (λ (ps : List Filed). under u x ∷ ps) (filed_set us ls k uid new found)
 
-placed_more : (us : List ℕ) (ls : List Letter) (uid : ℕ) (l : Letter) → length ls ≡ length us → placed (us ++ uid ∷ []) (ls ++ l ∷ []) ≡ placed us ls ++ under uid l ∷ []
-placed_more [] [] uid l beside = refl
-placed_more [] (x ∷ ls) uid l beside = absurd (omega (arith, beside))
-placed_more (u ∷ us) [] uid l beside = absurd (omega (arith, beside))
-placed_more (u ∷ us) (x ∷ ls) uid l beside = ap (λ (ps : List Placed). under u x ∷ ps) (placed_more us ls uid l (omega (arith, beside)))
+filed_more : (us : List ℕ) (ls : List Letter) (uid : ℕ) (l : Letter) → length ls ≡ length us → filed (us ++ uid ∷ []) (ls ++ l ∷ []) ≡ filed us ls ++ under uid l ∷ []
+filed_more [] [] uid l beside = refl
+filed_more [] (x ∷ ls) uid l beside = absurd (omega (arith, beside))
+filed_more (u ∷ us) [] uid l beside = absurd (omega (arith, beside))
+filed_more (u ∷ us) (x ∷ ls) uid l beside = ap (λ (ps : List Filed). under u x ∷ ps) (filed_more us ls uid l (omega (arith, beside)))
 
 -- ---- where a UID is, and where it isn't
 
--- no place has the UID that isn't where it would stand
-pub absent : (uid : ℕ) (us : List ℕ) (place : ℕ) → IsStrictlyIncreasing us → IsPartitionPoint (λ (u : ℕ). ltb u uid ≡ true) (λ (u : ℕ). ltb u uid ≡ false) us place →
-    slice_get us place ≢ Some uid → Contains us uid → ⊥
-absent uid us place up point other there = elim (cases_lt there.0 place) [
+-- no position has the UID that isn't where it would stand
+pub absent : (uid : ℕ) (us : List ℕ) (position : ℕ) → IsStrictlyIncreasing us → IsPartitionPoint (λ (u : ℕ). ltb u uid ≡ true) (λ (u : ℕ). ltb u uid ≡ false) us position →
+    slice_get us position ≢ Some uid → Contains us uid → ⊥
+absent uid us position up point other there = elim (cases_lt there.0 position) [
   | inl before ↦ let less = ltb-true (get_or us there.0 uid) uid (point.0 there.0 uid (omega arith) before) in omega (arith, less, there.2)
   | inr behind ↦
-      let within : place < length us = omega (arith, behind, there.1) in
-      let least = ltb-false (get_or us place uid) uid (point.1 place uid (omega arith) within) in
-      let same : get_or us place uid ≡ uid = omega (arith, least, not_falling us up place there.0 uid behind there.1, there.2) in
-      other (slice_get-get_or us place uid within ∙ ap Some same)
+      let within : position < length us = omega (arith, behind, there.1) in
+      let least = ltb-false (get_or us position uid) uid (point.1 position uid (omega arith) within) in
+      let same : get_or us position uid ≡ uid = omega (arith, least, not_falling us up position there.0 uid behind there.1, there.2) in
+      other (slice_get-get_or us position uid within ∙ ap Some same)
 ]
 
-pub none_there : (uid : ℕ) (us : List ℕ) (ls : List Letter) → (Contains us uid → ⊥) → message_with uid (messages_of (placed us ls)) ≡ None
+pub none_there : (uid : ℕ) (us : List ℕ) (ls : List Letter) → (Contains us uid → ⊥) → message_with uid (messages_of (filed us ls)) ≡ None
 none_there uid [] ls none = refl
 none_there uid (u ∷ us) [] none = refl
 none_there uid (u ∷ us) (l ∷ ls) none = elim (eqb_tells u uid) [
   | inl t ↦ absurd (none (0, omega arith, t.1))
-  | inr t ↦ front_with uid u l.flags l.text (messages_of (placed us ls)) t.0 ∙ none_there uid us ls (λ there. none (suc there.0, omega (arith, there.1), there.2))
+  | inr t ↦ front_with uid u l.flags l.text (messages_of (filed us ls)) t.0 ∙ none_there uid us ls (λ there. none (suc there.0, omega (arith, there.1), there.2))
 ]
 
--- what is known of the letter at a place that has a UID
-pub record IsAt (us : List ℕ) (ls : List Letter) (place uid : ℕ) (l : Letter) : Type 0 where
-  pub found : message_with uid (messages_of (placed us ls)) ≡ option_map (λ (t : List ℕ). message_of uid l.flags t) l.text
-  pub set : (flags : Flags) → messages_of (placed us (slice_set ls place (record { flags = flags; text = l.text }))) ≡ reflagged uid flags (messages_of (placed us ls))
-  pub taken : messages_of (placed us (slice_set ls place (record { flags = l.flags; text = None }))) ≡ without_message uid (messages_of (placed us ls))
+-- what is known of the letter at a position that has a UID
+pub record IsAt (us : List ℕ) (ls : List Letter) (position uid : ℕ) (l : Letter) : Type 0 where
+  pub found : message_with uid (messages_of (filed us ls)) ≡ option_map (λ (t : List ℕ). message_of uid l.flags t) l.text
+  pub set : (flags : Flags) → messages_of (filed us (slice_set ls position (record { flags = flags; text = l.text }))) ≡ reflagged uid flags (messages_of (filed us ls))
+  pub taken : messages_of (filed us (slice_set ls position (record { flags = l.flags; text = None }))) ≡ without_message uid (messages_of (filed us ls))
 
-pub at_place : (us : List ℕ) (ls : List Letter) (place uid : ℕ) (l : Letter) → IsStrictlyIncreasing us → length ls ≡ length us → slice_get us place ≡ Some uid → l ≡ get_or ls place l → IsAt us ls place uid l
-at_place us ls place uid l rising beside found is =
-    let ps = placed us ls in
-    let up = Rises-from (letter_uids ps) (subst IsStrictlyIncreasing (sym (uids_placed us ls beside)) rising) in
-    let few = slice_get_within us place uid found in
-    let within : place < length ps = omega (arith, few, length_placed us ls beside) in
-    let here = placed_get us ls place uid l beside found (sym is) in
+pub at_position : (us : List ℕ) (ls : List Letter) (position uid : ℕ) (l : Letter) → IsStrictlyIncreasing us → length ls ≡ length us → slice_get us position ≡ Some uid → l ≡ get_or ls position l → IsAt us ls position uid l
+at_position us ls position uid l rising beside found is =
+    let ps = filed us ls in
+    let up = Rises-from (letter_uids ps) (subst IsStrictlyIncreasing (sym (uids_filed us ls beside)) rising) in
+    let few = slice_get_within us position uid found in
+    let within : position < length ps = omega (arith, few, length_filed us ls beside) in
+    let here = filed_get us ls position uid l beside found (sym is) in
     record {
-      found = with_at ps place (under uid l) up within here;
-      set = λ flags. ap messages_of (placed_set us ls place uid (record { flags = flags; text = l.text }) found) ∙ reflagged_at flags ps place (under uid l) up within here;
-      taken = ap messages_of (placed_set us ls place uid (record { flags = l.flags; text = None }) found) ∙ without_at ps place (under uid l) up within here;
+      found = with_at ps position (under uid l) up within here;
+      set = λ flags. ap messages_of (filed_set us ls position uid (record { flags = flags; text = l.text }) found) ∙ reflagged_at flags ps position (under uid l) up within here;
+      taken = ap messages_of (filed_set us ls position uid (record { flags = l.flags; text = None }) found) ∙ without_at ps position (under uid l) up within here;
     }
 
 -- its text was taken
@@ -241,7 +241,7 @@ rising_first us uid up = Rises-to us (Rises-first us (uid ∷ []) (Rises-from (u
 
 -- ---- letters come and go
 
-messages_more : (ls : List Placed) (l : Placed) → messages_of (ls ++ l ∷ []) ≡ messages_of ls ++ in_front l.uid l.flags l.text []
+messages_more : (ls : List Filed) (l : Filed) → messages_of (ls ++ l ∷ []) ≡ messages_of ls ++ in_front l.uid l.flags l.text []
 messages_more [] l = refl
 messages_more (x ∷ ls) l = by_case x.text (messages_more ls l)
   where
@@ -252,41 +252,41 @@ messages_more (x ∷ ls) l = by_case x.text (messages_more ls l)
 
 -- one letter more
 pub messages_added : (us more : List ℕ) (ls after : List Letter) (uid : ℕ) (l : Letter) → length ls ≡ length us → more ≡ us ++ uid ∷ [] → after ≡ ls ++ l ∷ [] →
-    messages_of (placed more after) ≡ messages_of (placed us ls) ++ in_front uid l.flags l.text []
+    messages_of (filed more after) ≡ messages_of (filed us ls) ++ in_front uid l.flags l.text []
 messages_added us more ls after uid l beside is at =
-    ap (λ (vs : List ℕ). messages_of (placed vs after)) is ∙ ap (λ (xs : List Letter). messages_of (placed (us ++ uid ∷ []) xs)) at ∙ ap messages_of (placed_more us ls uid l beside)
-    ∙ messages_more (placed us ls) (under uid l)
+    ap (λ (vs : List ℕ). messages_of (filed vs after)) is ∙ ap (λ (xs : List Letter). messages_of (filed (us ++ uid ∷ []) xs)) at ∙ ap messages_of (filed_more us ls uid l beside)
+    ∙ messages_more (filed us ls) (under uid l)
 
 -- those whose text is there
 abbrev pub there : List Letter → List Letter
 there ls = filter (λ (l : Letter). is_some l.text) ls
 
 -- they are the same messages under the messages' UIDs
-pub messages_there : (us : List ℕ) (ls : List Letter) → messages_of (placed (uids_of (messages_of (placed us ls))) (there ls)) ≡ messages_of (placed us ls)
+pub messages_there : (us : List ℕ) (ls : List Letter) → messages_of (filed (uids_of (messages_of (filed us ls))) (there ls)) ≡ messages_of (filed us ls)
 messages_there [] ls = refl
 messages_there (u ∷ us) [] = refl
 messages_there (u ∷ us) (l ∷ ls) = by_case l.text refl (messages_there us ls)
   where
-    by_case : (t : Option (List ℕ)) → l.text ≡ t → messages_of (placed (uids_of (messages_of (placed us ls))) (there ls)) ≡ messages_of (placed us ls) →
-        messages_of (placed (uids_of (in_front u l.flags t (messages_of (placed us ls)))) (cond (is_some t) (l ∷ there ls) (there ls))) ≡ in_front u l.flags t (messages_of (placed us ls))
+    by_case : (t : Option (List ℕ)) → l.text ≡ t → messages_of (filed (uids_of (messages_of (filed us ls))) (there ls)) ≡ messages_of (filed us ls) →
+        messages_of (filed (uids_of (in_front u l.flags t (messages_of (filed us ls)))) (cond (is_some t) (l ∷ there ls) (there ls))) ≡ in_front u l.flags t (messages_of (filed us ls))
     by_case None is h = h
     by_case (Some t) is h =
-        ap (λ (x : Option (List ℕ)). in_front u l.flags x (messages_of (placed (uids_of (messages_of (placed us ls))) (there ls)))) is ∙ ap (λ (ms : List Message). message_of u l.flags t ∷ ms) h
+        ap (λ (x : Option (List ℕ)). in_front u l.flags x (messages_of (filed (uids_of (messages_of (filed us ls))) (there ls)))) is ∙ ap (λ (ms : List Message). message_of u l.flags t ∷ ms) h
 
 -- and as many
-pub length_there : (us : List ℕ) (ls : List Letter) → length ls ≡ length us → length (there ls) ≡ length (messages_of (placed us ls))
+pub length_there : (us : List ℕ) (ls : List Letter) → length ls ≡ length us → length (there ls) ≡ length (messages_of (filed us ls))
 length_there [] [] beside = refl
 length_there [] (l ∷ ls) beside = absurd (omega (arith, beside))
 length_there (u ∷ us) [] beside = absurd (omega (arith, beside))
 length_there (u ∷ us) (l ∷ ls) beside = by_case l.text (length_there us ls (omega (arith, beside)))
   where
-    by_case : (t : Option (List ℕ)) → length (there ls) ≡ length (messages_of (placed us ls)) → length (cond (is_some t) (l ∷ there ls) (there ls)) ≡ length (in_front u l.flags t (messages_of (placed us ls)))
+    by_case : (t : Option (List ℕ)) → length (there ls) ≡ length (messages_of (filed us ls)) → length (cond (is_some t) (l ∷ there ls) (there ls)) ≡ length (in_front u l.flags t (messages_of (filed us ls)))
     by_case None h = h
     by_case (Some t) h = ap suc h
 
 -- the messages' UIDs rise
 module _ (P : ℕ → Type 0) where
-  all_there : (ls : List Placed) → AllByRecursion P (letter_uids ls) → AllByRecursion P (uids_of (messages_of ls))
+  all_there : (ls : List Filed) → AllByRecursion P (letter_uids ls) → AllByRecursion P (uids_of (messages_of ls))
   all_there [] h = tt
   all_there (l ∷ ls) h = by_case l.text (all_there ls h.1)
     where
@@ -294,7 +294,7 @@ module _ (P : ℕ → Type 0) where
       by_case None rest = rest
       by_case (Some t) rest = (h.0, rest)
 
-rising_there : (ls : List Placed) → Rises (letter_uids ls) → Rises (uids_of (messages_of ls))
+rising_there : (ls : List Filed) → Rises (letter_uids ls) → Rises (uids_of (messages_of ls))
 rising_there [] up = tt
 rising_there (l ∷ ls) up = by_case l.text (rising_there ls up.1)
   where
@@ -302,82 +302,82 @@ rising_there (l ∷ ls) up = by_case l.text (rising_there ls up.1)
     by_case None rest = rest
     by_case (Some t) rest = (all_there (λ v. l.uid < v) ls up.0, rest)
 
-pub messages_rise : (us : List ℕ) (ls : List Letter) → length ls ≡ length us → IsStrictlyIncreasing us → IsStrictlyIncreasing (uids_of (messages_of (placed us ls)))
+pub messages_rise : (us : List ℕ) (ls : List Letter) → length ls ≡ length us → IsStrictlyIncreasing us → IsStrictlyIncreasing (uids_of (messages_of (filed us ls)))
 messages_rise us ls beside up =
-    let ps = placed us ls in
-    Rises-to (uids_of (messages_of ps)) (rising_there ps (subst Rises (sym (uids_placed us ls beside)) (Rises-from us up)))
+    let ps = filed us ls in
+    Rises-to (uids_of (messages_of ps)) (rising_there ps (subst Rises (sym (uids_filed us ls beside)) (Rises-from us up)))
 
-pub messages_few : (us : List ℕ) (ls : List Letter) → length (messages_of (placed us ls)) ≤ length us
+pub messages_few : (us : List ℕ) (ls : List Letter) → length (messages_of (filed us ls)) ≤ length us
 messages_few [] ls = omega arith
 messages_few (u ∷ us) [] = omega arith
 messages_few (u ∷ us) (l ∷ ls) = by_case l.text (messages_few us ls)
   where
-    by_case : (t : Option (List ℕ)) → length (messages_of (placed us ls)) ≤ length us → length (in_front u l.flags t (messages_of (placed us ls))) ≤ suc (length us)
+    by_case : (t : Option (List ℕ)) → length (messages_of (filed us ls)) ≤ length us → length (in_front u l.flags t (messages_of (filed us ls))) ≤ suc (length us)
     by_case None h = omega (arith, h)
     by_case (Some t) h = omega (arith, h)
 
--- where no place was given up, each UID is a message's
-pub each_there : (us : List ℕ) (ls : List Letter) → length (messages_of (placed us ls)) ≡ length us → uids_of (messages_of (placed us ls)) ≡ us
+-- where no position was given up, each UID is a message's
+pub each_there : (us : List ℕ) (ls : List Letter) → length (messages_of (filed us ls)) ≡ length us → uids_of (messages_of (filed us ls)) ≡ us
 each_there [] ls full = refl
 each_there (u ∷ us) [] full = absurd (omega (arith, full))
 each_there (u ∷ us) (l ∷ ls) full = by_case l.text full (messages_few us ls) (λ e. each_there us ls e)
   where
-    by_case : (t : Option (List ℕ)) → length (in_front u l.flags t (messages_of (placed us ls))) ≡ suc (length us) → length (messages_of (placed us ls)) ≤ length us →
-        (length (messages_of (placed us ls)) ≡ length us → uids_of (messages_of (placed us ls)) ≡ us) → uids_of (in_front u l.flags t (messages_of (placed us ls))) ≡ u ∷ us
+    by_case : (t : Option (List ℕ)) → length (in_front u l.flags t (messages_of (filed us ls))) ≡ suc (length us) → length (messages_of (filed us ls)) ≤ length us →
+        (length (messages_of (filed us ls)) ≡ length us → uids_of (messages_of (filed us ls)) ≡ us) → uids_of (in_front u l.flags t (messages_of (filed us ls))) ≡ u ∷ us
     by_case None full few h = absurd (omega (arith, full, few))
     by_case (Some t) full few h = ap (λ (vs : List ℕ). u ∷ vs) (h (omega (arith, full)))
 
--- what is to come begins with the letter at this place
-comes : (us : List ℕ) (ls : List Letter) (place u : ℕ) (l : Letter) → place < length us → length ls ≡ length us → u ≡ get_or us place u → l ≡ get_or ls place l →
-    messages_of (placed (drop place us) (drop place ls)) ≡ in_front u l.flags l.text (messages_of (placed (drop (place + 1) us) (drop (place + 1) ls)))
-comes us ls place u l within beside is at =
-    let uids : drop place us ≡ u ∷ drop (place + 1) us = drop_more us place u within ∙ ap (λ (v : ℕ). v ∷ drop (place + 1) us) (sym is) in
-    let letters : drop place ls ≡ l ∷ drop (place + 1) ls = drop_more ls place l (omega (arith, within, beside)) ∙ ap (λ (x : Letter). x ∷ drop (place + 1) ls) (sym at) in
-    ap (λ (vs : List ℕ). messages_of (placed vs (drop place ls))) uids ∙ ap (λ (xs : List Letter). messages_of (placed (u ∷ drop (place + 1) us) xs)) letters
+-- what is to come begins with the letter at this position
+comes : (us : List ℕ) (ls : List Letter) (position u : ℕ) (l : Letter) → position < length us → length ls ≡ length us → u ≡ get_or us position u → l ≡ get_or ls position l →
+    messages_of (filed (drop position us) (drop position ls)) ≡ in_front u l.flags l.text (messages_of (filed (drop (position + 1) us) (drop (position + 1) ls)))
+comes us ls position u l within beside is at =
+    let uids : drop position us ≡ u ∷ drop (position + 1) us = drop_more us position u within ∙ ap (λ (v : ℕ). v ∷ drop (position + 1) us) (sym is) in
+    let letters : drop position ls ≡ l ∷ drop (position + 1) ls = drop_more ls position l (omega (arith, within, beside)) ∙ ap (λ (x : Letter). x ∷ drop (position + 1) ls) (sym at) in
+    ap (λ (vs : List ℕ). messages_of (filed vs (drop position ls))) uids ∙ ap (λ (xs : List Letter). messages_of (filed (u ∷ drop (position + 1) us) xs)) letters
 
 -- where its text is there it is a message
-pub comes_one : (us : List ℕ) (ls : List Letter) (place u : ℕ) (l : Letter) (t : List ℕ) → place < length us → length ls ≡ length us → u ≡ get_or us place u → l ≡ get_or ls place l →
-    l.text ≡ Some t → messages_of (placed (drop place us) (drop place ls)) ≡ message_of u l.flags t ∷ messages_of (placed (drop (place + 1) us) (drop (place + 1) ls))
-comes_one us ls place u l t within beside is at there =
-    comes us ls place u l within beside is at ∙ ap (λ (x : Option (List ℕ)). in_front u l.flags x (messages_of (placed (drop (place + 1) us) (drop (place + 1) ls)))) there
+pub comes_one : (us : List ℕ) (ls : List Letter) (position u : ℕ) (l : Letter) (t : List ℕ) → position < length us → length ls ≡ length us → u ≡ get_or us position u → l ≡ get_or ls position l →
+    l.text ≡ Some t → messages_of (filed (drop position us) (drop position ls)) ≡ message_of u l.flags t ∷ messages_of (filed (drop (position + 1) us) (drop (position + 1) ls))
+comes_one us ls position u l t within beside is at there =
+    comes us ls position u l within beside is at ∙ ap (λ (x : Option (List ℕ)). in_front u l.flags x (messages_of (filed (drop (position + 1) us) (drop (position + 1) ls)))) there
 
 -- and where it was taken none
-pub comes_none : (us : List ℕ) (ls : List Letter) (place : ℕ) (l : Letter) → place < length us → length ls ≡ length us → l ≡ get_or ls place l → l.text ≡ None →
-    messages_of (placed (drop place us) (drop place ls)) ≡ messages_of (placed (drop (place + 1) us) (drop (place + 1) ls))
-comes_none us ls place l within beside at gone =
-    let u = get_or us place 0 in
-    comes us ls place u l within beside (get_or_default us place 0 u within) at
-    ∙ ap (λ (x : Option (List ℕ)). in_front u l.flags x (messages_of (placed (drop (place + 1) us) (drop (place + 1) ls)))) gone
+pub comes_none : (us : List ℕ) (ls : List Letter) (position : ℕ) (l : Letter) → position < length us → length ls ≡ length us → l ≡ get_or ls position l → l.text ≡ None →
+    messages_of (filed (drop position us) (drop position ls)) ≡ messages_of (filed (drop (position + 1) us) (drop (position + 1) ls))
+comes_none us ls position l within beside at gone =
+    let u = get_or us position 0 in
+    comes us ls position u l within beside (get_or_default us position 0 u within) at
+    ∙ ap (λ (x : Option (List ℕ)). in_front u l.flags x (messages_of (filed (drop (position + 1) us) (drop (position + 1) ls)))) gone
 
 -- ---- the UIDs close up
 
 -- the UIDs that are kept, with those of the messages to come, are all
-pub record IsClosing (whole now : List ℕ) (ls : List Letter) (kept place : ℕ) : Type 0 where
-  pub told : take kept now ++ uids_of (messages_of (placed (drop place now) (drop place ls))) ≡ whole
-  pub behind : kept ≤ place
+pub record IsClosing (whole now : List ℕ) (ls : List Letter) (kept position : ℕ) : Type 0 where
+  pub told : take kept now ++ uids_of (messages_of (filed (drop position now) (drop position ls))) ≡ whole
+  pub behind : kept ≤ position
   pub beside : length ls ≡ length now
 
--- a place that was given up
-pub closing_past : (whole now : List ℕ) (ls : List Letter) (kept place : ℕ) (l : Letter) → IsClosing whole now ls kept place → place < length now → l ≡ get_or ls place l → is_some l.text ≡ false →
-    IsClosing whole now ls kept (place + 1)
-closing_past whole now ls kept place l h within at gone = record {
-  told = ap (λ (ms : List Message). take kept now ++ uids_of ms) (sym (comes_none now ls place l within h.beside at (text_gone l.text gone))) ∙ h.told;
+-- a position that was given up
+pub closing_past : (whole now : List ℕ) (ls : List Letter) (kept position : ℕ) (l : Letter) → IsClosing whole now ls kept position → position < length now → l ≡ get_or ls position l → is_some l.text ≡ false →
+    IsClosing whole now ls kept (position + 1)
+closing_past whole now ls kept position l h within at gone = record {
+  told = ap (λ (ms : List Message). take kept now ++ uids_of ms) (sym (comes_none now ls position l within h.beside at (text_gone l.text gone))) ∙ h.told;
   behind = omega (arith, h.behind);
   beside = h.beside;
 }
 
 -- a message's UID moves up
-pub closing_more : (whole now : List ℕ) (ls : List Letter) (kept place u : ℕ) (l : Letter) → IsClosing whole now ls kept place → place < length now → u ≡ get_or now place u → l ≡ get_or ls place l →
-    is_some l.text ≡ true → IsClosing whole (slice_set now kept u) ls (kept + 1) (place + 1)
-closing_more whole now ls kept place u l h within is at there =
-    let left = uids_of (messages_of (placed (drop (place + 1) now) (drop (place + 1) ls))) in
+pub closing_more : (whole now : List ℕ) (ls : List Letter) (kept position u : ℕ) (l : Letter) → IsClosing whole now ls kept position → position < length now → u ≡ get_or now position u → l ≡ get_or ls position l →
+    is_some l.text ≡ true → IsClosing whole (slice_set now kept u) ls (kept + 1) (position + 1)
+closing_more whole now ls kept position u l h within is at there =
+    let left = uids_of (messages_of (filed (drop (position + 1) now) (drop (position + 1) ls))) in
     let front : take (kept + 1) (slice_set now kept u) ≡ take kept now ++ u ∷ [] = take_more_set now kept u (omega (arith, within, h.behind)) in
-    let rest : drop (place + 1) (slice_set now kept u) ≡ drop (place + 1) now = drop-set-lt (place + 1) now kept u (omega (arith, h.behind)) in
+    let rest : drop (position + 1) (slice_set now kept u) ≡ drop (position + 1) now = drop-set-lt (position + 1) now kept u (omega (arith, h.behind)) in
     let text = text_there l.text there in
     record {
       told =
-          ap (λ (vs : List ℕ). take (kept + 1) (slice_set now kept u) ++ uids_of (messages_of (placed vs (drop (place + 1) ls)))) rest ∙ ap (λ (vs : List ℕ). vs ++ left) front
-          ∙ append_assoc (take kept now) (u ∷ []) left ∙ ap (λ (ms : List Message). take kept now ++ uids_of ms) (sym (comes_one now ls place u l text.0 within h.beside is at text.1)) ∙ h.told;
+          ap (λ (vs : List ℕ). take (kept + 1) (slice_set now kept u) ++ uids_of (messages_of (filed vs (drop (position + 1) ls)))) rest ∙ ap (λ (vs : List ℕ). vs ++ left) front
+          ∙ append_assoc (take kept now) (u ∷ []) left ∙ ap (λ (ms : List Message). take kept now ++ uids_of ms) (sym (comes_one now ls position u l text.0 within h.beside is at text.1)) ∙ h.told;
       behind = omega (arith, h.behind);
       beside = omega (arith, h.beside, length-set now kept u);
     }
@@ -461,10 +461,10 @@ pub bytes_few : (ms : List Message) → All (λ (m : Message). length m.text ≤
 bytes_few ms small = sum_by-le (λ (m : Message). length m.text) 0xffff_ffff_ffff_ffff ms small
 
 pub AreCounted-add : (b : Inside) (us : Vec ℕ) (ls : Vec Letter) (x : Message) → AreCounted b → IsStrictlyIncreasing us.items → length ls.items ≡ length us.items →
-    messages_of (placed us.items ls.items) ≡ messages_of (placed b.uids.items b.letters.items) ++ x ∷ [] → x.flags.seen ≡ false → length x.text ≤ 0xffff_ffff_ffff_ffff →
+    messages_of (filed us.items ls.items) ≡ messages_of (filed b.uids.items b.letters.items) ++ x ∷ [] → x.flags.seen ≡ false → length x.text ≤ 0xffff_ffff_ffff_ffff →
     AreCounted (record { uids = us; letters = ls; count = b.count + 1; unseen = b.unseen + 1; bytes = b.bytes + length x.text })
 AreCounted-add b us ls x h rising beside is off short =
-    let ms = messages_of (placed b.uids.items b.letters.items) in
+    let ms = messages_of (filed b.uids.items b.letters.items) in
     let one : one_if (not x.flags.seen) ≡ 1 = ap (λ (s : Bool). one_if (not s)) off in
     record {
       rising = rising;
@@ -480,10 +480,10 @@ AreCounted-add b us ls x h rising beside is off short =
     length_push (m ∷ ms) x = omega (arith, length_push ms x)
 
 pub AreCounted-set : (b : Inside) (new : Vec Letter) (uid : ℕ) (flags : Flags) (x : Message) (unseen : ℕ) → AreCounted b → length new.items ≡ length b.uids.items →
-    messages_of (placed b.uids.items new.items) ≡ reflagged uid flags (messages_of (placed b.uids.items b.letters.items)) → message_with uid (messages_of (placed b.uids.items b.letters.items)) ≡ Some x →
+    messages_of (filed b.uids.items new.items) ≡ reflagged uid flags (messages_of (filed b.uids.items b.letters.items)) → message_with uid (messages_of (filed b.uids.items b.letters.items)) ≡ Some x →
     unseen + one_if (not x.flags.seen) ≡ b.unseen + one_if (not flags.seen) → AreCounted (record { uids = b.uids; letters = new; count = b.count; unseen = unseen; bytes = b.bytes })
 AreCounted-set b new uid flags x unseen h beside is found counts =
-    let ms = messages_of (placed b.uids.items b.letters.items) in
+    let ms = messages_of (filed b.uids.items b.letters.items) in
     record {
       rising = h.rising;
       beside = beside;
@@ -494,10 +494,10 @@ AreCounted-set b new uid flags x unseen h beside is found counts =
     }
 
 pub AreCounted-remove : (b : Inside) (new : Vec Letter) (uid : ℕ) (x : Message) (count unseen bytes : ℕ) → AreCounted b → length new.items ≡ length b.uids.items →
-    messages_of (placed b.uids.items new.items) ≡ without_message uid (messages_of (placed b.uids.items b.letters.items)) → message_with uid (messages_of (placed b.uids.items b.letters.items)) ≡ Some x →
+    messages_of (filed b.uids.items new.items) ≡ without_message uid (messages_of (filed b.uids.items b.letters.items)) → message_with uid (messages_of (filed b.uids.items b.letters.items)) ≡ Some x →
     count + 1 ≡ b.count → unseen + one_if (not x.flags.seen) ≡ b.unseen → bytes + length x.text ≡ b.bytes → AreCounted (record { uids = b.uids; letters = new; count = count; unseen = unseen; bytes = bytes })
 AreCounted-remove b new uid x count unseen bytes h beside is found less counts sums =
-    let ms = messages_of (placed b.uids.items b.letters.items) in
+    let ms = messages_of (filed b.uids.items b.letters.items) in
     record {
       rising = h.rising;
       beside = beside;
@@ -509,7 +509,7 @@ AreCounted-remove b new uid x count unseen bytes h beside is found less counts s
 
 -- the same messages in other letters
 pub AreCounted-same : (b : Inside) (us : Vec ℕ) (ls : Vec Letter) → AreCounted b → IsStrictlyIncreasing us.items → length ls.items ≡ length us.items →
-    messages_of (placed us.items ls.items) ≡ messages_of (placed b.uids.items b.letters.items) → AreCounted (record { uids = us; letters = ls; count = b.count; unseen = b.unseen; bytes = b.bytes })
+    messages_of (filed us.items ls.items) ≡ messages_of (filed b.uids.items b.letters.items) → AreCounted (record { uids = us; letters = ls; count = b.count; unseen = b.unseen; bytes = b.bytes })
 AreCounted-same b us ls h rising beside is = record {
   rising = rising;
   beside = beside;

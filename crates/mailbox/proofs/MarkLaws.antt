@@ -13,7 +13,7 @@ use Rattle.std.specs.Ordering.{nat_cmp}
 use Rattle.std.proofs.lemmas.List.Sums.{length-filter, count_by-le-length}
 use Rattle.change_ring.specs.declared.change.Flags.{Flags}
 use Rattle.change_ring.specs.Log.{without}
-use Rattle.cursor_set.proofs.Places.{Rises, Rises-from}
+use Rattle.cursor_set.proofs.Positions.{Rises, Rises-from}
 use Rattle.mailbox.specs.Counts.{deleted_count}
 use Rattle.mailbox.specs.inner.Letters.{reflagged}
 use Rattle.mailbox.specs.Mailbox.{Message, message_with, remaining, uids_of}
@@ -201,14 +201,14 @@ marked_set uid flags ms x up f = by_case x.flags.deleted flags.deleted refl refl
     by_case true true e g = marked_same uid flags ms x f (g ∙ sym e)
     by_case false false e g = marked_same uid flags ms x f (g ∙ sym e)
 
--- ---- a place in a rising list
+-- ---- a position in a rising list
 
-pub put_at : (uid : ℕ) (us : List ℕ) (place : ℕ) → IsPartitionPoint (λ (u : ℕ). ltb u uid ≡ true) (λ (u : ℕ). ltb u uid ≡ false) us place → place ≤ length us → insert us place uid ≡ put_in uid us
+pub put_at : (uid : ℕ) (us : List ℕ) (index : ℕ) → IsPartitionPoint (λ (u : ℕ). ltb u uid ≡ true) (λ (u : ℕ). ltb u uid ≡ false) us index → index ≤ length us → insert us index uid ≡ put_in uid us
 put_at uid [] zero point within = refl
-put_at uid [] (suc place) point within = absurd (omega (arith, within))
+put_at uid [] (suc index) point within = absurd (omega (arith, within))
 put_at uid (u ∷ us) zero point within = sym (ap (λ (b : Bool). if b then u ∷ put_in uid us else uid ∷ u ∷ us) (point.1 0 0 (omega arith) (omega arith)))
-put_at uid (u ∷ us) (suc place) point within =
-    ap (λ (rest : List ℕ). u ∷ rest) (put_at uid us place (λ k d z l. point.0 (suc k) d (omega arith) (omega (arith, l)), λ k d l m. point.1 (suc k) d (omega (arith, l)) (omega (arith, m))) (omega (arith, within)))
+put_at uid (u ∷ us) (suc index) point within =
+    ap (λ (rest : List ℕ). u ∷ rest) (put_at uid us index (λ k d z l. point.0 (suc k) d (omega arith) (omega (arith, l)), λ k d l m. point.1 (suc k) d (omega (arith, l)) (omega (arith, m))) (omega (arith, within)))
     ∙ sym (ap (λ (b : Bool). if b then u ∷ put_in uid us else uid ∷ u ∷ us) (point.0 0 0 (omega arith) (omega arith)))
 
 pub not_falling : (us : List ℕ) → IsStrictlyIncreasing us → (i j d : ℕ) → i ≤ j → j < length us → get_or us i d ≤ get_or us j d
@@ -223,8 +223,8 @@ eqb_less a b l = elim (eqb_tells a b) [
   | inr t ↦ t.0
 ]
 
-taken_at : (uid : ℕ) (us : List ℕ) (place : ℕ) → Rises us → place < length us → get_or us place 0 ≡ uid → remove us place ≡ without uid us
-taken_at uid [] place up l e = absurd (omega (arith, l))
+taken_at : (uid : ℕ) (us : List ℕ) (index : ℕ) → Rises us → index < length us → get_or us index 0 ≡ uid → remove us index ≡ without uid us
+taken_at uid [] index up l e = absurd (omega (arith, l))
 taken_at uid (u ∷ us) zero up l e = sym (ap (λ (b : Bool). if b then us else u ∷ without uid us) (eq-eqb u uid e))
 taken_at uid (u ∷ us) (suc k) up l e =
     let low : u < get_or us k 0 = All-from_recursion (λ v. u < v) us up.0 k 0 (omega (arith, l)) in
@@ -240,12 +240,12 @@ absent uid (u ∷ us) h = elim (eqb_tells u uid) [
 
 -- what a search by halving tells
 pub searched_out : (uid : ℕ) (us : List ℕ) (r : Result ℕ ℕ) → IsStrictlyIncreasing us → IsBinarySearchResult (λ y. nat_cmp y uid) us r →
-    MatchResult r (λ place. remove us place ≡ without uid us) (λ place. us ≡ without uid us)
+    MatchResult r (λ index. remove us index ≡ without uid us) (λ index. us ≡ without uid us)
 searched_out uid us r up position = by_case r (searched us uid r position (λ i j l m. not_falling us up i j 0 l m))
   where
     by_case : (s : Result ℕ ℕ) → MatchResult s (λ i. (i < length us) × (get_or us i 0 ≡ uid))
         (λ i. (i ≤ length us) × ((k : ℕ) → k < i → get_or us k 0 < uid) × ((k : ℕ) → i ≤ k → k < length us → uid < get_or us k 0)) →
-        MatchResult s (λ place. remove us place ≡ without uid us) (λ place. us ≡ without uid us)
+        MatchResult s (λ index. remove us index ≡ without uid us) (λ index. us ≡ without uid us)
     by_case (Ok i) h = taken_at uid us i (Rises-from us up) h.0 h.1
     by_case (Err i) h = absent uid us (λ k l same. elim (cases_lt k i) [
       | inl low ↦ absurd (omega (arith, h.1 k low, same))

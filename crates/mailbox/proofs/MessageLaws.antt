@@ -8,7 +8,7 @@ use Rattle.change_ring.specs.declared.change.Change.TheVariants.{Flags as SetFla
 use Rattle.change_ring.specs.declared.flag_op.FlagOp.{FlagOp}
 use Rattle.change_ring.specs.Log.{Row, FitsView, with_flags, rows_after}
 use Rattle.change_ring.specs.Logged.{seen_logged, differ, flags_differ, flags_after, flags_logged, new_flags}
-use Rattle.cursor_set.proofs.Places.{Rises}
+use Rattle.cursor_set.proofs.Positions.{Rises}
 use Rattle.mailbox.specs.Events.{mark, seen_after}
 use Rattle.mailbox.specs.inner.Letters.{reflagged}
 use Rattle.mailbox.specs.Mailbox.{Message, row_of, uids_of, flagged, message_with}

@@ -9,7 +9,7 @@ use Rattle.change_ring.specs.Log.{Row, FitsView, without, without_row, rows_afte
 use Rattle.change_ring.specs.Logged.{removals}
 use Rattle.change_ring.specs.Window.{Window, IsWindowOf, total}
 use Rattle.cursor_set.specs.Cursors.{CursorSet}
-use Rattle.cursor_set.proofs.Places.{Rises}
+use Rattle.cursor_set.proofs.Positions.{Rises}
 use Rattle.mailbox.specs.Events.{Moves}
 use Rattle.mailbox.specs.inner.Events.{GoesOn}
 use Rattle.mailbox.proofs.WindowMoves.{Moves-append, moves_logged}

@@ -19,7 +19,7 @@ use Rattle.cursor_set.specs.Legal.{IsLegalOn}
 use Rattle.cursor_set.specs.Lines.{lines}
 use Rattle.cursor_set.proofs.LegalLaws.{legal_log, legal_rises}
 use Rattle.cursor_set.proofs.OpenedLemmas.{held_in_slot}
-use Rattle.cursor_set.proofs.Places.{Rises, Rises-from, Rises-to}
+use Rattle.cursor_set.proofs.Positions.{Rises, Rises-from, Rises-to}
 use Rattle.delivery_token.specs.declared.CopyKey.{CopyKey}
 use Rattle.mailbox.specs.Events.{Logs}
 use Rattle.mailbox.specs.inner.Events.{GoesOn}

@@ -9,7 +9,7 @@ use Rattle.change_ring.specs.declared.change.Change.{Change}
 use Rattle.change_ring.specs.declared.change.Change.TheVariants.{Gone}
 use Rattle.change_ring.specs.Log.{Row}
 use Rattle.change_ring.specs.Logged.{removals}
-use Rattle.cursor_set.proofs.Places.{Rises}
+use Rattle.cursor_set.proofs.Positions.{Rises}
 use Rattle.mailbox.specs.inner.Letters.{without_message}
 use Rattle.mailbox.specs.Mailbox.{Message, remaining, row_of, uids_of}
 use Rattle.mailbox.specs.inner.Marks.{gone_of, marked_of, without_each}

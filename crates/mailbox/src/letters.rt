@@ -1,17 +1,17 @@
 //! The messages that are there, by their UIDs, and what is counted of them. Which of them have
 //! \Deleted is told in `messages`; changes and cursors are not told here.
 //!
-//! Their UIDs stand in a vector, rising, and what else is known of each at the same place of another:
-//! so all UIDs are one run of numbers, which is searched by itself and copied whole where no place was
-//! given up. One that is taken out loses its text at once, and its place in both as soon as more than
-//! half of all places are such: so neither a removal nor what is added moves others, and a message
+//! Their UIDs stand in a vector, rising, and what else is known of each at the same position of another:
+//! so all UIDs are one run of numbers, which is searched by itself and copied whole where no position was
+//! given up. One that is taken out loses its text at once, and its position in both as soon as more than
+//! half of all positions are such: so neither a removal nor what is added moves others, and a message
 //! mostly stands as far from the first one as its UID is above that one's.
 
 ghost use Rattle.std.specs.Prelude.{◌≡◌, ◌^◌, ◌<◌, ◌-◌, false, true, [], ◌∷◌, ◌++◌, List, length, All, Contains, IfOk, OnOk, OnErr, IfSome, IfNone, Some, None, option_map, slice_get, slice_index_or};
 ghost use Rattle.std.specs.List.Sorted.{IsStrictlyIncreasing};
 ghost use Rattle.change_ring.specs.Log.{no_flags};
 ghost use Rattle.mailbox.specs.Counts.{unseen_count, bytes_in_all};
-ghost use Rattle.mailbox.specs.inner.Letters.{message_of, messages_of, placed, reflagged, without_message};
+ghost use Rattle.mailbox.specs.inner.Letters.{filed, message_of, messages_of, reflagged, without_message};
 ghost use Rattle.mailbox.specs.Mailbox.{message_with, texts_of, uids_of};
 
 use change_ring::{Flags, NO_FLAGS};
@@ -19,14 +19,14 @@ use delivery_token::Text;
 use std::alloc::{AllocError, Global};
 use std::marker::Model;
 
-// A message but for its UID, or the place of one that was taken out: that has no text any more.
+// A message but for its UID, or the position of one that was taken out: that has no text any more.
 #[derive(Drop)]
 pub(crate) struct Letter {
     flags: Flags,
     text: Option<Text>,
 }
 
-// The letters' UIDs, which rise, and at the same places the letters; how many of them are messages,
+// The letters' UIDs, which rise, and at the same positions the letters; how many of them are messages,
 // how many of these are without \Seen, and the bytes of their texts.
 #[derive(Drop)]
 pub(crate) struct Letters {
@@ -39,17 +39,17 @@ pub(crate) struct Letters {
 
 impl Model for Letters {
     ghost use Rattle.std.specs.Prelude.{List};
-    ghost use Rattle.mailbox.specs.inner.Letters.{AreCounted, messages_of, placed};
+    ghost use Rattle.mailbox.specs.inner.Letters.{AreCounted, filed, messages_of};
     ghost use Rattle.mailbox.specs.Mailbox.{Message};
 
     ghost Value = { List Message };
 
-    ghost view = { λ b. messages_of (placed b.uids.items b.letters.items) };
+    ghost view = { λ b. messages_of (filed b.uids.items b.letters.items) };
 
     ghost invariant = { AreCounted };
 }
 
-// How far a UID is above the first one: its place, where no UID is missing before it.
+// How far a UID is above the first one: its position, where no UID is missing before it.
 fn distance(uids: &[u32], uid: u32) -> usize
     ensures { result ≡ uid - slice_index_or uids.now 0 uid }
 {
@@ -59,19 +59,19 @@ fn distance(uids: &[u32], uid: u32) -> usize
     }
 }
 
-// The place of a UID. None only where no place has it.
-fn place_of(uids: &[u32], uid: u32) -> Option<usize>
+// The position of a UID. None only where no position has it.
+fn position_of(uids: &[u32], uid: u32) -> Option<usize>
     requires { IsStrictlyIncreasing uids.now }
-    ensures found { IfSome result (λ place. slice_get uids.now place ≡ Some uid) }
+    ensures found { IfSome result (λ position. slice_get uids.now position ≡ Some uid) }
     ensures none { IfNone result (Contains uids.now uid → ⊥) }
 {
     let near = distance(uids, uid);
     if uids.get(near).copied() == Some(uid) {
         return Some(near);
     }
-    let place = uids.partition_point(|other| *other < uid);
-    if uids.get(place).copied() == Some(uid) {
-        Some(place)
+    let position = uids.partition_point(|other| *other < uid);
+    if uids.get(position).copied() == Some(uid) {
+        Some(position)
     } else {
         None
     }
@@ -81,12 +81,12 @@ fn place_of(uids: &[u32], uid: u32) -> Option<usize>
 fn replace_flags(uids: &[u32], letters: &mut Vec<Letter>, uid: u32, flags: Flags) -> Option<Flags>
     requires rising { IsStrictlyIncreasing uids.now }
     requires beside { length letters.old.items ≡ length uids.now }
-    ensures was { result ≡ option_map (λ m. m.flags) (message_with uid (messages_of (placed uids.now letters.old.items))) }
-    ensures messages { messages_of (placed uids.now letters.new.items) ≡ reflagged uid flags (messages_of (placed uids.now letters.old.items)) }
+    ensures was { result ≡ option_map (λ m. m.flags) (message_with uid (messages_of (filed uids.now letters.old.items))) }
+    ensures messages { messages_of (filed uids.now letters.new.items) ≡ reflagged uid flags (messages_of (filed uids.now letters.old.items)) }
     ensures beside { length letters.new.items ≡ length uids.now }
 {
-    let place = place_of(uids, uid)?;
-    let letter = &mut letters[place];
+    let position = position_of(uids, uid)?;
+    let letter = &mut letters[position];
     if letter.text.is_none() {
         return None;
     }
@@ -99,12 +99,12 @@ fn replace_flags(uids: &[u32], letters: &mut Vec<Letter>, uid: u32, flags: Flags
 fn take_text(uids: &[u32], letters: &mut Vec<Letter>, uid: u32) -> Option<(Flags, Text)>
     requires rising { IsStrictlyIncreasing uids.now }
     requires beside { length letters.old.items ≡ length uids.now }
-    ensures was { option_map (λ p. message_of uid p.0 p.1) result ≡ message_with uid (messages_of (placed uids.now letters.old.items)) }
-    ensures messages { messages_of (placed uids.now letters.new.items) ≡ without_message uid (messages_of (placed uids.now letters.old.items)) }
+    ensures was { option_map (λ p. message_of uid p.0 p.1) result ≡ message_with uid (messages_of (filed uids.now letters.old.items)) }
+    ensures messages { messages_of (filed uids.now letters.new.items) ≡ without_message uid (messages_of (filed uids.now letters.old.items)) }
     ensures beside { length letters.new.items ≡ length uids.now }
 {
-    let place = place_of(uids, uid)?;
-    let letter = &mut letters[place];
+    let position = position_of(uids, uid)?;
+    let letter = &mut letters[position];
     let text = letter.text.take()?;
     Some((letter.flags, text))
 }
@@ -112,30 +112,30 @@ fn take_text(uids: &[u32], letters: &mut Vec<Letter>, uid: u32) -> Option<(Flags
 // Closes up the UIDs of those that are messages.
 fn close_uids(uids: &mut Vec<u32>, letters: &[Letter])
     requires { length letters.now ≡ length uids.old.items }
-    ensures { uids.new.items ≡ uids_of (messages_of (placed uids.old.items letters.now)) }
+    ensures { uids.new.items ≡ uids_of (messages_of (filed uids.old.items letters.now)) }
 {
     let mut kept = 0;
-    for place in 0..uids.len() {
-        if letters[place].text.is_some() {
-            uids[kept] = uids[place];
+    for position in 0..uids.len() {
+        if letters[position].text.is_some() {
+            uids[kept] = uids[position];
             kept += 1;
         }
     }
     uids.truncate(kept);
 }
 
-// Gives up the places of those that were taken out.
+// Gives up the positions of those that were taken out.
 fn close_up(uids: &mut Vec<u32>, letters: &mut Vec<Letter>)
     requires { length letters.old.items ≡ length uids.old.items }
-    ensures messages { messages_of (placed uids.new.items letters.new.items) ≡ messages_of (placed uids.old.items letters.old.items) }
-    ensures uids { uids.new.items ≡ uids_of (messages_of (placed uids.old.items letters.old.items)) }
+    ensures messages { messages_of (filed uids.new.items letters.new.items) ≡ messages_of (filed uids.old.items letters.old.items) }
+    ensures uids { uids.new.items ≡ uids_of (messages_of (filed uids.old.items letters.old.items)) }
     ensures beside { length letters.new.items ≡ length uids.new.items }
 {
     close_uids(uids, letters);
     letters.retain(|letter| letter.text.is_some());
 }
 
-// Whether the last place has a UID that is not below this one.
+// Whether the last position has a UID that is not below this one.
 fn is_behind(uids: &[u32], uid: u32) -> bool
     ensures above { result ≡ false → IsStrictlyIncreasing uids.now → IsStrictlyIncreasing (uids.now ++ uid ∷ []) }
     ensures needed { result ≡ true → All (λ u. u < uid) uids.now → ⊥ }
@@ -146,12 +146,12 @@ fn is_behind(uids: &[u32], uid: u32) -> bool
     }
 }
 
-// Makes way for a UID above all messages': no place that was given up is at or above it.
+// Makes way for a UID above all messages': no position that was given up is at or above it.
 fn make_way(uids: &mut Vec<u32>, letters: &mut Vec<Letter>, uid: u32)
     requires rising { IsStrictlyIncreasing uids.old.items }
     requires beside { length letters.old.items ≡ length uids.old.items }
-    requires above { All (λ u. u < uid) (uids_of (messages_of (placed uids.old.items letters.old.items))) }
-    ensures messages { messages_of (placed uids.new.items letters.new.items) ≡ messages_of (placed uids.old.items letters.old.items) }
+    requires above { All (λ u. u < uid) (uids_of (messages_of (filed uids.old.items letters.old.items))) }
+    ensures messages { messages_of (filed uids.new.items letters.new.items) ≡ messages_of (filed uids.old.items letters.old.items) }
     ensures rising { IsStrictlyIncreasing (uids.new.items ++ uid ∷ []) }
     ensures beside { length letters.new.items ≡ length uids.new.items }
 {
@@ -168,13 +168,13 @@ fn uids_in(
     alloc: Global,
 ) -> Result<Vec<u32>, AllocError>
     requires beside { length letters.now ≡ length uids.now }
-    requires count { count ≡ length (messages_of (placed uids.now letters.now)) }
-    ensures { IfOk result (λ found. found.items ≡ uids_of (messages_of (placed uids.now letters.now))) }
+    requires count { count ≡ length (messages_of (filed uids.now letters.now)) }
+    ensures { IfOk result (λ found. found.items ≡ uids_of (messages_of (filed uids.now letters.now))) }
 {
     let mut found = Vec::with_capacity(alloc, count)?;
-    for place in 0..uids.len() {
-        if letters[place].text.is_some() {
-            found.push_reserved(uids[place]);
+    for position in 0..uids.len() {
+        if letters[position].text.is_some() {
+            found.push_reserved(uids[position]);
         }
     }
     Ok(found)
@@ -188,13 +188,13 @@ fn texts_in(
     alloc: Global,
 ) -> Result<Vec<(u32, Text)>, AllocError>
     requires beside { length letters.now ≡ length uids.now }
-    requires count { count ≡ length (messages_of (placed uids.now letters.now)) }
-    ensures { IfOk result (λ texts. texts.items ≡ texts_of (messages_of (placed uids.now letters.now))) }
+    requires count { count ≡ length (messages_of (filed uids.now letters.now)) }
+    ensures { IfOk result (λ texts. texts.items ≡ texts_of (messages_of (filed uids.now letters.now))) }
 {
     let mut texts = Vec::with_capacity(alloc, count)?;
-    for place in 0..uids.len() {
-        if let Some(text) = &letters[place].text {
-            texts.push_reserved((uids[place], text.copy()?));
+    for position in 0..uids.len() {
+        if let Some(text) = &letters[position].text {
+            texts.push_reserved((uids[position], text.copy()?));
         }
     }
     Ok(texts)
@@ -243,8 +243,8 @@ impl Letters {
     pub(crate) fn get(&self, uid: u32) -> Option<(Flags, &Text)>
         ensures { option_map (λ p. message_of uid p.0 p.1.now) result ≡ message_with uid self.now }
     {
-        let place = place_of(&self.uids, uid)?;
-        let letter = &self.letters[place];
+        let position = position_of(&self.uids, uid)?;
+        let letter = &self.letters[position];
         Some((letter.flags, letter.text.as_ref()?))
     }
 
@@ -313,7 +313,7 @@ impl Letters {
         self.bytes -= text.as_slice().len() as u128;
     }
 
-    // Gives up the places of those that were taken out, where these are the most.
+    // Gives up the positions of those that were taken out, where these are the most.
     pub(crate) fn tidy(&mut self)
         ensures { self.new ≡ self.old }
     {

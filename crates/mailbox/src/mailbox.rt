@@ -39,7 +39,7 @@ pub struct Receipt {
     mailbox: u8,
     key: CopyKey,
     uid: u32,
-    place: usize,
+    position: usize,
 }
 
 /// What STATUS tells of a mailbox (RFC 9051, 6.3.11).
@@ -109,11 +109,11 @@ impl Receipt {
         self.uid
     }
 
-    /// The place of the copy among those that were accepted, from 0.
-    pub fn place(&self) -> usize
-        ensures { result ≡ self.now.place }
+    /// The position of the copy among those that were accepted, from 0.
+    pub fn position(&self) -> usize
+        ensures { result ≡ self.now.position }
     {
-        self.place
+        self.position
     }
 }
 
@@ -193,14 +193,14 @@ impl Mailbox {
           mailbox = self.old.number;
           key = job.now.key;
           uid = next_uid self.old;
-          place = length self.old.accepted;
+          position = length self.old.accepted;
         }) }
     {
         if self.messages.len() >= self.limit {
             return Err(Refusal::MailboxFull);
         }
         let uid = self.next;
-        let place = (uid - self.first_uid) as usize;
+        let position = (uid - self.first_uid) as usize;
         let Ok(text) = job.text.copy() else {
             return Err(Refusal::NoMemory);
         };
@@ -219,7 +219,7 @@ impl Mailbox {
             mailbox: self.number,
             key: job.key,
             uid,
-            place,
+            position,
         })
     }
 
@@ -249,7 +249,7 @@ impl Mailbox {
           mailbox = self.old.number;
           key = job.now.key;
           uid = next_uid self.old;
-          place = length self.old.accepted;
+          position = length self.old.accepted;
         }) }
     {
         if self.is_spent(job.flags) {

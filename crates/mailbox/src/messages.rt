@@ -44,8 +44,8 @@ fn mark(marked: &mut Vec<u32>, uid: u32)
     ensures items { marked.new.items ≡ put_in uid marked.old.items }
     ensures room { vec_capacity marked.new ≡ vec_capacity marked.old }
 {
-    let place = marked.partition_point(|other| *other < uid);
-    let _ = marked.insert(place, uid);
+    let position = marked.partition_point(|other| *other < uid);
+    let _ = marked.insert(position, uid);
 }
 
 // Takes a UID away from others that rise.
@@ -54,8 +54,8 @@ fn unmark(marked: &mut Vec<u32>, uid: u32)
     ensures items { marked.new.items ≡ without uid marked.old.items }
     ensures room { vec_capacity marked.new ≡ vec_capacity marked.old }
 {
-    if let Ok(place) = marked.binary_search(&uid) {
-        marked.remove(place);
+    if let Ok(position) = marked.binary_search(&uid) {
+        marked.remove(position);
     }
 }
 

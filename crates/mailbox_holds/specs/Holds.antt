@@ -136,11 +136,11 @@ pub record Leaves (found : Mailbox) (handle : CursorHandle) (remove : Bool) (gon
 pub record Delivers (found : Mailbox) (job : Job) (receipt : Receipt) (left : Mailbox) : Type 0 where
   pub event : IsDelivery found left job.key job.flags
   pub uid_left : is_spent job.flags found ≡ false
-  pub place_left : is_full found ≡ false
+  pub room_left : is_full found ≡ false
   pub window : Moves found.cursors found.window left.window (arrival (next_uid found) job.flags)
   pub messages : left.messages ≡ found.messages ++ record { uid = next_uid found; flags = job.flags; text = job.text } ∷ []
   pub cursors : left.cursors ≡ found.cursors
-  pub answers : receipt ≡ record { mailbox = found.number; key = job.key; uid = next_uid found; place = length found.accepted }
+  pub answers : receipt ≡ record { mailbox = found.number; key = job.key; uid = next_uid found; position = length found.accepted }
 
 -- ---- refusals
 

@@ -32,17 +32,17 @@ use Rattle.reckoning.specs.Closing.{AreChannelsClosedWith, AreClosedWith}
 use Rattle.reckoning.specs.Gathered.{fault_of_consumer, fault_of_fate}
 use Rattle.reckoning.proofs.Parts.{copies_of, some_at}
 
--- ---- by their places
+-- ---- by their positions
 
-pub at_place : {A : Type 0} (P : ℕ → A → Type 0) (n k : ℕ) (xs : List A) (x : A) → AllAt P n xs → slice_get xs k ≡ Some x → P (n + k) x
-at_place P n k [] x all is = absurd (cc)
-at_place P n zero (y ∷ xs) x all is =
+pub at_position : {A : Type 0} (P : ℕ → A → Type 0) (n k : ℕ) (xs : List A) (x : A) → AllAt P n xs → slice_get xs k ≡ Some x → P (n + k) x
+at_position P n k [] x all is = absurd (cc)
+at_position P n zero (y ∷ xs) x all is =
     let same : y ≡ x = cc in
     let e : n ≡ n + 0 = omega arith in
     subst (λ i. P i x) e (subst (P n) same all.0)
-at_place P n (suc k) (y ∷ xs) x all is =
+at_position P n (suc k) (y ∷ xs) x all is =
     let e : suc n + k ≡ n + suc k = omega arith in
-    subst (λ i. P i x) e (at_place P (suc n) k xs x all.1 is)
+    subst (λ i. P i x) e (at_position P (suc n) k xs x all.1 is)
 
 pub in_at : {A : Type 0} (f : A → List (Ended Job)) (xs : List A) (lists : List (List (Ended Job))) (k : ℕ) (x : A) → AllIn (map f xs) lists → slice_get xs k ≡ Some x → AreIn (f x) lists
 in_at f [] lists k x all is = absurd (cc)
@@ -108,7 +108,7 @@ module _ (floor : Floor) (plans : Plans) (visits : List Visit) (ws : List Worked
       → (w : Worked) × (slice_get ws p ≡ Some w) × IsProduceOf floor plans visits p w × (w.fate ≡ fates.Whole) × (map said w.ended.items ≡ map (of p) (map history closed))
   left_by p under =
       let w = some_at ws p (omega (arith, under, count)) in
-      let here = at_place (IsProduceOf floor plans visits) 0 p ws w.0 all w.1 in
+      let here = at_position (IsProduceOf floor plans visits) 0 p ws w.0 all w.1 in
       let e : 0 + p ≡ p = omega arith in
       let work : IsProduceOf floor plans visits p w.0 = subst (λ i. IsProduceOf floor plans visits i w.0) e here in
       let within = in_at (λ (v : Worked). v.ended.items) ws are.0 p w.0 are.1 w.1 in (

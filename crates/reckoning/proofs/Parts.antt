@@ -14,13 +14,13 @@ use Rattle.house_floor.specs.declared.floor.Floor.{Floor}
 use Rattle.house_floor.specs.declared.floor.Visit.{Visit}
 use Rattle.house_threads.specs.Crew.{IsProduceOf, IsServiceOf, Plans}
 
--- an element at each place below the end
+-- an element at each position below the end
 pub some_at : {A : Type 0} (xs : List A) (n : ℕ) → n < length xs → (x : A) × (slice_get xs n ≡ Some x)
 some_at [] n under = absurd (omega arith)
 some_at (x ∷ xs) zero under = (x, refl)
 some_at (x ∷ xs) (suc n) under = some_at xs n (omega arith)
 
--- what is left from a place on begins with the element there
+-- what is left from a position on begins with the element there
 pub from_here : {A : Type 0} (xs : List A) (n : ℕ) (x : A) → slice_get xs n ≡ Some x → drop n xs ≡ x ∷ drop (suc n) xs
 from_here [] n x is = absurd (cc)
 from_here (y ∷ xs) zero x is = cc

@@ -23,7 +23,7 @@ use Rattle.relay_replies.specs.Numbers.{MessagesAreNumbered}
 use Rattle.relay_accounts.specs.Concluding.{ConnectionConcludes, IsStored, IsTextOf, key_at, message_at}
 use Rattle.relay_accounts.specs.Entries.{StandsNowhere, StandsOnce, with_uid}
 use Rattle.relay_accounts.specs.Laws.{AccountsConclude, AccountsKeepClosed, ConnectionsAreKnown, TakenIsItsOwn}
-use Rattle.relay_accounts.proofs.Places.{at_contains, at_map, at_unmap, at_within, kept, same_some, the_one, within_at}
+use Rattle.relay_accounts.proofs.Positions.{at_contains, at_map, at_unmap, at_within, kept, same_some, the_one, within_at}
 use Rattle.relay_accounts.proofs.FateLaws.{IsSame, Knows, front_read, front_same, front_taken, knows, named_at, one_number, stored_at, stored_is, taken_there}
 use Rattle.relay_accounts.proofs.Ledger.{connection_message, copy_noted, full_at, part_at}
 use Rattle.relay_accounts.proofs.Joined.{IsFrom, Joined, entered, entries_at, homes_in, noted_stands, notes_in, parts_in, stands_in_order, stands_nowhere, text_from}

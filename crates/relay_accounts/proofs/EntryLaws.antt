@@ -15,7 +15,7 @@ use Rattle.delivery_token.specs.Log.{stored_for, stored_in, stored_pair}
 use Rattle.agreement.specs.Lists.{IsTold, Rise, keys_of, of_seat}
 use Rattle.agreement.specs.Walk.{is_key}
 use Rattle.relay_accounts.specs.Entries.{with_key, with_uid}
-use Rattle.relay_accounts.proofs.Places.{at_or, at_within, kept, kept_order, kept_twice, made, nothing_there, at_contains, contains_at, same_some, none_at, unkept, unmade_at}
+use Rattle.relay_accounts.proofs.Positions.{at_or, at_within, kept, kept_order, kept_twice, made, nothing_there, at_contains, contains_at, same_some, none_at, unkept, unmade_at}
 
 -- ---- keys
 

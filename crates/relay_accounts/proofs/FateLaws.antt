@@ -15,7 +15,7 @@ use Rattle.relay_replies.specs.Conclusions.{MayForget, TakenAreStored, WhatIsRea
 use Rattle.relay_replies.specs.Numbers.{AreNumbered, MessagesAreNumbered, no_submission, number_of, was_submitted}
 use Rattle.relay_accounts.specs.Concluding.{message_at}
 use Rattle.relay_accounts.proofs.EntryLaws.{apart}
-use Rattle.relay_accounts.proofs.Places.{at_or, at_within, none_at, same_some, within_at}
+use Rattle.relay_accounts.proofs.Positions.{at_or, at_within, none_at, same_some, within_at}
 
 -- ---- the number of a message, where it was submitted
 

@@ -19,7 +19,7 @@ use Rattle.account_laws.specs.Conversing.{AreDialogues, IsConnection}
 use Rattle.account_laws.specs.Storing.{AreVerdicts, IsFull}
 use Rattle.account_laws.specs.Woven.{IsWholeDialogue}
 use Rattle.relay_accounts.specs.Concluding.{key_at}
-use Rattle.relay_accounts.proofs.Places.{AsMany, at_contains, at_map, at_or, at_unmap, at_within, contains_at, none_at, place_of, placed, same_some, unplaced, within_at}
+use Rattle.relay_accounts.proofs.Positions.{AsMany, at_contains, at_map, at_or, at_position, at_unmap, at_within, contains_at, none_at, position_from, position_of, same_some, within_at}
 
 -- ---- the messages of a connection, by number
 
@@ -95,9 +95,9 @@ itself part = part
 
 -- where one of a connection stands among all
 whole_at : (house : Premises) (seat : ℕ) (connections replies : List (List ℕ)) (judged : List Judged) → (d : AreDialogues house seat connections replies judged)
-    → (c n : ℕ) (j : Judged) → slice_get (part_at d.parts c) n ≡ Some j → slice_get judged (place_of itself d.parts c n) ≡ Some j
+    → (c n : ℕ) (j : Judged) → slice_get (part_at d.parts c) n ≡ Some j → slice_get judged (position_of itself d.parts c n) ≡ Some j
 whole_at house seat connections replies judged d c n j there =
-    ap (λ (js : List Judged). slice_get js (place_of itself d.parts c n)) d.together ∙ placed itself itself d.parts (λ k e h. refl) c (part_at d.parts c) (inner_at d.parts c n j there) n j there
+    ap (λ (js : List Judged). slice_get js (position_of itself d.parts c n)) d.together ∙ at_position itself itself d.parts (λ k e h. refl) c (part_at d.parts c) (inner_at d.parts c n j there) n j there
 
 -- and of which connection one of all is
 record OfConnection (count : ℕ) (parts : List (List Judged)) (j : Judged) : Type 0 where
@@ -109,7 +109,7 @@ record OfConnection (count : ℕ) (parts : List (List Judged)) (j : Judged) : Ty
 of_connection : (house : Premises) (seat : ℕ) (connections replies : List (List ℕ)) (judged : List Judged) → (d : AreDialogues house seat connections replies judged)
     → (q : ℕ) (j : Judged) → slice_get judged q ≡ Some j → OfConnection (length connections) d.parts j
 of_connection house seat connections replies judged d q j there =
-    let w = unplaced itself d.parts q j (ap (λ (js : List Judged). slice_get js q) (sym d.together) ∙ there) in
+    let w = position_from itself d.parts q j (ap (λ (js : List Judged). slice_get js q) (sym d.together) ∙ there) in
     let same_part : part_at d.parts w.k ≡ w.x = at_or d.parts w.k w.x [] w.one in
     record {
       c = w.k;
@@ -122,9 +122,9 @@ of_connection house seat connections replies judged d q j there =
 pub full_at : (house : Premises) (seat : ℕ) (connections replies : List (List ℕ)) (judged : List Judged) (notes : List Noted)
     → (d : AreDialogues house seat connections replies judged) → AreVerdicts judged notes → (c n : ℕ) (j : Judged) → slice_get (part_at d.parts c) n ≡ Some j → IsFull j
 full_at house seat connections replies judged notes d v c n j there =
-    All-contains IsFull judged j v.full (at_contains judged (place_of itself d.parts c n) j (whole_at house seat connections replies judged d c n j there))
+    All-contains IsFull judged j v.full (at_contains judged (position_of itself d.parts c n) j (whole_at house seat connections replies judged d c n j there))
 
--- ---- what stands at a copy's place in the log
+-- ---- what stands at a copy's position in the log
 
 -- the key of the i-th copy of a message
 copy_key_at : (setting : Setting) (homes n i mailbox : ℕ) (j : Judged) → IsMessage setting homes n j.message → slice_get j.message.mailboxes i ≡ Some mailbox
@@ -137,24 +137,24 @@ copy_key_at setting homes n i mailbox j is there =
     all ∙ one
 
 noted_key : (judged : List Judged) (notes : List Noted) → AreVerdicts judged notes → (q i : ℕ) (j : Judged) (key : CopyKey) → slice_get judged q ≡ Some j → slice_get j.message.keys i ≡ Some key
-    → slice_get (map (λ (x : Noted). x.key) notes) (place_of keys_in judged q i) ≡ Some key
+    → slice_get (map (λ (x : Noted). x.key) notes) (position_of keys_in judged q i) ≡ Some key
 noted_key judged notes v q i j key there here =
-    let all : slice_get (flat_map keys_in judged) (place_of keys_in judged q i) ≡ Some key = placed keys_in keys_in judged (λ k e h. refl) q j there i key here in
-    ap (λ (ks : List CopyKey). slice_get ks (place_of keys_in judged q i)) v.keys ∙ all
+    let all : slice_get (flat_map keys_in judged) (position_of keys_in judged q i) ≡ Some key = at_position keys_in keys_in judged (λ k e h. refl) q j there i key here in
+    ap (λ (ks : List CopyKey). slice_get ks (position_of keys_in judged q i)) v.keys ∙ all
 
 noted_mailbox : (judged : List Judged) (notes : List Noted) → AreVerdicts judged notes → (q i : ℕ) (j : Judged) (mailbox : ℕ) → slice_get judged q ≡ Some j → slice_get j.message.mailboxes i ≡ Some mailbox
-    → slice_get (map (λ (x : Noted). x.mailbox) notes) (place_of keys_in judged q i) ≡ Some mailbox
+    → slice_get (map (λ (x : Noted). x.mailbox) notes) (position_of keys_in judged q i) ≡ Some mailbox
 noted_mailbox judged notes v q i j mailbox there here =
     let many : All (AsMany keys_in mailboxes_in) judged = All-weaker IsFull (AsMany keys_in mailboxes_in) (λ x h. h.mailboxes) judged v.full in
-    let all : slice_get (flat_map mailboxes_in judged) (place_of keys_in judged q i) ≡ Some mailbox = placed keys_in mailboxes_in judged many q j there i mailbox here in
-    ap (λ (ms : List ℕ). slice_get ms (place_of keys_in judged q i)) v.mailboxes ∙ all
+    let all : slice_get (flat_map mailboxes_in judged) (position_of keys_in judged q i) ≡ Some mailbox = at_position keys_in mailboxes_in judged many q j there i mailbox here in
+    ap (λ (ms : List ℕ). slice_get ms (position_of keys_in judged q i)) v.mailboxes ∙ all
 
 noted_verdict : (judged : List Judged) (notes : List Noted) → AreVerdicts judged notes → (q i : ℕ) (j : Judged) (verdict : Verdict) → slice_get judged q ≡ Some j → slice_get j.verdicts i ≡ Some verdict
-    → slice_get (map (λ (x : Noted). x.verdict) notes) (place_of keys_in judged q i) ≡ Some verdict
+    → slice_get (map (λ (x : Noted). x.verdict) notes) (position_of keys_in judged q i) ≡ Some verdict
 noted_verdict judged notes v q i j verdict there here =
     let many : All (AsMany keys_in verdicts_in) judged = All-weaker IsFull (AsMany keys_in verdicts_in) (λ x h. h.verdicts) judged v.full in
-    let all : slice_get (flat_map verdicts_in judged) (place_of keys_in judged q i) ≡ Some verdict = placed keys_in verdicts_in judged many q j there i verdict here in
-    ap (λ (vs : List Verdict). slice_get vs (place_of keys_in judged q i)) v.verdicts ∙ all
+    let all : slice_get (flat_map verdicts_in judged) (position_of keys_in judged q i) ≡ Some verdict = at_position keys_in verdicts_in judged many q j there i verdict here in
+    ap (λ (vs : List Verdict). slice_get vs (position_of keys_in judged q i)) v.verdicts ∙ all
 
 -- what the note has that stands there
 same_at : {A : Type 0} (f : Noted → A) (notes : List Noted) (p : ℕ) (noted : Noted) (x : A) → slice_get notes p ≡ Some noted → slice_get (map f notes) p ≡ Some x → f noted ≡ x
@@ -168,9 +168,9 @@ pub copy_noted : (house : Premises) (seat : ℕ) (connections replies : List (Li
 copy_noted house seat connections replies judged notes d v c n i j mailbox verdict there at_mailbox at_verdict =
     let part = inner_at d.parts c n j there in
     let under : c < length connections = (let u = at_within d.parts c (part_at d.parts c) part in let many = d.as_many_parts in omega (arith, u, many)) in
-    let q : ℕ = place_of itself d.parts c n in
+    let q : ℕ = position_of itself d.parts c n in
     let all : slice_get judged q ≡ Some j = whole_at house seat connections replies judged d c n j there in
-    let p : ℕ = place_of keys_in judged q i in
+    let p : ℕ = position_of keys_in judged q i in
     let is = connection_message house seat c _ _ _ (d.each c under) n j there in
     let of_key = noted_key judged notes v q i j (key_at seat c n i) all (copy_key_at (setting_at house seat c) _ n i mailbox j is at_mailbox) in
     let note = at_unmap (λ (x : Noted). x.key) notes p (key_at seat c n i) of_key in
@@ -202,7 +202,7 @@ note_copied house seat connections replies judged notes d v noted there =
     let at = contains_at notes noted there in
     let p : ℕ = at.0 in
     let of_key : slice_get (flat_map keys_in judged) p ≡ Some noted.key = ap (λ (ks : List CopyKey). slice_get ks p) (sym v.keys) ∙ at_map (λ (x : Noted). x.key) notes p noted at.1 in
-    let u = unplaced keys_in judged p noted.key of_key in
+    let u = position_from keys_in judged p noted.key of_key in
     let j : Judged = u.x in
     let w = of_connection house seat connections replies judged d u.k j u.one in
     let c : ℕ = w.c in
@@ -212,9 +212,9 @@ note_copied house seat connections replies judged notes d v noted there =
     let m = within_at j.message.mailboxes u.i (let many = full.mailboxes in omega (arith, within, many)) in
     let t = within_at j.verdicts u.i (let many = full.verdicts in omega (arith, within, many)) in
     let key : Some noted.key ≡ Some (key_at seat c w.n u.i) = sym u.within ∙ copy_key_at (setting_at house seat c) _ w.n u.i m.0 j is m.1 in
-    let here : slice_get notes (place_of keys_in judged u.k u.i) ≡ Some noted = subst (λ (x : ℕ). slice_get notes x ≡ Some noted) u.is at.1 in
-    let mailbox : noted.mailbox ≡ m.0 = same_at (λ (x : Noted). x.mailbox) notes (place_of keys_in judged u.k u.i) noted m.0 here (noted_mailbox judged notes v u.k u.i j m.0 u.one m.1) in
-    let verdict : noted.verdict ≡ t.0 = same_at (λ (x : Noted). x.verdict) notes (place_of keys_in judged u.k u.i) noted t.0 here (noted_verdict judged notes v u.k u.i j t.0 u.one t.1) in
+    let here : slice_get notes (position_of keys_in judged u.k u.i) ≡ Some noted = subst (λ (x : ℕ). slice_get notes x ≡ Some noted) u.is at.1 in
+    let mailbox : noted.mailbox ≡ m.0 = same_at (λ (x : Noted). x.mailbox) notes (position_of keys_in judged u.k u.i) noted m.0 here (noted_mailbox judged notes v u.k u.i j m.0 u.one m.1) in
+    let verdict : noted.verdict ≡ t.0 = same_at (λ (x : Noted). x.verdict) notes (position_of keys_in judged u.k u.i) noted t.0 here (noted_verdict judged notes v u.k u.i j t.0 u.one t.1) in
     noted_as seat (length connections) d.parts noted c w.n u.i j (same_some key) w.under w.there (m.1 ∙ ap Some (sym mailbox)) (t.1 ∙ ap Some (sym verdict))
 
 -- two notes of one copy are alike

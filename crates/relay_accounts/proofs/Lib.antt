@@ -1,4 +1,4 @@
-mod Places
+mod Positions
 mod EntryLaws
 mod FateLaws
 mod Ledger

@@ -11,7 +11,7 @@ use Rattle.lane_work.specs.Consuming.{item_of, items_of}
 use Rattle.shard_queue.specs.declared.lane.Entry.{Entry}
 use Rattle.shard_queue.specs.declared.lane.Entry.TheVariants.{Item, End}
 use Rattle.account_laws.proofs.ListLaws.{contains_cases, contains_none, first_of, later_of, unmapped}
-use Rattle.relay_accounts.proofs.Places.{at_contains, contains_at, none_at, same_some, unmade_at}
+use Rattle.relay_accounts.proofs.Positions.{at_contains, contains_at, none_at, same_some, unmade_at}
 
 -- an item that was taken was put by somebody
 item_is : (e : Entry Job) (copy : Job) → item_of e ≡ Some copy → (p : ℕ) × (e ≡ Item p copy)

@@ -16,7 +16,7 @@ use Rattle.relay_replies.specs.rows.HandedRows.{alice, greeting, home, path_to, 
 use Rattle.relay_accounts.specs.Concluding.{ConnectionConcludes, IsTextOf, RelaysConclude, key_at, message_at}
 use Rattle.relay_accounts.specs.Entries.{StandsOnce, with_key}
 use Rattle.relay_accounts.specs.rows.Rows.{accepted, alice_is_taken, for_alice, for_bob, known, replied, the_message}
-use Rattle.relay_accounts.proofs.Places.{unkept}
+use Rattle.relay_accounts.proofs.Positions.{unkept}
 
 abbrev Entry : Type 0
 Entry = CopyKey × ℕ

@@ -27,14 +27,14 @@ use Rattle.account_laws.proofs.ListLaws.{contains_cases, contains_none, first_of
 use Rattle.agreement.specs.Lists.{IsOfCopy, IsTold, ListsAgree, MailboxAgrees}
 use Rattle.relay_accounts.specs.Concluding.{RelaysConclude, key_at}
 use Rattle.relay_accounts.specs.Laws.{AccountsConclude, TakenIsItsOwn}
-use Rattle.relay_accounts.proofs.Places.{the_one}
+use Rattle.relay_accounts.proofs.Positions.{the_one}
 
 -- ---- the connection
 
 abbrev house : Premises
 house = record {
   directory = alice;
-  rooms = record { producers = 1; places = 4 } ∷ [];
+  rooms = record { producers = 1; capacity = 4 } ∷ [];
   host = codes "mx.example.org";
   max_message = 1000;
   closings = [];

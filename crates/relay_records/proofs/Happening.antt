@@ -26,8 +26,8 @@ use Rattle.relay_records.proofs.Worlds.{bears_same, bears_step, bears_still, bea
 
 -- ---- connections
 
-other_place : (f : ℕ → ℕ) (at x seat : ℕ) → seat ≢ at → set_at f at x seat ≡ f seat
-other_place f at x seat d = at_cases (λ (n : ℕ). n ≡ f seat) f at x seat (λ same. absurd (d same)) (λ _. refl)
+other_position : (f : ℕ → ℕ) (at x seat : ℕ) → seat ≢ at → set_at f at x seat ≡ f seat
+other_position f at x seat d = at_cases (λ (n : ℕ). n ≡ f seat) f at x seat (λ same. absurd (d same)) (λ _. refl)
 
 or_true : (b : Bool) → true ≡ (b || true)
 or_true true = refl
@@ -86,7 +86,7 @@ bytes_known k pasts s connection bytes piece t in_line h own play =
     by at says brings (opens there free more o g after) =
         rw after (record {
           seats = caller_known k pasts s (Bytes connection bytes) piece at bytes.now false s.world o (set_at s.next at (s.next at + 1)) h says brings (λ seat r c. c) (λ seat d n these u x. x)
-              (other_place s.next at (s.next at + 1)) (opens_here k pasts s (Bytes connection bytes) piece at bytes.now o in_line h says brings free g);
+              (other_position s.next at (s.next at + 1)) (opens_here k pasts s (Bytes connection bytes) piece at bytes.now o in_line h says brings free g);
         })
     by at says brings (goes_on b there read o g after) =
         rw after (record {

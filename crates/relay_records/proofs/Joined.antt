@@ -93,17 +93,17 @@ entry_is_copy k w host directory setting known whole f m a there seat serial =
     (All-contains (IsCopy setting 0 (f.judged ++ f.pending)) copies a.0 (all_of_every (IsCopy setting 0 (f.judged ++ f.pending)) copies each) own, put.0)
 
 -- the entry of a key that stands once
-entry_at : (accepted : List (Job × ℕ)) (place : ℕ) (pair : CopyKey × ℕ) → place < length (map pair_of accepted) → slice_index_or (map pair_of accepted) place pair ≡ pair
+entry_at : (accepted : List (Job × ℕ)) (position : ℕ) (pair : CopyKey × ℕ) → position < length (map pair_of accepted) → slice_index_or (map pair_of accepted) position pair ≡ pair
     → (a : Job × ℕ) × IsIn a accepted × (pair_of a ≡ pair)
-entry_at [] place pair l e = absurd (omega (arith, l))
+entry_at [] position pair l e = absurd (omega (arith, l))
 entry_at (a ∷ accepted) zero pair l e = (a, inl refl, e)
-entry_at (a ∷ accepted) (suc place) pair l e =
-    let rest = entry_at accepted place pair (omega (arith, l)) e in
+entry_at (a ∷ accepted) (suc position) pair l e =
+    let rest = entry_at accepted position pair (omega (arith, l)) e in
     (rest.0, inr rest.1, rest.2)
 
 -- ---- a recipient's copy
 
--- its key, by the message's place among those that were submitted
+-- its key, by the message's position among those that were submitted
 abbrev number : {k : Config} {w : World} {host : List ℕ} {directory : Directory} {setting : Setting} {known whole : List Handed} → Facts k w host directory setting known whole → ℕ → ℕ
 number f i = number_of f.fates i
 
@@ -156,7 +156,7 @@ taken_stands k w host directory setting known whole f i j e =
     let v = verdict_of k w host directory setting known whole f i j was within in
     let u = stored_uid v.verdict (v.is ∙ e) in
     let once : StandsOnce (pairs (w.box v.mailbox).accepted) key u.0 = f.world.answered setting.seat u.0 (record { key = key; mailbox = v.mailbox; verdict = v.verdict }) v.noted u.1 in
-    let entry = entry_at (w.box v.mailbox).accepted once.place (key, u.0) once.within once.here in
+    let entry = entry_at (w.box v.mailbox).accepted once.position (key, u.0) once.within once.here in
     let there : Contains (w.box v.mailbox).accepted entry.0 = is_in_contains entry.0 (w.box v.mailbox).accepted entry.1 in
     let of_key : entry.0.0.key ≡ key = ap (λ (p : CopyKey × ℕ). p.0) entry.2 in
     let of_uid : entry.0.1 ≡ u.0 = ap (λ (p : CopyKey × ℕ). p.1) entry.2 in
@@ -213,21 +213,21 @@ nothing_else k w host directory setting known whole f mailbox entry there seat s
     let z : 0 + copy.0.n ≡ copy.0.n = omega arith in
     let key : entry.0.key ≡ copy_key setting copy.0.n copy.0.i = ap (λ (c : Job). c.key) copy.0.is ∙ ap (λ (m : ℕ). copy_key setting m copy.0.i) z in
     let is = copy_is setting ss entry.0 copy.0.n copy.0.i copy.0 key in
-    let place = f.numbered.each copy.0.n (subst (λ (xs : List Submission). copy.0.n < length xs) (sym f.submitted_are) copy.0.there) in
-    let own : entry.0.key ≡ copy_key setting (number f place.0) copy.0.i = key ∙ ap (λ (m : ℕ). copy_key setting m copy.0.i) (sym place.3) in
-    let s = submission_of k w host directory setting known whole f place.0 place.2 in
-    let is_here = copy_is setting ss entry.0 (number f place.0) copy.0.i copy.0 own in
-    let names = named_at directory (message_at whole place.0).recipients (submission_at ss (number f place.0)).mailboxes s.1.names copy.0.i is_here.1 in
+    let position = f.numbered.each copy.0.n (subst (λ (xs : List Submission). copy.0.n < length xs) (sym f.submitted_are) copy.0.there) in
+    let own : entry.0.key ≡ copy_key setting (number f position.0) copy.0.i = key ∙ ap (λ (m : ℕ). copy_key setting m copy.0.i) (sym position.3) in
+    let s = submission_of k w host directory setting known whole f position.0 position.2 in
+    let is_here = copy_is setting ss entry.0 (number f position.0) copy.0.i copy.0 own in
+    let names = named_at directory (message_at whole position.0).recipients (submission_at ss (number f position.0)).mailboxes s.1.names copy.0.i is_here.1 in
     record {
-      i = place.0;
+      i = position.0;
       j = copy.0.i;
-      key = (place.2, own);
+      key = (position.2, own);
       within = names.0;
-      named = subst (λ (m : ℕ). Names directory (slice_index_or (message_at whole place.0).recipients copy.0.i []) m) (sym (ap (λ (c : Job). c.mailbox) is_here.2) ∙ copy.1) names.1;
+      named = subst (λ (m : ℕ). Names directory (slice_index_or (message_at whole position.0).recipients copy.0.i []) m) (sym (ap (λ (c : Job). c.mailbox) is_here.2) ∙ copy.1) names.1;
       sender = s.1.sender;
       from = s.1.from;
       text = ap (λ (c : Job). c.text) is_here.2 ∙ s.1.text;
-      read = by place.0 copy.0.i place.2 own;
+      read = by position.0 copy.0.i position.2 own;
     }
   where
     by : (m n : ℕ) → was_submitted (fate_at f.fates m) ≡ true → entry.0.key ≡ copy_key setting (number f m) n

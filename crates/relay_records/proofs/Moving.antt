@@ -36,7 +36,7 @@ abbrev pub IsNoPutOf : ℕ → Event → Type 0
 IsNoPutOf seat (Put p s c) = seat ≢ p
 IsNoPutOf seat event = Unit {0}
 
--- a lane was changed at one place: what the seat sent there is this
+-- a lane was changed at one position: what the seat sent there is this
 at_lane : (w : World) (s : ℕ) (lane : Lane Job) (seat : ℕ) (tail : List (Entry Job)) → (lane.sent seat ≡ (w.lane s).sent seat) ⊎ (lane.sent seat ≡ (w.lane s).sent seat ++ tail)
     → (t : ℕ) → ((set_at w.lane s lane t).sent seat ≡ (w.lane t).sent seat) ⊎ ((set_at w.lane s lane t).sent seat ≡ (w.lane t).sent seat ++ tail)
 at_lane w s lane seat tail h t =

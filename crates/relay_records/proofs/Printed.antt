@@ -12,7 +12,7 @@ use Rattle.lmtp_machine.specs.declared.reply.Reply.{Reply}
 use Rattle.lmtp_machine.specs.Replies.{wire}
 use Rattle.house_connection.specs.Caller.{GoesOn, Caller, Proceeds, Terms, Works, answers, fades, lingers, stalls, talks, waits, with_unsaid, works}
 use Rattle.house.specs.Printing.{ConnectionGoes, Leaves, Prints, goes, marked_connection, of_connection, prints_all, prints_none, stays}
-use Rattle.house.proofs.Places.{does_serial}
+use Rattle.house.proofs.Callers.{does_serial}
 use Rattle.relay_replies.specs.Laws.{IsInLine}
 use Rattle.relay_records.proofs.Marked.{prints_nothing, prints_tell}
 use Rattle.relay_records.proofs.Seated.{IsKnown, proceeds_known, with_marks}

@@ -1,4 +1,4 @@
--- A copy that stands as it was sent, and what the definition refuses: none, one of another text, one key at two places or in two mailboxes. And a connection that has still to print.
+-- A copy that stands as it was sent, and what the definition refuses: none, one of another text, one key at two positions or in two mailboxes. And a connection that has still to print.
 use Rattle.std.proofs.Common.{◌≡◌, ℕ, zero, suc, ◌<◌, List, [], ◌∷◌, length, refl, Option, Some, None, ap, sym, ◌∙◌, arith}
 use Rattle.std.specs.Prelude.{Contains, codes, slice_index_or}
 use Rattle.change_ring.specs.Log.{no_flags}
@@ -61,7 +61,7 @@ it_stands = record {
   sender = codes "s@a.example";
   from = (To (record { local = codes "s"; domain = codes "a.example" }), refl, refl);
   uid = 7;
-  once = record { place = 0; within = omega arith; here = refl; alone = λ i d l e. omega (arith, l) };
+  once = record { position = 0; within = omega arith; here = refl; alone = λ i d l e. omega (arith, l) };
   copy = copy_of 1 right;
   is = refl;
   here = (0, omega arith, refl);
@@ -83,21 +83,21 @@ nothing h = by h.mailbox (h.copy, h.uid) h.here
     by (suc zero) a c = none_there a c
     by (suc (suc m)) a c = none_there a c
 
--- the key stands at two places of the mailbox
-abbrev two_places : World
-two_places = holds [] ((copy_of 1 right, 7) ∷ (copy_of 1 right, 8) ∷ [])
+-- the key stands at two positions of the mailbox
+abbrev two_positions : World
+two_positions = holds [] ((copy_of 1 right, 7) ∷ (copy_of 1 right, 8) ∷ [])
 
-twice : StandsAsSent home two_places sent 0 key → ⊥
-twice h = by h.mailbox h.once.place (λ i d l e. h.once.alone i d l e) (h.copy, h.uid) h.here
+twice : StandsAsSent home two_positions sent 0 key → ⊥
+twice h = by h.mailbox h.once.position (λ i d l e. h.once.alone i d l e) (h.copy, h.uid) h.here
   where
-    by : (m place : ℕ) → ((i : ℕ) (d : CopyKey × ℕ) → i < length (pairs (two_places.box m).accepted) → (slice_index_or (pairs (two_places.box m).accepted) i d).0 ≡ key → i ≡ place)
-        → (a : Job × ℕ) → Contains (two_places.box m).accepted a → ⊥
-    by zero place alone a c = none_there a c
-    by (suc zero) place alone a c =
-        let first : 0 ≡ place = alone 0 (key, 0) (omega arith) refl in
-        let second : 1 ≡ place = alone 1 (key, 0) (omega arith) refl in
+    by : (m position : ℕ) → ((i : ℕ) (d : CopyKey × ℕ) → i < length (pairs (two_positions.box m).accepted) → (slice_index_or (pairs (two_positions.box m).accepted) i d).0 ≡ key → i ≡ position)
+        → (a : Job × ℕ) → Contains (two_positions.box m).accepted a → ⊥
+    by zero position alone a c = none_there a c
+    by (suc zero) position alone a c =
+        let first : 0 ≡ position = alone 0 (key, 0) (omega arith) refl in
+        let second : 1 ≡ position = alone 1 (key, 0) (omega arith) refl in
         omega (arith, first, second)
-    by (suc (suc m)) place alone a c = none_there a c
+    by (suc (suc m)) position alone a c = none_there a c
 
 -- the key stands in two mailboxes
 in_two : StandsAsSent home (holds ((copy_of 0 right, 3) ∷ []) ((copy_of 1 right, 7) ∷ [])) sent 0 key → ⊥

@@ -34,7 +34,7 @@ IsKeyOf seat serial fates i j key = (was_submitted (fate_at fates i) ≡ true) �
 abbrev pub StandsNowhere : World → CopyKey → Type 0
 StandsNowhere w key = (mailbox : ℕ) (entry : Job × ℕ) → Contains (w.box mailbox).accepted entry → entry.0.key ≡ key → ⊥
 
--- The copy of the message for its j-th recipient stands in the mailbox that this RCPT line names, at one place and under one UID, and it has the text that was
+-- The copy of the message for its j-th recipient stands in the mailbox that this RCPT line names, at one position and under one UID, and it has the text that was
 -- sent: the return path of the MAIL line, and the lines of the data without the dots that were put before them. No other copy has its key, in that mailbox or elsewhere.
 pub record StandsAsSent (directory : Directory) (w : World) (message : Handed) (j : ℕ) (key : CopyKey) : Type 0 where
   pub mailbox : ℕ

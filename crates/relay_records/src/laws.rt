@@ -5,7 +5,7 @@ ghost use Rattle.relay_records.specs.Laws.{ByTheRecord, OfAllEvents, OfScripts, 
 /// Whatever happened in a house, and whatever memory was wanting: of each connection that was opened, a relay that sent
 /// the bytes that came for it, and perhaps more, and was told a front of what was said to it, may conclude this by RFC
 /// 5321's lines and codes alone. A recipient whose reply it has read as 250 has its copy in the mailbox which that RCPT line
-/// names, at one place and under one UID, with the text that it sent; where it has read another reply, no copy of that message
+/// names, at one position and under one UID, with the text that it sent; where it has read another reply, no copy of that message
 /// stands for that recipient, in any mailbox. Different messages and recipients have different copies, in their order. And
 /// nothing else stands: each copy of the connection is one of these, or one whose reply it hasn't read; and there are none of
 /// connections that weren't opened. The name of a house that has settings is one that can stand in a line.

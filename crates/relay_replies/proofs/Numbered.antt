@@ -50,15 +50,15 @@ numbers_rise (TurnedAway ∷ fates) (suc k) (suc m) h e = numbers_rise fates k m
 numbers_rise (Unheard ∷ fates) zero (suc m) h e = absurd (false≢true e)
 numbers_rise (Unheard ∷ fates) (suc k) (suc m) h e = numbers_rise fates k m (omega (arith, h)) e
 
-abbrev PlaceOf : List Handed → List Fate → ℕ → Type 0
-PlaceOf messages fates n = (k : ℕ) × (k < length messages) × (was_submitted (slice_index_or fates k Unheard) ≡ true) × (number_of fates k ≡ n)
+abbrev PositionOf : List Handed → List Fate → ℕ → Type 0
+PositionOf messages fates n = (k : ℕ) × (k < length messages) × (was_submitted (slice_index_or fates k Unheard) ≡ true) × (number_of fates k ≡ n)
 
-one_on : (message : Handed) (fate : Fate) (messages : List Handed) (fates : List Fate) (n m : ℕ) → PlaceOf messages fates n → ((k : ℕ) → number_of fates k ≡ n → number_of (fate ∷ fates) (suc k) ≡ m)
-    → PlaceOf (message ∷ messages) (fate ∷ fates) m
+one_on : (message : Handed) (fate : Fate) (messages : List Handed) (fates : List Fate) (n m : ℕ) → PositionOf messages fates n → ((k : ℕ) → number_of fates k ≡ n → number_of (fate ∷ fates) (suc k) ≡ m)
+    → PositionOf (message ∷ messages) (fate ∷ fates) m
 one_on message fate messages fates n m p next = let within : p.0 < length messages = p.1 in (suc p.0, omega (arith, within), p.2, next p.0 p.3)
 
 each_number : (host : List ℕ) (directory : Directory) {messages : List Handed} {fates : List Fate} → HaveFates host directory messages fates → (n : ℕ) → n < length (all_submitted fates)
-    → PlaceOf messages fates n
+    → PositionOf messages fates n
 each_number host directory none n h = absurd (omega (arith, h))
 each_number host directory (judged message submission verdicts is many r f) zero h = (0, omega arith, refl, refl)
 each_number host directory (judged {messages = messages} {fates = fates} message submission verdicts is many r f) (suc n) h =

@@ -36,7 +36,7 @@ pub fn messages_are_known()
 {}
 
 /// All this of a connection as it goes on, call by call, whichever shards are shut at each: it begins, takes bytes in whatever pieces, is told the verdicts
-/// that it awaits, and may be shut down while it listens. At each place a relay that sent what was taken, and perhaps more, and was told a front of
+/// that it awaits, and may be shut down while it listens. At each point a relay that sent what was taken, and perhaps more, and was told a front of
 /// what was said, may forget the copies that it takes for stored. Its submissions are numbered from 0 on, which says the keys of their copies.
 pub fn connections_are_known()
     ensures begins { Begins }

@@ -34,8 +34,8 @@ impl Gate for Open {
 // A connection in which messages come, for one user after another from this number on.
 fn connection(alloc: Global, first: usize) -> Result<Vec<u8>, AllocError> {
     let mut bytes = opening(alloc)?;
-    for place in 0..EACH {
-        push_message(first.wrapping_add(place), &mut bytes)?;
+    for position in 0..EACH {
+        push_message(first.wrapping_add(position), &mut bytes)?;
     }
     bytes.extend_from_slice(b"QUIT\r\n")?;
     Ok(bytes)

@@ -23,13 +23,13 @@ use Rattle.running_house.specs.declared.plan.Plan.{Plan}
 
 -- lanes of one size have rooms of one size
 pub same_rooms : (depth producers : ℕ) (qs : List (ShardQueue Job)) → All (λ q. (capacity_of q ≡ depth) × (producers_of q ≡ producers)) qs
-    → rooms_of qs ≡ replicate (length qs) (record { producers = producers; places = depth })
+    → rooms_of qs ≡ replicate (length qs) (record { producers = producers; capacity = depth })
 same_rooms depth producers [] all = refl
 same_rooms depth producers (q ∷ qs) all =
     let here = All-head (λ (x : ShardQueue Job). (capacity_of x ≡ depth) × (producers_of x ≡ producers)) q qs all in
     let rest = same_rooms depth producers qs (All-tail (λ (x : ShardQueue Job). (capacity_of x ≡ depth) × (producers_of x ≡ producers)) q qs all) in
     ap₂ (λ (room : Room) (rooms : List Room). room ∷ rooms)
-    (ap (λ n. let r : Room = record { producers = n; places = capacity_of q } in r) here.1 ∙ ap (λ n. let r : Room = record { producers = producers; places = n } in r) here.0) rest
+    (ap (λ n. let r : Room = record { producers = n; capacity = capacity_of q } in r) here.1 ∙ ap (λ n. let r : Room = record { producers = producers; capacity = n } in r) here.0) rest
 
 pub floor_for : (plan : Plan) (directory : Directory) (sizes : Sizes) (floor : Floor) → directory ≡ (setup_of plan.config).directory → AreSizesFor plan sizes → IsFloor directory sizes floor → IsFloorFor plan floor
 floor_for plan directory sizes floor same are is =
@@ -37,9 +37,9 @@ floor_for plan directory sizes floor same are is =
     (λ q h. (h.0 ∙ are.depth, h.1 ∙ are.producers)) floor.office.lanes.items is.lanes in
     let shards : directory.shards ≡ plan.config.shards = ap (λ d. d.shards) same in
     let many : length floor.office.lanes.items ≡ plan.config.shards = sym is.house.shards ∙ ap (λ d. d.shards) is.is ∙ shards in
-    let rooms : rooms_of floor.office.lanes.items ≡ replicate plan.config.shards (record { producers = producers_in plan; places = plan.config.depth }) =
+    let rooms : rooms_of floor.office.lanes.items ≡ replicate plan.config.shards (record { producers = producers_in plan; capacity = plan.config.depth }) =
     same_rooms plan.config.depth (producers_in plan) floor.office.lanes.items as_large
-    ∙ ap (λ n. let rs : List Room = replicate n (record { producers = producers_in plan; places = plan.config.depth }) in rs) many in
+    ∙ ap (λ n. let rs : List Room = replicate n (record { producers = producers_in plan; capacity = plan.config.depth }) in rs) many in
     let shut = map (λ c. c.items) floor.office.closings.items in
     record {
       house = subst (IsHouse floor) are.producers is.house;

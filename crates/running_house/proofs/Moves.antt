@@ -24,7 +24,7 @@ below [] n x is = absurd (cc)
 below (y ∷ xs) zero x is = omega arith
 below (y ∷ xs) (suc n) x is = let h = below xs n x is in omega (arith, h)
 
--- what is said of premises, and of lists at a place, is said of equal ones
+-- what is said of premises, and of lists at a position, is said of equal ones
 pub moved : (P : Premises → List (List ℕ) → List Noted → List (Entry Noted) → List (List (Entry Job)) → Type 0) (p : ℕ) (house house2 : Premises) (replies replies2 : List (List ℕ)) (notes notes2 : List (List Noted)) (answers answers2 : List (List (Entry Noted))) (histories histories2 : List (List (Entry Job)))
     → house ≡ house2 → replies ≡ replies2 → notes ≡ notes2 → answers ≡ answers2 → histories ≡ histories2
     → P house replies (slice_index_or notes p []) (slice_index_or answers p []) (map (of p) histories)
@@ -70,7 +70,7 @@ next_drop xs zero = refl
 next_drop [] (suc i) = refl
 next_drop (y ∷ xs) (suc i) = next_drop xs i
 
--- the first of a list, and behind them the rest from a place on: what stands behind the first is taken away
+-- the first of a list, and behind them the rest from a position on: what stands behind the first is taken away
 taken_out : {A : Type 0} (w i : ℕ) (xs : List A) (x : A) → w ≤ i → i < length xs → x ≡ slice_index_or (take w xs ++ drop i xs) w x
     → (x ≡ slice_index_or xs i x) × (take w (take w xs ++ drop i xs) ≡ take w xs) × (drop (suc w) (take w xs ++ drop i xs) ≡ drop (suc i) xs)
 taken_out zero i xs x few under is = (is ∙ head_at xs i x, refl, next_drop xs i)

@@ -61,7 +61,7 @@ found_in {A} {B} h (z ∷ zs) x y c is = by_case (λ later. found_in h zs x y la
   by_case go None here (inl e) = absurd (let both : None ≡ Some y = sym here ∙ ap h e ∙ is in cc)
   by_case go None here (inr later) = subst (λ (o : Option B). Contains (cons_option o (filter_map h zs)) y) (sym here) (go later)
 
--- of each list at its place
+-- of each list at its position
 pub of_at : (p : ℕ) (hs : List (List (Entry Job))) (lane : ℕ) → slice_index_or (map (of p) hs) lane [] ≡ of p (slice_index_or hs lane [])
 of_at p [] lane = refl
 of_at p (h ∷ hs) zero = refl

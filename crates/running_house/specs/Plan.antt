@@ -26,7 +26,7 @@ premises_for plan =
     let k = setup_of plan.config in
     record {
       directory = k.directory;
-      rooms = replicate plan.config.shards (record { producers = producers_in plan; places = plan.config.depth });
+      rooms = replicate plan.config.shards (record { producers = producers_in plan; capacity = plan.config.depth });
       host = k.host;
       max_message = k.max_message;
       closings = map (λ c. c.items) plan.closings.items;

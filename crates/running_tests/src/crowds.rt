@@ -75,8 +75,8 @@ fn user_at(alloc: Global, number: usize) -> Result<Vec<u8>, AllocError> {
 // Adds a worker whose connections bring one message each, to one mailbox after another from this one on.
 fn add_postman(alloc: Global, first: usize, plan: &mut Plan) -> Result<(), AllocError> {
     let mut connections = Vec::new(alloc);
-    for place in 0..CONNECTIONS {
-        let number = first.wrapping_add(place) % MAILBOXES;
+    for position in 0..CONNECTIONS {
+        let number = first.wrapping_add(position) % MAILBOXES;
         let user = user_at(alloc, number)?;
         connections.push(message_for(alloc, &user)?)?;
     }

@@ -41,7 +41,7 @@ fn accepted_of<R: Threads + Wait + Sync>(
 const REST: &[u8] = b"QUIT\r\n";
 
 #[test]
-fn a_message_is_cut_at_each_place(rt: HostRuntime) -> Result<(), Stopped> {
+fn a_message_is_cut_at_each_position(rt: HostRuntime) -> Result<(), Stopped> {
     let alloc = rt.alloc();
     let whole = message_for(alloc, b"alice")?;
     let ended = whole.len().saturating_sub(REST.len());

@@ -1,4 +1,4 @@
-//! What is read of reports: each reader gives an answer for places that aren't there, too.
+//! What is read of reports: each reader gives an answer for positions that aren't there, too.
 
 use delivery_token::CopyKey;
 use running_house::Report;

@@ -29,21 +29,21 @@ fn unlike_for(
     report: &Report,
     user: u8,
 ) -> Result<Option<&'static str>, AllocError> {
-    let place = usize::from(user);
+    let position = usize::from(user);
     let pairs = [(first_key(user), 1)];
-    if !has_accepted(report, place, &pairs) {
+    if !has_accepted(report, position, &pairs) {
         return Ok(Some("accepted"));
     }
-    if !has_stored(alloc, report, place, user, &pairs)? {
+    if !has_stored(alloc, report, position, user, &pairs)? {
         return Ok(Some("stored"));
     }
-    if !has_stored(alloc, report, place, 1u8.saturating_sub(user), &[])? {
+    if !has_stored(alloc, report, position, 1u8.saturating_sub(user), &[])? {
         return Ok(Some("stored elsewhere"));
     }
-    if !has_text(report, place, 1, TEXT) {
+    if !has_text(report, position, 1, TEXT) {
         return Ok(Some("text"));
     }
-    if !has_replied(report, place, REPLIES) {
+    if !has_replied(report, position, REPLIES) {
         return Ok(Some("replies"));
     }
     Ok(None)

@@ -4,7 +4,7 @@ use Rattle.envelope.specs.Names.{number_of}
 use Rattle.world.specs.World.{Box}
 use Rattle.house.specs.Setup.{Setup}
 use Rattle.house.specs.Scene.{Scene}
-use Rattle.script.specs.Promise.{IsInPlace, Refusal, Why, Window, text_of_part}
+use Rattle.script.specs.Promise.{IsPartFrom, Refusal, Why, Window, text_of_part}
 
 first_byte : List ℕ → ℕ
 first_byte [] = 0
@@ -23,5 +23,5 @@ some_number : (m : ℕ) (o : Option ℕ) → o ≡ None → o ≡ Some m → ⊥
 some_number m o e f = cc
 
 -- there is no such mailbox
-no_window : (k : Setup) (s : Scene) (word : List ℕ) (box : Box) → number_of k.directory word ≡ None → IsInPlace k s (Window word box) → ⊥
+no_window : (k : Setup) (s : Scene) (word : List ℕ) (box : Box) → number_of k.directory word ≡ None → IsPartFrom k s (Window word box) → ⊥
 no_window k s word box none is = some_number is.0 (number_of k.directory word) none is.1

@@ -239,7 +239,7 @@ one_more n i ds l h =
     let e = ap (λ (j : ℕ). take j ds) s ∙ take-suc ds i 0 l in
     subst (λ (x : ℕ). IsClipped n x) (sym (ap (digits_value 10) e ∙ digits_value_push 10 (take i ds) (get_or ds i 0))) h
 
--- the digit at a place is one
+-- the digit at a position is one
 pub digit_at : (ds : List ℕ) (i : ℕ) → list_all is_digit ds ≡ true → i < length ds → is_digit (get_or ds i 0) ≡ true
 digit_at [] i e l = absurd (omega arith)
 digit_at (d ∷ ds) zero e l = first (is_digit d) refl e
@@ -287,10 +287,10 @@ by_as_many : (held : List Bool) (lines : List ScriptLine) → length (held_by he
 by_as_many held [] = refl
 by_as_many held (l ∷ ls) = by_as_many (held_after held l) ls ∙ held_as_many held l
 
--- there is a place for each shard
-pub a_place_each : (k : Setup) (input : List ℕ) (count : ℕ) (h : House) (holds : List Bool) (left old new : Option (List ℕ)) (sent : ℕ) (start : Scene)
+-- there is one for each shard
+pub one_for_each : (k : Setup) (input : List ℕ) (count : ℕ) (h : House) (holds : List Bool) (left old new : Option (List ℕ)) (sent : ℕ) (start : Scene)
     → HasRun k input count h holds left old new sent start → length holds ≡ k.config.shards
-a_place_each k input count h holds left old new sent start r = ap length r.holds_now ∙ by_as_many (none_held k) r.lines ∙ length-replicate k.config.shards false
+one_for_each k input count h holds left old new sent start r = ap length r.holds_now ∙ by_as_many (none_held k) r.lines ∙ length-replicate k.config.shards false
 
 pub none_run : (k : Setup) (input : List ℕ) (h : House) (holds : List Bool) (left old : Option (List ℕ)) (start : Scene) → StandsFor k h start → holds ≡ none_held k → left ≡ Some input → HasRun k input 0 h holds left old old 0 start
 none_run k input h holds left old start st none e = record {

@@ -32,11 +32,11 @@ text_of_part k (OfHouse entry) = text_of k entry.piece
 text_of_part k (Refusal number why) = refusal number (word_of why)
 text_of_part k (Window word box) = window_text word box
 
--- What a part is, from the scene at its place: an entry of the house's record, any refusal, or the window of the mailbox that the word names, as it is there.
-abbrev pub IsInPlace : Setup → Scene → Part → Type 0
-IsInPlace k s (OfHouse entry) = IsEntry k s entry
-IsInPlace k s (Refusal number why) = Unit {0}
-IsInPlace k s (Window word box) = (m : ℕ) × (number_of k.directory word ≡ Some m) × (box ≡ s.world.box m)
+-- What a part is, from the scene before it: an entry of the house's record, any refusal, or the window of the mailbox that the word names, as it is there.
+abbrev pub IsPartFrom : Setup → Scene → Part → Type 0
+IsPartFrom k s (OfHouse entry) = IsEntry k s entry
+IsPartFrom k s (Refusal number why) = Unit {0}
+IsPartFrom k s (Window word box) = (m : ℕ) × (number_of k.directory word ≡ Some m) × (box ≡ s.world.box m)
 
 -- only the house's events change the scene
 abbrev pub scene_after : Scene → Part → Scene
@@ -46,7 +46,7 @@ scene_after s part = s
 -- The parts lead from the one scene to the other, one after another.
 abbrev pub AreParts : Setup → List Part → Scene → Scene → Type 0
 AreParts k [] s t = t ≡ s
-AreParts k (part ∷ parts) s t = IsInPlace k s part × AreParts k parts (scene_after s part) t
+AreParts k (part ∷ parts) s t = IsPartFrom k s part × AreParts k parts (scene_after s part) t
 
 -- the house's record among them
 abbrev pub entry_in : Part → Option Entry

@@ -227,7 +227,7 @@ fn set_held(
     requires digits { list_all is_digit digits.now ≡ true }
     requires few { length held.old.items ≤ 256 }
     ensures sets { OnOk result (SetsHeld held.old.items number (digits_value 10 digits.now) is_held held.new.items out.old.items out.new.items) }
-    ensures places { length held.new.items ≡ length held.old.items }
+    ensures as_many { length held.new.items ≡ length held.old.items }
 {
     let shard = clipped_number(digits);
     if shard >= held.len() {
@@ -386,7 +386,7 @@ fn do_line(
         LineDone k number (asked line.now) s house.new out.old.items out.new.items) }
     ensures wanting { OnErr result ((k : Setup) (s : scene.Scene) → StandsFor k house.old s → LineWanting k (asked line.now) s house.new) }
     ensures held { OnOk result (held.new.items ≡ held_after held.old.items (asked line.now)) }
-    ensures places { length held.new.items ≡ length held.old.items }
+    ensures as_many { length held.new.items ≡ length held.old.items }
 {
     match read_line(line) {
         ScriptLine::Says(connection, text) => hear_line(
@@ -419,7 +419,7 @@ fn play_line(house: &mut House, number: u64, room: &mut Room) -> Result<(), Allo
     ensures wanting { OnErr result ((k : Setup) (s : scene.Scene) → StandsFor k house.old s → length room.old.held.items ≡ k.config.shards →
         PlayWanting k number (asked (line_of room.old.line.items)) s house.new) }
     ensures held { OnOk result (room.new.held.items ≡ held_after room.old.held.items (asked (line_of room.old.line.items))) }
-    ensures places { length room.new.held.items ≡ length room.old.held.items }
+    ensures as_many { length room.new.held.items ≡ length room.old.held.items }
 {
     room.out.clear();
     do_line(
@@ -478,7 +478,7 @@ fn take_turn<R: BufRead, W: Sink>(
         TurnTells k number room.old.held.items s input house.new room.new.held.items (R.remaining reader.new) (W.taken writer.old)
         (W.taken writer.new) result }
     ensures live { OnOk result (W.failed writer.new ≡ false) }
-    ensures places { length room.new.held.items ≡ length room.old.held.items }
+    ensures as_many { length room.new.held.items ≡ length room.old.held.items }
     ensures failed { (sent : ℕ) → result ≡ Err (TurnFault.Write sent) → W.failed writer.new ≡ true }
     ensures short { (sent : ℕ) → result ≡ Err (TurnFault.Write sent) → sent < 2 ^ 64 }
 {

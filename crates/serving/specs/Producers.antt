@@ -6,13 +6,13 @@ use Rattle.house.specs.declared.config.ConfigFault.{ConfigFault}
 use Rattle.house.specs.declared.config.ConfigFault.TheVariants as settings
 use Rattle.serving.specs.Announcing.{users_of}
 
--- the places of sessions: for each user so many as may be open at a time
-abbrev pub places_in : Config → ℕ
-places_in c = c.sessions * length (users_of (setup_of c).directory.homes)
+-- the berths of sessions: for each user so many as may be open at a time
+abbrev pub berths_in : Config → ℕ
+berths_in c = c.sessions * length (users_of (setup_of c).directory.homes)
 
--- each worker, and each place, whose clients may append messages
+-- each worker, and each berth, whose clients may append messages
 abbrev pub producers_in : Config → ℕ
-producers_in c = c.workers + places_in c
+producers_in c = c.workers + berths_in c
 
 abbrev pub after_settings : Config → Option ConfigFault → Option ConfigFault
 after_settings c (Some fault) = Some fault

@@ -2,7 +2,7 @@
 
 ghost use Rattle.std.specs.Prelude.{◌≡◌, ◌≤◌, ◌<◌, [], All, IfOk, length, vec_len, vec_capacity};
 
-use crate::sessions::ClientPlace;
+use crate::sessions::ClientBerth;
 use loopback::Slot;
 use serving_workers::{Buffers, Hired};
 use session_bells::Sleeper;
@@ -56,83 +56,83 @@ pub(crate) struct Equipment {
     pub(crate) buffers: Vec<Buffers>,
     pub(crate) mail_slots: Vec<Slot>,
     pub(crate) client_slots: Vec<Slot>,
-    /// For each place's clients.
+    /// For each berth's clients.
     pub(crate) client_buffers: Vec<Vec<u8>>,
 }
 
-// The same for each place's clients.
-fn client_buffers_for(alloc: Global, places: usize) -> Result<Vec<Vec<u8>>, AllocError>
-    ensures { IfOk result (λ bs. vec_len bs ≡ places) }
+// The same for each berth's clients.
+fn client_buffers_for(alloc: Global, berths: usize) -> Result<Vec<Vec<u8>>, AllocError>
+    ensures { IfOk result (λ bs. vec_len bs ≡ berths) }
 {
-    let mut all = Vec::with_capacity(alloc, places)?;
-    for _ in 0..places {
+    let mut all = Vec::with_capacity(alloc, berths)?;
+    for _ in 0..berths {
         all.push_reserved(vec![in alloc; 0; CLIENT_BUFFER]?);
     }
     Ok(all)
 }
 
-/// What so many workers and places use. An error where memory is refused.
-pub(crate) fn equip(alloc: Global, workers: usize, places: usize) -> Result<Equipment, AllocError>
+/// What so many workers and berths use. An error where memory is refused.
+pub(crate) fn equip(alloc: Global, workers: usize, berths: usize) -> Result<Equipment, AllocError>
     ensures buffers { IfOk result (λ e. All (λ b. 0 < length b.input.items) e.buffers.items × (vec_len e.buffers ≡ workers)) }
-    ensures slots { IfOk result (λ e. (vec_len e.mail_slots ≡ workers) × (vec_len e.client_slots ≡ places)) }
-    ensures clients { IfOk result (λ e. vec_len e.client_buffers ≡ places) }
+    ensures slots { IfOk result (λ e. (vec_len e.mail_slots ≡ workers) × (vec_len e.client_slots ≡ berths)) }
+    ensures clients { IfOk result (λ e. vec_len e.client_buffers ≡ berths) }
 {
     Ok(Equipment {
         buffers: buffers_for(alloc, workers)?,
         mail_slots: slots_for(alloc, workers)?,
-        client_slots: slots_for(alloc, places)?,
-        client_buffers: client_buffers_for(alloc, places)?,
+        client_slots: slots_for(alloc, berths)?,
+        client_buffers: client_buffers_for(alloc, berths)?,
     })
 }
 
-/// A place with no client, for its two threads.
+/// A berth with no client, for its two threads.
 #[derive(Drop)]
-pub(crate) struct SharedPlace<'a, R: Wait> {
-    pub(crate) reader: Arc<ClientPlace<'a, R>>,
-    pub(crate) watch: Arc<ClientPlace<'a, R>>,
+pub(crate) struct SharedBerth<'a, R: Wait> {
+    pub(crate) reader: Arc<ClientBerth<'a, R>>,
+    pub(crate) watch: Arc<ClientBerth<'a, R>>,
 }
 
-// A place with no client, whose watch sleeps on this bell.
-fn shared_place<'a, R: Wait>(
+// A berth with no client, whose watch sleeps on this bell.
+fn shared_berth<'a, R: Wait>(
     alloc: Global,
     bell: &Sleeper,
-) -> Result<SharedPlace<'a, R>, AllocError> {
-    let reader = Arc::new(alloc, ClientPlace::new(bell.idling()?))?;
+) -> Result<SharedBerth<'a, R>, AllocError> {
+    let reader = Arc::new(alloc, ClientBerth::new(bell.idling()?))?;
     let watch = reader.clone()?;
-    Ok(SharedPlace { reader, watch })
+    Ok(SharedBerth { reader, watch })
 }
 
-// A place with no client for each of these bells.
-fn shared_places<'a, R: Wait>(
+// A berth with no client for each of these bells.
+fn shared_berths<'a, R: Wait>(
     alloc: Global,
     bells: &[Sleeper],
-) -> Result<Vec<SharedPlace<'a, R>>, AllocError>
-    ensures { IfOk result (λ places. vec_len places ≡ length bells.now) }
+) -> Result<Vec<SharedBerth<'a, R>>, AllocError>
+    ensures { IfOk result (λ berths. vec_len berths ≡ length bells.now) }
 {
     let mut all = Vec::with_capacity(alloc, bells.len())?;
     for bell in bells {
-        all.push_reserved(shared_place(alloc, bell)?);
+        all.push_reserved(shared_berth(alloc, bell)?);
     }
     Ok(all)
 }
 
-/// Room for the producers' threads, and the places.
+/// Room for the producers' threads, and the berths.
 #[derive(Drop)]
 pub(crate) struct Crowd<'a, R: Wait> {
     pub(crate) hired: Vec<Hired<'a>>,
-    pub(crate) places: Vec<SharedPlace<'a, R>>,
+    pub(crate) berths: Vec<SharedBerth<'a, R>>,
 }
 
-/// Room for so many producers' threads, and a place for each of these bells. An error where memory is refused.
+/// Room for so many producers' threads, and a berth for each of these bells. An error where memory is refused.
 pub(crate) fn crowd_for<'a, R: Wait>(
     alloc: Global,
     producers: usize,
     bells: &[Sleeper],
 ) -> Result<Crowd<'a, R>, AllocError>
     ensures hired { IfOk result (λ c. (c.hired.items ≡ []) × (producers ≤ vec_capacity c.hired)) }
-    ensures places { IfOk result (λ c. vec_len c.places ≡ length bells.now) }
+    ensures berths { IfOk result (λ c. vec_len c.berths ≡ length bells.now) }
 {
     let hired = Vec::with_capacity(alloc, producers)?;
-    let places = shared_places(alloc, bells)?;
-    Ok(Crowd { hired, places })
+    let berths = shared_berths(alloc, bells)?;
+    Ok(Crowd { hired, berths })
 }

@@ -4,10 +4,10 @@
 #![tactic(auto)]
 
 mod announcing;
+mod berths;
 mod equipment;
 mod fault;
 mod parcels;
-mod places;
 mod run;
 mod server;
 mod sessions;

@@ -1,4 +1,4 @@
-//! The threads of a server: workers first, then two for each place of a session; it is waited for the end, all are stopped and joined, and
+//! The threads of a server: workers first, then two for each berth of a session; it is waited for the end, all are stopped and joined, and
 //! the house is closed. What the threads do stands in `serving_workers` and `sessions`.
 
 ghost use Rattle.std.specs.Prelude.{◌≡◌, ◌≢◌, ◌≤◌, ◌<◌, ◌+◌, All, Err, Ok, Some, IfOk, [], false, true, length, vec_len, vec_capacity};
@@ -14,7 +14,7 @@ ghost use Rattle.serving_workers.specs.Leaving.{IsServed};
 use crate::equipment::{Crowd, Equipment, crowd_for, equip};
 use crate::fault::ServeFault;
 use crate::parcels::packed;
-use crate::sessions::{Furnishings, start_places};
+use crate::sessions::{Furnishings, start_berths};
 use crate::sockets::Sockets;
 use crate::stopping::{await_end, stop_all};
 use clerks::{Clerk, Hall, Staff, Unhindered, dismiss_all, hire_all, stand_down};
@@ -83,7 +83,7 @@ fn in_scope<'s, E, H: Hall + Send, R: Threads + Wait + Sync, I: Read + Drop>(
         ManuallyDrop::into_inner(served),
     );
     let producers = floor.depot.channels.len();
-    let Ok(Crowd { hired, places }) = crowd_for(floor.alloc, producers, &bells) else {
+    let Ok(Crowd { hired, berths }) = crowd_for(floor.alloc, producers, &bells) else {
         return Over {
             served,
             posts,
@@ -109,11 +109,11 @@ fn in_scope<'s, E, H: Hall + Send, R: Threads + Wait + Sync, I: Read + Drop>(
         hired,
     );
     let furnishings = Furnishings {
-        places,
+        berths,
         bells,
         buffers: client_buffers,
     };
-    let (hired, all_attend) = start_places::<E, H, R>(
+    let (hired, all_attend) = start_berths::<E, H, R>(
         scope,
         rt,
         floor,
@@ -236,19 +236,19 @@ fn make_rooms<H: Hall>(
     alloc: Global,
     shards: usize,
     workers: usize,
-    places: usize,
+    berths: usize,
 ) -> Result<Rooms<H>, AllocError>
-    requires few { workers + places < 256 }
+    requires few { workers + berths < 256 }
     ensures buffers { IfOk result (λ r. All (λ b. 0 < length b.input.items) r.equipment.buffers.items × (vec_len r.equipment.buffers ≡ workers)) }
-    ensures slots { IfOk result (λ r. (vec_len r.equipment.mail_slots ≡ workers) × (vec_len r.equipment.client_slots ≡ places)) }
-    ensures clients { IfOk result (λ r. vec_len r.equipment.client_buffers ≡ places) }
-    ensures served { IfOk result (λ r. (r.served.items ≡ []) × (workers + places ≤ vec_capacity r.served)) }
+    ensures slots { IfOk result (λ r. (vec_len r.equipment.mail_slots ≡ workers) × (vec_len r.equipment.client_slots ≡ berths)) }
+    ensures clients { IfOk result (λ r. vec_len r.equipment.client_buffers ≡ berths) }
+    ensures served { IfOk result (λ r. (r.served.items ≡ []) × (workers + berths ≤ vec_capacity r.served)) }
     ensures clerks { IfOk result (λ r. (r.staff.clerks.items ≡ []) × (shards ≤ vec_capacity r.staff.clerks)) }
     ensures rooms { IfOk result (λ r. (r.staff.rooms.items ≡ []) × (shards ≤ vec_capacity r.staff.rooms)) }
     ensures stands { IfOk result (λ r. (r.staff.stands.items ≡ []) × (shards ≤ vec_capacity r.staff.stands)) }
 {
-    let equipment = equip(alloc, workers, places)?;
-    let served = Vec::with_capacity(alloc, workers + places)?;
+    let equipment = equip(alloc, workers, berths)?;
+    let served = Vec::with_capacity(alloc, workers + berths)?;
     let Ok(staff) = Staff::with_room(alloc, shards) else {
         served.destroy_empty();
         return Err(AllocError);
@@ -346,7 +346,7 @@ fn close_or_spend<H: Hall, R: Wait>(
     told(all, whole)
 }
 
-/// Serves the house until `stop` is at its end, and closes it. The first of its producers are so many workers; the others are the places
+/// Serves the house until `stop` is at its end, and closes it. The first of its producers are so many workers; the others are the berths
 /// of sessions, those of `visits`, each with its own end of its bell.
 ///
 /// Errors, the first that holds: `NoMemory` where memory is refused before the first thread; `Spawn` where a thread can't be made;
@@ -380,8 +380,8 @@ pub(crate) fn run_house_in<H: Hall + Send, R: Threads + Wait + Sync, I: Read + D
         unmanned,
     } = crew;
     unmanned.destroy_empty();
-    let (shards, places) = (floor.office.lanes.len(), visits.len());
-    let Ok(rooms) = make_rooms::<H>(floor.alloc, shards, workers, places) else {
+    let (shards, berths) = (floor.office.lanes.len(), visits.len());
+    let Ok(rooms) = make_rooms::<H>(floor.alloc, shards, workers, berths) else {
         return Err(give_up(floor, worked, consumed, stands, posts, baskets));
     };
     let Rooms {

@@ -11,8 +11,8 @@ ghost use Rattle.serving.specs.inner.Faults.{IsOfSocket};
 ghost use Rattle.house_floor.specs.Users.{user_numbered};
 
 use crate::announcing::announce;
+use crate::berths::{berths_for, count_users};
 use crate::fault::ServeFault;
-use crate::places::{count_users, places_for};
 use crate::run::run_house_in;
 use crate::sockets::{Sockets, open_sockets};
 use envelope::Directory;
@@ -35,22 +35,22 @@ pub enum Uidvalidity {
     Standing,
 }
 
-/// The most producers of a server: workers, and behind them places, whose seats a lane tells apart by a byte.
+/// The most producers of a server: workers, and behind them berths, whose seats a lane tells apart by a byte.
 const MOST_PRODUCERS: usize = 255;
 
-// How large the parts of a house of these settings are, which has so many places.
-fn sizes_of(config: &Config, places: usize) -> Sizes<'_>
-    requires few { config.now.workers + places ≤ 255 }
+// How large the parts of a house of these settings are, which has so many berths.
+fn sizes_of(config: &Config, berths: usize) -> Sizes<'_>
+    requires few { config.now.workers + berths ≤ 255 }
     ensures host { result.host.now ≡ config.now.host.items }
     ensures depth { result.depth ≡ config.now.depth }
     ensures ring { result.limits.ring ≡ config.now.ring }
-    ensures producers { result.producers ≡ config.now.workers + places }
+    ensures producers { result.producers ≡ config.now.workers + berths }
     ensures history { result.history ≡ History.Unkept }
 {
     Sizes {
         host: &config.host,
         max_message: config.max_message,
-        producers: (usize::from(config.workers) + places) as u8,
+        producers: (usize::from(config.workers) + berths) as u8,
         depth: config.depth,
         uidvalidity: config.uidvalidity,
         first_uid: config.first_uid,
@@ -67,7 +67,7 @@ fn sizes_of(config: &Config, places: usize) -> Sizes<'_>
     }
 }
 
-// Whom a server is for: the directory of its users, and the places of their sessions.
+// Whom a server is for: the directory of its users, and the berths of their sessions.
 struct Layout {
     directory: Directory,
     visits: Vec<Visit>,
@@ -84,7 +84,7 @@ fn lay_out(alloc: Global, config: &Config) -> Result<Layout, ServeFault>
     ensures wrong { (fault : ConfigFault) → result ≡ Err (ServeFault.Config fault) → server_fault config.now ≡ Some fault }
 {
     let directory = directory_of(alloc, config)?;
-    let visits = places_for(alloc, &directory, config.sessions)?;
+    let visits = berths_for(alloc, &directory, config.sessions)?;
     if MOST_PRODUCERS < usize::from(config.workers) + visits.len() {
         return Err(ServeFault::Config(ConfigFault::TooMany));
     }
@@ -132,9 +132,9 @@ fn listen_and_tell<R: Net<Listener = TcpListener, Stream = TcpStream>, W: Sink>(
 /// What is not through five seconds later is cut. What fails on one connection ends that connection alone.
 ///
 /// Errors, the first that holds: `Config`, of the first fault of the settings in the order of `House::new`, then `TooMany` where workers
-/// and places together are more than 255; `Device` where a listener
+/// and berths together are more than 255; `Device` where a listener
 /// can't be made or the lines can't be written; `Spawn` where a thread can't be made; `NoMemory` where memory is refused before the first
-/// thread runs; `Torn` where a worker or a place heard a verdict that it didn't await, or a queue could not be closed.
+/// thread runs; `Torn` where a worker or a berth heard a verdict that it didn't await, or a queue could not be closed.
 pub fn serve<
     R: Net<Listener = TcpListener, Stream = TcpStream> + Threads + Wait + Sync,
     I: Read,

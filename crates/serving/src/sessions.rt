@@ -1,4 +1,4 @@
-//! The threads of a place: one accepts a user's clients, one at a time, and answers them, and what they append goes by way of the lanes;
+//! The threads of a berth: one accepts a user's clients, one at a time, and answers them, and what they append goes by way of the lanes;
 //! the other sleeps until a change was logged. What is answered stands in `imap_stream`.
 
 ghost use Rattle.std.specs.Prelude.{◌≡◌, ◌≤◌, ◌<◌, ◌+◌, Some, length, vec_len, vec_capacity};
@@ -7,7 +7,7 @@ ghost use Rattle.house_floor.specs.Crew.{AllAt, IsHouse, IsPost};
 ghost use Rattle.lane_work.specs.Couriers.{IsReady, IsSameDesk};
 ghost use Rattle.serving_workers.specs.Leaving.{IsHired, IsServed};
 
-use crate::equipment::SharedPlace;
+use crate::equipment::SharedBerth;
 use crate::parcels::packed;
 use crate::sockets::Sockets;
 use clerks::{Clerk, Clerks, Hall, Unhindered};
@@ -15,7 +15,7 @@ use courier::Courier;
 use house_floor::{Floor, Post, Visit, inbox_numbered};
 use house_session::folders_of;
 use house_threads::most_of;
-use imap_stream::{Hush, Place, Visit as ClientVisit};
+use imap_stream::{Berth, Hush, Visit as ClientVisit};
 use lane_work::{Desk, LaneCourier, Summons, Unkept, end_all};
 use line_io::Watched;
 use loopback::{Patience, Slot, prepare};
@@ -31,9 +31,9 @@ use std::thread;
 use std::thread::Threads;
 
 /// Where one client of a user is served at a time.
-pub(crate) type ClientPlace<'a, R> = Place<'a, R, Unhindered, Watched<TcpStream>>;
+pub(crate) type ClientBerth<'a, R> = Berth<'a, R, Unhindered, Watched<TcpStream>>;
 
-// The connection that a place's thread has at hand, for the watch beside it. It comes to hand before its visit stands in the place, and
+// The connection that a berth's thread has at hand, for the watch beside it. It comes to hand before its visit stands in the berth, and
 // the next one only when that visit was taken out: see `answer_clients`.
 #[derive(Drop)]
 struct AtHand<'s> {
@@ -46,21 +46,21 @@ impl Hush for AtHand<'_> {
     }
 }
 
-/// Where a place's clients come in, and which place it is.
+/// Where a berth's clients come in, and which berth it is.
 #[derive(Clone, Copy)]
 pub(crate) struct Gateway<'s> {
     pub(crate) sockets: &'s Sockets,
     /// Set once the house stops.
     pub(crate) stop: &'s AtomicBool,
-    /// For the connection that the place's thread has at hand.
+    /// For the connection that the berth's thread has at hand.
     pub(crate) slot: &'s Slot,
-    /// The place's number among all of the house, from 0.
+    /// The berth's number among all of the house, from 0.
     pub(crate) session: u8,
     /// The number of its user.
     pub(crate) user: u8,
 }
 
-// Opens the visit of a client of this place's user, who is greeted. None where memory or a handle is refused, or the client has gone.
+// Opens the visit of a client of this berth's user, who is greeted. None where memory or a handle is refused, or the client has gone.
 fn open_visit<'a, R: Wait>(
     rt: &'a R,
     floor: &'a Floor,
@@ -84,7 +84,7 @@ fn serve_client<'a, R: Wait, C: Courier>(
     rt: &'a R,
     floor: &'a Floor,
     gate: &'a Unhindered,
-    place: &ClientPlace<'a, R>,
+    berth: &ClientBerth<'a, R>,
     courier: &mut C,
     gateway: Gateway<'_>,
     stream: &TcpStream,
@@ -102,8 +102,8 @@ fn serve_client<'a, R: Wait, C: Courier>(
         return;
     };
     let mut input = stream;
-    // The place has no other client: this thread alone brings them here.
-    let _ = place.attend(
+    // The berth has no other client: this thread alone brings them here.
+    let _ = berth.attend(
         rt,
         floor.alloc,
         visit,
@@ -120,7 +120,7 @@ fn receive<'a, R: Wait, C: Courier>(
     rt: &'a R,
     floor: &'a Floor,
     gate: &'a Unhindered,
-    place: &ClientPlace<'a, R>,
+    berth: &ClientBerth<'a, R>,
     courier: &mut C,
     gateway: Gateway<'_>,
     door: &Door<'_>,
@@ -132,7 +132,7 @@ fn receive<'a, R: Wait, C: Courier>(
     ensures kept { (first : C) → C.kept first courier.old → C.kept first courier.new }
 {
     if gateway.slot.hold(rt, stream) && !door.is_shut() {
-        serve_client(rt, floor, gate, place, courier, gateway, stream, buffer);
+        serve_client(rt, floor, gate, berth, courier, gateway, stream, buffer);
         door.part(stream, buffer);
     }
     gateway.slot.clear(rt);
@@ -143,7 +143,7 @@ fn answer_clients<'a, R: Wait, S: Summons>(
     rt: &'a R,
     floor: &'a Floor,
     gate: &'a Unhindered,
-    place: &ClientPlace<'a, R>,
+    berth: &ClientBerth<'a, R>,
     courier: &mut LaneCourier<'_, R, S, Unkept>,
     gateway: Gateway<'_>,
     mut buffer: Vec<u8>,
@@ -170,7 +170,7 @@ fn answer_clients<'a, R: Wait, S: Summons>(
         };
         let buffer = buffer.as_mut_slice();
         receive(
-            rt, floor, gate, place, courier, gateway, &door, &stream, buffer,
+            rt, floor, gate, berth, courier, gateway, &door, &stream, buffer,
         );
         courier.serial = courier.serial.saturating_add(1);
     }
@@ -183,7 +183,7 @@ fn attend_there<'a, 'g, H: Hall, R: Wait>(
     floor: &'a Floor,
     clerks: &'a [Mutex<Clerk<H>>],
     gate: &'a Unhindered,
-    place: Arc<ClientPlace<'a, R>>,
+    berth: Arc<ClientBerth<'a, R>>,
     number: u8,
     sockets: &'g Sockets,
     stop: &'g AtomicBool,
@@ -219,7 +219,7 @@ fn attend_there<'a, 'g, H: Hall, R: Wait>(
         book: Unkept,
         is_torn: false,
     };
-    answer_clients(rt, floor, gate, &place, &mut courier, gateway, buffer);
+    answer_clients(rt, floor, gate, &berth, &mut courier, gateway, buffer);
     let LaneCourier {
         rt: _,
         office: _,
@@ -249,15 +249,15 @@ fn attend_there<'a, 'g, H: Hall, R: Wait>(
 // The life of the thread that shows a client what there is, until the house stops.
 fn watch_clients<'a, R: Wait>(
     rt: &R,
-    place: &ClientPlace<'a, R>,
+    berth: &ClientBerth<'a, R>,
     bell: &Sleeper,
     stop: &AtomicBool,
     slot: &Slot,
 ) {
-    place.keep_watch(rt, bell, stop, &AtHand { slot });
+    berth.keep_watch(rt, bell, stop, &AtHand { slot });
 }
 
-// Starts the thread of a place that answers. Where none can be made the house's mark has to be set before what came of it can be had: so
+// Starts the thread of a berth that answers. Where none can be made the house's mark has to be set before what came of it can be had: so
 // nobody is served there, and its seats are ended here.
 fn start_answering<'s, E, H: Hall + Send, R: Threads + Wait + Sync>(
     scope: &thread::Scope<'s, E>,
@@ -265,7 +265,7 @@ fn start_answering<'s, E, H: Hall + Send, R: Threads + Wait + Sync>(
     floor: &'s Floor,
     clerks: &'s [Mutex<Clerk<H>>],
     gate: &'s Unhindered,
-    place: Arc<ClientPlace<'s, R>>,
+    berth: Arc<ClientBerth<'s, R>>,
     number: u8,
     gateway: Gateway<'s>,
     post: Post,
@@ -288,7 +288,7 @@ fn start_answering<'s, E, H: Hall + Send, R: Threads + Wait + Sync>(
     } = gateway;
     match scope.spawn_with(Serves { floor, number }, move || {
         attend_there::<H, R>(
-            rt, floor, clerks, gate, place, number, sockets, stop, slot, session, user, parcel,
+            rt, floor, clerks, gate, berth, number, sockets, stop, slot, session, user, parcel,
             buffer,
         )
     }) {
@@ -300,31 +300,31 @@ fn start_answering<'s, E, H: Hall + Send, R: Threads + Wait + Sync>(
     }
 }
 
-// Starts the thread of a place that watches, and says whether it could be made. Where it can't be, the one that answers ends as the house
+// Starts the thread of a berth that watches, and says whether it could be made. Where it can't be, the one that answers ends as the house
 // stops.
 fn start_watching<'s, E, R: Threads + Wait + Sync>(
     scope: &thread::Scope<'s, E>,
     rt: &'s R,
-    place: Arc<ClientPlace<'s, R>>,
+    berth: Arc<ClientBerth<'s, R>>,
     gateway: Gateway<'s>,
     bell: Sleeper,
 ) -> bool {
     let (stop, slot) = (gateway.stop, gateway.slot);
-    let watches = scope.spawn(move || watch_clients(rt, &place, &bell, stop, slot));
+    let watches = scope.spawn(move || watch_clients(rt, &berth, &bell, stop, slot));
     watches.is_ok()
 }
 
-/// What the places' threads are given, for each place one of each.
+/// What the berths' threads are given, for each berth one of each.
 #[derive(Drop)]
 pub(crate) struct Furnishings<'s, R: Wait> {
-    pub(crate) places: Vec<SharedPlace<'s, R>>,
+    pub(crate) berths: Vec<SharedBerth<'s, R>>,
     pub(crate) bells: Vec<Sleeper>,
     pub(crate) buffers: Vec<Vec<u8>>,
 }
 
-/// Starts two threads for each place, with these posts, which are those behind the workers', and says whether all could be made. The
+/// Starts two threads for each berth, with these posts, which are those behind the workers', and says whether all could be made. The
 /// threads that answer go behind those in `hired`, which has room for them.
-pub(crate) fn start_places<'s, E, H: Hall + Send, R: Threads + Wait + Sync>(
+pub(crate) fn start_berths<'s, E, H: Hall + Send, R: Threads + Wait + Sync>(
     scope: &thread::Scope<'s, E>,
     rt: &'s R,
     floor: &'s Floor,
@@ -341,7 +341,7 @@ pub(crate) fn start_places<'s, E, H: Hall + Send, R: Threads + Wait + Sync>(
     requires lanes { H.lanes ≡ Some floor.now.office.lanes.items }
     requires depot { H.depot ≡ Some floor.now.depot }
     requires house { IsHouse floor.now (length floor.now.depot.channels.items) }
-    requires places { vec_len furnishings.places ≡ length visits.now }
+    requires berths { vec_len furnishings.berths ≡ length visits.now }
     requires slots { length slots.now ≡ length visits.now }
     requires bells { vec_len furnishings.bells ≡ length visits.now }
     requires buffers { vec_len furnishings.buffers ≡ length visits.now }
@@ -352,15 +352,15 @@ pub(crate) fn start_places<'s, E, H: Hall + Send, R: Threads + Wait + Sync>(
     ensures count { vec_len result.0 ≡ length floor.now.depot.channels.items }
 {
     let mut all = true;
-    for place in 0..visits.len() {
+    for berth in 0..visits.len() {
         let gateway = Gateway {
             sockets,
             stop,
-            slot: &slots[place],
-            session: place as u8,
-            user: visits[place].user,
+            slot: &slots[berth],
+            session: berth as u8,
+            user: visits[berth].user,
         };
-        let SharedPlace { reader, watch } = furnishings.places.remove(0);
+        let SharedBerth { reader, watch } = furnishings.berths.remove(0);
         let (bell, buffer) = (furnishings.bells.remove(0), furnishings.buffers.remove(0));
         let number = hired.len() as u8;
         let post = posts.remove(0);

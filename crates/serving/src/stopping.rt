@@ -64,9 +64,9 @@ fn are_empty<R: Wait>(rt: &R, slots: &[Slot]) -> bool {
 }
 
 // Waits until no connection is at hand, or the grace is over.
-fn give_grace<R: Wait>(rt: &R, pause: &Pause, workers: &[Slot], places: &[Slot]) {
+fn give_grace<R: Wait>(rt: &R, pause: &Pause, workers: &[Slot], berths: &[Slot]) {
     for _ in 0..GRACE {
-        if are_empty(rt, workers) && are_empty(rt, places) {
+        if are_empty(rt, workers) && are_empty(rt, berths) {
             return;
         }
         pause.wait();
@@ -80,15 +80,15 @@ pub(crate) fn stop_all<R: Wait>(
     mark: &AtomicBool,
     sockets: &Sockets,
     workers: &[Slot],
-    places: &[Slot],
+    berths: &[Slot],
     bells: &[Vec<SessionBell>],
 ) {
     mark.store(true, Ordering::SeqCst);
     shut_listeners(sockets);
     hush_all(rt, workers);
-    hush_all(rt, places);
+    hush_all(rt, berths);
     wake_all(bells);
-    give_grace(rt, &sockets.pause, workers, places);
+    give_grace(rt, &sockets.pause, workers, berths);
     cut_all(rt, workers);
-    cut_all(rt, places);
+    cut_all(rt, berths);
 }

@@ -1,4 +1,4 @@
--- A life that was led with what lies at one's own place.
+-- A life that was led with what lies at one's own position.
 use Rattle.std.proofs.Common.{◌≡◌, ◌<◌, ◌∙◌, ℕ, sym, ap, subst, List, Some, length, slice_get, slice_index_or}
 use Rattle.std.proofs.lemmas.Option.{get_or_from_slice_get, slice_get-get_or}
 use Rattle.delivery_token.specs.declared.log.Noted.{Noted}

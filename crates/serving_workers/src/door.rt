@@ -21,7 +21,7 @@ impl<'a> Door<'a> {
         self.stop.load(Ordering::SeqCst)
     }
 
-    /// Waits for the next connection; None once the house stops. Where the system has no place for one more it is tried again after a
+    /// Waits for the next connection; None once the house stops. Where the system has no room for one more it is tried again after a
     /// pause.
     pub fn next<R: Wait>(&self, rt: &R) -> Option<TcpStream> {
         for _ in rt.forever() {

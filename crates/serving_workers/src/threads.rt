@@ -198,7 +198,7 @@ pub fn start_workers<'s, E, H: Hall + Send, R: Threads + Wait + Sync>(
     ensures others { vec_len result.posts + length slots.now ≡ length floor.now.depot.channels.items }
 {
     let mut all = true;
-    for place in 0..slots.len() {
+    for position in 0..slots.len() {
         let is_there = start_next(
             scope,
             rt,
@@ -207,8 +207,8 @@ pub fn start_workers<'s, E, H: Hall + Send, R: Threads + Wait + Sync>(
             listening,
             stop,
             pause,
-            &slots[place],
-            place as u8,
+            &slots[position],
+            position as u8,
             &mut posts,
             &mut buffers,
             &mut hired,

@@ -95,9 +95,9 @@ fn first_unlike(
     steps: &[Step],
     out: &mut Vec<u8>,
 ) -> Option<usize> {
-    for (place, step) in steps.iter().enumerate() {
+    for (position, step) in steps.iter().enumerate() {
         if !goes(alloc, connection, desk, *step, out) {
-            return Some(place);
+            return Some(position);
         }
     }
     None

@@ -5,8 +5,8 @@ use crate::desks::{deliver, desk};
 use change_ring::{Flags, NO_FLAGS};
 use delivery_token::{Refusal, Verdict};
 use imap_session::{
-    After, Folder, Selected, Session, SessionFault, changes_are_shown_in_place,
-    done_shows_in_place, literals_may_be_cut, rest_shows_none, verdicts_show_in_place,
+    After, Folder, Selected, Session, SessionFault, changes_are_shown_in_order,
+    done_shows_in_order, literals_may_be_cut, rest_shows_none, verdicts_show_in_order,
 };
 use session_store::Desk;
 use std::alloc::{AllocError, Global};
@@ -80,8 +80,8 @@ fn goes(
 ) -> bool {
     match step {
         Step::Delivered => deliver(alloc, &mut desk.core, 1),
-        Step::Sits(place) => {
-            desk.session = place;
+        Step::Sits(position) => {
+            desk.session = position;
             true
         }
         Step::Line(line, wanted) => {
@@ -116,15 +116,15 @@ fn first_unlike(
     steps: &[Step],
     out: &mut Vec<u8>,
 ) -> Option<usize> {
-    for (place, step) in steps.iter().enumerate() {
+    for (position, step) in steps.iter().enumerate() {
         if !goes(alloc, session, desk, *step, out) {
-            return Some(place);
+            return Some(position);
         }
     }
     None
 }
 
-// Goes through these steps with a session and an empty store, and gives the place of the first that doesn't come to what is wanted.
+// Goes through these steps with a session and an empty store, and gives the position of the first that doesn't come to what is wanted.
 fn played_with(
     alloc: Global,
     session: &mut Session,
@@ -296,11 +296,11 @@ fn a_session_takes_messages_or_none(rt: HostRuntime) {
 
 #[test]
 fn laws_of_what_is_shown(_rt: HostRuntime) {
-    changes_are_shown_in_place();
-    done_shows_in_place();
+    changes_are_shown_in_order();
+    done_shows_in_order();
     literals_may_be_cut();
     rest_shows_none();
-    verdicts_show_in_place();
+    verdicts_show_in_order();
 }
 
 // Whether the line is answered, and where memory is refused nothing is said and it is answered the next time.

@@ -13,7 +13,7 @@ use Rattle.session_thread.specs.Abut.{Abut, BeginsAt, Joins, shown_by, shown_by_
 
 -- the session is in the same mailbox, and was shown so many changes more
 abbrev pub On : Entry → ℕ → LockedDesk → Type 0
-On here n place = In place (λ there. (there.mailbox ≡ here.mailbox) × (there.start ≡ here.start) × (there.handle ≡ record here.handle { at = here.handle.at + n }))
+On here n selection = In selection (λ there. (there.mailbox ≡ here.mailbox) × (there.start ≡ here.start) × (there.handle ≡ record here.handle { at = here.handle.at + n }))
 
 same_handle : (handle : CursorHandle) → handle ≡ record handle { at = handle.at + 0 }
 same_handle handle = ap (λ (n : ℕ). let s : CursorHandle = record { number = handle.number; slot = handle.slot; serial = handle.serial; at = n } in s) (omega arith)
@@ -154,8 +154,8 @@ both : (a b : Bool) → (a && b) ≡ true → (a ≡ true) × (b ≡ true)
 both true b e = (refl, e)
 both false b e = cc
 
-joined : (here mid : Entry) (n m : ℕ) (place : LockedDesk) → mid.mailbox ≡ here.mailbox → mid.start ≡ here.start → mid.handle ≡ record here.handle { at = here.handle.at + n } → On mid m place → On here (n + m) place
-joined here mid n m place mailbox start handle h = (
+joined : (here mid : Entry) (n m : ℕ) (selection : LockedDesk) → mid.mailbox ≡ here.mailbox → mid.start ≡ here.start → mid.handle ≡ record here.handle { at = here.handle.at + n } → On mid m selection → On here (n + m) selection
+joined here mid n m selection mailbox start handle h = (
   h.0,
   h.1,
   (

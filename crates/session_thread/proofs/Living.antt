@@ -28,9 +28,9 @@ true_false : {b : Bool} → b ≡ true → b ≡ false → ⊥
 true_false e f = let g = sym e ∙ f in cc
 
 -- there is something to wait for
-pub not_over : (count : ℕ) (d : Dialogue) (place : LockedDesk) (text : List ℕ) (was : ImapConnection) → StandsFor was d → shown_in place.entered < count → is_idling was.session ≡ true → IsOver count (moment d place text) → ⊥
-not_over count d place text was stands few idles (inl enough) = absurd (omega (arith, few, enough))
-not_over count d place text was stands few idles (inr awake) = true_false (subst (λ (s : Standing). is_idling s ≡ true) stands.session idles) awake
+pub not_over : (count : ℕ) (d : Dialogue) (selection : LockedDesk) (text : List ℕ) (was : ImapConnection) → StandsFor was d → shown_in selection.entered < count → is_idling was.session ≡ true → IsOver count (moment d selection text) → ⊥
+not_over count d selection text was stands few idles (inl enough) = absurd (omega (arith, few, enough))
+not_over count d selection text was stands few idles (inr awake) = true_false (subst (λ (s : Standing). is_idling s ≡ true) stands.session idles) awake
 
 -- a turn more
 pub turned_on : (count k : ℕ) (first : Moment) (d next : Dialogue) (old new : LockedDesk) (before after : List ℕ) (was : ImapConnection) → StandsFor was d → shown_in old.entered < count → is_idling was.session ≡ true
@@ -67,9 +67,9 @@ lived_on turns first steps i step carried more now next l is lives does =
     subst (λ (xs : List Step). Lives turns first xs (carried ++ more) next) (sym (take_more steps i step l ∙ ap (λ (s : Step). take i steps ++ s ∷ []) (sym is))) (goes_on (take i steps) step carried more now next lives does)
 
 -- a session that takes nothing more does nothing
-pub rested : (turns : ℕ) (step : Step) (d : Dialogue) (place : LockedDesk) (text : List ℕ) (was : ImapConnection) → takes_more was.session ≡ false → StandsFor was d
-    → (next : Dialogue) × StandsFor was next × Steps turns step [] (moment d place text) (moment next place text)
-rested turns step d place text was over stands = (d, stands, inl (subst (λ (s : Standing). takes_more s ≡ false) stands.session over, refl, refl))
+pub rested : (turns : ℕ) (step : Step) (d : Dialogue) (selection : LockedDesk) (text : List ℕ) (was : ImapConnection) → takes_more was.session ≡ false → StandsFor was d
+    → (next : Dialogue) × StandsFor was next × Steps turns step [] (moment d selection text) (moment next selection text)
+rested turns step d selection text was over stands = (d, stands, inl (subst (λ (s : Standing). takes_more s ≡ false) stands.session over, refl, refl))
 
 -- what a step of this kind does
 abbrev Leads : (Moment → Moment → Type 0) → ImapConnection → LockedDesk → List ℕ → ImapConnection → LockedDesk → List ℕ → Type 0
@@ -140,14 +140,14 @@ first_dialogue most folders = record { standing = record { folders = folders; se
 
 pub lived : {A E : Type 0} (r : Result A E) (Was Now : List Carried → Type 0) (turns : ℕ) (most : Option ℕ) (folders : List Folder) (steps : List Step) (old new end : LockedDesk) (before text after : List ℕ) (link last : ImapConnection) → StandsFor link (first_dialogue most folders) → text ≡ before ++ greeting
     → OnOk r ((carried : List Carried) × ((done : List Carried) → Was done → Now (done ++ carried)) × ((d : Dialogue) → StandsFor link d → (next : Dialogue) × StandsFor last next × Lives turns (moment d old text) steps carried (moment next new after))) → Departs new end
-    → OnOk r ((carried : List Carried) × ((done : List Carried) → Was done → Now (done ++ carried)) × ((x : Moment) × Lives turns (greeted_at most folders old (before ++ greeting)) steps carried x × (after ≡ x.text) × Departs x.place end))
+    → OnOk r ((carried : List Carried) × ((done : List Carried) → Was done → Now (done ++ carried)) × ((x : Moment) × Lives turns (greeted_at most folders old (before ++ greeting)) steps carried x × (after ≡ x.text) × Departs x.selection end))
 lived (Ok x) Was Now turns most folders steps old new end before text after link last stands greets h goes =
     let t = h.2 (first_dialogue most folders) stands in (h.0, h.1, (moment t.0 new after, subst (λ (w : List ℕ). Lives turns (greeted_at most folders old w) steps h.0 (moment t.0 new after)) greets t.2, refl, goes))
 lived (Err e) Was Now turns most folders steps old new end before text after link last stands greets h goes = h
 
 pub lived_some : {A : Type 0} (r : Result A Lost) (turns room : ℕ) (most : Option ℕ) (folders : List Folder) (steps : List Step) (old new end : LockedDesk) (before text after : List ℕ) (link last : ImapConnection) → StandsFor link (first_dialogue most folders) → text ≡ before ++ greeting
     → IfErr r (λ why. (d : Dialogue) → StandsFor link d → (next : Dialogue) × StandsFor last next × LivesInPart turns room (moment d old text) steps why (moment next new after)) → Departs new end
-    → IfErr r (λ why. (end ≡ old) × (after ≡ before) × (why ≡ lost.NoMemory) ⊎ (x : Moment) × LivesInPart turns room (greeted_at most folders old (before ++ greeting)) steps why x × (after ≡ x.text) × Departs x.place end)
+    → IfErr r (λ why. (end ≡ old) × (after ≡ before) × (why ≡ lost.NoMemory) ⊎ (x : Moment) × LivesInPart turns room (greeted_at most folders old (before ++ greeting)) steps why x × (after ≡ x.text) × Departs x.selection end)
 lived_some (Ok x) turns room most folders steps old new end before text after link last stands greets h goes = h
 lived_some (Err why) turns room most folders steps old new end before text after link last stands greets h goes =
     let t = h (first_dialogue most folders) stands in inr (moment t.0 new after, subst (λ (w : List ℕ). LivesInPart turns room (greeted_at most folders old w) steps why (moment t.0 new after)) greets t.2, refl, goes)

@@ -79,7 +79,7 @@ pub told_verdict : (d : Dialogue) (append : Append) (verdict : Verdict) (old mid
     → (next : Dialogue) × StandsFor link next × TellsVerdict (carried_of append verdict) (moment d old before) (moment next new after)
 told_verdict d append verdict old middle new before between after how was link stands is desk text h =
     let s = sent_of was.session.mailing.sent append is in
-    let place = subst (λ (p : LockedDesk). AnswersVerdict Holds d.standing verdict p new between after how h.next) desk h.answered in (
+    let selection = subst (λ (p : LockedDesk). AnswersVerdict Holds d.standing verdict p new between after how h.next) desk h.answered in (
       record { standing = h.next; begun = d.begun },
       h.stands,
       record {
@@ -87,7 +87,7 @@ told_verdict d append verdict old middle new before between after how was link s
         awaited = subst (λ (x : Standing). x.mailing.sent ≡ Some s.0) stands.session s.1;
         carries = ap (λ (a : Append). carried_of a verdict) s.2;
         how = how;
-        answered = subst (λ (b : List ℕ). AnswersVerdict Holds d.standing verdict old new b after how h.next) text place;
+        answered = subst (λ (b : List ℕ). AnswersVerdict Holds d.standing verdict old new b after how h.next) text selection;
         begun = refl;
       },
     )

@@ -19,17 +19,17 @@ use Rattle.session_thread.specs.Locks.{Holds, LockedDesk, shown_in}
 -- where a session stands: its client's dialogue, its handle, and all that was written
 pub record Moment : Type 0 where
   pub dialogue : Dialogue
-  pub place : LockedDesk
+  pub selection : LockedDesk
   pub text : List ℕ
 
 abbrev pub moment : Dialogue → LockedDesk → List ℕ → Moment
-moment dialogue place text = record { dialogue = dialogue; place = place; text = text }
+moment dialogue selection text = record { dialogue = dialogue; selection = selection; text = text }
 
 -- the first moment of a session with these mailboxes, which has been greeted, and takes messages of at most so many bytes, or none
 abbrev pub greeted_at : Option ℕ → List Folder → LockedDesk → List ℕ → Moment
-greeted_at most folders place text = record {
+greeted_at most folders selection text = record {
   dialogue = record { standing = record { folders = folders; selected = None; idling = None; ended = false; mailing = nothing_sent most }; begun = [] };
-  place = place;
+  selection = selection;
   text = text;
 }
 
@@ -42,12 +42,12 @@ takes_more now = may_follow (may_send now)
 -- The session had one turn while it idles.
 pub record HasTurn (before after : Moment) : Type 0 where
   pub count : ℕ
-  pub turned : IdleTurns Holds before.dialogue.standing before.place after.place before.text after.text count after.dialogue.standing
+  pub turned : IdleTurns Holds before.dialogue.standing before.selection after.selection before.text after.text count after.dialogue.standing
   pub begun : after.dialogue.begun ≡ before.dialogue.begun
 
 -- Nothing is left to wait for: so many changes were shown since the mailbox was selected, or the session doesn't idle, or has ended.
 abbrev pub IsOver : ℕ → Moment → Type 0
-IsOver count now = (count ≤ shown_in now.place.entered) ⊎ (is_idling now.dialogue.standing ≡ false)
+IsOver count now = (count ≤ shown_in now.selection.entered) ⊎ (is_idling now.dialogue.standing ≡ false)
 
 -- So many turns were had, one after another, each while there was something to wait for.
 pub data Turns (count : ℕ) (first : Moment) : ℕ → Moment → Type 0 where
@@ -61,7 +61,7 @@ pub record SaysFirst (bytes : List ℕ) (used : ℕ) (before after : Moment) : T
   pub within : used ≤ length bytes
   pub said : List ℕ
   pub how : After
-  pub answered : Answered Holds before.dialogue (take used bytes) before.place after.place said how after.dialogue
+  pub answered : Answered Holds before.dialogue (take used bytes) before.selection after.selection said how after.dialogue
   pub wrote : after.text ≡ before.text ++ said
 
 -- a message that was submitted, with what became of it
@@ -74,7 +74,7 @@ pub record TellsVerdict (one : Carried) (before after : Moment) : Type 0 where
   pub awaited : before.dialogue.standing.mailing.sent ≡ Some sent
   pub carries : one ≡ carried_of sent.append one.verdict
   pub how : After
-  pub answered : AnswersVerdict Holds before.dialogue.standing one.verdict before.place after.place before.text after.text how after.dialogue.standing
+  pub answered : AnswersVerdict Holds before.dialogue.standing one.verdict before.selection after.selection before.text after.text how after.dialogue.standing
   pub begun : after.dialogue.begun ≡ before.dialogue.begun
 
 -- So many of these bytes were taken, in one go or in several. Each line that ended in them was answered, and so was, before anything more was taken, the
@@ -122,7 +122,7 @@ pub data Lives (turns : ℕ) (first : Moment) : List Step → List Carried → M
 -- Memory was refused to a session where it stands: what it writes to has no room for the next line's last words and their like, out of `room` bytes,
 -- or a mailbox refused it a turn.
 abbrev pub IsShort : ℕ → Moment → Type 0
-IsShort room now = (room < length now.text + (8272 + tag_len (kept_tag now.dialogue.standing))) ⊎ Holds now.place (Feed most_changes) (Refused NoMemory) now.place
+IsShort room now = (room < length now.text + (8272 + tag_len (kept_tag now.dialogue.standing))) ⊎ Holds now.selection (Feed most_changes) (Refused NoMemory) now.selection
 
 -- Of these bytes some were taken, and then the session stopped: memory was refused, or no verdict came on the message that it had submitted.
 pub data SaysInPart (room : ℕ) (bytes : List ℕ) (why : Lost) (before after : Moment) : Type 0 where

@@ -25,15 +25,15 @@ UnderLock P = (found : Mailbox) × (left : Mailbox) × P found left
 
 -- The session is in a mailbox, and this holds of its handle there.
 abbrev pub In : LockedDesk → (Entry → Type 0) → Type 0
-In place P = (here : Entry) × (place.entered ≡ Some here) × P here
+In selection P = (here : Entry) × (selection.entered ≡ Some here) × P here
 
 -- the session with this handle, in the mailbox that it had entered
 abbrev pub entered_at : LockedDesk → Entry → CursorHandle → LockedDesk
-entered_at place here handle = record { mailboxes = place.mailboxes; entered = Some (record { mailbox = here.mailbox; start = here.start; handle = handle }) }
+entered_at selection here handle = record { mailboxes = selection.mailboxes; entered = Some (record { mailbox = here.mailbox; start = here.start; handle = handle }) }
 
 -- the session in no mailbox
 abbrev pub outside : LockedDesk → LockedDesk
-outside place = record { mailboxes = place.mailboxes; entered = None }
+outside selection = record { mailboxes = selection.mailboxes; entered = None }
 
 -- What a client was shown is the log's, for each log for which the mailbox that was found stood: what it counted is what the log's first changes
 -- leave, and the changes are those that were due.
@@ -42,16 +42,16 @@ ShowsOf found handle view changes due = (log : List Change) → Stands found log
 
 -- Why a call on the mailbox that was entered was refused: there is none, and no lock was taken; or the one that was found refused it, and was left
 -- as it was. Where `spent`, its log has no room for what the call would log; and memory is wanted only where `wants`.
-pub data TurnsAway (place : LockedDesk) (spent wants : Mailbox → CursorHandle → Type 0) (fault : MailFault) : Type 0 where
-  nowhere : place.entered ≡ None → fault ≡ Stranger → TurnsAway place spent wants fault
-  refused_here : (here : Entry) (found left : Mailbox) → place.entered ≡ Some here → IsRefused found here.handle (spent found here.handle) (wants found here.handle) fault left
-      → TurnsAway place spent wants fault
+pub data TurnsAway (selection : LockedDesk) (spent wants : Mailbox → CursorHandle → Type 0) (fault : MailFault) : Type 0 where
+  nowhere : selection.entered ≡ None → fault ≡ Stranger → TurnsAway selection spent wants fault
+  refused_here : (here : Entry) (found left : Mailbox) → selection.entered ≡ Some here → IsRefused found here.handle (spent found here.handle) (wants found here.handle) fault left
+      → TurnsAway selection spent wants fault
 
 -- Why a session doesn't enter: it is in a mailbox or there is none of this number, and no lock was taken; or the one that was found didn't let it in,
 -- and was left as it was.
-pub data StaysOut (place : LockedDesk) (mailbox : ℕ) (fault : MailFault) : Type 0 where
-  no_door : (place.entered ≡ None → ⊥) ⊎ (place.mailboxes ≤ mailbox) → fault ≡ Stranger → StaysOut place mailbox fault
-  not_let_in : (found left : Mailbox) → place.entered ≡ None → mailbox < place.mailboxes → IsKept found → left ≡ found → EntersNot fault found → StaysOut place mailbox fault
+pub data StaysOut (selection : LockedDesk) (mailbox : ℕ) (fault : MailFault) : Type 0 where
+  no_door : (selection.entered ≡ None → ⊥) ⊎ (selection.mailboxes ≤ mailbox) → fault ≡ Stranger → StaysOut selection mailbox fault
+  not_let_in : (found left : Mailbox) → selection.entered ≡ None → mailbox < selection.mailboxes → IsKept found → left ≡ found → EntersNot fault found → StaysOut selection mailbox fault
 
 -- One call of a session over locks, with its answer. Of the mailbox nothing is known but what the call finds.
 abbrev pub Holds : LockedDesk → Call → Answer → LockedDesk → Type 0

@@ -182,11 +182,11 @@ pub fn live<R: Wait, G: Gate, C: Courier>(
     ensures ok { OnOk result ((carried : List Carried) ×
         ((done : List Carried) → C.carried courier.old done → C.carried courier.new (done ++ carried))
         × ((last : Moment) × Lives turns (greeted_at most folders.items desk.old (out.old.items ++ greeting)) steps.now carried last
-        × (out.new.items ≡ last.text) × Departs last.place desk.new)) }
+        × (out.new.items ≡ last.text) × Departs last.selection desk.new)) }
     ensures err { IfErr result (λ why. (desk.new ≡ desk.old) × (out.new.items ≡ out.old.items) × (why ≡ Lost.NoMemory)
         ⊎ (last : Moment) × LivesInPart turns (vec_capacity out.new) (greeted_at most folders.items desk.old (out.old.items ++ greeting))
         steps.now why last
-        × (out.new.items ≡ last.text) × Departs last.place desk.new) }
+        × (out.new.items ≡ last.text) × Departs last.selection desk.new) }
 {
     let Ok(mut connection) = ImapConnection::new(alloc, folders, most) else {
         return Err(Lost::NoMemory);

@@ -95,10 +95,10 @@ module _ {T : Type 0} where
   all_seated n k v is all = is ∙ ap (λ i. consumer n i [] None []) all ∙ (λ i. consumer n n (sym (ap list_of is) i) None (sym (ap seen_of is) i))
 
   -- hearing a producer out
-  pub hears_all : (n place : ℕ) (v : View T) (door i p : ℕ) (said late : List (Entry T)) (u : View T) → HasAllEnds n v → u ≡ sender i p said late → has_end said ≡ true → Merges IsSharedBy place v door u (heard_out v u) spent
-  hears_all n place (Consumer k made got heard seen) door i p said late u all is ended = hears place k made (consumer k made got heard seen) got heard seen door i p said late u refl is ended
-  hears_all n place (Producer k q more seen) door i p said late u all is ended = absurd all
-  hears_all n place Spent door i p said late u all is ended = absurd all
+  pub hears_all : (n position : ℕ) (v : View T) (door i p : ℕ) (said late : List (Entry T)) (u : View T) → HasAllEnds n v → u ≡ sender i p said late → has_end said ≡ true → Merges IsSharedBy position v door u (heard_out v u) spent
+  hears_all n position (Consumer k made got heard seen) door i p said late u all is ended = hears position k made (consumer k made got heard seen) got heard seen door i p said late u refl is ended
+  hears_all n position (Producer k q more seen) door i p said late u all is ended = absurd all
+  hears_all n position Spent door i p said late u all is ended = absurd all
 
   -- where every end was taken nothing waits, and what a producer has sent is what was taken of it
   empty_now : (n made : ℕ) (got : List (Entry T)) (k : ℕ) (l : Lane T) (room : ℕ) → made ≡ n → ((p : ℕ) → p < n → has_end (of p got) ≡ true) → IsMerge k room l → made ≡ k → got ≡ l.got → l.waiting ≡ []

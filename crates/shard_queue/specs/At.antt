@@ -1,4 +1,4 @@
--- Functions from numbers that are changed at one place.
+-- Functions from numbers that are changed at one position.
 use Rattle.std.specs.Prelude.{ℕ, ◌==◌, if◌then◌else◌}
 
 -- f, with x at i

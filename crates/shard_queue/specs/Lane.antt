@@ -44,7 +44,7 @@ IsLive l p = has_end (l.sent p) ≡ false
 abbrev pub IsClosed : {A : Type 0} → ℕ → Lane A → Type 0
 IsClosed producers l = (p : ℕ) → p < producers → has_end (of p l.got) ≡ true
 
--- an end stands only in the last place
+-- an end stands only in the last position
 abbrev pub EndsLast : {A : Type 0} → List (Entry A) → Type 0
 EndsLast [] = Unit {0}
 EndsLast (Item p x ∷ es) = EndsLast es

@@ -38,9 +38,9 @@ module _ {T : Type 0} where
 
   -- the consumer has the first seat, then come as many of no use as there are producers, and then theirs
   abbrev pub Sits : ℕ → View T → Type 0
-  Sits place (views.Consumer producers made got heard seen) = place ≡ 0
-  Sits place (views.Producer producers p sent seen) = place ≡ suc (producers + p)
-  Sits place views.Spent = ⊤
+  Sits position (views.Consumer producers made got heard seen) = position ≡ 0
+  Sits position (views.Producer producers p sent seen) = position ≡ suc (producers + p)
+  Sits position views.Spent = ⊤
 
   -- a producer that was heard out has sent this, its end included
   abbrev pub KnowsHeard : Lane T → Option (ℕ × List (Entry T)) → Type 0
@@ -53,14 +53,14 @@ module _ {T : Type 0} where
   Knows producers made l (views.Producer n p sent seen) = (n ≡ producers) × (sent ≡ l.sent p) × IsStartOf seen (l.got ++ l.waiting)
   Knows producers made l views.Spent = ⊤
 
--- These entries wait in the lane, and all seats, by their places, know what is true of it.
+-- These entries wait in the lane, and all seats, by their positions, know what is true of it.
 pub record IsShared {T : Type 0} (producers made : ℕ) (l : Lane T) (waiting : List (Entry T)) (seats : List (View T)) : Type 0 where
   pub waits : l.waiting ≡ waiting
   pub merge : IsMerge producers (length waiting) l
   pub seated : made ≤ producers
   pub silent : (p : ℕ) → made ≤ p → l.sent p ≡ []
-  pub places : length seats ≡ suc (producers + made)
-  pub known : (place : ℕ) (v : View T) → get_elem? seats place ≡ some v → Sits place v × Knows producers made l v
+  pub positions : length seats ≡ suc (producers + made)
+  pub known : (position : ℕ) (v : View T) → get_elem? seats position ≡ some v → Sits position v × Knows producers made l v
 
 module _ {T : Type 0} where
   -- the rule: there is such a lane
@@ -71,7 +71,7 @@ module _ {T : Type 0} where
   abbrev pub SeatsMerge : List (Entry T) → List (View T) → Type 0
   SeatsMerge waiting seats = (producers made : ℕ) (got : List (Entry T)) (heard : Option (ℕ × List (Entry T))) (seen : List (Entry T))
       → get_elem? seats 0 ≡ some (consumer producers made got heard seen)
-      → (p : ℕ) → ((place : ℕ) (sent seen : List (Entry T)) → get_elem? seats place ≡ some (sender producers p sent seen) → of p (got ++ waiting) ≡ sent)
+      → (p : ℕ) → ((position : ℕ) (sent seen : List (Entry T)) → get_elem? seats position ≡ some (sender producers p sent seen) → of p (got ++ waiting) ≡ sent)
       × (producers ≤ p → of p (got ++ waiting) ≡ []) × EndsLast (of p (got ++ waiting))
 
   -- what a seat learns at one moment, when these entries wait

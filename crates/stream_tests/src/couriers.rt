@@ -192,7 +192,7 @@ fn a_visit_answers_verdicts(rt: HostRuntime) -> Result<(), AllocError> {
 }
 
 // Attends a client that sends these bytes, which are read in pieces of 16: how many messages it gave to its
-// courier; none where the place wasn't free.
+// courier; none where the berth wasn't free.
 fn attend<'x, R: Wait>(
     rt: &'x R,
     alloc: Global,
@@ -236,7 +236,7 @@ fn is_attended<R: Wait>(
 }
 
 #[test]
-fn a_place_attends_a_client_that_appends(rt: HostRuntime) -> Result<(), AllocError> {
+fn a_berth_attends_a_client_that_appends(rt: HostRuntime) -> Result<(), AllocError> {
     let bytes =
         b"a1 APPEND INBOX {5+}\r\nhello\r\na2 APPEND INBOX {3}\r\nabc\r\na3 LOGOUT\r\na4 NOOP\r\n";
     let told = b"a1 OK [APPENDUID 7 1] APPEND completed\r\n\

@@ -8,7 +8,7 @@ use change_ring::NO_FLAGS;
 use courier::{Courier, Lost};
 use delivery_token::{CopyKey, Job, Text};
 use imap_session::{After, Folder};
-use imap_stream::{Hush, Place, Visit, VisitFault};
+use imap_stream::{Berth, Hush, Visit, VisitFault};
 use line_io::{Sink, Watched};
 use mailbox::{History, Limits, Mailbox};
 use pace::{Actor, Gate};
@@ -296,7 +296,7 @@ pub(crate) fn open<'x, R: Wait>(
     }
 }
 
-// Whether the place was free for the visit, and its client was attended.
+// Whether the berth was free for the visit, and its client was attended.
 pub(crate) fn attend_one<'x, R: Wait, I: Read, C: Courier>(
     rt: &'x R,
     alloc: Global,
@@ -311,7 +311,7 @@ pub(crate) fn attend_one<'x, R: Wait, I: Read, C: Courier>(
     let Ok(idles) = Arc::new(alloc, AtomicBool::new(false)) else {
         return false;
     };
-    Place::new(idles)
+    Berth::new(idles)
         .attend(rt, alloc, visit, courier, input, buffer, stop)
         .is_ok()
 }
@@ -417,7 +417,7 @@ fn a_session_leaves_where_its_output_fails(rt: HostRuntime) -> Result<(), AllocE
 fn attend<'a, R: Wait>(
     rt: &R,
     alloc: Global,
-    place: &Place<'a, R, Tally, Wire<'a, R>>,
+    berth: &Berth<'a, R, Tally, Wire<'a, R>>,
     visit: Visit<'a, R, Tally, Wire<'a, R>>,
     marks: &Marks,
     nap: &Nap,
@@ -430,7 +430,7 @@ fn attend<'a, R: Wait>(
     };
     let mut buffer = [0; 64];
     let never = AtomicBool::new(false);
-    let is_done = place
+    let is_done = berth
         .attend(
             rt,
             alloc,
@@ -464,7 +464,7 @@ fn bring<R: Wait>(
     are_stored
 }
 
-// A place whose client idles, and what those share who are about it.
+// A berth whose client idles, and what those share who are about it.
 #[derive(Drop)]
 struct Scene<'a, R: Wait> {
     mailboxes: &'a [Mutex<Mailbox>],
@@ -472,11 +472,11 @@ struct Scene<'a, R: Wait> {
     job: &'a Job,
     marks: &'a Marks,
     nap: &'a Nap,
-    place: Place<'a, R, Tally, Wire<'a, R>>,
+    berth: Berth<'a, R, Tally, Wire<'a, R>>,
     bell: SessionBell,
 }
 
-// The three threads of the place: whether the client was served, and the messages brought.
+// The three threads of the berth: whether the client was served, and the messages brought.
 fn serve_idler<'a, R: Threads + Wait + Sync>(
     rt: &'a R,
     alloc: Global,
@@ -489,17 +489,17 @@ fn serve_idler<'a, R: Threads + Wait + Sync>(
         job,
         marks,
         nap,
-        place,
+        berth,
         bell,
         ..
     } = scene;
     let (_watched, (is_done, are_stored)) = join(
         rt,
-        move || place.keep_watch(rt, &sleeper, &marks.over, *marks),
+        move || berth.keep_watch(rt, &sleeper, &marks.over, *marks),
         move || {
             join(
                 rt,
-                move || attend(rt, alloc, place, visit, marks, nap, bell),
+                move || attend(rt, alloc, berth, visit, marks, nap, bell),
                 move || bring(rt, mailboxes, job, nap.messages, marks, bell),
             )
         },
@@ -541,7 +541,7 @@ fn idle_through<'x, R: Threads + Wait + Sync>(
         job: &job,
         marks: &marks,
         nap,
-        place: Place::new(idling),
+        berth: Berth::new(idling),
         bell,
     };
     let is_served = idle_in(rt, alloc, &scene, bytes, sleeper);

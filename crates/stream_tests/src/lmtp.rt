@@ -1,5 +1,5 @@
 //! Connections over readers and sinks of a test, with one lane and one channel: in one piece and byte by byte, pipelined, broken off on
-//! either side, and shut at each place where the house may stop.
+//! either side, and shut at each position where the house may stop.
 
 ghost use Rattle.std.specs.Prelude.{◌≡◌, ◌<◌, ◌≤◌, ◌∷◌, [], Some, IfSome, IfOk, OnOk, length, vec_len, vec_capacity};
 ghost use Rattle.shard_queue.specs.Seats.{IsConsumer, IsProducer, number_of};
@@ -724,9 +724,9 @@ fn play<R: Wait>(rt: &R, alloc: Global, case: &Case) -> Result<bool, AllocError>
 
 // The first case that doesn't come as it is to come.
 fn first_other<R: Wait>(rt: &R, alloc: Global) -> Result<Option<usize>, AllocError> {
-    for place in 0..CASES.len() {
-        if !play(rt, alloc, &CASES[place])? {
-            return Ok(Some(place));
+    for position in 0..CASES.len() {
+        if !play(rt, alloc, &CASES[position])? {
+            return Ok(Some(position));
         }
     }
     Ok(None)

@@ -13,7 +13,7 @@ length-copies [] mailboxes text flags = omega arith
 length-copies (k ∷ ks) [] text flags = omega arith
 length-copies (k ∷ ks) (m ∷ ms) text flags = let h = length-copies ks ms text flags in omega (arith, h)
 
--- the copy at a place, and those behind it
+-- the copy at a position, and those behind it
 pub drop-copies : (i : ℕ) (keys : List CopyKey) (mailboxes text : List ℕ) (flags : Flags) (d : CopyKey) (e : ℕ) → i < length keys → i < length mailboxes
     → drop i (copies keys mailboxes text flags) ≡ record { key = slice_index_or keys i d; mailbox = slice_index_or mailboxes i e; text = text; flags = flags } ∷ drop (suc i) (copies keys mailboxes text flags)
 drop-copies i [] ms t f d e h l = absurd (omega arith)
@@ -46,14 +46,14 @@ behind_front (suc n) [] y ys e = absurd (let x : [] ≡ y ∷ ys = e in cc)
 behind_front zero (x ∷ xs) y ys e = let h : xs ≡ ys = cc in h
 behind_front (suc n) (x ∷ xs) y ys e = behind_front n xs y ys e
 
--- the key of the copy at a place
+-- the key of the copy at a position
 pub front_key : (n : ℕ) (keys : List CopyKey) (mailboxes text : List ℕ) (flags : Flags) (c : Job) (cs : List Job) (d : CopyKey) → drop n (copies keys mailboxes text flags) ≡ c ∷ cs → get_or keys n d ≡ c.key
 front_key n [] ms t f c cs d e = absurd (let l = front_within n [] c cs e in omega (arith, l))
 front_key n (k ∷ ks) [] t f c cs d e = absurd (let l = front_within n [] c cs e in omega (arith, l))
 front_key zero (k ∷ ks) (m ∷ ms) t f c cs d e = let h : record { key = k; mailbox = m; text = t; flags = f } ≡ c = cc in ap (λ (j : Job). j.key) h
 front_key (suc n) (k ∷ ks) (m ∷ ms) t f c cs d e = front_key n ks ms t f c cs d e
 
--- the mailbox of the copy at a place
+-- the mailbox of the copy at a position
 pub front_mailbox : (n : ℕ) (keys : List CopyKey) (mailboxes text : List ℕ) (flags : Flags) (c : Job) (cs : List Job) (most : ℕ) → All (λ m. m < most) mailboxes → drop n (copies keys mailboxes text flags) ≡ c ∷ cs → c.mailbox < most
 front_mailbox n [] ms t f c cs most a e = absurd (let l = front_within n [] c cs e in omega (arith, l))
 front_mailbox n (k ∷ ks) [] t f c cs most a e = absurd (let l = front_within n [] c cs e in omega (arith, l))

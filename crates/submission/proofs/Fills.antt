@@ -67,7 +67,7 @@ not_some : (slot : Option Verdict) → is_some slot ≡ false → slot ≡ None
 not_some None free = refl
 not_some (Some v) free = absurd (let e : true ≡ false = free in cc)
 
--- what was read at a place is as the note has it
+-- what was read at a position is as the note has it
 pub still_awaited : (keys : List CopyKey) (mailboxes : List ℕ) (slots : List (Option Verdict)) (r : Noted) (i : ℕ) (k : CopyKey) (m : ℕ) (s : Option Verdict)
     → i ≡ r.key.recipient → i < length slots → i < length keys → i < length mailboxes
     → slice_index_or keys i k ≡ r.key → slice_index_or mailboxes i m ≡ r.mailbox → is_some (slice_index_or slots i s) ≡ false → IsStillAwaited keys mailboxes slots r

@@ -10,7 +10,7 @@ use Rattle.delivery_token.specs.declared.CopyKey.{CopyKey}
 use Rattle.delivery_token.specs.declared.Verdict.{Verdict}
 use Rattle.delivery_token.specs.declared.log.Noted.{Noted}
 use Rattle.submission.specs.Heard.{HeardFor, SlotFor, SlotsFor}
-use Rattle.submission.specs.Laws.{StillHold, TellPlaces}
+use Rattle.submission.specs.Laws.{StillHold, TellPositions}
 use Rattle.submission.specs.Verdicts.{Hears, IsAwaited, notes_it, passes_it}
 
 -- the first slot, and the others
@@ -93,7 +93,7 @@ get_or_any i [] d e h = absurd (omega arith)
 get_or_any zero (k ∷ ks) d e h = refl
 get_or_any (suc i) (k ∷ ks) d e h = get_or_any i ks d e (omega arith)
 
-pub hears_slots : (heard : List Noted) (keys : List CopyKey) (slots : List (Option Verdict)) (r : Noted) (new : List (Option Verdict)) → TellPlaces keys → SlotsFor heard keys slots → Hears keys slots r new
+pub hears_slots : (heard : List Noted) (keys : List CopyKey) (slots : List (Option Verdict)) (r : Noted) (new : List (Option Verdict)) → TellPositions keys → SlotsFor heard keys slots → Hears keys slots r new
     → StillHold (heard ++ r ∷ []) keys slots new
 hears_slots heard keys slots r new tell s (notes_it a e) = subst (λ (x : List (Option Verdict)). StillHold (heard ++ r ∷ []) keys slots x) (sym e) (record {
   many = length-set slots r.key.recipient (Some r.verdict);

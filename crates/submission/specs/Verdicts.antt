@@ -25,7 +25,7 @@ pub record IsAwaited (keys : List CopyKey) (slots : List (Option Verdict)) (r : 
   pub known : r.key.recipient < length keys
   pub same : (d : CopyKey) → slice_index_or keys r.key.recipient d ≡ r.key
 
--- The verdict is noted at the place of its copy, where it is on one that was put, and nothing else is changed.
+-- The verdict is noted at the position of its copy, where it is on one that was put, and nothing else is changed.
 pub data Hears (keys : List CopyKey) (slots : List (Option Verdict)) (r : Noted) (new : List (Option Verdict)) : Type 0 where
   notes_it : IsAwaited keys slots r → new ≡ slice_set slots r.key.recipient (Some r.verdict) → Hears keys slots r new
   passes_it : (IsAwaited keys slots r → ⊥) → new ≡ slots → Hears keys slots r new
@@ -51,7 +51,7 @@ pub record IsStillAwaited (keys : List CopyKey) (mailboxes : List ℕ) (slots : 
   pub same : (d : ℕ) → slice_index_or mailboxes r.key.recipient d ≡ r.mailbox
   pub none : (d : Option Verdict) → slice_index_or slots r.key.recipient d ≡ None
 
--- The verdict was filled in, at the place of its copy, where none was known.
+-- The verdict was filled in, at the position of its copy, where none was known.
 pub record FillsIn (keys : List CopyKey) (mailboxes : List ℕ) (r : Noted) (slots filled : List (Option Verdict)) : Type 0 where
   pub there : IsStillAwaited keys mailboxes slots r
   pub awaited : unknown slots ≡ suc (unknown filled)

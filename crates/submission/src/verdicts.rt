@@ -79,13 +79,13 @@ impl Verdicts {
             × (due (copies message.entry.keys.now message.entry.mailboxes.now message.entry.text.now message.entry.flags) self.now.slots
             ≡ record { key = c.key; mailbox = c.mailbox; text = c.text.now; flags = c.flags } ∷ others)) }
     {
-        let place = self.slots.len();
-        if place >= message.keys.len() || place >= message.mailboxes.len() {
+        let position = self.slots.len();
+        if position >= message.keys.len() || position >= message.mailboxes.len() {
             return None;
         }
         Some(NextCopy {
-            key: message.keys[place],
-            mailbox: message.mailboxes[place],
+            key: message.keys[position],
+            mailbox: message.mailboxes[position],
             text: message.text,
             flags: message.flags,
         })
@@ -99,17 +99,17 @@ impl Verdicts {
         self.slots.push_reserved(verdict);
     }
 
-    /// Notes a verdict that was heard at the place of its copy, where the message has a copy with that key there and it was put. Any other
+    /// Notes a verdict that was heard at the position of its copy, where the message has a copy with that key there and it was put. Any other
     /// changes nothing.
     pub fn hear(&mut self, keys: &[CopyKey], noted: &Noted)
         ensures hears { Hears keys.now self.old.slots noted.now self.new.slots }
         ensures room { self.new.most ≡ self.old.most }
     {
-        let place = usize::from(noted.key.recipient);
-        if place >= self.slots.len() || place >= keys.len() || keys[place] != noted.key {
+        let position = usize::from(noted.key.recipient);
+        if position >= self.slots.len() || position >= keys.len() || keys[position] != noted.key {
             return;
         }
-        self.slots[place] = Some(noted.verdict);
+        self.slots[position] = Some(noted.verdict);
     }
 
     /// The strict form of `hear`, for whoever awaits nothing else: notes a verdict that was heard only where it is on a copy of the message, with
@@ -121,17 +121,17 @@ impl Verdicts {
         ensures passes { result ≡ false → IsStillAwaited keys.now mailboxes.now self.old.slots noted.now → ⊥ }
         ensures room { self.new.most ≡ self.old.most }
     {
-        let place = usize::from(noted.key.recipient);
-        if place >= self.slots.len() || place >= keys.len() || place >= mailboxes.len() {
+        let position = usize::from(noted.key.recipient);
+        if position >= self.slots.len() || position >= keys.len() || position >= mailboxes.len() {
             return false;
         }
-        if noted.key != keys[place] {
+        if noted.key != keys[position] {
             return false;
         }
-        if noted.mailbox != mailboxes[place] {
+        if noted.mailbox != mailboxes[position] {
             return false;
         }
-        let slot = &mut self.slots[place];
+        let slot = &mut self.slots[position];
         if slot.is_some() {
             return false;
         }

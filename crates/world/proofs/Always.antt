@@ -243,11 +243,11 @@ stored_heard m u r (x ∷ rs) (inr h) e v = go (stored_pair m x x.verdict) (stor
     go (Some y) k = inr k
 
 -- where an element stands
-place_of : {A : Type 0} (x : A) (xs : List A) → IsIn x xs → (i : ℕ) × (i < length xs) × (get_or xs i x ≡ x)
-place_of x [] h = absurd h
-place_of x (y ∷ ys) (inl e) = (0, omega arith, sym e)
-place_of x (y ∷ ys) (inr h) =
-    let c : (i : ℕ) × (i < length ys) × (get_or ys i x ≡ x) = place_of x ys h in
+position_of : {A : Type 0} (x : A) (xs : List A) → IsIn x xs → (i : ℕ) × (i < length xs) × (get_or xs i x ≡ x)
+position_of x [] h = absurd h
+position_of x (y ∷ ys) (inl e) = (0, omega arith, sym e)
+position_of x (y ∷ ys) (inr h) =
+    let c : (i : ℕ) × (i < length ys) × (get_or ys i x ≡ x) = position_of x ys h in
     (suc c.0, omega (arith, c.1), c.2)
 
 is_in_of : {A : Type 0} (x : A) (xs : List A) (i : ℕ) → i < length xs → get_or xs i x ≡ x → IsIn x xs
@@ -255,17 +255,17 @@ is_in_of x [] i l e = absurd (omega arith)
 is_in_of x (y ∷ ys) zero l e = inl (sym e)
 is_in_of x (y ∷ ys) (suc i) l e = inr (is_in_of x ys i (omega arith) e)
 
--- at a place of the list the default is of no account
+-- at a position of the list the default is of no account
 get_or-any : {A : Type 0} (xs : List A) (i : ℕ) (c d : A) → i < length xs → get_or xs i c ≡ get_or xs i d
 get_or-any [] i c d l = absurd (omega arith)
 get_or-any (x ∷ xs) zero c d l = refl
 get_or-any (x ∷ xs) (suc i) c d l = get_or-any xs i c d (omega arith)
 
 once : (pairs : List (CopyKey × ℕ)) (x : CopyKey) (u : ℕ) → AllPairs (λ a b. a.0 ≢ b.0) pairs → IsIn (x, u) pairs → StandsOnce pairs x u
-once pairs x u apart h = record { place = c.0; within = c.1; here = c.2; alone = alone }
+once pairs x u apart h = record { position = c.0; within = c.1; here = c.2; alone = alone }
   where
     c : (i : ℕ) × (i < length pairs) × (get_or pairs i (x, u) ≡ (x, u))
-    c = place_of (x, u) pairs h
+    c = position_of (x, u) pairs h
 
     alone : (i : ℕ) (d : CopyKey × ℕ) → i < length pairs → (get_or pairs i d).0 ≡ x → i ≡ c.0
     alone i d l e = go (cases_lt i c.0) (cases_lt c.0 i)

@@ -1,4 +1,4 @@
--- No copy has two verdicts, and one that was refused stands in no history: each key is at one place, told to its seat or on its way there, or in the lane or the hand of one shard.
+-- No copy has two verdicts, and one that was refused stands in no history: each key is at one position, told to its seat or on its way there, or in the lane or the hand of one shard.
 use Rattle.std.proofs.Common.{◌≡◌, ℕ, ◌+◌, ◌≤◌, ◌≢◌, ◌⊎◌, inl, inr, Bool, true, false, cond, ◌&&◌, ◌==◌, eqb, List, [], ◌∷◌, ◌++◌, map, filter, filter_map, All, AllPairs, refl, sym, ap, ◌∙◌, arith, subst, Option, Some, None}
 use Rattle.std.proofs.lemmas.Bool.{eq-eqb}
 use Rattle.std.proofs.lemmas.Bool.Decides.{eqb_tells}

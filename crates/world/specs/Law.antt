@@ -87,12 +87,12 @@ pub data IsPart {A : Type 0} : List A → List A → Type 0 where
   keeps : (x : A) {xs ys : List A} → IsPart xs ys → IsPart (x ∷ xs) (x ∷ ys)
   skips : (y : A) {xs ys : List A} → IsPart xs ys → IsPart xs (y ∷ ys)
 
--- The key stands in the history under this UID, at one place, and at no other under any.
+-- The key stands in the history under this UID, at one position, and at no other under any.
 pub record StandsOnce (history : List (CopyKey × ℕ)) (key : CopyKey) (uid : ℕ) : Type 0 where
-  pub place : ℕ
-  pub within : place < length history
-  pub here : slice_index_or history place (key, uid) ≡ (key, uid)
-  pub alone : (i : ℕ) (d : CopyKey × ℕ) → i < length history → (slice_index_or history i d).0 ≡ key → i ≡ place
+  pub position : ℕ
+  pub within : position < length history
+  pub here : slice_index_or history position (key, uid) ≡ (key, uid)
+  pub alone : (i : ℕ) (d : CopyKey × ℕ) → i < length history → (slice_index_or history i d).0 ≡ key → i ≡ position
 
 -- what holds of each world that some events lead to
 abbrev pub Always : (Config → World → Type 0) → Type 0
@@ -102,7 +102,7 @@ Always P = (k : Config) (events : List Event) (w : World) → IsWorld k events w
 pub record Headline (k : Config) (w : World) : Type 0 where
   -- of each seat, a mailbox's history is what the seat heard as stored there, then what is stored and not heard yet
   pub history : (p m : ℕ) → pairs (accepted_of w p m) ≡ stored w p m ++ due k w p m
-  -- a copy that its seat heard as stored stands in its mailbox's history, under that UID, at one place and no other
+  -- a copy that its seat heard as stored stands in its mailbox's history, under that UID, at one position and no other
   pub answered : (p u : ℕ) (r : Noted) → Contains (w.heard p) r → r.verdict ≡ Stored u → StandsOnce (pairs (w.box r.mailbox).accepted) r.key u
   -- a copy that its seat heard as refused stands in no mailbox's history
   pub refused : (p : ℕ) (r : Noted) (f : Refusal) → Contains (w.heard p) r → r.verdict ≡ Refused f → (m : ℕ) → All (λ a. a.0.key ≢ r.key) (w.box m).accepted

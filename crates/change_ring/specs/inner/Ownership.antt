@@ -11,7 +11,7 @@ use denote.RawPtr.{Ptr}
 use denote.Sharing.{said, beside}
 use denote.Struct.Lending.{lent_at}
 
--- at p a block of n places, of fewer than 2 ^ 63 bytes, whose first places hold xs, with its token
+-- at p a block of n cells, of fewer than 2 ^ 63 bytes, whose first cells hold xs, with its token
 abbrev pub cells_own : (Ty → Ptr → Fml) → (R : RattleType) → Ptr → ℕ → List R.Denot → Fml
 cells_own t R p n xs = fsep (flt (n * type_size R) (2 ^ 63)) (block_with_items t R p (length xs) n xs)
 

@@ -93,8 +93,8 @@ pub record ConnectionWent (k : Terms) (whole : Bool) (seat : ℕ) (next : CopyKe
   pub there : IsStillThere k seat next heard what h left
   pub out : new ≡ old ++ printed
 
--- the caller at a place went on, and printed this
-pub record PlaceWentOn (k : Terms) (whole : Bool) (seat : ℕ) (next : CopyKey) (heard : List Noted) (b : Caller) (h : Option HouseConnection) (old new : List ℕ) : Type 0 where
+-- the caller at a seat went on, and printed this
+pub record CallerWentOn (k : Terms) (whole : Bool) (seat : ℕ) (next : CopyKey) (heard : List Noted) (b : Caller) (h : Option HouseConnection) (old new : List ℕ) : Type 0 where
   pub left : Option Caller
   pub printed : List ℕ
   pub goes : ConnectionGoes k whole seat heard b left printed

@@ -44,10 +44,10 @@ IsKept floor n (kept.Here c) = IsServiceOf floor n (manually_drop_value c)
 
 -- ---- a session
 
--- the session that was at this place, of a user with this name, lived through these steps, and said this
-pub record HasLived (floor : Floor) (user : List ℕ) (place : LockedDesk) (visit : Visit) (carried : List Carried) (text : List ℕ) : Type 0 where
+-- the session that had this selection, of a user with this name, lived through these steps, and said this
+pub record HasLived (floor : Floor) (user : List ℕ) (selection : LockedDesk) (visit : Visit) (carried : List Carried) (text : List ℕ) : Type 0 where
   pub last : Moment
-  pub lives : Lives floor.turns (greeted_at (Some (most_of floor.office.max_message)) (folders_of floor.office.directory user) place greeting) visit.steps.items carried last
+  pub lives : Lives floor.turns (greeted_at (Some (most_of floor.office.max_message)) (folders_of floor.office.directory user) selection greeting) visit.steps.items carried last
   pub wrote : text ≡ last.text
 
 -- What a session leaves: its ended seats are its own on each lane, its receiver is of its channel, and where it made all its steps, this is its account of them.

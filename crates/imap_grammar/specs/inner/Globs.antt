@@ -9,6 +9,6 @@ is_wild p = (p == 42) || (p == 37)
 abbrev pub at_byte : ℕ → ℕ → Bool → Bool → Bool → Bool
 at_byte p b here behind next = if p == 42 then here || next else if p == 37 then here || (is_not_slash b && next) else (b == p) && behind
 
--- for each place of a name: whether the pattern stands for what is left from there on
+-- for each position of a name: whether the pattern stands for what is left from there on
 abbrev pub Reached : List ℕ → List ℕ → List Bool → Type 0
 Reached pattern name ok = (k : ℕ) → k ≤ length name → slice_index_or ok k false ≡ matches pattern (drop k name)

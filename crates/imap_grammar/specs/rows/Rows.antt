@@ -5,7 +5,7 @@ use Rattle.imap_grammar.specs.declared.items.Section.{Section}
 use Rattle.imap_grammar.specs.declared.items.Span.{Span}
 use Rattle.imap_grammar.specs.declared.items.FetchItem.{FetchItem}
 use Rattle.change_ring.specs.declared.flag_op.FlagOp.TheVariants.{Set, Insert, Remove}
-use Rattle.imap_grammar.specs.Sets.{by_uid, by_place}
+use Rattle.imap_grammar.specs.Sets.{by_uid, by_position}
 use Rattle.imap_grammar.specs.Reading.{is_done, read}
 use Rattle.imap_grammar.specs.declared.set.SeqNumber.{SeqNumber}
 use Rattle.imap_grammar.specs.declared.set.SeqNumber.TheVariants.{Number, Star}
@@ -379,16 +379,16 @@ store_seen = refl
 
 -- ---- what sets name
 
-star_of_none : by_place (range Star Star ∷ []) [] ≡ None
+star_of_none : by_position (range Star Star ∷ []) [] ≡ None
 star_of_none = refl
 
 star_of_no_uids : by_uid (range Star Star ∷ []) [] ≡ []
 star_of_no_uids = refl
 
-two_places : by_place (range (Number 3) (Number 2) ∷ range Star Star ∷ []) (4 ∷ 9 ∷ 12 ∷ []) ≡ Some (9 ∷ 12 ∷ [])
-two_places = refl
+two_positions : by_position (range (Number 3) (Number 2) ∷ range Star Star ∷ []) (4 ∷ 9 ∷ 12 ∷ []) ≡ Some (9 ∷ 12 ∷ [])
+two_positions = refl
 
-above : by_place (range (Number 1) (Number 4) ∷ []) (4 ∷ 9 ∷ 12 ∷ []) ≡ None
+above : by_position (range (Number 1) (Number 4) ∷ []) (4 ∷ 9 ∷ 12 ∷ []) ≡ None
 above = refl
 
 some_uids : by_uid (range (Number 100) Star ∷ range (Number 1) (Number 5) ∷ []) (4 ∷ 9 ∷ 12 ∷ []) ≡ 4 ∷ 12 ∷ []

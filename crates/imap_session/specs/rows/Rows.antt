@@ -12,7 +12,7 @@ use Rattle.imap_grammar.specs.Reading.{read}
 use Rattle.imap_session.specs.Exchange.{Answer, Entered, Looked, Found, Counted, Altered, Expunged, Fed, Left, Refused, Starved, Turn, Sent, Standing, may_send, nothing_sent}
 use Rattle.imap_grammar.specs.declared.command.Command.TheVariants as commands
 use Rattle.imap_session.specs.Exchange.{Count, Exchange, Done, Leave, Write}
-use Rattle.imap_session.specs.Shows.{RestShowsNone, ShowsInPlace, VerdictShowsInPlace}
+use Rattle.imap_session.specs.Shows.{RestShowsNone, ShowsInOrder, VerdictShowsInOrder}
 use Rattle.imap_session.specs.Telling.{TellsNoUid, VerdictTellsUid}
 use Rattle.imap_session.specs.declared.standing.After.TheVariants.{Go}
 use Rattle.imap_session.specs.declared.standing.After.TheVariants as afters
@@ -65,7 +65,7 @@ in_inbox = record awake { selected = Some (record { mailbox = 0; read_only = fal
 abbrev in_examined : Standing
 in_examined = record awake { selected = Some (record { mailbox = 0; read_only = true }) }
 
--- an empty mailbox is selected: no place is in it, and each UID set of it is empty
+-- an empty mailbox is selected: no position is in it, and each UID set of it is empty
 empty_inbox : written awake
     (Line (codes "a1 SELECT inbox") (Entered (record { count = 0; uidnext = 1; uidvalidity = 7 }) ∷ []) ∷ Line (codes "a2 FETCH * FLAGS") (Looked [] ∷ []) ∷ Line (codes "a3 UID FETCH * FLAGS") (Looked [] ∷ Fed [] ([]) ∷ []) ∷ Line (codes "a4 LIST \"\" %") (Fed [] ([]) ∷ []) ∷ [])
     ≡ Some (codes "* FLAGS (\\Answered \\Flagged \\Deleted \\Seen \\Draft)\r\n* 0 EXISTS\r\n* OK [UIDVALIDITY 7] UIDs valid\r\n* OK [UIDNEXT 1] Predicted next UID\r\n* OK [PERMANENTFLAGS (\\Answered \\Flagged \\Deleted \\Seen \\Draft)] Flags kept\r\n* LIST () \"/\" INBOX\r\na1 OK [READ-WRITE] SELECT completed\r\na2 BAD Sequence number too high\r\na3 OK UID FETCH completed\r\n* LIST () \"/\" INBOX\r\n* LIST () \"/\" Work\r\na4 OK LIST completed\r\n")
@@ -284,14 +284,14 @@ noop_without_memory = refl
 -- ---- what the law of shown changes forbids
 
 -- a NOOP that shows nothing, where a mailbox is selected
-never_shown : ShowsInPlace in_inbox commands.Noop (completed commands.Noop) → ⊥
+never_shown : ShowsInOrder in_inbox commands.Noop (completed commands.Noop) → ⊥
 never_shown p = differ (p refl)
 
 -- a CLOSE that tells of a message that is gone, and a NOOP that does
-told_by_close : (x : Exchange) → ShowsInPlace in_inbox commands.Close (Leave true (Write (codes "* 1 EXPUNGE\r\n") x)) → ⊥
+told_by_close : (x : Exchange) → ShowsInOrder in_inbox commands.Close (Leave true (Write (codes "* 1 EXPUNGE\r\n") x)) → ⊥
 told_by_close x p = p.0
 
-told_by_noop : (x : Exchange) → ShowsInPlace in_inbox commands.Noop (Write (codes "* 1 EXPUNGE\r\n") x) → ⊥
+told_by_noop : (x : Exchange) → ShowsInOrder in_inbox commands.Noop (Write (codes "* 1 EXPUNGE\r\n") x) → ⊥
 told_by_noop x p = p.0
 
 -- ---- APPEND
@@ -456,7 +456,7 @@ told_before : RestShowsNone (Done (codes "OK [APPENDUID 7 1] APPEND completed") 
 told_before p = differ p
 
 -- an OK for a message that was refused
-told_of_refused : VerdictShowsInPlace None (verdicts.Refused Full) (Done (codes "OK [APPENDUID 7 1] APPEND completed") Go) → ⊥
+told_of_refused : VerdictShowsInOrder None (verdicts.Refused Full) (Done (codes "OK [APPENDUID 7 1] APPEND completed") Go) → ⊥
 told_of_refused p = differ p
 
 -- ---- who tells a UID

@@ -17,29 +17,29 @@ in_front uid flags None messages = messages
 in_front uid flags (Some text) messages = message_of uid flags text ∷ messages
 
 -- a letter with its UID
-pub record Placed : Type 0 where
+pub record Filed : Type 0 where
   pub uid : ℕ
   pub flags : Flags
   pub text : Option (List ℕ)
 
 -- this letter, under this UID
-abbrev pub under : ℕ → Letter → Placed
+abbrev pub under : ℕ → Letter → Filed
 under uid l = record { uid = uid; flags = l.flags; text = l.text }
 
--- letters, each under the UID at its place
-abbrev pub placed : List ℕ → List Letter → List Placed
-placed [] letters = []
-placed (uid ∷ uids) [] = []
-placed (uid ∷ uids) (l ∷ ls) = under uid l ∷ placed uids ls
+-- letters, each under the UID at its position
+abbrev pub filed : List ℕ → List Letter → List Filed
+filed [] letters = []
+filed (uid ∷ uids) [] = []
+filed (uid ∷ uids) (l ∷ ls) = under uid l ∷ filed uids ls
 
 -- the letters whose text is there, as messages
-abbrev pub messages_of : List Placed → List Message
+abbrev pub messages_of : List Filed → List Message
 messages_of [] = []
 messages_of (l ∷ ls) = in_front l.uid l.flags l.text (messages_of ls)
 
 -- the letters' UIDs, also of those whose text was taken
-abbrev pub letter_uids : List Placed → List ℕ
-letter_uids letters = map (λ (l : Placed). l.uid) letters
+abbrev pub letter_uids : List Filed → List ℕ
+letter_uids letters = map (λ (l : Filed). l.uid) letters
 
 -- without the message of a UID
 abbrev pub without_message : ℕ → List Message → List Message
@@ -51,11 +51,11 @@ abbrev pub reflagged : ℕ → Flags → List Message → List Message
 reflagged uid flags [] = []
 reflagged uid flags (m ∷ ms) = if m.uid == uid then record m { flags = flags } ∷ ms else m ∷ reflagged uid flags ms
 
--- the UIDs rise, a letter is at each place, and the counts are the messages'
+-- the UIDs rise, a letter is at each position, and the counts are the messages'
 pub record AreCounted (b : Inside) : Type 0 where
   pub rising : IsStrictlyIncreasing b.uids.items
   pub beside : length b.letters.items ≡ length b.uids.items
-  pub count : b.count ≡ length (messages_of (placed b.uids.items b.letters.items))
-  pub unseen : b.unseen ≡ unseen_count (messages_of (placed b.uids.items b.letters.items))
-  pub bytes : b.bytes ≡ bytes_in_all (messages_of (placed b.uids.items b.letters.items))
-  pub small : All (λ (m : Message). length m.text ≤ 0xffff_ffff_ffff_ffff) (messages_of (placed b.uids.items b.letters.items))
+  pub count : b.count ≡ length (messages_of (filed b.uids.items b.letters.items))
+  pub unseen : b.unseen ≡ unseen_count (messages_of (filed b.uids.items b.letters.items))
+  pub bytes : b.bytes ≡ bytes_in_all (messages_of (filed b.uids.items b.letters.items))
+  pub small : All (λ (m : Message). length m.text ≤ 0xffff_ffff_ffff_ffff) (messages_of (filed b.uids.items b.letters.items))

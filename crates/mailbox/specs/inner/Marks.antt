@@ -11,7 +11,7 @@ use Rattle.mailbox.specs.declared.messages.Messages.TheInside.{Inside}
 abbrev pub marked_of : List Message → List ℕ
 marked_of messages = uids_of (filter (λ (m : Message). m.flags.deleted) messages)
 
--- a UID among others that rise, at its place
+-- a UID among others that rise, at its position
 abbrev pub put_in : ℕ → List ℕ → List ℕ
 put_in uid [] = uid ∷ []
 put_in uid (u ∷ us) = if nat_lt u uid then u ∷ put_in uid us else uid ∷ u ∷ us

@@ -3,7 +3,7 @@ use Rattle.envelope.specs.Directory.{shard_of}
 use Rattle.agreement.specs.Walk.{MailboxMet}
 use Rattle.agreement.proofs.agree.lists_agree.Given as goal
 
-abbrev pub invariant-loop-place : goal.invariant-loop-place
-invariant-loop-place l = (m : ℕ) → m < l.place
+abbrev pub invariant-loop-position : goal.invariant-loop-position
+invariant-loop-position l = (m : ℕ) → m < l.position
     → MailboxMet l.whole (map (λ g. g.notes) l.logs) (slice_index_or (map (λ c. c.items) l.copies) (shard_of l.directory m) []) m
     (slice_index_or (map (λ a. a.items) l.accepted) m []) (slice_index_or (map (λ t. t.items) l.texts) m [])

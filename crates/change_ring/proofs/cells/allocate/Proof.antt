@@ -1,4 +1,4 @@
--- `allocate` has a block of places from the allocator, none of them written, and its token. Assumes `Logic`.
+-- `allocate` has a block of cells from the allocator, none of them written, and its token. Assumes `Logic`.
 use mathlib.Core.Path.{◌≡◌, refl, sym, ap, subst, ◌∙◌}
 use mathlib.Core.Bool.{true, false}
 use Prim.Native.Nat.{ℕ, ◌+◌, ◌-◌, ◌*◌, ◌<◌, ◌^◌}
@@ -77,7 +77,7 @@ allocate_spec 𝓤 𝓛 𝓜 𝓡 wired X W LX LW g d dd met md =
     let Post : Val → SProp 𝓤 = (walk_of 𝓛 En hs c).post z in
     let s = sz E in let al : ℕ = capped (align (elτ E)) in let τ : Ty = array_of (R E) n in
     let both : Body = head (after 2 fn.body) in
-    let Made : Out.Denot → Type 0 = λ r. IfOk r (λ t. (t.1.at ≡ t.0.ptr) × (t.1.places ≡ n) × (t.1.written ≡ []) × (t.1.alloc ≡ a)) in
+    let Made : Out.Denot → Type 0 = λ r. IfOk r (λ t. (t.1.at ≡ t.0.ptr) × (t.1.capacity ≡ n) × (t.1.written ≡ []) × (t.1.alloc ≡ a)) in
     let exits : (r : Out.Denot) (v : Val) → Made r → Sq 𝓛 (‵ (Out.own_val r (v ∷ [])) ∷ ‵ (flft κ q) ∷ others ∷ []) (prop (Post v)) = λ r v made.
     move ! (1 ∷ 2 ∷ []) $ join ! $ use0 𝓛 (raw (fact 𝓤 (Made r))) (fact_i 𝓤 (Made r) (emp 𝓤) made) $ move ! (2 ∷ []) $ nothing ! $ nothing ! $ fjoin ! $ nothing ! $ fjoin ! $
     move ! (3 ∷ 0 ∷ 1 ∷ 2 ∷ []) $ by ! (leaves 𝓛 En hs c z v r (tt, (tt, tt)) (tt, (tt, tt))) in
@@ -101,7 +101,7 @@ allocate_spec 𝓤 𝓛 𝓜 𝓡 wired X W LX LW g d dd met md =
     (λ b o e.
     let p : Ptr = block_ptr b o in
     let base : (Bs E).Denot = record { ptr = p } in
-    let cells : (Cr E).Denot = record { mark = record {}; at = p; places = n; written = []; alloc = a } in
+    let cells : (Cr E).Denot = record { mark = record {}; at = p; capacity = n; written = []; alloc = a } in
     let made : Val = two_val (word p) mark in
     let typed : Good (layout Two) made = (tt, ((tt, tt), ((tt, tt), tt))) in
     let ok = first_Good (layout Two) made typed in

@@ -1,4 +1,4 @@
--- `deallocate` makes the block of its places, whatever they hold, and hands it back with the allocator's token. Assumes `Logic`.
+-- `deallocate` makes the block of its cells, whatever they hold, and hands it back with the allocator's token. Assumes `Logic`.
 use mathlib.Core.Path.{◌≡◌, refl, sym, ap, subst, ◌∙◌}
 use Prim.Native.Nat.{ℕ, ◌*◌, ◌<◌, ◌≤◌, ◌^◌}
 use native.Mathlib.Omega.{arith}
@@ -62,7 +62,7 @@ deallocate_spec 𝓤 𝓛 𝓜 𝓡 wired X W LX LW g d dd met md =
     (#self (args E)) fn (code.unfolded 𝓤 H 𝓜 𝓡 wired (X, (W, tt)) d dd) (λ z are.
     let κ : Lft = z.0.0.0 in let q : Share = z.0.1.0 in let a = z.0.3.0.now in let rb = z.0.3.0.ref_ptr.0 in let ro = z.0.3.0.ref_ptr.1 in
     let base = z.0.3.1.0 in let n = z.0.3.1.1.0 in let cells = z.0.3.1.1.1.0 in let xs = cells.written in
-    let Asks : Type 0 = (cells.at ≡ base.ptr) × (cells.places ≡ n) × (cells.alloc ≡ a) × (length xs ≤ n) in
+    let Asks : Type 0 = (cells.at ≡ base.ptr) × (cells.capacity ≡ n) × (cells.alloc ≡ a) × (length xs ≤ n) in
     let others : Item 𝓤 = ‵ (flft z.0.0.1.0 z.0.1.1.0) ⊛ ‵ (flft z.0.0.1.1.0 z.0.1.1.1.0) ⊛ ‵ ftrue in
     let Post : Val → SProp 𝓤 = (walk_of 𝓛 En hs c).post z in
     let s = sz E in let al : ℕ = capped (align (elτ E)) in let τ : Ty = array_of (R E) n in

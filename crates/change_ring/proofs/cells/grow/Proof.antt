@@ -73,8 +73,8 @@ grow_spec 𝓤 𝓛 𝓜 𝓡 wired X W LX LW g d dd met md =
     let a = z.0.3.0.now in let rb = z.0.3.0.ref_ptr.0 in let ro = z.0.3.0.ref_ptr.1 in
     let base = z.0.3.1.0 in let used = z.0.3.1.1.0 in let n = z.0.3.1.1.1.0 in let more = z.0.3.1.1.1.1.0 in
     let owner = z.0.3.1.1.1.1.1.0 in let cb = owner.ref_ptr.0 in let co = owner.ref_ptr.1 in let d' = owner.now in let xs : List (el_x E) = d'.written in
-    let Asks : Type 0 = (d'.at ≡ base.ptr) × (d'.places ≡ n) × (d'.alloc ≡ a) × (length xs ≡ used) × (used ≤ n) × (n ≤ more) × FitsInBlock (R E) more in
-    let Ok_says : Out.Denot → (Cr E).Denot → Type 0 = λ r w. IfOk r (λ b. w ≡ record d' { at = b.ptr; places = more }) in
+    let Asks : Type 0 = (d'.at ≡ base.ptr) × (d'.capacity ≡ n) × (d'.alloc ≡ a) × (length xs ≡ used) × (used ≤ n) × (n ≤ more) × FitsInBlock (R E) more in
+    let Ok_says : Out.Denot → (Cr E).Denot → Type 0 = λ r w. IfOk r (λ b. w ≡ record d' { at = b.ptr; capacity = more }) in
     let Err_says : Out.Denot → (Cr E).Denot → Type 0 = λ r w. OnErr r (w ≡ d') in
     let Post : Val → SProp 𝓤 = (walk_of 𝓛 En hs c).post z in
     let s = sz E in let both : Body = head (after 2 fn.body) in
@@ -118,7 +118,7 @@ grow_spec 𝓤 𝓛 𝓜 𝓡 wired X W LX LW g d dd met md =
     flagged ! v By
     (λ b' o' e'.
     let p : Ptr = block_ptr b' o' in let to : (Bs E).Denot = record { ptr = p } in
-    let new : (Cr E).Denot = record d' { at = p; places = more } in
+    let new : (Cr E).Denot = record d' { at = p; capacity = more } in
     let ok = first_Good (layout (Bs E)) (word p) (word-Good [] p) in
     lands_last ! refl (subst (λ (u : Val). T (has_ty (layout Answer) u) × WT u) (sym e') (Answer-typed true b' o')) $ exec ! 𝓣.C 𝓣.Λ env' (after 1 fn.body) (at_ret env' Post) $
     sets ! (is ! (of_opd ! (get ! refl)) e') refl (Answer-typed true b' o') $ first ! $ switches_on ! (get_tag ! (vrt ! refl (fld ! refl (stop !))) (whole !)) $ exec ! 𝓣.C 𝓣.Λ env' (arm_body 0 both) Then $

@@ -8,30 +8,30 @@ use Rattle.clerks.specs.Staff.{IsService}
 use Rattle.clerks.proofs.StaffLaws.{consumers_of, in_order, more_at, one_more, sender_hands_of}
 use Rattle.clerks.proofs.staff.dismiss_all.Goals as goal
 
-pub loop-place-preserved : goal.loop-place-preserved
-loop-place-preserved g c =
-    let v = c.loop-place.invariant in
+pub loop-position-preserved : goal.loop-position-preserved
+loop-position-preserved g c =
+    let v = c.loop-position.invariant in
     let floor = c.args.floor.now in
     let lanes = floor.office.lanes.items in
     let channels = floor.depot.channels.items in
-    let n = c.loop-place.place in
-    let rooms = c.loop-place.rooms.items in
-    let consumed = c.loop-place.consumed.items in
+    let n = c.loop-position.position in
+    let rooms = c.loop-position.rooms.items in
+    let consumed = c.loop-position.consumed.items in
     let pushed = c.push_reserved.ensures.items in
     let left = c.dismiss-shard.ensures in
-    let room = c.remove-in-loop-place.result in
-    let some : 0 < length rooms = (let e = v.1 in let o = c.loop-place.rooms.ok.0 in let under = c.loop-place-test.true in omega (arith, under, e, o)) in
+    let room = c.remove-in-loop-position.result in
+    let some : 0 < length rooms = (let e = v.1 in let o = c.loop-position.rooms.ok.0 in let under = c.loop-position-test.true in omega (arith, under, e, o)) in
     let P : Vec (SenderEnded Noted) Global → Type 0 = λ r. (r.items ≡ []) × (length channels ≤ vec_capacity r) in
     let Q : Consumed → Type 0 = λ d. vec_len d.senders ≡ length channels in
     let N : Consumed → Type 0 = λ d. (d.copies.items ≡ []) × (d.kept ≡ false) in
-    let split = removed rooms c.remove-in-loop-place.new.self.items room some c.remove-in-loop-place.ensures.value c.remove-in-loop-place.ensures.items in
-    let count : n ≡ 0 + length consumed = (let e = v.3 in let o = c.loop-place.consumed.ok.0 in omega (arith, e, o)) in (
+    let split = removed rooms c.remove-in-loop-position.new.self.items room some c.remove-in-loop-position.ensures.value c.remove-in-loop-position.ensures.items in
+    let count : n ≡ 0 + length consumed = (let e = v.3 in let o = c.loop-position.consumed.ok.0 in omega (arith, e, o)) in (
       search rules,
       search rules,
-      All-tail P room c.remove-in-loop-place.new.self.items (subst (All P) split v.2),
+      All-tail P room c.remove-in-loop-position.new.self.items (subst (All P) split v.2),
       search rules,
       search rules,
-      (λ so. let both = in_order c.loop-place.in_order c.from.result n so in
+      (λ so. let both = in_order c.loop-position.in_order c.from.result n so in
           more_at (IsService lanes floor.depot) 0 consumed c.push_reserved.new.self.items _ n pushed (v.5 both.0) count
           (subst (λ k. IsService lanes floor.depot k c.dismiss-shard.result.1) (sym c.from.ensures ∙ both.1) left.service)),
       one_more Q consumed c.push_reserved.new.self.items _ pushed v.6 (search rules),
@@ -41,13 +41,13 @@ loop-place-preserved g c =
 pub returns-clause-seats : goal.returns-clause-seats
 returns-clause-seats g c so =
     let floor = c.args.floor.now in
-    let consumed = c.loop-place.consumed in
+    let consumed = c.loop-position.consumed in
     let all : vec_len consumed ≡ length floor.office.lanes.items = search rules in
-    consumers_of floor.office.lanes.items floor.depot 0 consumed.items (c.loop-place.invariant.5 so) (let o = consumed.ok.0 in omega (arith, all, o))
+    consumers_of floor.office.lanes.items floor.depot 0 consumed.items (c.loop-position.invariant.5 so) (let o = consumed.ok.0 in omega (arith, all, o))
 
 pub returns-clause-hands : goal.returns-clause-hands
 returns-clause-hands g c so =
     let floor = c.args.floor.now in
-    let consumed = c.loop-place.consumed in
+    let consumed = c.loop-position.consumed in
     let all : vec_len consumed ≡ length floor.office.lanes.items = search rules in
-    sender_hands_of floor.office.lanes.items floor.depot 0 consumed.items (c.loop-place.invariant.5 so) (let o = consumed.ok.0 in omega (arith, all, o))
+    sender_hands_of floor.office.lanes.items floor.depot 0 consumed.items (c.loop-position.invariant.5 so) (let o = consumed.ok.0 in omega (arith, all, o))

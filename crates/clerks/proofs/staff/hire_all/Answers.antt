@@ -5,21 +5,21 @@ use Rattle.house_floor.specs.Crew.{IsStand}
 use Rattle.clerks.proofs.StaffLaws.{first_at, one_more}
 use Rattle.clerks.proofs.staff.hire_all.Goals as goal
 
-pub loop-place-preserved : goal.loop-place-preserved
-loop-place-preserved g c =
-    let v = c.loop-place.invariant in
+pub loop-position-preserved : goal.loop-position-preserved
+loop-position-preserved g c =
+    let v = c.loop-position.invariant in
     let floor = c.args.floor.now in
     let channels = floor.depot.channels.items in
-    let stands = c.loop-place.stands.items in
-    let some : 0 < length stands = (let e = v.0 in let o = c.loop-place.stands.ok.0 in let under = c.loop-place-test.true in omega (arith, under, e, o)) in
+    let stands = c.loop-position.stands.items in
+    let some : 0 < length stands = (let e = v.0 in let o = c.loop-position.stands.ok.0 in let under = c.loop-position-test.true in omega (arith, under, e, o)) in
     let P : Vec (SenderEnded Noted) Global → Type 0 = λ r. (r.items ≡ []) × (length channels ≤ vec_capacity r) in
-    let first = first_at (IsStand floor) c.loop-place.place stands c.remove.new.self.items c.remove.result some c.remove.ensures.value c.remove.ensures.items v.1 in (
+    let first = first_at (IsStand floor) c.loop-position.position stands c.remove.new.self.items c.remove.result some c.remove.ensures.value c.remove.ensures.items v.1 in (
       search rules,
       first.1,
       search rules,
       search rules,
       search rules,
       search rules,
-      one_more P c.loop-place.staff.rooms.items c.push_reserved-in-loop-place.new.self.items _ c.push_reserved-in-loop-place.ensures.items v.6 (search rules),
+      one_more P c.loop-position.staff.rooms.items c.push_reserved-in-loop-position.new.self.items _ c.push_reserved-in-loop-position.ensures.items v.6 (search rules),
       search rules,
     )

@@ -1,7 +1,7 @@
 use Rattle.std.proofs.Common.{ℕ, List, Contains, sym, subst}
 use Rattle.std.specs.List.Sorted.{IsStrictlyIncreasing}
 use Rattle.std.proofs.lemmas.List.{take_rest}
-use Rattle.cursor_set.proofs.Places.{in_rest, rest_rises}
+use Rattle.cursor_set.proofs.Positions.{in_rest, rest_rises}
 use Rattle.cursor_set.proofs.leaving.index_near.Goals as goal
 
 pub index_of-requires-clause-there : goal.index_of-requires-clause-there

@@ -1,6 +1,6 @@
 use Rattle.std.proofs.Common.{ℕ, ◌<◌, ◌≡◌, length, get_or, Contains, subst}
 use Rattle.std.specs.Prelude.{MatchResult, Result}
-use Rattle.cursor_set.proofs.Places.{searched_at}
+use Rattle.cursor_set.proofs.Positions.{searched_at}
 use Rattle.cursor_set.proofs.leaving.index_of.Goals as goal
 
 pub unreachable-requires : goal.unreachable-requires

@@ -9,8 +9,8 @@ pub returns : goal.returns
 returns c = λ _.
     let view = c.args.view.now.items in
     let uid = c.args.uid in
-    let place = c.in-Some.place in
-    let found : position (λ (other : ℕ). other == uid) view ≡ Some place = cc in
-    let first = position-Some (λ (other : ℕ). other == uid) view place 0 found in
-    let there = position-Some (λ (other : ℕ). other == uid) view place uid found in
-    ((place, there.0, eqb-true _ uid there.1), c.remove.ensures.items ∙ removed_first uid view place first.0 first.1 first.2)
+    let index = c.in-Some.index in
+    let found : position (λ (other : ℕ). other == uid) view ≡ Some index = cc in
+    let first = position-Some (λ (other : ℕ). other == uid) view index 0 found in
+    let there = position-Some (λ (other : ℕ). other == uid) view index uid found in
+    ((index, there.0, eqb-true _ uid there.1), c.remove.ensures.items ∙ removed_first uid view index first.0 first.1 first.2)

@@ -7,7 +7,7 @@ use Rattle.shard_queue.specs.declared.reply.SenderEnded.{SenderEnded}
 use Rattle.shard_queue.specs.Seats.{got}
 use Rattle.house_floor.specs.Crew.{AllAt, IsStand}
 use Rattle.house_floor.proofs.DealLaws.{IsConsumerAt, IsSenderHand, all_rest, consumers_at, sender_hands_at}
-use Rattle.house_floor.proofs.Places.{first_at, more_at}
+use Rattle.house_floor.proofs.Positions.{first_at, more_at}
 use Rattle.lane_seats.proofs.StepLaws.{removed}
 use Rattle.house_floor.proofs.dealing.set_stands.Goals as goal
 

@@ -31,6 +31,6 @@ returns g c =
     let is : IsStand floor c.args.shard stand = subst (IsStand floor c.args.shard) (sym c.into_inner-stand.ensures) c.requires.stand in
     let before = map sent_on stand.stall.senders.items in
     let fresh : All (λ e. e ≡ []) before = All-map (λ e. e ≡ []) sent_on stand.stall.senders.items is.unsent in
-    let same : c.from-place.result ≡ c.args.shard = search rules in
-    service_of floor c.from-place.result c.args.shard stand.stall.shard c.index.result.now before c.consume.result _ same is.shard c.packed-2.ensures fresh
+    let same : c.from-position.result ≡ c.args.shard = search rules in
+    service_of floor c.from-position.result c.args.shard stand.stall.shard c.index.result.now before c.consume.result _ same is.shard c.packed-2.ensures fresh
     (subst (λ (q : ShardQueue Job). IsConsumed q floor.depot stand.stall.shard before c.consume.result) c.index.ensures c.consume.ensures.consumed)

@@ -3,8 +3,8 @@ use Rattle.house_floor.specs.Crew.{AllAt, IsStand}
 use Rattle.house_threads.specs.inner.Crew.{IsKept}
 use Rattle.house_threads.proofs.consumers.start_consumers.Given as goal
 
-abbrev pub invariant-loop-place : goal.invariant-loop-place
-invariant-loop-place g l =
-    AllAt (IsStand l.floor) l.place l.stands.items × (vec_len l.stands + l.place ≡ length l.floor.office.lanes.items)
-    × AllAt (IsKept l.floor) 0 l.kept.items × (vec_len l.kept ≡ l.place) × (length l.floor.office.lanes.items ≤ vec_capacity l.kept)
+abbrev pub invariant-loop-position : goal.invariant-loop-position
+invariant-loop-position g l =
+    AllAt (IsStand l.floor) l.position l.stands.items × (vec_len l.stands + l.position ≡ length l.floor.office.lanes.items)
+    × AllAt (IsKept l.floor) 0 l.kept.items × (vec_len l.kept ≡ l.position) × (length l.floor.office.lanes.items ≤ vec_capacity l.kept)
     × (l.first ≤ length l.floor.office.lanes.items)

@@ -3,7 +3,7 @@ use Rattle.house_floor.specs.Crew.{AllAt, IsPost}
 use Rattle.house_threads.specs.inner.Crew.{IsHired}
 use Rattle.house_threads.proofs.producers.start_producers.Given as goal
 
-abbrev pub invariant-loop-place : goal.invariant-loop-place
-invariant-loop-place g l =
-    AllAt (IsPost l.floor) l.place l.posts.items × (vec_len l.posts + l.place ≡ length l.plans + length l.visits)
-    × AllAt (IsHired l.floor l.plans l.visits) 0 l.hired.items × (vec_len l.hired ≡ l.place) × (length l.plans + length l.visits ≤ vec_capacity l.hired)
+abbrev pub invariant-loop-position : goal.invariant-loop-position
+invariant-loop-position g l =
+    AllAt (IsPost l.floor) l.position l.posts.items × (vec_len l.posts + l.position ≡ length l.plans + length l.visits)
+    × AllAt (IsHired l.floor l.plans l.visits) 0 l.hired.items × (vec_len l.hired ≡ l.position) × (length l.plans + length l.visits ≤ vec_capacity l.hired)

@@ -10,14 +10,14 @@ use Rattle.house_threads.proofs.producers.work_at.Goals as goal
 pub work-requires-clause-receiver : goal.work-requires-clause-receiver
 work-requires-clause-receiver g c =
     let floor = c.args.floor.now in
-    let same : c.from-place.result ≡ c.args.number = search rules in
+    let same : c.from-position.result ≡ c.args.number = search rules in
     subst (λ (x : ReplyChannel Noted). IsReceiver x c.args.post.desk.receiver) (sym c.index.ensures)
-    (c.requires.post.receiver _ (here_at floor.depot.channels.items c.from-place.result c.args.number c.index.result.now same (omega (arith, c.requires.house.channels, c.requires.number))))
+    (c.requires.post.receiver _ (here_at floor.depot.channels.items c.from-position.result c.args.number c.index.result.now same (omega (arith, c.requires.house.channels, c.requires.number))))
 
 pub returns : goal.returns
 returns g c =
     let floor = c.args.floor.now in
-    let same : c.from-place.result ≡ c.args.number = search rules in
-    work_of floor c.args.plans.now c.args.visits.now c.from-place.result c.args.number c.args.post.desk.number c.index.result.now c.index-plans-place.result
-    c.as_slice.result.now c.work.result same c.requires.number c.requires.post.number (c.as_slice.ensures.value ∙ ap (λ (v : Vec (Vec ℕ Global) Global). v.items) c.index-plans-place.is)
+    let same : c.from-position.result ≡ c.args.number = search rules in
+    work_of floor c.args.plans.now c.args.visits.now c.from-position.result c.args.number c.args.post.desk.number c.index.result.now c.index-plans-position.result
+    c.as_slice.result.now c.work.result same c.requires.number c.requires.post.number (c.as_slice.ensures.value ∙ ap (λ (v : Vec (Vec ℕ Global) Global). v.items) c.index-plans-position.is)
     (subst (λ (x : ReplyChannel Noted). IsWorked floor.office x c.args.post.desk.number (map (λ b. b.items) c.as_slice.result.now) c.work.result) c.index.ensures c.work.ensures.worked)

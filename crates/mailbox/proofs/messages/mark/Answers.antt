@@ -13,10 +13,10 @@ returns-clause-items c =
     let vs = c.deref.result.now in
     let same : vs ≡ us = c.deref.ensures.value in
     let uid = c.args.uid in
-    let place = c.partition_point-place.result in
+    let position = c.partition_point-position.result in
     let up = subst IsStrictlyIncreasing (sym same) c.requires.rising in
-    let point = c.partition_point-place.ensures.partitioned (λ (u : ℕ). ltb u uid) (always_returns_same _ _ _ (λ a r f k. search (rules, of_calls)))
+    let point = c.partition_point-position.ensures.partitioned (λ (u : ℕ). ltb u uid) (always_returns_same _ _ _ (λ a r f k. search (rules, of_calls)))
     (IsPartitionedBy-ltb (λ (u : ℕ). u) vs uid (not_falling vs up)) in
-    let within : place ≤ length vs = search rules in
-    let put : insert us place uid ≡ put_in uid us = subst (λ (xs : List ℕ). insert xs place uid ≡ put_in uid xs) same (put_at uid vs place point within) in
-    c.insert.ensures.items ∙ ap (λ (b : Bool). if b then insert us place uid else us) (c.insert.ensures.succeeds c.requires.room) ∙ put
+    let within : position ≤ length vs = search rules in
+    let put : insert us position uid ≡ put_in uid us = subst (λ (xs : List ℕ). insert xs position uid ≡ put_in uid xs) same (put_at uid vs position point within) in
+    c.insert.ensures.items ∙ ap (λ (b : Bool). if b then insert us position uid else us) (c.insert.ensures.succeeds c.requires.room) ∙ put

@@ -12,8 +12,8 @@ returns-in-Ok-clause-items c =
     let same = c.deref.ensures.value in
     let uid = c.args.uid in
     let out = searched_out uid vs c.binary_search.result (subst IsStrictlyIncreasing (sym same) c.requires.rising) c.binary_search.ensures.position in
-    let ok = subst (λ (r : Result ℕ ℕ). MatchResult r (λ place. remove vs place ≡ without uid vs) (λ place. vs ≡ without uid vs)) c.in-Ok.is out in
-    c.remove.ensures.items ∙ subst (λ (xs : List ℕ). remove xs c.in-Ok.place ≡ without uid xs) same ok
+    let ok = subst (λ (r : Result ℕ ℕ). MatchResult r (λ position. remove vs position ≡ without uid vs) (λ position. vs ≡ without uid vs)) c.in-Ok.is out in
+    c.remove.ensures.items ∙ subst (λ (xs : List ℕ). remove xs c.in-Ok.position ≡ without uid xs) same ok
 
 pub returns-in_default-clause-items : goal.returns-in_default-clause-items
 returns-in_default-clause-items c =
@@ -21,5 +21,5 @@ returns-in_default-clause-items c =
     let same = c.deref.ensures.value in
     let uid = c.args.uid in
     let out = searched_out uid vs c.binary_search.result (subst IsStrictlyIncreasing (sym same) c.requires.rising) c.binary_search.ensures.position in
-    let err = subst (λ (r : Result ℕ ℕ). MatchResult r (λ place. remove vs place ≡ without uid vs) (λ place. vs ≡ without uid vs)) c.in_default.is out in
+    let err = subst (λ (r : Result ℕ ℕ). MatchResult r (λ position. remove vs position ≡ without uid vs) (λ position. vs ≡ without uid vs)) c.in_default.is out in
     subst (λ (xs : List ℕ). xs ≡ without uid xs) same err

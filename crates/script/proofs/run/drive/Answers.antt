@@ -7,7 +7,7 @@ use Rattle.script.specs.Script.{script_of}
 use Rattle.script.specs.Leaving.{IsLeft, IsLeftWanting, WritesFirst, unread}
 use Rattle.script.specs.declared.run.RunFault.{RunFault}
 use Rattle.script.specs.declared.run.RunFault.TheVariants.{Write}
-use Rattle.script.proofs.RunLaws.{a_place_each, none_run, run_cut, run_more, run_over, run_stops, run_unbegun, turn_unread, turn_unwritten}
+use Rattle.script.proofs.RunLaws.{none_run, one_for_each, run_cut, run_more, run_over, run_stops, run_unbegun, turn_unread, turn_unwritten}
 use Rattle.script.proofs.Once.{wrote_all, wrote_beginning, wrote_first}
 use Rattle.script.proofs.run.drive.Goals as goal
 
@@ -24,9 +24,9 @@ loop-done-preserved g c = record {
   run = λ k input st e. (let r = c.loop-done.invariant.run k input st e in
       run_more k input c.loop-done.done c.loop-done.house c.take_turn.new.house c.loop-done.room.held.items c.take_turn.new.room.held.items (g.R.Read.remaining c.loop-done.reader) (g.R.Read.remaining c.take_turn.new.reader)
       (g.W.Sink.taken c.args.writer.now) (g.W.Sink.taken c.loop-done.writer) (g.W.Sink.taken c.take_turn.new.writer) c.loop-done.sent c.in-Ok-Some.count (empty_scene k)
-      r c.in-Ok-Some.field-0 c.in-Ok-Some.field-0-is (c.in-Ok-Some.ensures.tells k r.after r.rest r.stands (a_place_each k input _ _ _ _ _ _ _ _ r) r.remaining));
+      r c.in-Ok-Some.field-0 c.in-Ok-Some.field-0-is (c.in-Ok-Some.ensures.tells k r.after r.rest r.stands (one_for_each k input _ _ _ _ _ _ _ _ r) r.remaining));
   live = c.in-Ok-Some.ensures.live;
-  few = (let l = c.in-Ok-Some.ensures.places in let m = c.loop-done.invariant.few in omega (arith, l, m));
+  few = (let l = c.in-Ok-Some.ensures.as_many in let m = c.loop-done.invariant.few in omega (arith, l, m));
   small = omega arith;
 }
 
@@ -35,7 +35,7 @@ returns-in-Ok-None-clause-ok g c k input st e =
     let r = c.loop-done.invariant.run k input st e in
     run_over k input c.loop-done.done c.loop-done.house c.take_turn.new.house c.loop-done.room.held.items c.take_turn.new.room.held.items (g.R.Read.remaining c.loop-done.reader) (g.R.Read.remaining c.take_turn.new.reader)
     (g.W.Sink.taken c.args.writer.now) (g.W.Sink.taken c.loop-done.writer) (g.W.Sink.taken c.take_turn.new.writer) c.loop-done.sent
-    r c.in-Ok-None.field-0 c.in-Ok-None.field-0-is (c.in-Ok-None.ensures.tells k r.after r.rest r.stands (a_place_each k input _ _ _ _ _ _ _ _ r) r.remaining)
+    r c.in-Ok-None.field-0 c.in-Ok-None.field-0-is (c.in-Ok-None.ensures.tells k r.after r.rest r.stands (one_for_each k input _ _ _ _ _ _ _ _ r) r.remaining)
 
 same_sent : (a b : ℕ) → ◌≡◌ {A = Result (Unit {0}) RunFault} (Err (Write a)) (Err (Write b)) → a ≡ b
 same_sent a b e = cc
@@ -46,20 +46,20 @@ returns-in-Err-Write-clause-write g c sent same k input st e =
     subst (λ (n : ℕ). WritesFirst k (script_of input) n c.take_turn.new.house (g.W.Sink.taken c.args.writer.now) (g.W.Sink.taken c.take_turn.new.writer)) (same_sent _ _ same)
     (run_cut k input c.loop-done.done c.loop-done.house c.take_turn.new.house c.loop-done.room.held.items c.take_turn.new.room.held.items (g.R.Read.remaining c.loop-done.reader) (g.R.Read.remaining c.take_turn.new.reader)
     (g.W.Sink.taken c.args.writer.now) (g.W.Sink.taken c.loop-done.writer) (g.W.Sink.taken c.take_turn.new.writer) c.loop-done.sent c.in-Err-Write.some
-    r c.in-Err-Write.field-0 c.in-Err-Write.field-0-is (c.in-Err-Write.ensures.tells k r.after r.rest r.stands (a_place_each k input _ _ _ _ _ _ _ _ r) r.remaining))
+    r c.in-Err-Write.field-0 c.in-Err-Write.field-0-is (c.in-Err-Write.ensures.tells k r.after r.rest r.stands (one_for_each k input _ _ _ _ _ _ _ _ r) r.remaining))
 
 pub returns-in-Err-Read-clause-read : goal.returns-in-Err-Read-clause-read
 returns-in-Err-Read-clause-read g c same k input st e =
     let r = c.loop-done.invariant.run k input st e in
     let t = turn_unread k (c.loop-done.done + 1) c.loop-done.room.held.items r.after r.rest c.take_turn.new.house c.take_turn.new.room.held.items (g.R.Read.remaining c.take_turn.new.reader)
-    (g.W.Sink.taken c.loop-done.writer) (g.W.Sink.taken c.take_turn.new.writer) c.in-Err-Read.field-0 c.in-Err-Read.field-0-is (c.in-Err-Read.ensures.tells k r.after r.rest r.stands (a_place_each k input _ _ _ _ _ _ _ _ r) r.remaining) in
+    (g.W.Sink.taken c.loop-done.writer) (g.W.Sink.taken c.take_turn.new.writer) c.in-Err-Read.field-0 c.in-Err-Read.field-0-is (c.in-Err-Read.ensures.tells k r.after r.rest r.stands (one_for_each k input _ _ _ _ _ _ _ _ r) r.remaining) in
     run_stops k input _ _ _ _ _ _ _ _ (IsLeft k c.take_turn.new.house) r t.stands t.silent
 
 pub returns-in-Err-NoMemory-clause-no_memory : goal.returns-in-Err-NoMemory-clause-no_memory
 returns-in-Err-NoMemory-clause-no_memory g c same k input st e =
     let r = c.loop-done.invariant.run k input st e in
     let t = turn_unwritten k (c.loop-done.done + 1) c.loop-done.room.held.items r.after r.rest c.take_turn.new.house c.take_turn.new.room.held.items (g.R.Read.remaining c.take_turn.new.reader)
-    (g.W.Sink.taken c.loop-done.writer) (g.W.Sink.taken c.take_turn.new.writer) c.in-Err-NoMemory.field-0 c.in-Err-NoMemory.field-0-is (c.in-Err-NoMemory.ensures.tells k r.after r.rest r.stands (a_place_each k input _ _ _ _ _ _ _ _ r) r.remaining) in
+    (g.W.Sink.taken c.loop-done.writer) (g.W.Sink.taken c.take_turn.new.writer) c.in-Err-NoMemory.field-0 c.in-Err-NoMemory.field-0-is (c.in-Err-NoMemory.ensures.tells k r.after r.rest r.stands (one_for_each k input _ _ _ _ _ _ _ _ r) r.remaining) in
     run_stops k input _ _ _ _ _ _ _ _ (IsLeftWanting k c.take_turn.new.house) r t.left t.silent
 
 pub returns-clause-read : goal.returns-clause-read
@@ -73,7 +73,7 @@ returns-in-Ok-None-clause-once g c k input st e =
     wrote_all k (script_of input) c.take_turn.new.house (g.W.Sink.taken c.args.writer.now) (g.W.Sink.taken c.take_turn.new.writer)
     (run_over k input c.loop-done.done c.loop-done.house c.take_turn.new.house c.loop-done.room.held.items c.take_turn.new.room.held.items (g.R.Read.remaining c.loop-done.reader) (g.R.Read.remaining c.take_turn.new.reader)
     (g.W.Sink.taken c.args.writer.now) (g.W.Sink.taken c.loop-done.writer) (g.W.Sink.taken c.take_turn.new.writer) c.loop-done.sent
-    r c.in-Ok-None.field-0 c.in-Ok-None.field-0-is (c.in-Ok-None.ensures.tells k r.after r.rest r.stands (a_place_each k input _ _ _ _ _ _ _ _ r) r.remaining))
+    r c.in-Ok-None.field-0 c.in-Ok-None.field-0-is (c.in-Ok-None.ensures.tells k r.after r.rest r.stands (one_for_each k input _ _ _ _ _ _ _ _ r) r.remaining))
 
 pub returns-in-Err-Write-clause-once : goal.returns-in-Err-Write-clause-once
 returns-in-Err-Write-clause-once g c k input st e =
@@ -81,13 +81,13 @@ returns-in-Err-Write-clause-once g c k input st e =
     wrote_first k (script_of input) (c.loop-done.sent + c.in-Err-Write.some) c.take_turn.new.house (g.W.Sink.taken c.args.writer.now) (g.W.Sink.taken c.take_turn.new.writer)
     (run_cut k input c.loop-done.done c.loop-done.house c.take_turn.new.house c.loop-done.room.held.items c.take_turn.new.room.held.items (g.R.Read.remaining c.loop-done.reader) (g.R.Read.remaining c.take_turn.new.reader)
     (g.W.Sink.taken c.args.writer.now) (g.W.Sink.taken c.loop-done.writer) (g.W.Sink.taken c.take_turn.new.writer) c.loop-done.sent c.in-Err-Write.some
-    r c.in-Err-Write.field-0 c.in-Err-Write.field-0-is (c.in-Err-Write.ensures.tells k r.after r.rest r.stands (a_place_each k input _ _ _ _ _ _ _ _ r) r.remaining))
+    r c.in-Err-Write.field-0 c.in-Err-Write.field-0-is (c.in-Err-Write.ensures.tells k r.after r.rest r.stands (one_for_each k input _ _ _ _ _ _ _ _ r) r.remaining))
 
 pub returns-in-Err-Read-clause-once : goal.returns-in-Err-Read-clause-once
 returns-in-Err-Read-clause-once g c k input st e =
     let r = c.loop-done.invariant.run k input st e in
     let t = turn_unread k (c.loop-done.done + 1) c.loop-done.room.held.items r.after r.rest c.take_turn.new.house c.take_turn.new.room.held.items (g.R.Read.remaining c.take_turn.new.reader)
-    (g.W.Sink.taken c.loop-done.writer) (g.W.Sink.taken c.take_turn.new.writer) c.in-Err-Read.field-0 c.in-Err-Read.field-0-is (c.in-Err-Read.ensures.tells k r.after r.rest r.stands (a_place_each k input _ _ _ _ _ _ _ _ r) r.remaining) in
+    (g.W.Sink.taken c.loop-done.writer) (g.W.Sink.taken c.take_turn.new.writer) c.in-Err-Read.field-0 c.in-Err-Read.field-0-is (c.in-Err-Read.ensures.tells k r.after r.rest r.stands (one_for_each k input _ _ _ _ _ _ _ _ r) r.remaining) in
     wrote_beginning k (script_of input) (IsLeft k c.take_turn.new.house) (g.W.Sink.taken c.args.writer.now) (g.W.Sink.taken c.take_turn.new.writer)
     (run_stops k input _ _ _ _ _ _ _ _ (IsLeft k c.take_turn.new.house) r t.stands t.silent)
 
@@ -95,7 +95,7 @@ pub returns-in-Err-NoMemory-clause-once : goal.returns-in-Err-NoMemory-clause-on
 returns-in-Err-NoMemory-clause-once g c k input st e =
     let r = c.loop-done.invariant.run k input st e in
     let t = turn_unwritten k (c.loop-done.done + 1) c.loop-done.room.held.items r.after r.rest c.take_turn.new.house c.take_turn.new.room.held.items (g.R.Read.remaining c.take_turn.new.reader)
-    (g.W.Sink.taken c.loop-done.writer) (g.W.Sink.taken c.take_turn.new.writer) c.in-Err-NoMemory.field-0 c.in-Err-NoMemory.field-0-is (c.in-Err-NoMemory.ensures.tells k r.after r.rest r.stands (a_place_each k input _ _ _ _ _ _ _ _ r) r.remaining) in
+    (g.W.Sink.taken c.loop-done.writer) (g.W.Sink.taken c.take_turn.new.writer) c.in-Err-NoMemory.field-0 c.in-Err-NoMemory.field-0-is (c.in-Err-NoMemory.ensures.tells k r.after r.rest r.stands (one_for_each k input _ _ _ _ _ _ _ _ r) r.remaining) in
     wrote_beginning k (script_of input) (IsLeftWanting k c.take_turn.new.house) (g.W.Sink.taken c.args.writer.now) (g.W.Sink.taken c.take_turn.new.writer)
     (run_stops k input _ _ _ _ _ _ _ _ (IsLeftWanting k c.take_turn.new.house) r t.left t.silent)
 

@@ -1,5 +1,5 @@
 use Rattle.std.proofs.Common.{rules, ◌≡◌, ◌<◌, ◌+◌, ◌∙◌, length, arith}
-use Rattle.house_floor.proofs.Places.{first_at, more_at}
+use Rattle.house_floor.proofs.Positions.{first_at, more_at}
 use Rattle.serving_workers.specs.Leaving.{IsServed}
 use Rattle.serving_workers.specs.inner.Leaving.{HasHeard}
 use Rattle.serving_workers.proofs.closing.hear_all_out.Goals as goal

@@ -1,5 +1,5 @@
 use Rattle.std.proofs.Common.{◌≡◌, ◌+◌, length, arith}
-use Rattle.house_floor.proofs.Places.{more_at}
+use Rattle.house_floor.proofs.Positions.{more_at}
 use Rattle.serving_workers.specs.Leaving.{IsHired}
 use Rattle.serving_workers.proofs.threads.start_next.Goals as goal
 

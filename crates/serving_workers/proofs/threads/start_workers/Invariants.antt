@@ -3,8 +3,8 @@ use Rattle.house_floor.specs.Crew.{AllAt, IsPost}
 use Rattle.serving_workers.specs.Leaving.{IsHired}
 use Rattle.serving_workers.proofs.threads.start_workers.Given as goal
 
-abbrev pub invariant-loop-place : goal.invariant-loop-place
-invariant-loop-place g l =
-    AllAt (IsPost l.floor) l.place l.posts.items × (vec_len l.posts + l.place ≡ length l.floor.depot.channels.items)
-    × All (λ b. 0 < length b.input.items) l.buffers.items × (vec_len l.buffers + l.place ≡ length l.slots)
-    × AllAt (IsHired l.floor) 0 l.hired.items × (vec_len l.hired ≡ l.place) × (length l.floor.depot.channels.items ≤ vec_capacity l.hired)
+abbrev pub invariant-loop-position : goal.invariant-loop-position
+invariant-loop-position g l =
+    AllAt (IsPost l.floor) l.position l.posts.items × (vec_len l.posts + l.position ≡ length l.floor.depot.channels.items)
+    × All (λ b. 0 < length b.input.items) l.buffers.items × (vec_len l.buffers + l.position ≡ length l.slots)
+    × AllAt (IsHired l.floor) 0 l.hired.items × (vec_len l.hired ≡ l.position) × (length l.floor.depot.channels.items ≤ vec_capacity l.hired)

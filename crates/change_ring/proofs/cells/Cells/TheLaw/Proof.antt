@@ -18,7 +18,7 @@ use Rattle.change_ring.proofs.Sharing.{cells_lent_laws, Lends-cells}
 pub shares : (R A : RattleType) (g : Ghosts A.Denot) (L : Laws R) (K : Laws A) → statement R A g L K
 shares R A g L K =
     of_Lends (C.struct R A g) (C.the_codes R.Denot A.Denot R.coded A.coded (marker.the_row RawPtr).coded) (C.the_heap R A g) (C.the_lent R A g)
-    (λ d p. cells_lent_laws R L.shr_laws d.at d.places d.written) (copy_shared (marker.the_field RawPtr) (field_copy (marker.the_type RawPtr) tt), tt)
+    (λ d p. cells_lent_laws R L.shr_laws d.at d.capacity d.written) (copy_shared (marker.the_field RawPtr) (field_copy (marker.the_type RawPtr) tt), tt)
     (λ M 𝓤 𝓛 d p.
     let l = (C.the_row R A g).lives in
-    Lends-cells 𝓛 (g.dealloc_token d.alloc) R L l (Shares-less 𝓛 R R.lives l (Incl-trans (meet_⊑_left (R.lives ++ (A.lives ++ [])) _) (meet_⊑_left R.lives (A.lives ++ []))) (L.shares 𝓛)) d.at d.places d.written)
+    Lends-cells 𝓛 (g.dealloc_token d.alloc) R L l (Shares-less 𝓛 R R.lives l (Incl-trans (meet_⊑_left (R.lives ++ (A.lives ++ [])) _) (meet_⊑_left R.lives (A.lives ++ []))) (L.shares 𝓛)) d.at d.capacity d.written)

@@ -1,4 +1,4 @@
--- `slices` shows the items that the places hold, in two runs. Assumes `Logic`.
+-- `slices` shows the items that the cells hold, in two runs. Assumes `Logic`.
 use mathlib.Core.Path.{◌≡◌, refl, sym, ap, subst, ◌∙◌}
 use Prim.Native.Nat.{ℕ, ◌+◌, ◌-◌, ◌*◌, ◌<◌, ◌≤◌, ◌^◌}
 use native.Mathlib.Omega.{arith}
@@ -58,7 +58,7 @@ slices_spec 𝓤 𝓛 𝓜 𝓡 wired X W LX LW g d dd met md =
     (#self (args E)) fn (code.unfolded 𝓤 H 𝓜 𝓡 wired (X, (W, tt)) d dd) (λ z are.
     let κ : Lft = z.0.0.0 in let q : Share = z.0.1.0 in let rb = z.0.3.0.ref_ptr.0 in let ro = z.0.3.0.ref_ptr.1 in let d = z.0.3.0.now in
     let base = z.0.3.1.0 in let used = z.0.3.1.1.0 in let i = z.0.3.1.1.1.0 in
-    let n = d.places in let xs : List (el_x E) = d.written in let low : List (el_x E) = take i xs in let high : List (el_x E) = drop i xs in
+    let n = d.capacity in let xs : List (el_x E) = d.written in let low : List (el_x E) = take i xs in let high : List (el_x E) = drop i xs in
     let b = block_of d.at in let o = count_of d.at in let s = sz E in let at : ℕ × ℕ = (b, i * s + o) in
     let Asks : Type 0 = (base.ptr ≡ d.at) × (length xs ≡ used) × (used ≤ n) × (i ≤ used) in let Shown : Type 0 = (high ≡ high) × (low ≡ low) in
     let others : Item 𝓤 = ‵ (flft z.0.0.1.0 z.0.1.1.0) ⊛ ‵ (flft z.0.0.1.1.0 z.0.1.1.1.0) ⊛ ‵ ftrue in

@@ -1,4 +1,4 @@
--- `write` puts an item into a place that was written, or into the first that wasn't. Assumes `Logic`.
+-- `write` puts an item into a cell that was written, or into the first that wasn't. Assumes `Logic`.
 use mathlib.Core.Path.{◌≡◌, refl, sym, ap, subst, ◌∙◌}
 use Prim.Native.Nat.{ℕ, ◌+◌, ◌*◌, ◌<◌, ◌≤◌, ◌^◌}
 use native.Mathlib.Omega.{arith}
@@ -39,7 +39,7 @@ use Rattle.std_alloc.proofs.VecSteps.El.{El, R, args, el_lawful, elτ, sz}
 use Rattle.std_alloc.proofs.VecSteps.Rows.{el_in}
 use Rattle.std_alloc.proofs.VecSteps.Shapes.{after}
 use Rattle.change_ring.specs.inner.Ownership.{cells_own}
-use Rattle.change_ring.proofs.Memory.{Cr, Bs, alone, items_at, room_past, with_place, Fills, place_out, block_had, block_made}
+use Rattle.change_ring.proofs.Memory.{Cr, Bs, alone, items_at, room_past, with_cell, Fills, cell_out, block_had, block_made}
 use Rattle.change_ring.proofs.cells.Base.TheLaws as base-laws
 use Rattle.change_ring.specs.contracts.cells.Cells.write as F
 use Rattle.change_ring.specs.contracts.cells.Cells.write.Key.{name as #self}
@@ -58,7 +58,7 @@ write_spec 𝓤 𝓛 𝓜 𝓡 wired X W LX LW g d dd met md =
     (#self (args E)) fn (code.unfolded 𝓤 H 𝓜 𝓡 wired (X, (W, tt)) d dd) (λ z are.
     let κ : Lft = z.0.0.0 in let q : Share = z.0.1.0 in let rb = z.0.3.0.ref_ptr.0 in let ro = z.0.3.0.ref_ptr.1 in let d = z.0.3.0.now in
     let base = z.0.3.1.0 in let index = z.0.3.1.1.0 in let item = z.0.3.1.1.1.0 in
-    let n = d.places in let xs = d.written in let ys = with_place xs index item in let new : (Cr E).Denot = record d { written = ys } in
+    let n = d.capacity in let xs = d.written in let ys = with_cell xs index item in let new : (Cr E).Denot = record d { written = ys } in
     let Asks : Type 0 = (base.ptr ≡ d.at) × (index ≤ length xs) × (index < n) in let Done : Type 0 = new ≡ new in
     let others : Item 𝓤 = ‵ (flft z.0.0.1.0 z.0.1.1.0) ⊛ ‵ (flft z.0.0.1.1.0 z.0.1.1.1.0) ⊛ ‵ ftrue in
     let Post : Val → SProp 𝓤 = (walk_of 𝓛 En hs c).post z in
@@ -77,7 +77,7 @@ write_spec 𝓤 𝓛 𝓜 𝓡 wired X W LX LW g d dd met md =
     let env' : Env 𝓤 H = env fn.locals l in
     opens ! tt (Cr E) {h = d} rb ro (λ vs. move ! (1 ∷ []) $ fsplit ! $ move ! (1 ∷ []) $ block_had E ! t d.at n xs (λ b o e small.
     let far : index * s < 2 ^ 64 = omega (arith, times_below index n s (2 ^ 63) (omega (arith, asked.2)) small) in
-    use2 𝓛 (‵ (froom (elτ E) b (index * s + o)) ⊛ raw (Fills E 𝓛 n b o xs index item ys)) (place_out E 𝓛 n b o xs index item asked.1 asked.2) $ split ! $
+    use2 𝓛 (‵ (froom (elτ E) b (index * s + o)) ⊛ raw (Fills E 𝓛 n b o xs index item ys)) (cell_out E 𝓛 n b o xs index item asked.1 asked.2) $ split ! $
     take_at ! 2 $ rewrite ! 0 (λ (p : Ptr). ‵ (fat full_share (layout (Bs E)) (l 2) 0 (word p))) (asked.0 ∙ e) refl $ give_at ! 2 $ first ! $ blocks ! $
     sets ! (is ! (bin ! (get ! refl) (size_word !) (record { fits = subst (λ (k : ℕ). k < 2 ^ 64) (sym (uncapped index s far)) far })) (ap (vint w64) (uncapped index s far))) refl (tt, record { fits = far }) $
     sets ! (bin ! (get_in ! (fld ! refl (stop !)) (sub ! 0 refl (whole !))) (get ! refl) tt) refl (tt, tt) $

@@ -4,7 +4,7 @@ use Rattle.std.proofs.lemmas.Fn.{always_returns_same}
 use Rattle.std.proofs.lemmas.List.Sorted.{IsPartitionedBy-ltb, IsNonDecreasingBy-from_default}
 use Rattle.cursor_set.specs.inner.Leaving.{below}
 use Rattle.cursor_set.proofs.LeavingLaws.{below_all, below_point}
-use Rattle.cursor_set.proofs.Places.{not_falling}
+use Rattle.cursor_set.proofs.Positions.{not_falling}
 use Rattle.cursor_set.proofs.leaving.Leaving.below.Goals as goal
 
 pub returns-then-last-index : goal.returns-then-last-index

@@ -2,9 +2,9 @@ use Rattle.std.proofs.Common.{◌≡◌, ◌<◌, ◌-◌, ◌+◌, ◌∙◌, �
 use Rattle.std.specs.Prelude.{remove}
 use Rattle.std.specs.List.Sorted.{IsStrictlyIncreasing}
 use Rattle.cursor_set.specs.Leaving.{counted, AreIn}
-use Rattle.cursor_set.specs.Lines.{place}
+use Rattle.cursor_set.specs.Lines.{position}
 use Rattle.cursor_set.proofs.LeavingLaws.{IsFound, in_view, found}
-use Rattle.cursor_set.proofs.Places.{remove_place}
+use Rattle.cursor_set.proofs.Positions.{remove_position}
 use Rattle.cursor_set.proofs.leaving.Leaving.take_out.Goals as goal
 
 -- where the search was in a slice that is the view
@@ -36,10 +36,10 @@ pub returns-clause-counted : goal.returns-clause-counted
 returns-clause-counted c =
     let f = found_in c.args.self.now.gone.items c.args.view.now.items c.deref.result.now c.args.uid c.index_near-index.result c.deref.ensures.value c.requires.gone c.requires.rising c.requires.there c.index_near-index.ensures.within c.index_near-index.ensures.there in
     let left = counted c.args.self.now.gone.items c.args.view.now.items in
-    let at : c.index_near-index.result - c.below-before.result ≡ place c.args.uid left - 1 = omega (arith, f.place, c.below-before.ensures) in
-    c.take_out_at.ensures.counted ∙ ap (remove left) at ∙ remove_place c.args.uid left
+    let at : c.index_near-index.result - c.below-before.result ≡ position c.args.uid left - 1 = omega (arith, f.position, c.below-before.ensures) in
+    c.take_out_at.ensures.counted ∙ ap (remove left) at ∙ remove_position c.args.uid left
 
-pub returns-clause-place : goal.returns-clause-place
-returns-clause-place c =
+pub returns-clause-position : goal.returns-clause-position
+returns-clause-position c =
     let f = found_in c.args.self.now.gone.items c.args.view.now.items c.deref.result.now c.args.uid c.index_near-index.result c.deref.ensures.value c.requires.gone c.requires.rising c.requires.there c.index_near-index.ensures.within c.index_near-index.ensures.there in
-    ap (λ (n : ℕ). c.index_near-index.result - n + 1) c.below-before.ensures ∙ f.place
+    ap (λ (n : ℕ). c.index_near-index.result - n + 1) c.below-before.ensures ∙ f.position

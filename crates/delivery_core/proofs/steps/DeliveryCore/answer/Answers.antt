@@ -2,14 +2,14 @@ use Rattle.std.proofs.Common.{◌≡◌, ◌∙◌, sym, refl, ap, subst, arith,
 use Rattle.world.specs.declared.hand.Hand.TheVariants.{Empty}
 use Rattle.delivery_core.specs.DeliveryCore.{DeliveryCore}
 use Rattle.delivery_core.specs.Stands.{StandsFor}
-use Rattle.delivery_core.proofs.Takes.{reply_place, reply_live, answer_follows}
+use Rattle.delivery_core.proofs.Takes.{reply_within, reply_live, answer_follows}
 use Rattle.delivery_core.proofs.steps.DeliveryCore.answer.Goals.{then-seat-len-via-then-seat-len, then-seat-len-via-else-seat-len+then-not-is_live}
 use Rattle.delivery_core.proofs.steps.DeliveryCore.answer.Goals as goal
 
 pub returns-then-seat-len-clause-changes_nothing : goal.returns-then-seat-len-clause-changes_nothing
 returns-then-seat-len-clause-changes_nothing c e k w v S step =
     let S2 = subst (λ (h : DeliveryCore). StandsFor k h w) (sym c.self.view_is) S in
-    let there = reply_place k w _ c.from-at.result c.in-Done.noted S2 (omega (arith, c.len.ensures, c.if-at-len.false, c.self.invariant.0)) (rw c.in-Done.is at c.index.ensures) in
+    let there = reply_within k w _ c.from-at.result c.in-Done.noted S2 (omega (arith, c.len.ensures, c.if-at-len.false, c.self.invariant.0)) (rw c.in-Done.is at c.index.ensures) in
     elim c.then-seat-len.branch [
       | then-seat-len-via-then-seat-len b ↦ absurd (omega (arith, there, c.len-2.ensures, b.if-seat-len.true, c.from-seat.ensures))
       | then-seat-len-via-else-seat-len+then-not-is_live b ↦ (

@@ -30,13 +30,13 @@ returns-in_default-caller_goes_on-clause-no_memory c k s st =
     (subst (λ (n : ℕ). StandsForConnection x n next heard c.in-Ok.caller (more_waits (greeted x n c.index-serial.result.now) c.args.piece.now)) (sym e1)
     (c.in-Ok.ensures x next heard (a ∙ sym c.deref.ensures.value) b
     (subst (λ (n : ℕ). AtLeast next (record { seat = n; serial = c.index-serial.result.now; message = 0; recipient = 0 })) e1 (subst (λ (n : ℕ). AtLeast next (record { seat = seat; serial = n; message = 0; recipient = 0 })) (sym serial) l)))) in
-    let r = welcomed k h s c.args.connection seat c.args.piece.now i.directory c.caller_goes_on.new.place c.in-Ok.caller false c.args.out.now.items c.caller_goes_on.new.out.items
+    let r = welcomed k h s c.args.connection seat c.args.piece.now i.directory c.caller_goes_on.new.occupant c.in-Ok.caller false c.args.out.now.items c.caller_goes_on.new.out.items
     st1 number refl lt none more opened c.in_default-caller_goes_on.ensures.err in
     inl (record {
       after = r.0;
       printed = r.1;
       plays = subst (λ (n : ℕ). BytesPlay k false s n c.args.piece.now r.0 r.1) e1 r.2;
-      stands = subst (λ (n : ℕ). StandsFor k (record { core = i.desk.core; callers = set i.callers.items seat c.caller_goes_on.new.place; serials = set i.serials.items seat (n + 1); visitors = i.visitors.items; entered = i.entered.items; directory = i.directory; host = i.host.items; max_message = i.max_message }) r.0) (sym serial) r.3;
+      stands = subst (λ (n : ℕ). StandsFor k (record { core = i.desk.core; callers = set i.callers.items seat c.caller_goes_on.new.occupant; serials = set i.serials.items seat (n + 1); visitors = i.visitors.items; entered = i.entered.items; directory = i.directory; host = i.host.items; max_message = i.max_message }) r.0) (sym serial) r.3;
       out = r.4;
     })
 
@@ -59,12 +59,12 @@ returns-clause-follows c k s st =
     (subst (λ (n : ℕ). StandsForConnection x n next heard c.in-Ok.caller (more_waits (greeted x n c.index-serial.result.now) c.args.piece.now)) (sym e1)
     (c.in-Ok.ensures x next heard (a ∙ sym c.deref.ensures.value) b
     (subst (λ (n : ℕ). AtLeast next (record { seat = n; serial = c.index-serial.result.now; message = 0; recipient = 0 })) e1 (subst (λ (n : ℕ). AtLeast next (record { seat = seat; serial = n; message = 0; recipient = 0 })) (sym serial) l)))) in
-    let r = welcomed k h s c.args.connection seat c.args.piece.now i.directory c.caller_goes_on.new.place c.in-Ok.caller true c.args.out.now.items c.caller_goes_on.new.out.items
+    let r = welcomed k h s c.args.connection seat c.args.piece.now i.directory c.caller_goes_on.new.occupant c.in-Ok.caller true c.args.out.now.items c.caller_goes_on.new.out.items
     st1 number refl lt none more opened c.in-Ok-caller_goes_on.ensures.ok in
     record {
       after = r.0;
       printed = r.1;
       plays = subst (λ (n : ℕ). BytesPlay k true s n c.args.piece.now r.0 r.1) e1 r.2;
-      stands = subst (λ (n : ℕ). StandsFor k (record { core = i.desk.core; callers = set i.callers.items seat c.caller_goes_on.new.place; serials = set i.serials.items seat (n + 1); visitors = i.visitors.items; entered = i.entered.items; directory = i.directory; host = i.host.items; max_message = i.max_message }) r.0) (sym serial) r.3;
+      stands = subst (λ (n : ℕ). StandsFor k (record { core = i.desk.core; callers = set i.callers.items seat c.caller_goes_on.new.occupant; serials = set i.serials.items seat (n + 1); visitors = i.visitors.items; entered = i.entered.items; directory = i.directory; host = i.host.items; max_message = i.max_message }) r.0) (sym serial) r.3;
       out = r.4;
     }

@@ -10,4 +10,4 @@ returns-then-by_uid-clause-rising c = λ h.
     subst IsStrictlyIncreasing (sym c.in_ok-uids_in.ensures) (IsStrictlyIncreasing-filter (is_named c.deref.result.now (last_uid c.args.view.now)) c.args.view.now h)
 
 pub returns-clause-rising : goal.returns-clause-rising
-returns-clause-rising c = λ h. named_rise _ c.args.view.now _ c.in_ok-places_in.ensures h
+returns-clause-rising c = λ h. named_rise _ c.args.view.now _ c.in_ok-positions_in.ensures h

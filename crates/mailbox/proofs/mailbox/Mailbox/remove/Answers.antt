@@ -2,7 +2,7 @@ use Rattle.std.proofs.Common.{◌≡◌, ◌+◌, ℕ, List, [], ◌++◌, lengt
 use Rattle.change_ring.specs.declared.change.Change.{Change}
 use Rattle.change_ring.specs.Logged.{removals}
 use Rattle.change_ring.specs.Window.{total}
-use Rattle.cursor_set.proofs.Places.{Rises-from}
+use Rattle.cursor_set.proofs.Positions.{Rises-from}
 use Rattle.mailbox.specs.inner.Choices.{passes}
 use Rattle.mailbox.specs.Events.{Moves}
 use Rattle.mailbox.specs.inner.Events.{GoesOn}

@@ -7,7 +7,7 @@ use Rattle.change_ring.specs.declared.change.Flags.{Flags}
 use Rattle.change_ring.specs.declared.flag_op.FlagOp.{FlagOp}
 use Rattle.change_ring.specs.Logged.{flags_after, flags_differ, flags_logged}
 use Rattle.change_ring.specs.Window.{total}
-use Rattle.cursor_set.proofs.Places.{Rises-from}
+use Rattle.cursor_set.proofs.Positions.{Rises-from}
 use Rattle.mailbox.specs.Events.{Moves, was_logged}
 use Rattle.mailbox.specs.inner.Letters.{reflagged}
 use Rattle.mailbox.specs.Mailbox.{Mailbox, Message, flagged, message_with, row_of, rows, uids_of}

@@ -1,6 +1,6 @@
 use Rattle.std.proofs.Common.{rules, of_calls, ◌≡◌, ℕ, List, filter, not, ap, sym, ◌∙◌, length, arith}
 use Rattle.std.proofs.lemmas.Fn.{filter_same}
-use Rattle.cursor_set.proofs.Places.{Rises-from}
+use Rattle.cursor_set.proofs.Positions.{Rises-from}
 use Rattle.mailbox.specs.inner.Choices.{passes}
 use Rattle.mailbox.specs.Mailbox.{Message, remaining, uids_of}
 use Rattle.mailbox.specs.inner.Marks.{marked_of, without_each}

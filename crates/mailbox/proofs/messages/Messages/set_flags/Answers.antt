@@ -1,7 +1,7 @@
 use Rattle.std.proofs.Common.{◌≡◌, ap, sym, subst, ◌∙◌, length, arith, Bool, List}
 use Rattle.std.specs.List.Sorted.{IsStrictlyIncreasing}
 use Rattle.change_ring.specs.declared.change.Flags.{Flags}
-use Rattle.cursor_set.proofs.Places.{Rises-from, Rises-to}
+use Rattle.cursor_set.proofs.Positions.{Rises-from, Rises-to}
 use Rattle.mailbox.specs.Mailbox.{Message, message_with, uids_of}
 use Rattle.mailbox.specs.inner.Marks.{AreMarked, marked_of, remarked}
 use Rattle.mailbox.proofs.LetterLaws.{flags_of_none, flags_of_one, reflagged_none}

@@ -5,16 +5,16 @@ use Rattle.submission.specs.Copies.{copies, due}
 use Rattle.submission.specs.Verdicts.{Verdicts}
 use Rattle.submission.proofs.Copies.{drop-copies, no-key, no-mailbox}
 use Rattle.submission.proofs.verdicts.Verdicts.next_copy.Goals as goal
-use Rattle.submission.proofs.verdicts.Verdicts.next_copy.Goals.{then-place-message-via-then-place-message, then-place-message-via-else-place-message+then-place-message-2}
+use Rattle.submission.proofs.verdicts.Verdicts.next_copy.Goals.{then-position-message-via-then-position-message, then-position-message-via-else-position-message+then-position-message-2}
 
-pub returns-then-place-message-clause-none : goal.returns-then-place-message-clause-none
-returns-then-place-message-clause-none c e =
+pub returns-then-position-message-clause-none : goal.returns-then-position-message-clause-none
+returns-then-position-message-clause-none c e =
     let m = c.args.message in
     let n = c.self.inside.slots.items in
     subst (λ (v : Verdicts). due (copies m.keys.now m.mailboxes.now m.text.now m.flags) v.slots ≡ []) c.self.view_is
-    (elim c.then-place-message.branch [
-      | then-place-message-via-then-place-message w ↦ no-key (length n) m.keys.now m.mailboxes.now m.text.now m.flags (omega arith)
-      | then-place-message-via-else-place-message+then-place-message-2 w ↦ no-mailbox (length n) m.keys.now m.mailboxes.now m.text.now m.flags (omega arith)
+    (elim c.then-position-message.branch [
+      | then-position-message-via-then-position-message w ↦ no-key (length n) m.keys.now m.mailboxes.now m.text.now m.flags (omega arith)
+      | then-position-message-via-else-position-message+then-position-message-2 w ↦ no-mailbox (length n) m.keys.now m.mailboxes.now m.text.now m.flags (omega arith)
     ])
 
 pub returns-clause-some : goal.returns-clause-some
@@ -22,9 +22,9 @@ returns-clause-some c =
     let m = c.args.message in
     let n = length c.self.inside.slots.items in
     let k : CopyKey = record { seat = 0; serial = 0; message = 0; recipient = 0 } in
-    let placed = c.len-place.ensures ∙ c.self.inside.slots.ok.0 in (
+    let even = c.len-position.ensures ∙ c.self.inside.slots.ok.0 in (
       drop (suc n) (copies m.keys.now m.mailboxes.now m.text.now m.flags),
-      subst (λ (v : Verdicts). due (copies m.keys.now m.mailboxes.now m.text.now m.flags) v.slots ≡ record { key = slice_index_or m.keys.now c.len-place.result k; mailbox = slice_index_or m.mailboxes.now c.len-place.result 0; text = m.text.now; flags = m.flags } ∷ drop (suc n) (copies m.keys.now m.mailboxes.now m.text.now m.flags)) c.self.view_is
-          (subst (λ (i : ℕ). drop n (copies m.keys.now m.mailboxes.now m.text.now m.flags) ≡ record { key = slice_index_or m.keys.now i k; mailbox = slice_index_or m.mailboxes.now i 0; text = m.text.now; flags = m.flags } ∷ drop (suc n) (copies m.keys.now m.mailboxes.now m.text.now m.flags)) (sym placed)
-          (drop-copies n m.keys.now m.mailboxes.now m.text.now m.flags k 0 (omega (arith, placed)) (omega (arith, placed)))),
+      subst (λ (v : Verdicts). due (copies m.keys.now m.mailboxes.now m.text.now m.flags) v.slots ≡ record { key = slice_index_or m.keys.now c.len-position.result k; mailbox = slice_index_or m.mailboxes.now c.len-position.result 0; text = m.text.now; flags = m.flags } ∷ drop (suc n) (copies m.keys.now m.mailboxes.now m.text.now m.flags)) c.self.view_is
+          (subst (λ (i : ℕ). drop n (copies m.keys.now m.mailboxes.now m.text.now m.flags) ≡ record { key = slice_index_or m.keys.now i k; mailbox = slice_index_or m.mailboxes.now i 0; text = m.text.now; flags = m.flags } ∷ drop (suc n) (copies m.keys.now m.mailboxes.now m.text.now m.flags)) (sym even)
+          (drop-copies n m.keys.now m.mailboxes.now m.text.now m.flags k 0 (omega (arith, even)) (omega (arith, even)))),
     )

@@ -1,0 +1,223 @@
+//! The berth where one client at a time is served, by two threads: one reads and answers, and one sleeps
+//! until a bell wakes it and shows what there is. What they do in one hold of the berth's lock is one
+//! call of the visit, and no clause says more; who starts the threads stands above.
+
+ghost use Rattle.std.specs.Prelude.{◌≡◌, false, true, IfErr};
+ghost use Rattle.imap_stream.specs.Visits.{is_over};
+ghost use Rattle.imap_stream.specs.inner.Visits.{Looks};
+
+use crate::visit::Visit;
+use courier::Courier;
+use imap_session::After;
+use line_io::Sink;
+use pace::Gate;
+use session_bells::Sleeper;
+use std::alloc::Global;
+use std::io::{ErrorKind, Read};
+use std::sync::atomic::{AtomicBool, Ordering};
+use std::sync::{Arc, Mutex, Wait};
+
+/// What ends the read of the thread that serves a berth's client.
+pub trait Hush {
+    /// The client at hand is heard no more: a read that waits for it finds the end. What was said to it
+    /// is sent still.
+    fn hush<R: Wait>(&self, rt: &R);
+}
+
+// The visit has a look, unless it is over. Answers whether that ended it: its reader may wait then for
+// bytes that nobody would answer.
+fn ends_by_a_look<R: Wait, G: Gate, W: Sink>(visit: &mut Visit<'_, R, G, W>) -> bool
+    ensures over { is_over visit.old ≡ true → (result ≡ false) × (visit.new ≡ visit.old) }
+    ensures ends { is_over visit.old ≡ false → result ≡ is_over visit.new }
+    ensures looks { is_over visit.old ≡ false → Looks visit.old visit.new }
+{
+    if visit.is_over() {
+        return false;
+    }
+    // Where memory was refused the session still idles, and the next bell tries again.
+    let _ = visit.look();
+    visit.is_over()
+}
+
+/// Where one client at a time is served. Its visit stands under a lock, which is held while it is heard
+/// and while what it said is sent, and not while its bytes are awaited.
+#[derive(Drop)]
+pub struct Berth<'a, R: Wait, G: Gate, W: Sink> {
+    visit: Mutex<Option<Visit<'a, R, G, W>>>,
+    // Whether the session idles, for those who log changes. It is set before the session's first turn.
+    idles: Arc<AtomicBool>,
+}
+
+impl<'a, R: Wait, G: Gate, W: Sink + Drop> Berth<'a, R, G, W> {
+    /// A berth with no client. `idles` is the mark of its bell, which wakes the berth's watch while it
+    /// is set.
+    pub fn new(idles: Arc<AtomicBool>) -> Berth<'a, R, G, W> {
+        Berth {
+            visit: Mutex::new(None),
+            idles,
+        }
+    }
+
+    /// Reads what a client sends and answers it, until it goes or reading fails, its session ends, its
+    /// output fails, memory is refused, no verdict comes on a message that it submitted, or `stop` is
+    /// set: then it is dismissed. The messages that it submits are given to `courier`, whose verdicts are
+    /// awaited while the visit is held. At the end its session leaves its mailbox, and the berth has no
+    /// client. `stop` is looked at before each read and behind it, so who sets it has to end a read that
+    /// waits, as by shutting the stream down. `buffer` is what a read may fill, and is not empty.
+    ///
+    /// Errors: the visit is given back where the berth has a client, and nothing was done.
+    pub fn attend<I: Read, C: Courier>(
+        &self,
+        rt: &R,
+        alloc: Global,
+        visit: Visit<'a, R, G, W>,
+        courier: &mut C,
+        input: &mut I,
+        buffer: &mut [u8],
+        stop: &AtomicBool,
+    ) -> Result<(), Visit<'a, R, G, W>>
+        requires ready { C.ready courier.old }
+        ensures back { IfErr result (λ back. (back ≡ visit.entry) × (courier.new ≡ courier.old)) }
+        ensures ready { C.ready courier.new }
+        ensures kept { (first : C) → C.kept first courier.old → C.kept first courier.new }
+    {
+        if let Err(back) = self.admit(rt, visit) {
+            return Err(back);
+        }
+        self.serve(rt, alloc, courier, input, buffer, stop);
+        self.vacate(rt);
+        Ok(())
+    }
+
+    /// Sleeps until the bell is rung, and shows the client what there is, where there is one and its
+    /// session idles; so again and again, until it is rung and `over` is set.
+    ///
+    /// Where that ends the visit, as it does where the client missed too many changes or the output
+    /// fails, `line` is hushed: the thread that attends may wait for bytes that nobody would answer.
+    /// The visit stands in the berth meanwhile, so what `line` has at hand then is to be that client's:
+    /// it comes to hand before `attend`, and another one's only behind that.
+    pub fn keep_watch<H: Hush>(&self, rt: &R, bell: &Sleeper, over: &AtomicBool, line: &H) {
+        for _ in rt.forever() {
+            bell.sleep(rt);
+            if over.load(Ordering::SeqCst) {
+                return;
+            }
+            self.look(rt, line);
+        }
+        unreachable!()
+    }
+
+    // Gives the visit back where the berth has a client.
+    fn admit(&self, rt: &R, visit: Visit<'a, R, G, W>) -> Result<(), Visit<'a, R, G, W>>
+        ensures { IfErr result (λ back. back ≡ visit.entry) }
+    {
+        let mut held = self.visit.lock(rt);
+        if held.is_some() {
+            return Err(visit);
+        }
+        *held = Some(visit);
+        Ok(())
+    }
+
+    fn serve<I: Read, C: Courier>(
+        &self,
+        rt: &R,
+        alloc: Global,
+        courier: &mut C,
+        input: &mut I,
+        buffer: &mut [u8],
+        stop: &AtomicBool,
+    )
+        requires ready { C.ready courier.old }
+        ensures ready { C.ready courier.new }
+        ensures kept { (first : C) → C.kept first courier.old → C.kept first courier.new }
+    {
+        for _ in rt.forever() {
+            if self.is_stopped(rt, stop)
+                || !self.serve_read(rt, alloc, courier, input, buffer, stop)
+            {
+                return;
+            }
+        }
+        unreachable!()
+    }
+
+    // Reads once, and hears what came: whether the client is to be read again.
+    fn serve_read<I: Read, C: Courier>(
+        &self,
+        rt: &R,
+        alloc: Global,
+        courier: &mut C,
+        input: &mut I,
+        buffer: &mut [u8],
+        stop: &AtomicBool,
+    ) -> bool
+        requires ready { C.ready courier.old }
+        ensures ready { C.ready courier.new }
+        ensures kept { (first : C) → C.kept first courier.old → C.kept first courier.new }
+    {
+        let read = input.read(buffer);
+        if self.is_stopped(rt, stop) {
+            return false;
+        }
+        match read {
+            Ok(0) => false,
+            Ok(count) => self.hear(rt, alloc, courier, &buffer[..count]),
+            Err(fault) => fault.kind() == ErrorKind::Interrupted,
+        }
+    }
+
+    // Whether the house stops: then the client was dismissed.
+    fn is_stopped(&self, rt: &R, stop: &AtomicBool) -> bool {
+        if !stop.load(Ordering::SeqCst) {
+            return false;
+        }
+        let mut held = self.visit.lock(rt);
+        if let Some(visit) = &mut *held {
+            // A client that can't be told is gone.
+            let _ = visit.dismiss();
+        }
+        true
+    }
+
+    // Hears the client: whether it may send more.
+    fn hear<C: Courier>(&self, rt: &R, alloc: Global, courier: &mut C, piece: &[u8]) -> bool
+        requires ready { C.ready courier.old }
+        ensures ready { C.ready courier.new }
+        ensures kept { (first : C) → C.kept first courier.old → C.kept first courier.new }
+    {
+        let mut held = self.visit.lock(rt);
+        let Some(visit) = &mut *held else {
+            return false;
+        };
+        match visit.hear(alloc, courier, piece, &*self.idles) {
+            Ok(after) => !matches!(after, After::Bye | After::Submit),
+            Err(_) => false,
+        }
+    }
+
+    // Shows the client what there is, where it idles, and hushes its line where that ends the visit.
+    fn look<H: Hush>(&self, rt: &R, line: &H) {
+        let mut held = self.visit.lock(rt);
+        let Some(visit) = &mut *held else {
+            return;
+        };
+        let is_ended = ends_by_a_look(visit);
+        self.idles
+            .store(visit.awaited() == After::Idle, Ordering::SeqCst);
+        if is_ended {
+            // The lock is still held, and only behind it the visit is taken out and the next client
+            // comes to hand: so this client's line is hushed, and never a later one's.
+            line.hush(rt);
+        }
+    }
+
+    // The client's session leaves its mailbox, and the berth has no client.
+    fn vacate(&self, rt: &R) {
+        let mut held = self.visit.lock(rt);
+        self.idles.store(false, Ordering::SeqCst);
+        if let Some(mut visit) = held.take() {
+            visit.leave();
+        }
+    }
+}

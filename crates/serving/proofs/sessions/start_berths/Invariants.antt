@@ -1,0 +1,12 @@
+use Rattle.std.proofs.Common.{◌≡◌, ◌≤◌, ◌+◌, length, vec_len, vec_capacity}
+use Rattle.house_floor.specs.Crew.{AllAt, IsPost}
+use Rattle.serving_workers.specs.Leaving.{IsHired}
+use Rattle.serving.proofs.sessions.start_berths.Given as goal
+
+abbrev pub invariant-loop-berth : goal.invariant-loop-berth
+invariant-loop-berth g l =
+    AllAt (IsPost l.floor) (vec_len l.hired) l.posts.items × (vec_len l.posts + l.berth ≡ length l.visits)
+    × (vec_len l.hired + vec_len l.posts ≡ length l.floor.depot.channels.items)
+    × (vec_len l.furnishings.berths + l.berth ≡ length l.visits) × (vec_len l.furnishings.bells + l.berth ≡ length l.visits)
+    × (vec_len l.furnishings.buffers + l.berth ≡ length l.visits) × AllAt (IsHired l.floor) 0 l.hired.items
+    × (length l.floor.depot.channels.items ≤ vec_capacity l.hired)

@@ -1,0 +1,71 @@
+//! The berths of a server: for each user so many sessions at a time. Who serves them stands in `sessions`.
+
+ghost use Rattle.std.specs.Prelude.{ℕ, ◌≡◌, ◌≢◌, ◌≤◌, ◌+◌, ◌*◌, All, IfOk, List, None, OnOk, is_none, length, vec_len};
+ghost use Rattle.envelope.specs.Directory.{Home};
+ghost use Rattle.house_floor.specs.Users.{user_numbered};
+ghost use Rattle.serving.specs.Announcing.{users_of};
+
+use envelope::Directory;
+use house_floor::{Visit, inbox_numbered};
+use std::alloc::{AllocError, Global};
+
+/// The most users of a house, which has 64 mailboxes at most.
+const MOST_USERS: u8 = 64;
+
+// Whether there is no user of this number.
+fn is_nobody(directory: &Directory, user: u8) -> bool
+    ensures { result ≡ is_none (user_numbered user directory.now.homes) }
+{
+    inbox_numbered(directory, user).is_none()
+}
+
+// So many berths more, of this user.
+fn add_berths(alloc: Global, user: u8, count: u8, visits: &mut Vec<Visit>) -> Result<(), AllocError>
+    ensures count { OnOk result (vec_len visits.new ≡ vec_len visits.old + count) }
+    ensures named { OnOk result ((homes : List Home) → user_numbered user homes ≢ None
+        → All (λ v. user_numbered v.user homes ≢ None) visits.old.items → All (λ v. user_numbered v.user homes ≢ None) visits.new.items) }
+{
+    for _ in 0..count {
+        visits.push(Visit {
+            user,
+            steps: Vec::new(alloc),
+        })?;
+    }
+    Ok(())
+}
+
+/// So many berths for each user, in the order of the users.
+///
+/// Errors: `AllocError` where memory is refused.
+pub(crate) fn berths_for(
+    alloc: Global,
+    directory: &Directory,
+    count: u8,
+) -> Result<Vec<Visit>, AllocError>
+    requires { count ≤ 4 }
+    ensures named { IfOk result (λ vs. All (λ v. user_numbered v.user directory.now.homes ≢ None) vs.items) }
+    ensures few { IfOk result (λ vs. vec_len vs ≤ 256) }
+    ensures count { IfOk result (λ vs. vec_len vs ≡ count * length (users_of directory.now.homes)) }
+{
+    let mut visits = Vec::new(alloc);
+    // Each user has an INBOX, so there are no more users than mailboxes.
+    for user in 0..directory.mailboxes() as u8 {
+        if is_nobody(directory, user) {
+            return Ok(visits);
+        }
+        add_berths(alloc, user, count, &mut visits)?;
+    }
+    Ok(visits)
+}
+
+/// How many users there are, 64 at most.
+pub(crate) fn count_users(directory: &Directory) -> u16
+    ensures { result ≤ 64 }
+{
+    for user in 0..MOST_USERS {
+        if is_nobody(directory, user) {
+            return u16::from(user);
+        }
+    }
+    u16::from(MOST_USERS)
+}
