@@ -25,7 +25,7 @@ const LIMITS: Limits = Limits {
 };
 
 const KEY: CopyKey = CopyKey {
-    handle: 2,
+    seat: 2,
     serial: 5,
     message: 0,
     recipient: 0,

@@ -68,7 +68,7 @@ enum Act {
 }
 
 const KEY: CopyKey = CopyKey {
-    handle: 2,
+    seat: 2,
     serial: 5,
     message: 0,
     recipient: 0,
